@@ -1,0 +1,5 @@
+pub mod Nodes
+pub mod Config
+pub mod Blocks
+pub mod Image
+pub mod Events
