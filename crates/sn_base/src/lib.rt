@@ -14,6 +14,8 @@ mod log;
 mod memory;
 mod node;
 mod switch;
+#[cfg(test)]
+mod tests;
 
 pub use block::{Block, BlockNo, Width, Write};
 pub use config::Config;
