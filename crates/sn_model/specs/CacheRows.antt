@@ -1,0 +1,188 @@
+-- The rows of a cache, in the order of its table: what each message does at the node that it has come to. A row is a
+-- function of the cache, its node's log, the message's block, and what the message carries; `now` is the node's interval
+-- and `tag` the message's. Beside each row stands its condition, which a message that is delivered always meets.
+use Rattle.std.specs.Prelude.{◌≡◌, ℕ, ◌+◌, ◌<◌, Bool, true, false, nat_eq, if◌then◌else◌, List, [], ◌∷◌, Option, Some, None}
+use Rattle.sn_base.specs.declared.log.LogEntry.{LogEntry}
+use Rattle.sn_base.specs.declared.log.Old.TheVariants.{NotOwned, Owned as WasOwned}
+use Rattle.sn_msg.specs.declared.Body.{Body}
+use Rattle.sn_msg.specs.declared.Body.TheVariants.{DataS, DataM, InvAck, Unblock, PutData}
+use Rattle.sn_model.specs.declared.cache.LineState.{LineState}
+use Rattle.sn_model.specs.declared.cache.LineState.TheVariants.{Absent, Shared, Owned, Modified, Exclusive}
+use Rattle.sn_model.specs.declared.cache.Need.{Need}
+use Rattle.sn_model.specs.declared.cache.Need.TheVariants.{Read, Write}
+use Rattle.sn_model.specs.declared.cache.Out.{Out}
+use Rattle.log_buffer.specs.Log.{noted}
+use Rattle.sn_model.specs.Caches.{Cache, Miss, line_of, with_line, without_line, is_present, is_owned, puts_on}
+
+-- a cache with its node's log
+pub record Logged : Type 0 where
+  pub cache : Cache
+  pub log : List LogEntry
+
+-- what a row leaves: the cache and the log, what the cache sends, and the block whose copy was lost
+pub record CacheReply : Type 0 where
+  pub after : Logged
+  pub sends : List Out
+  pub lost : Option ℕ
+
+abbrev pub send : ℕ → Body → Out
+send to body = record { to = to; body = body }
+
+abbrev pub content_of : Logged → ℕ → List ℕ
+content_of at block = (line_of at.cache block).content
+
+-- the old content is noted and the copy is lost
+abbrev pub given_up : Logged → ℕ → ℕ → Logged
+given_up at block now = record {
+  cache = without_line at.cache block;
+  log = noted at.log now block (WasOwned (content_of at block));
+}
+
+-- the line of a block that arrives with its ownership, noted under the message's tag
+abbrev pub taken_over : Logged → ℕ → ℕ → LineState → List ℕ → Logged
+taken_over at block tag state content = record {
+  cache = with_line at.cache block state content;
+  log = noted at.log tag block NotOwned;
+}
+
+abbrev pub with_miss : Logged → Option Miss → Logged
+with_miss at miss = record at { cache = record at.cache { miss = miss } }
+
+abbrev pub closed_put : Logged → Logged
+closed_put at = record at { cache = record at.cache { put = None } }
+
+-- how a miss completes
+
+-- a block that was wanted for a write is Modified
+abbrev pub line_when_done : LineState → Need → LineState
+line_when_done state Read = state
+line_when_done state Write = Modified
+
+-- the miss is complete: its home gets the interval of atomicity
+abbrev pub completed : Logged → ℕ → Miss → ℕ → CacheReply
+completed at home miss fixed = record {
+  after = record at { cache = record (with_line at.cache miss.block (line_when_done (line_of at.cache miss.block).state miss.need) (content_of at miss.block)) { miss = None } };
+  sends = send home (Unblock fixed) ∷ [];
+  lost = None;
+}
+
+-- the miss waits for acknowledgements
+abbrev pub waiting : Logged → Miss → CacheReply
+waiting at miss = record { after = with_miss at (Some miss); sends = []; lost = None }
+
+-- the miss with what it knows now: complete where it is fixed and all acknowledgements due are in
+abbrev pub settled_by : Logged → ℕ → Miss → Option ℕ → CacheReply
+settled_by at home miss None = waiting at miss
+settled_by at home miss (Some fixed) = if nat_eq miss.acks miss.due then completed at home miss fixed else waiting at miss
+
+abbrev pub settled : Logged → ℕ → Option Miss → CacheReply
+settled at home None = record { after = at; sends = []; lost = None }
+settled at home (Some miss) = settled_by at home miss miss.fixed
+
+-- the open miss, fixed at an interval with so many acknowledgements due
+abbrev pub fixed_at : Option Miss → ℕ → ℕ → Option Miss
+fixed_at None tag due = None
+fixed_at (Some miss) tag due = Some (record miss { fixed = Some tag; due = due })
+
+-- the open miss, with one more acknowledgement
+abbrev pub acknowledged : Option Miss → Option Miss
+acknowledged None = None
+acknowledged (Some miss) = Some (record miss { acks = miss.acks + 1 })
+
+-- what rows ask of the miss and the line
+
+-- an open miss on the block for this need, whose answer isn't there
+abbrev pub AwaitsAnswer : Option Miss → ℕ → Need → Type 0
+AwaitsAnswer None block need = ⊥
+AwaitsAnswer (Some miss) block need = (miss.block ≡ block) × (miss.need ≡ need) × (miss.fixed ≡ None)
+
+abbrev pub is_absent_or_shared : LineState → Bool
+is_absent_or_shared Absent = true
+is_absent_or_shared Shared = true
+is_absent_or_shared Owned = false
+is_absent_or_shared Modified = false
+is_absent_or_shared Exclusive = false
+
+-- the rows
+
+-- FwdGetS for r: the line is Owned; the content goes to r
+abbrev pub forward_read : Logged → ℕ → ℕ → CacheReply
+forward_read at block r = record {
+  after = record at { cache = with_line at.cache block Owned (content_of at block) };
+  sends = send r (DataS (content_of at block)) ∷ [];
+  lost = None;
+}
+
+abbrev pub MayForward : Logged → ℕ → Type 0
+MayForward at block = is_owned (line_of at.cache block).state ≡ true
+
+-- FwdGetM for r with a acknowledgements due: the content is noted under now, the copy is lost; the content goes to r with
+-- its ownership
+abbrev pub forward_write : Logged → ℕ → ℕ → ℕ → ℕ → CacheReply
+forward_write at block now r a = record {
+  after = given_up at block now;
+  sends = send r (DataM (content_of at block) a) ∷ [];
+  lost = Some block;
+}
+
+-- Inv for r: the copy, if any, is lost; r gets the acknowledgement
+abbrev pub invalidate : Logged → ℕ → ℕ → CacheReply
+invalidate at block r = record {
+  after = record at { cache = without_line at.cache block };
+  sends = send r InvAck ∷ [];
+  lost = if is_present (line_of at.cache block).state then Some block else None;
+}
+
+-- DataS: the line is Shared; the read is complete
+abbrev pub data_shared : Logged → ℕ → ℕ → ℕ → List ℕ → CacheReply
+data_shared at home block tag content =
+    settled (record at { cache = with_line at.cache block Shared content }) home (fixed_at at.cache.miss tag 0)
+
+abbrev pub MayTakeCopy : Logged → ℕ → Type 0
+MayTakeCopy at block = AwaitsAnswer at.cache.miss block Read × ((line_of at.cache block).state ≡ Absent)
+
+-- DataM with a acknowledgements due: that nothing was owned is noted under the tag; the line is Modified
+abbrev pub data_modified : Logged → ℕ → ℕ → ℕ → List ℕ → ℕ → CacheReply
+data_modified at home block tag content a =
+    settled (taken_over at block tag Modified content) home (fixed_at at.cache.miss tag a)
+
+abbrev pub MayTakeOwnership : Logged → ℕ → Type 0
+MayTakeOwnership at block = AwaitsAnswer at.cache.miss block Write × (is_absent_or_shared (line_of at.cache block).state ≡ true)
+
+-- UpgOk with a acknowledgements due: the owner may write once they are in
+abbrev pub upgrade_granted : Logged → ℕ → ℕ → ℕ → CacheReply
+upgrade_granted at home tag a = settled at home (fixed_at at.cache.miss tag a)
+
+abbrev pub MayUpgrade : Logged → ℕ → Type 0
+MayUpgrade at block = AwaitsAnswer at.cache.miss block Write × ((line_of at.cache block).state ≡ Owned)
+
+-- InvAck: one more acknowledgement is in
+abbrev pub acknowledge : Logged → ℕ → CacheReply
+acknowledge at home = settled at home (acknowledged at.cache.miss)
+
+abbrev pub MayCount : Option Miss → ℕ → Type 0
+MayCount None block = ⊥
+MayCount (Some miss) block = (miss.block ≡ block) × (miss.acks < 15)
+
+-- PutGo: the content is noted under now, the copy is lost, the put is closed; the home gets the content
+abbrev pub put_go : Logged → ℕ → ℕ → ℕ → CacheReply
+put_go at home block now = record {
+  after = closed_put (given_up at block now);
+  sends = send home (PutData (content_of at block)) ∷ [];
+  lost = Some block;
+}
+
+abbrev pub MayGiveBack : Logged → ℕ → Type 0
+MayGiveBack at block = (is_owned (line_of at.cache block).state ≡ true) × (puts_on at.cache.put block ≡ true)
+
+-- PutDone: the put is closed
+abbrev pub put_done : Logged → CacheReply
+put_done at = record { after = closed_put at; sends = []; lost = None }
+
+abbrev pub MayClosePut : Logged → ℕ → Type 0
+MayClosePut at block = puts_on at.cache.put block ≡ true
+
+-- DataE: that nothing was owned is noted under the tag; the line is Exclusive; the read is complete
+abbrev pub data_exclusive : Logged → ℕ → ℕ → ℕ → List ℕ → CacheReply
+data_exclusive at home block tag content =
+    settled (taken_over at block tag Exclusive content) home (fixed_at at.cache.miss tag 0)

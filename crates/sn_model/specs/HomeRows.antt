@@ -1,0 +1,132 @@
+-- The rows of a home, in the order of its table: what each message does to the entry of its block. `r` is the sender,
+-- `now` the home's interval and `tag` the message's. Where a transaction is open, a request waits (HomeBusy).
+use Rattle.std.specs.Prelude.{ℕ, ◌+◌, Bool, true, false, List, [], ◌∷◌, count_by, slice_set, Option, Some, None}
+use Rattle.sn_base.specs.declared.log.LogEntry.{LogEntry}
+use Rattle.sn_base.specs.declared.log.Old.TheVariants.{WasHome, WasCache}
+use Rattle.sn_msg.specs.declared.Body.TheVariants.{FwdGetS, FwdGetM, Inv, DataS, DataM, DataE, UpgOk, PutGo, PutDone}
+use Rattle.sn_model.specs.declared.home.Kind.{Kind}
+use Rattle.sn_model.specs.declared.home.Kind.TheVariants.{Read, Take, Move, Upgrade, Put}
+use Rattle.sn_model.specs.declared.cache.Out.{Out}
+use Rattle.log_buffer.specs.Log.{noted}
+use Rattle.sn_model.specs.Homes.{HomeEntry, Holder, Itself, OfCache, Transaction, no_sharers}
+use Rattle.sn_model.specs.CacheRows.{send}
+
+-- an entry with its node's log
+pub record Kept : Type 0 where
+  pub entry : HomeEntry
+  pub log : List LogEntry
+
+-- what a row leaves: the entry and the log, and what the home sends
+pub record HomeReply : Type 0 where
+  pub after : Kept
+  pub sends : List Out
+
+abbrev pub transaction_by : Kind → ℕ → ℕ → Option Transaction
+transaction_by kind r now = Some (record { kind = kind; requester = r; begun = now })
+
+-- the sharers without the requester, and how many they are
+abbrev pub others : List Bool → ℕ → List Bool
+others sharers r = slice_set sharers r false
+
+abbrev pub count_others : List Bool → ℕ → ℕ
+count_others sharers r = count_by (λ mark. mark) (others sharers r)
+
+-- an Inv to each marked node, in order of nodes from this one on
+abbrev pub invalidations : ℕ → List Bool → ℕ → List Out
+invalidations node [] r = []
+invalidations node (true ∷ marks) r = send node (Inv r) ∷ invalidations (node + 1) marks r
+invalidations node (false ∷ marks) r = invalidations (node + 1) marks r
+
+-- the block goes from the home to r: its content is noted under now, and r owns it
+abbrev pub taken_from_home : Kept → ℕ → ℕ → ℕ → List ℕ → Kept
+taken_from_home at block now r content = record {
+  entry = record { holder = OfCache r; sharers = no_sharers; transaction = transaction_by Take r now };
+  log = noted at.log now block (WasHome content);
+}
+
+-- GetS where the home owns and others share: r joins the sharers and gets a copy
+abbrev pub read_at_home : Kept → ℕ → ℕ → List ℕ → HomeReply
+read_at_home at now r content = record {
+  after = record at { entry = record at.entry { sharers = slice_set at.entry.sharers r true; transaction = transaction_by Read r now } };
+  sends = send r (DataS content) ∷ [];
+}
+
+-- GetS where a cache owns: r joins the sharers; the owner sends the copy
+abbrev pub read_at_owner : Kept → ℕ → ℕ → ℕ → HomeReply
+read_at_owner at now r owner = record {
+  after = record at { entry = record at.entry { sharers = slice_set at.entry.sharers r true; transaction = transaction_by Read r now } };
+  sends = send owner (FwdGetS r) ∷ [];
+}
+
+-- GetM where the home owns: r owns; it gets the content, and the other sharers an Inv
+abbrev pub take : Kept → ℕ → ℕ → ℕ → List ℕ → HomeReply
+take at block now r content = record {
+  after = taken_from_home at block now r content;
+  sends = send r (DataM content (count_others at.entry.sharers r)) ∷ invalidations 0 (others at.entry.sharers r) r;
+}
+
+-- GetM where another cache owns: it sends the content and the ownership; the other sharers get an Inv. The home names the
+-- old owner until the Unblock
+abbrev pub move_ownership : Kept → ℕ → ℕ → ℕ → HomeReply
+move_ownership at now r owner = record {
+  after = record at { entry = record at.entry { sharers = no_sharers; transaction = transaction_by Move r now } };
+  sends = send owner (FwdGetM r (count_others at.entry.sharers r)) ∷ invalidations 0 (others at.entry.sharers r) r;
+}
+
+-- GetM where r owns: it may write once the other sharers have acknowledged
+abbrev pub upgrade : Kept → ℕ → ℕ → HomeReply
+upgrade at now r = record {
+  after = record at { entry = record at.entry { sharers = no_sharers; transaction = transaction_by Upgrade r now } };
+  sends = send r (UpgOk (count_others at.entry.sharers r)) ∷ invalidations 0 (others at.entry.sharers r) r;
+}
+
+abbrev pub closed : Kept → Kept
+closed at = record at { entry = record at.entry { transaction = None } }
+
+-- the name of the owner before a Move, noted under the interval of atomicity
+abbrev pub noted_owner : List LogEntry → ℕ → ℕ → Holder → List LogEntry
+noted_owner log interval block (Itself content) = log
+noted_owner log interval block (OfCache owner) = noted log interval block (WasCache owner)
+
+-- Unblock with its interval of atomicity: of a Move, r is the owner from then on; the transaction is closed
+abbrev pub unblock_of : Kept → ℕ → ℕ → Kind → ℕ → Kept
+unblock_of at block fixed Move r = closed (record {
+  entry = record at.entry { holder = OfCache r };
+  log = noted_owner at.log fixed block at.entry.holder;
+})
+unblock_of at block fixed Read r = closed at
+unblock_of at block fixed Take r = closed at
+unblock_of at block fixed Upgrade r = closed at
+unblock_of at block fixed Put r = closed at
+
+abbrev pub unblock : Kept → ℕ → ℕ → Option Transaction → HomeReply
+unblock at block fixed None = record { after = at; sends = [] }
+unblock at block fixed (Some transaction) = record { after = unblock_of at block fixed transaction.kind transaction.requester; sends = [] }
+
+-- PutReq of the owner: it may give the block back
+abbrev pub put_begins : Kept → ℕ → ℕ → HomeReply
+put_begins at now r = record {
+  after = record at { entry = record at.entry { transaction = transaction_by Put r now } };
+  sends = send r PutGo ∷ [];
+}
+
+-- PutReq of a node that doesn't own the block any more: there is nothing to give back
+abbrev pub put_is_stale : Kept → ℕ → HomeReply
+put_is_stale at r = record { after = at; sends = send r PutDone ∷ [] }
+
+-- PutData: that r owned is noted under the tag; the home owns
+abbrev pub put_data : Kept → ℕ → ℕ → ℕ → List ℕ → HomeReply
+put_data at block tag r content = record {
+  after = closed (record {
+    entry = record at.entry { holder = Itself content };
+    log = noted at.log tag block (WasCache r);
+  });
+  sends = [];
+}
+
+-- GetS where the home owns and nobody else shares: r gets the block alone
+abbrev pub grant_exclusive : Kept → ℕ → ℕ → ℕ → List ℕ → HomeReply
+grant_exclusive at block now r content = record {
+  after = taken_from_home at block now r content;
+  sends = send r (DataE content) ∷ [];
+}

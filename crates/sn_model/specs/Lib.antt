@@ -1,0 +1,13 @@
+pub mod Caches
+pub mod Homes
+pub mod CacheRows
+pub mod HomeRows
+pub mod Machine
+pub mod Net
+pub mod Access
+pub mod NodeEvents
+pub mod Cuts
+pub mod NetEvents
+pub mod MachineEvents
+pub mod Step
+pub mod Trace

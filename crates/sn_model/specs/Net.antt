@@ -1,0 +1,67 @@
+-- What the network does with messages: it sends, carries and loses them.
+use Rattle.std.specs.Prelude.{ℕ, ◌+◌, Bool, not, nat_eq, if◌then◌else◌, List, [], ◌∷◌, ◌++◌, length, filter, find, map, Option}
+use Rattle.sn_msg.specs.declared.Message.{Message}
+use Rattle.route_plan.specs.Grid.{node_of}
+use Rattle.route_plan.specs.Distances.{Switches, is_dead}
+use Rattle.route_plan.specs.Routes.{enter_of}
+use Rattle.sn_model.specs.declared.cache.Out.{Out}
+use Rattle.sn_model.specs.declared.net.Sent.{Sent}
+use Rattle.sn_model.specs.Machine.{State, Net, Flight}
+
+-- how many messages may be in flight
+abbrev pub net_limit : ℕ
+net_limit = 1024
+
+-- the switches as they were when the routes were made
+abbrev pub routes_of : State → Switches
+routes_of s = record { nodes = length s.nodes; dead = s.net.planned }
+
+-- a message from a node, in its interval, about a block
+abbrev pub message_of : Net → ℕ → ℕ → ℕ → Out → Message
+message_of net from tag block out = record { id = net.next_id; from = from; to = out.to; tag = tag; block = block; body = out.body }
+
+-- the switch in which a message enters
+abbrev pub entry_of : Switches → Message → ℕ
+entry_of routes m = enter_of routes m.from m.to
+
+abbrev pub is_lost : Switches → Net → Message → Bool
+is_lost routes net m = is_dead net.dead (entry_of routes m)
+
+-- the message takes its number, and stands in its entry switch unless that is dead
+abbrev pub post : Switches → Net → Message → Net
+post routes net m = record net {
+  flights = (if is_lost routes net m then net.flights else net.flights ++ record { message = m; place = entry_of routes m } ∷ []);
+  next_id = net.next_id + 1;
+}
+
+-- the network after these messages from a node, in order
+abbrev pub posted : Switches → Net → ℕ → ℕ → ℕ → List Out → Net
+posted routes net from tag block [] = net
+posted routes net from tag block (out ∷ outs) = posted routes (post routes net (message_of net from tag block out)) from tag block outs
+
+-- them as they were sent
+abbrev pub sent_by : Switches → Net → ℕ → ℕ → ℕ → List Out → List Sent
+sent_by routes net from tag block [] = []
+sent_by routes net from tag block (out ∷ outs) =
+    record { message = message_of net from tag block out; lost = is_lost routes net (message_of net from tag block out) }
+    ∷ sent_by routes (post routes net (message_of net from tag block out)) from tag block outs
+
+-- the message of a number, where it is in flight
+abbrev pub flight_of : List Flight → ℕ → Option Flight
+flight_of flights id = find (λ f. nat_eq f.message.id id) flights
+
+-- the messages but the one of a number
+abbrev pub without_flight : Net → ℕ → Net
+without_flight net id = record net { flights = filter (λ f. not (nat_eq f.message.id id)) net.flights }
+
+-- whether a message stands in a switch of its receiver
+abbrev pub is_there : Flight → Bool
+is_there f = nat_eq (node_of f.place) f.message.to
+
+-- a message in another switch, where it has the number
+abbrev pub placed : ℕ → ℕ → Flight → Flight
+placed id place f = if nat_eq f.message.id id then record f { place = place } else f
+
+-- the message of a number in another switch
+abbrev pub moved : Net → ℕ → ℕ → Net
+moved net id place = record net { flights = map (placed id place) net.flights }

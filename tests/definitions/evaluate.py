@@ -1,0 +1,472 @@
+"""Evaluates the definitions in crates/*/specs as they stand, for tests that compare them with other programs.
+
+It reads the part of the definitions' language that the machine's definitions use: functions by clauses, records, variants,
+lists, `if`, `let` and λ. Statements (definitions whose value is a type) are read over: nothing here proves anything.
+"""
+import re
+import sys
+import threading
+from pathlib import Path
+
+sys.setrecursionlimit(100_000)
+threading.stack_size(512 * 1024 * 1024)
+
+TOKEN = re.compile(r"\s*(--[^\n]*|[A-Za-z_ℕℤ⊤⊥Σ«»][\w'«»]*|\d+|\+\+|&&|\|\||==|[λ∷≡≢≤<×⊎→¬↔(){}\[\];:,.=+\-*/%^|])")
+BINARY = [["||"], ["&&"], ["==", "≡", "≤", "<", "≢"], ["++", "∷"], ["+", "-"], ["*", "/", "%"], ["^"]]
+RIGHT = {"++", "∷"}
+
+
+class Con(tuple):
+    """A variant: its name with its type's, and what it carries."""
+
+
+class Rec(dict):
+    """A record, by its fields."""
+
+    def __hash__(self):
+        return hash(tuple(sorted(self.items())))
+
+
+def tokens_of(text):
+    found, at = [], 0
+    while at < len(text):
+        match = TOKEN.match(text, at)
+        if not match:
+            if text[at:].strip():
+                raise SyntaxError(f"cannot read: {text[at:at + 60]!r}")
+            break
+        at = match.end()
+        if not match.group(1).startswith("--"):
+            found.append(match.group(1))
+    return found
+
+
+class Parser:
+    """Reads an expression into nested tuples."""
+
+    def __init__(self, tokens):
+        self.tokens, self.at = tokens, 0
+
+    def peek(self):
+        return self.tokens[self.at] if self.at < len(self.tokens) else None
+
+    def take(self, wanted=None):
+        token = self.peek()
+        if wanted is not None and token != wanted:
+            raise SyntaxError(f"expected {wanted}, found {token} in {' '.join(map(str, self.tokens[:40]))}")
+        self.at += 1
+        return token
+
+    def expression(self):
+        token = self.peek()
+        if token == "if":
+            self.take()
+            test = self.expression()
+            self.take("then")
+            yes = self.expression()
+            self.take("else")
+            return ("if", test, yes, self.expression())
+        if token == "let":
+            self.take()
+            name = self.take()
+            if self.peek() == ":":
+                while self.peek() != "=":
+                    self.take()
+            self.take("=")
+            value = self.expression()
+            self.take("in")
+            return ("let", name, value, self.expression())
+        if token == "λ":
+            self.take()
+            names = []
+            while self.peek() != ".":
+                if self.peek() == "(":
+                    self.take()
+                    names.append(self.take())
+                    while self.peek() != ")":
+                        self.take()
+                    self.take()
+                else:
+                    names.append(self.take())
+            self.take(".")
+            body = self.expression()
+            for name in reversed(names):
+                body = ("fun", name, body)
+            return body
+        return self.binary(0)
+
+    def binary(self, level):
+        if level == len(BINARY):
+            return self.application()
+        left = self.binary(level + 1)
+        while self.peek() in BINARY[level]:
+            operator = self.take()
+            if operator in RIGHT or self.peek() in ("if", "λ", "let"):
+                right = self.expression() if self.peek() in ("if", "λ", "let") else self.binary(level)
+                return ("op", operator, left, right)
+            left = ("op", operator, left, self.binary(level + 1))
+        return left
+
+    def application(self):
+        head = self.atom()
+        while self.starts_atom():
+            head = ("app", head, self.atom())
+        return head
+
+    def starts_atom(self):
+        token = self.peek()
+        return token is not None and (token in ("(", "[", "record") or re.match(r"[A-Za-z_«]|\d", token)) and token not in ("then", "else", "in", "where")
+
+    def atom(self):
+        token = self.take()
+        if token == "(":
+            parts = [self.expression()]
+            while self.peek() == ",":
+                self.take()
+                parts.append(self.expression())
+            self.take(")")
+            found = parts[0] if len(parts) == 1 else ("pair", parts)
+        elif token == "[":
+            self.take("]")
+            found = ("list",)
+        elif token == "record":
+            base = None if self.peek() == "{" else self.atom()
+            self.take("{")
+            fields = []
+            while self.peek() != "}":
+                name = self.take()
+                self.take("=")
+                fields.append((name, self.expression()))
+                if self.peek() == ";":
+                    self.take()
+            self.take("}")
+            found = ("record", base, fields)
+        elif token.isdigit():
+            found = ("number", int(token))
+        elif re.match(r"[A-Za-z_«]", token):
+            found = ("name", token)
+        else:
+            raise SyntaxError(f"no expression begins with {token} in {' '.join(self.tokens[max(0, self.at - 12):self.at + 8])}")
+        while self.peek() == "." and self.at + 1 < len(self.tokens) and re.match(r"[A-Za-z_«]|\d", self.tokens[self.at + 1]):
+            self.take()
+            found = ("field", found, self.take())
+        return found
+
+
+def option(value):
+    return Con(("None",)) if value is None else Con(("Some", value))
+
+
+def find(test, values):
+    return option(next((v for v in values if test(v)), None))
+
+
+def position(test, values):
+    return option(next((i for i, v in enumerate(values) if test(v)), None))
+
+
+def filter_map(f, values):
+    return tuple(got[1] for got in map(f, values) if got[0] == "Some")
+
+
+def little_number(count, bytes_):
+    return sum((bytes_[k] if k < len(bytes_) else 0) << (8 * k) for k in range(count))
+
+
+def curried(function, arity):
+    def collect(done):
+        return function(*done) if len(done) == arity else lambda x: collect(done + (x,))
+    return collect(())
+
+
+BUILTINS = {
+    "nat_eq": (lambda a, b: a == b, 2), "nat_lt": (lambda a, b: a < b, 2), "nat_le": (lambda a, b: a <= b, 2),
+    "not": (lambda a: not a, 1), "min": (min, 2), "max": (max, 2), "suc": (lambda a: a + 1, 1),
+    "map": (lambda f, xs: tuple(map(f, xs)), 2), "filter": (lambda f, xs: tuple(filter(f, xs)), 2),
+    "length": (len, 1), "drop": (lambda n, xs: xs[n:], 2), "take": (lambda n, xs: xs[:n], 2),
+    "get_or": (lambda xs, i, d: xs[i] if i < len(xs) else d, 3), "slice_index_or": (lambda xs, i, d: xs[i] if i < len(xs) else d, 3),
+    "slice_index": (lambda xs, i: xs[i] if i < len(xs) else 0, 2),
+    "slice_set": (lambda xs, i, v: xs[:i] + (v,) + xs[i + 1:] if i < len(xs) else xs, 3),
+    "replicate": (lambda n, x: (x,) * n, 2), "find": (find, 2), "position": (position, 2), "filter_map": (filter_map, 2),
+    "option_to_list": (lambda o: o[1:], 1), "unwrap_or": (lambda o, d: o[1] if o[0] == "Some" else d, 2),
+    "option_map": (lambda f, o: Con(("Some", f(o[1]))) if o[0] == "Some" else o, 2),
+    "is_some": (lambda o: o[0] == "Some", 1), "is_none": (lambda o: o[0] == "None", 1),
+    "count_by": (lambda f, xs: sum(1 for x in xs if f(x)), 2), "sum_by": (lambda f, xs: sum(map(f, xs)), 2),
+    "list_any": (lambda f, xs: any(map(f, xs)), 2), "cond": (lambda t, a, b: a if t else b, 3),
+    "little_number": (little_number, 2), "little_bytes": (lambda n, x: tuple((x >> (8 * k)) & 255 for k in range(n)), 2),
+}
+CONSTANTS = {"true": True, "false": False, "zero": 0, "None": Con(("None",)), "Some": lambda x: Con(("Some", x))}
+OPERATORS = {
+    "+": lambda a, b: a + b, "-": lambda a, b: max(0, a - b), "*": lambda a, b: a * b, "/": lambda a, b: a // b if b else 0,
+    "%": lambda a, b: a % b if b else a, "^": lambda a, b: a ** b, "++": lambda a, b: a + b, "∷": lambda a, b: (a,) + b, "==": lambda a, b: a == b,
+}
+
+
+class Module:
+    """One file of definitions: what it names, and its functions by their clauses."""
+
+    def __init__(self, world, key, text):
+        self.world, self.key = world, key
+        self.names, self.clauses, self.arity, self.cache = {}, {}, {}, {}
+        self.overrides, self.remembered = {}, set()
+        self.read(text)
+
+    def read(self, text):
+        text = re.sub(r"--[^\n]*", "", text)
+        entries, current = [], []
+        for line in text.split("\n"):
+            if line and not line[0].isspace() and line[0] not in ")}":
+                entries.append(current)
+                current = []
+            current.append(line)
+        entries.append(current)
+        for entry in entries:
+            self.entry("\n".join(entry))
+
+    def entry(self, text):
+        if text.startswith(("use ", "pub use ")):
+            self.use(re.sub(r"^(pub )?use ", "", text.strip()))
+        elif re.match(r"(pub )?data ", text):
+            self.data(text)
+        elif re.match(r"(abbrev |unfoldable |pub |unfolding )", text) or not text.strip():
+            pass
+        elif "=" in text:
+            name = re.match(r"[\w']+", text)
+            if name:
+                self.clauses.setdefault(name.group(0), []).append(text)
+
+    def use(self, text):
+        match = re.match(r"Rattle\.(\w+)\.(?:specs|proofs)\.([\w.]+?)\.\{(.*)\}$", text, re.S)
+        if not match:
+            return
+        crate, path, names = match.groups()
+        for name in names.split(","):
+            name, _, local = name.strip().partition(" as ")
+            local = local or name
+            if path.startswith("declared.") and path.endswith(".TheVariants"):
+                type_name = path.split(".")[-2]
+                if type_name not in ("Option", "Result"):
+                    self.names[local] = ("variant", type_name, name)
+            elif (crate, path) != self.key:
+                self.names[local] = ("import", (crate, path), name)
+
+    def data(self, text):
+        type_name = re.search(r"data (\w+)", text).group(1)
+        for name, rest in re.findall(r"^\s+(\w+) :(.*)$", text, re.M):
+            self.names[name] = ("variant", type_name, name)
+            self.world.carried[type_name, name] = rest.count("→")
+
+    def variant_of(self, name):
+        entry = self.names.get(name)
+        seen = 0
+        module = self
+        while entry and entry[0] == "import" and seen < 9:
+            module = self.world.modules.get(entry[1])
+            if not module:
+                return None
+            entry, seen = module.names.get(entry[2]), seen + 1
+        return entry if entry and entry[0] == "variant" else None
+
+    def lookup(self, name):
+        if name in self.cache:
+            return self.cache[name]
+        self.cache[name] = value = self.find(name)
+        return value
+
+    def find(self, name):
+        if name in self.overrides:
+            return self.overrides[name]
+        variant = self.variant_of(name)
+        if variant:
+            return self.world.variant(variant[1], variant[2])
+        if name in self.clauses:
+            return self.function(name)
+        entry = self.names.get(name)
+        if entry and entry[0] == "import" and entry[1] in self.world.modules:
+            return self.world.modules[entry[1]].lookup(entry[2])
+        original = entry[2] if entry else name
+        if original in CONSTANTS:
+            return CONSTANTS[original]
+        if original in BUILTINS:
+            return curried(*BUILTINS[original])
+        raise NameError(f"{name} in {self.key}")
+
+    def function(self, name):
+        clauses = []
+        for text in self.clauses[name]:
+            tokens = tokens_of(text)
+            equals, depth = 0, 0
+            for place, token in enumerate(tokens):
+                depth += token in "({[" if token in ("(", "{", "[") else 0
+                depth -= 1 if token in (")", "}", "]") else 0
+                if token == "=" and depth == 0:
+                    equals = place
+                    break
+            patterns = self.patterns(tokens[1:equals])
+            parser = Parser(tokens[equals + 1:])
+            body = parser.expression()
+            if parser.peek() is not None:
+                raise SyntaxError(f"{name}: {parser.tokens[parser.at:parser.at + 9]} is left over")
+            clauses.append((patterns, self.compile(body)))
+        arity = len(clauses[0][0])
+        if arity == 0:
+            return clauses[0][1]({})
+
+        known = {} if name in self.remembered else None
+
+        def apply(*values):
+            if known is None:
+                return evaluated(*values)
+            if values not in known:
+                known[values] = evaluated(*values)
+            return known[values]
+
+        def evaluated(*values):
+            for patterns, body in clauses:
+                bound = {}
+                if all(matches(p, v, bound) for p, v in zip(patterns, values)):
+                    return body(bound)
+            raise ValueError(f"{name}: no clause for {str(values)[:200]}")
+        return curried(apply, arity)
+
+    def patterns(self, tokens):
+        parser, found = Parser(tokens), []
+        while parser.peek() is not None:
+            if parser.peek() == "{":
+                while parser.take() != "}":
+                    pass
+                continue
+            found.append(self.pattern(parser.atom()))
+        return found
+
+    def pattern(self, tree):
+        kind = tree[0]
+        if kind == "name":
+            name = tree[1]
+            variant = self.variant_of(name)
+            if variant:
+                return ("con", f"{variant[1]}.{variant[2]}", [])
+            if name in ("true", "false"):
+                return ("value", name == "true")
+            if name == "zero":
+                return ("value", 0)
+            if name == "None":
+                return ("con", "None", [])
+            return ("any",) if name == "_" else ("bind", name)
+        if kind == "number":
+            return ("value", tree[1])
+        if kind == "list":
+            return ("nil",)
+        if kind == "op" and tree[1] == "∷":
+            return ("cons", self.pattern(tree[2]), self.pattern(tree[3]))
+        if kind == "app":
+            parts = []
+            while tree[0] == "app":
+                parts.insert(0, tree[2])
+                tree = tree[1]
+            name = tree[1]
+            if name == "suc":
+                return ("suc", self.pattern(parts[0]))
+            variant = self.variant_of(name)
+            return ("con", f"{variant[1]}.{variant[2]}" if variant else name, [self.pattern(p) for p in parts])
+        raise SyntaxError(f"no pattern: {tree}")
+
+    def compile(self, tree):
+        kind = tree[0]
+        if kind == "name":
+            name = tree[1]
+            return lambda bound: bound[name] if name in bound else self.lookup(name)
+        if kind == "number":
+            return lambda bound: tree[1]
+        if kind == "list":
+            return lambda bound: ()
+        if kind == "pair":
+            parts = [self.compile(part) for part in tree[1]]
+            return lambda bound: Rec({str(k): part(bound) for k, part in enumerate(parts)})
+        if kind == "if":
+            test, yes, no = map(self.compile, tree[1:])
+            return lambda bound: yes(bound) if test(bound) else no(bound)
+        if kind == "let":
+            value, body = self.compile(tree[2]), self.compile(tree[3])
+            return lambda bound: body({**bound, tree[1]: value(bound)})
+        if kind == "fun":
+            body = self.compile(tree[2])
+            return lambda bound: lambda x: body({**bound, tree[1]: x})
+        if kind == "app":
+            function, argument = self.compile(tree[1]), self.compile(tree[2])
+            return lambda bound: function(bound)(argument(bound))
+        if kind == "field":
+            base = self.compile(tree[1])
+            return lambda bound: base(bound)[tree[2]]
+        if kind == "record":
+            base = self.compile(tree[1]) if tree[1] else None
+            fields = [(name, self.compile(value)) for name, value in tree[2]]
+            return lambda bound: Rec({**(base(bound) if base else {}), **{name: value(bound) for name, value in fields}})
+        if kind == "op":
+            left, right = self.compile(tree[2]), self.compile(tree[3])
+            if tree[1] == "&&":
+                return lambda bound: left(bound) and right(bound)
+            if tree[1] == "||":
+                return lambda bound: left(bound) or right(bound)
+            operator = OPERATORS[tree[1]]
+            return lambda bound: operator(left(bound), right(bound))
+        raise SyntaxError(f"no value: {tree}")
+
+
+def matches(pattern, value, bound):
+    kind = pattern[0]
+    if kind == "any":
+        return True
+    if kind == "bind":
+        bound[pattern[1]] = value
+        return True
+    if kind == "value":
+        return value == pattern[1]
+    if kind == "nil":
+        return value == ()
+    if kind == "cons":
+        return value != () and matches(pattern[1], value[0], bound) and matches(pattern[2], value[1:], bound)
+    if kind == "suc":
+        return value > 0 and matches(pattern[1], value - 1, bound)
+    return value[0] == pattern[1] and all(matches(p, v, bound) for p, v in zip(pattern[2], value[1:]))
+
+
+class World:
+    """All definitions of the crates."""
+
+    def __init__(self, root, crates):
+        self.modules, self.carried = {}, {}
+        for crate in crates:
+            for source in sorted((root / "crates" / crate / "src").glob("*.rt")):
+                self.enums(source.read_text())
+            for source in sorted((root / "crates" / crate / "specs").glob("*.antt")):
+                key = (crate, source.stem)
+                self.modules[key] = Module(self, key, source.read_text())
+
+    def enums(self, text):
+        text = re.sub(r"//[^\n]*", "", text)
+        for name, body in re.findall(r"enum (\w+) \{(.*?)\n\}", text, re.S):
+            for variant, parts in re.findall(r"(\w+)(\([^)]*\)|\s*\{[^}]*\})?,", body):
+                count = 0 if not parts else parts.count(",") + 1 if parts.startswith("(") else parts.count(":")
+                self.carried[name, variant] = count
+
+    def variant(self, type_name, name):
+        full = f"{type_name}.{name}"
+        count = self.carried[type_name, name]
+        return Con((full,)) if count == 0 else curried(lambda *xs: Con((full,) + xs), count)
+
+    def get(self, crate, file, name):
+        return self.modules[crate, file].lookup(name)
+
+
+def in_deep_stack(function):
+    """Runs a function in a thread whose stack is deep enough for recursions over the definitions' lists."""
+    result = []
+    thread = threading.Thread(target=lambda: result.append(function()))
+    thread.start()
+    thread.join()
+    return result[0] if result else 1
+
+
+def repository():
+    return Path(__file__).resolve().parents[2]
