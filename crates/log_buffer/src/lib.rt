@@ -1,0 +1,195 @@
+//! The checkpoint log of one node.
+//!
+//! Before a block's content or ownership changes for the first time in an interval, what stood there is noted. So what
+//! stood at a checkpoint can be told from the log: it is the old content of the block's entry with the least interval
+//! that isn't below the checkpoint, or what stands now where there is none. The layer above sees a list of entries,
+//! oldest first, and how many it may hold. A log never looks at the blocks themselves, and takes memory only when it is
+//! made.
+//!
+//! Source: checkpoint log buffers of SafetyNet (Sorin, Martin, Hill, Wood, ISCA 2002).
+#![tactic(auto)]
+
+ghost use Rattle.std.specs.Prelude.{◌≡◌, ◌+◌, ◌-◌, ◌<◌, ◌≤◌, ◌^◌, ◌&&◌, Bool, true, false, nat_eq, nat_le, [], length, IfOk, option_copied};
+ghost use Rattle.log_buffer.specs.Log.{LogData, IsLog, is_home_side, is_of_side, is_about, old_at, has_entry, noted, entries_from, logged_to, IsGrowing};
+
+use sn_base::{BlockNo, Entries, Interval, LogEntry, Memory, Old};
+use std::alloc::Global;
+use std::marker::Model;
+
+/// A log. Contracts see its entries, oldest first, and its limit.
+#[derive(Drop)]
+pub struct LogBuffer {
+    entries: Vec<LogEntry>,
+    limit: usize,
+}
+
+impl Model for LogBuffer {
+    ghost use Rattle.std.specs.Prelude.{◌≤◌, vec_capacity};
+    ghost use Rattle.log_buffer.specs.Log.{LogData, IsLog};
+
+    ghost Value = { LogData };
+
+    ghost view = { λ b. record { entries = b.entries.items; limit = b.limit } };
+
+    ghost invariant = { λ b. IsLog (record { entries = b.entries.items; limit = b.limit }) × (b.limit ≤ vec_capacity b.entries) };
+}
+
+fn is_home_side(old: &Old) -> bool
+    ensures { result ≡ is_home_side old.now }
+{
+    match old {
+        Old::NotOwned | Old::Owned(_) => false,
+        Old::WasHome(_) | Old::WasCache(_) => true,
+    }
+}
+
+fn is_about(entry: &LogEntry, home_side: bool, block: BlockNo) -> bool
+    ensures { result ≡ is_about home_side block entry.now }
+{
+    let home_entry = is_home_side(&entry.old);
+    let same_side = if home_side { home_entry } else { !home_entry };
+    same_side && entry.block == block
+}
+
+impl LogBuffer {
+    /// An empty log for so many entries.
+    pub fn new(alloc: Global, room: u16) -> Result<LogBuffer, Memory>
+        ensures { IfOk result (λ b. b ≡ record { entries = []; limit = room }) }
+    {
+        let limit = usize::from(room);
+        let entries = Vec::with_capacity(alloc, limit)?;
+        Ok(LogBuffer { entries, limit })
+    }
+
+    /// How many more entries fit.
+    pub fn room(&self) -> usize
+        ensures left { result ≡ self.now.limit - length self.now.entries }
+        ensures good { IsLog self.now }
+    {
+        self.limit - self.entries.len()
+    }
+
+    /// Whether there is an entry of this interval, side and block. The side is the home's, or else the cache's.
+    pub fn has(&self, interval: Interval, home_side: bool, block: BlockNo) -> bool
+        ensures { result ≡ has_entry self.now.entries interval home_side block }
+    {
+        'entries: for entry in self.entries.iter() {
+            if is_about(entry, home_side, block) && entry.interval == interval {
+                return true;
+            }
+        }
+        false
+    }
+
+    /// Notes what stood before a change. Only the first change of the block on its side in an interval adds an entry.
+    pub fn note(&mut self, interval: Interval, block: BlockNo, old: Old)
+        requires room { has_entry self.old.entries interval (is_home_side old) block ≡ false → length self.old.entries < self.old.limit }
+        requires latest { logged_to self.old.entries (is_home_side old) block ≤ interval + 1 }
+        ensures { self.new ≡ record self.old { entries = noted self.old.entries interval block old } }
+    {
+        if self.has(interval, is_home_side(&old), block) {
+            return;
+        }
+        self.entries
+            .push(LogEntry {
+                interval,
+                block,
+                old,
+            })
+            .unwrap();
+    }
+
+    /// What stood at checkpoint k, where the block has changed on this side since.
+    pub fn old_at(&self, home_side: bool, block: BlockNo, k: Interval) -> Option<&Old>
+        ensures old { option_copied result ≡ old_at self.now.entries home_side block k }
+        ensures good { IsLog self.now }
+    {
+        'entries: for entry in self.entries.iter() {
+            if is_about(entry, home_side, block) && entry.interval >= k {
+                return Some(&entry.old);
+            }
+        }
+        None
+    }
+
+    /// Drops the entries of intervals below k, once no recovery goes back below checkpoint k.
+    pub fn free_below(&mut self, k: Interval)
+        ensures { self.new ≡ record self.old { entries = entries_from k self.old.entries } }
+    {
+        self.entries.retain(|entry| entry.interval >= k);
+    }
+
+    pub fn clear(&mut self)
+        ensures { self.new ≡ record self.old { entries = [] } }
+    {
+        self.entries.clear();
+    }
+}
+
+impl Entries for LogBuffer {
+    ghost use Rattle.log_buffer.specs.Log.{LogData};
+
+    ghost entries = { λ b. b.entries };
+
+    fn count(&self) -> usize {
+        self.entries.len()
+    }
+
+    fn entry(&self, place: usize) -> &LogEntry {
+        &self.entries[place]
+    }
+}
+
+#[cfg(test)]
+mod tests {
+    use super::*;
+    use sn_base::{Block, NodeId};
+    use std::test::Fail;
+
+    #[test]
+    fn a_change_is_noted_once_per_interval(rt: HostRuntime) -> Result<(), Fail> {
+        let mut log = LogBuffer::new(rt.alloc(), 4)?;
+        let block = BlockNo::new(64);
+        let content = Block::zero();
+        log.note(0, block, Old::NotOwned);
+        log.note(0, block, Old::Owned(content));
+        log.note(2, block, Old::Owned(content));
+        assert_eq!(rt; (log.count(), log.room()), (2, 2));
+        assert_eq!(rt; log.old_at(false, block, 0).copied(), Some(Old::NotOwned));
+        assert_eq!(rt;
+            log.old_at(false, block, 1).copied(),
+            Some(Old::Owned(content))
+        );
+        assert_eq!(rt; log.old_at(false, block, 3).copied(), None);
+        assert_eq!(rt; log.old_at(true, block, 0).copied(), None);
+        assert!(rt; log.has(2, false, block) && !log.has(1, false, block));
+        log.free_below(1);
+        assert_eq!(rt; log.count(), 1);
+        assert!(rt; log.old_at(false, block, 0).copied() == Some(Old::Owned(content)));
+        log.clear();
+        assert_eq!(rt; (log.count(), log.room()), (0, 4));
+        Ok(())
+    }
+
+    #[test]
+    fn the_sides_of_a_block_are_apart(rt: HostRuntime) -> Result<(), Fail> {
+        let mut log = LogBuffer::new(rt.alloc(), 4)?;
+        let block = BlockNo::new(64);
+        log.note(1, block, Old::NotOwned);
+        log.note(0, block, Old::WasHome(Block::zero()));
+        if let Some(node) = NodeId::new(3) {
+            log.note(1, block, Old::WasCache(node));
+            assert_eq!(rt;
+                log.old_at(true, block, 1).copied(),
+                Some(Old::WasCache(node))
+            );
+        }
+        assert_eq!(rt;
+            log.old_at(true, block, 0).copied(),
+            Some(Old::WasHome(Block::zero()))
+        );
+        assert_eq!(rt; log.old_at(false, block, 0).copied(), Some(Old::NotOwned));
+        assert!(rt; log.count() == 3 && log.entry(0).interval == 1);
+        Ok(())
+    }
+}

@@ -1,0 +1,13 @@
+pub mod CoreLaws
+pub mod StepLaws
+pub mod MemoryLaws
+pub mod BlockLaws
+pub mod Swap
+pub mod Sorted
+pub mod FlatStep
+pub mod Execution
+pub mod CommittedPart
+pub mod ProjectionLaw
+pub mod Filters
+pub mod Places
+pub mod Start
