@@ -1,0 +1,5 @@
+pub mod Grids
+pub mod Least
+pub mod Growth
+pub mod Levels
+pub mod Steps

@@ -1,0 +1,47 @@
+-- Paths of living switches, and what the routes are among them.
+use Rattle.std.specs.Prelude.{◌≡◌, ℕ, ◌+◌, ◌*◌, ◌<◌, ◌≤◌, ◌⊎◌, IsTrue, List, [], ◌∷◌, length, Option, Some, None}
+use Rattle.route_plan.specs.Grid.{node_of, is_linked}
+use Rattle.route_plan.specs.Distances.{Switches, is_living, distance}
+use Rattle.route_plan.specs.Routes.{next_of}
+
+-- A path is a list of living switches, each linked with the next: here its first and the others, so one of these for each link.
+abbrev pub IsPath : Switches → ℕ → List ℕ → Type 0
+IsPath m s [] = IsTrue (is_living m s)
+IsPath m s (t ∷ others) = IsTrue (is_living m s) × IsTrue (is_linked m.nodes s t) × IsPath m t others
+
+-- its last switch
+abbrev pub last_of : ℕ → List ℕ → ℕ
+last_of s [] = s
+last_of s (t ∷ others) = last_of t others
+
+-- a path from a switch to one of the node's
+pub record Leads (m : Switches) (to s : ℕ) (others : List ℕ) : Type 0 where
+  pub path : IsPath m s others
+  pub ends : node_of (last_of s others) ≡ to
+
+-- some path leads from a switch of a to one of b
+pub record AreJoined (m : Switches) (a b : ℕ) : Type 0 where
+  pub first : ℕ
+  pub others : List ℕ
+  pub begins : node_of first ≡ a
+  pub leads : Leads m b first others
+
+-- the walk that `next` gives from a switch, up to where it gives none
+abbrev pub IsWalk : Switches → ℕ → ℕ → List ℕ → Type 0
+IsWalk m to s [] = next_of m to s ≡ None
+IsWalk m to s (t ∷ others) = (next_of m to s ≡ Some t) × IsWalk m to t others
+
+-- that walk leads to the node, with as many links as the distance, and no path from the switch has fewer
+pub record IsShortestWalk (m : Switches) (to s : ℕ) : Type 0 where
+  pub others : List ℕ
+  pub walk : IsWalk m to s others
+  pub leads : Leads m to s others
+  pub links : length others ≡ distance m to s
+  pub shortest : (path : List ℕ) → Leads m to s path → length others ≤ length path
+
+-- a and b are cut off, and no earlier pair is
+pub record IsFirstCutOff (m : Switches) (a b : ℕ) : Type 0 where
+  pub ordered : a ≤ b
+  pub there : b < m.nodes
+  pub apart : ¬ AreJoined m a b
+  pub earlier : (c d : ℕ) → c ≤ d → d < m.nodes → (c < a) ⊎ ((c ≡ a) × (d < b)) → AreJoined m c d
