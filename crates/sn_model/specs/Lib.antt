@@ -11,3 +11,4 @@ pub mod NetEvents
 pub mod MachineEvents
 pub mod Step
 pub mod Trace
+pub mod Refusals

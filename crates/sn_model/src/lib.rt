@@ -10,8 +10,10 @@
 
 mod cache;
 mod home;
+mod laws;
 mod net;
 
 pub use cache::{LineState, Need, Out};
 pub use home::{Kind, Owner};
+pub use laws::refusal_changes_nothing;
 pub use net::Sent;
