@@ -1,0 +1,14 @@
+pub mod Counts
+pub mod Rows
+pub mod Clocks
+pub mod Stages
+pub mod Requests
+pub mod Owners
+pub mod Waits
+pub mod Sharing
+pub mod Logs
+pub mod Cuts
+pub mod Frames
+pub mod Ends
+pub mod EachRow
+pub mod Whole

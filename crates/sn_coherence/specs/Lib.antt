@@ -1,0 +1,6 @@
+pub mod Block
+pub mod CacheRows
+pub mod HomeRows
+pub mod Others
+pub mod Kept
+pub mod Events
