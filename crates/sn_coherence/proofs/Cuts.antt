@@ -4,12 +4,12 @@ use Rattle.sn_coherence.specs.Block.{Block, Message, Line, NoLine, Shared, Owned
 use Rattle.sn_coherence.specs.CacheRows.{forward_read, forward_write, invalidate, data_shared, data_modified_waits, data_modified_completes, upgrade_granted_waits, upgrade_granted_completes, acknowledge_waits, acknowledge_completes, put_go, put_done, data_exclusive}
 use Rattle.sn_coherence.specs.HomeRows.{read_at_home, read_at_owner, take, move_ownership, upgrade, unblock_move, unblock_other, put_begins, put_is_stale, put_data, grant_exclusive}
 use Rattle.sn_coherence.specs.Others.{begin_read_miss, begin_write_miss, begin_put, begin_miss_elsewhere, end_miss_elsewhere, begin_put_elsewhere, end_put_elsewhere, numbers_elsewhere, store, evict_shared, edge, report, validate, lose, deliver_advance, recover, start}
-use Rattle.sn_coherence.specs.Kept.{Clocks, Stages, Requests, Owners, Waits, Sharing, Logs, Cuts, Frames, count, is_settled}
+use Rattle.sn_coherence.specs.Kept.{Clocks, Nodes, Stages, Requests, Owners, Waits, Sharing, Logs, Cuts, Frames, count, is_settled}
 use Rattle.sn_coherence.specs.Events.{Arrives, Owns, OtherOwns, Lists, other_sharers, NothingUnfinished, Free}
 use Rattle.sn_coherence.proofs.Rows.{At, IsLast}
 
 
-module _ (N : ℕ) (b : Block) (i : ℕ) (u : Cuts b) (l : Logs b) (s : Stages b) (o : Owners b) (c : Clocks N b) where
+module _ (N : ℕ) (b : Block) (i : ℕ) (u : Cuts b) (l : Logs b) (s : Stages b) (o : Owners b) (c : Clocks N b) (z : Nodes N b) where
   pub forward_read_cuts : Arrives b i FwdGetS → Cuts (forward_read b i)
   forward_read_cuts a = grind (arith, nat_tests)
 

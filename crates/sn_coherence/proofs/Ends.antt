@@ -3,12 +3,13 @@ use Rattle.std.proofs.Common.{◌≡◌, ◌≢◌, ℕ, zero, suc, ◌+◌, ◌
 use Rattle.std.proofs.lemmas.Bool.Decides.{nat_tests}
 use Rattle.sn_coherence.specs.Block.{Block}
 use Rattle.sn_coherence.specs.Others.{start, recover}
-use Rattle.sn_coherence.specs.Kept.{Clocks, Stages, Requests, Owners, Waits, Sharing, Logs, Cuts, Frames, Kept, count, is_settled}
+use Rattle.sn_coherence.specs.Kept.{Clocks, Nodes, Stages, Requests, Owners, Waits, Sharing, Logs, Cuts, Frames, Kept, count, is_settled}
 use Rattle.sn_coherence.proofs.Counts.{no_count}
 
 pub start_kept : (N home v : ℕ) → home < N → Kept N (start home v)
 start_kept N home v low = record {
   clocks = grind (arith, nat_tests);
+  nodes = grind (arith, nat_tests);
   stages = grind (arith, nat_tests);
   requests = grind (arith, nat_tests);
   owners = grind (arith, nat_tests);
@@ -26,6 +27,9 @@ point_settled N b c s = grind (arith, nat_tests)
 module _ (N : ℕ) (b : Block) (settled : is_settled b b.point ≡ true) where
   recover_clocks : Clocks N b → Clocks N (recover N b)
   recover_clocks c = grind (arith, nat_tests)
+
+  recover_nodes : Cuts b → Nodes N b → Nodes N (recover N b)
+  recover_nodes u z = grind (arith, nat_tests, u.one)
 
   recover_stages : Stages b → Stages (recover N b)
   recover_stages s = grind (arith, nat_tests)
@@ -54,6 +58,7 @@ module _ (N : ℕ) (b : Block) (settled : is_settled b b.point ≡ true) where
 pub recover_kept : (N : ℕ) (b : Block) → Kept N b → Kept N (recover N b)
 recover_kept N b k = record {
   clocks = recover_clocks N b settled k.clocks;
+  nodes = recover_nodes N b settled k.cuts k.nodes;
   stages = recover_stages N b settled k.stages;
   requests = recover_requests N b settled;
   owners = recover_owners N b settled k.cuts;

@@ -1,6 +1,8 @@
 pub mod Counts
 pub mod Rows
+pub mod Acknowledged
 pub mod Clocks
+pub mod Nodes
 pub mod Stages
 pub mod Requests
 pub mod Owners
@@ -12,3 +14,10 @@ pub mod Frames
 pub mod Ends
 pub mod EachRow
 pub mod Whole
+pub mod Reports
+pub mod Contents
+pub mod Accesses
+pub mod CutContents
+pub mod EndsRecords
+pub mod EachRowRecords
+pub mod WholeRecords

@@ -4,13 +4,14 @@ use Rattle.sn_coherence.specs.Block.{Block, Message, Line, NoLine, Shared, Owned
 use Rattle.sn_coherence.specs.CacheRows.{forward_read, forward_write, invalidate, data_shared, data_modified_waits, data_modified_completes, upgrade_granted_waits, upgrade_granted_completes, acknowledge_waits, acknowledge_completes, put_go, put_done, data_exclusive}
 use Rattle.sn_coherence.specs.HomeRows.{read_at_home, read_at_owner, take, move_ownership, upgrade, unblock_move, unblock_other, put_begins, put_is_stale, put_data, grant_exclusive}
 use Rattle.sn_coherence.specs.Others.{begin_read_miss, begin_write_miss, begin_put, begin_miss_elsewhere, end_miss_elsewhere, begin_put_elsewhere, end_put_elsewhere, numbers_elsewhere, store, evict_shared, edge, report, validate, lose, deliver_advance, recover, start}
-use Rattle.sn_coherence.specs.Kept.{Clocks, Stages, Requests, Owners, Waits, Sharing, Logs, Cuts, Frames, count, is_settled}
+use Rattle.sn_coherence.specs.Kept.{Clocks, Nodes, Stages, Requests, Owners, Waits, Sharing, Logs, Cuts, Frames, count, is_settled}
 use Rattle.sn_coherence.specs.Events.{Arrives, Owns, OtherOwns, Lists, other_sharers, NothingUnfinished, Free}
 use Rattle.sn_coherence.proofs.Rows.{At, IsLast}
-use Rattle.sn_coherence.proofs.Counts.{count_none, count_without}
+use Rattle.sn_coherence.proofs.Counts.{count_none}
+use Rattle.sn_coherence.proofs.Acknowledged.{last_waited}
 
 
-module _ (N : ℕ) (b : Block) (i : ℕ) (h : Sharing b) (s : Stages b) (o : Owners b) (q : Requests b) (w : Waits N b) where
+module _ (N : ℕ) (b : Block) (i : ℕ) (h : Sharing b) (s : Stages b) (o : Owners b) (q : Requests b) (w : Waits N b) (z : Nodes N b) where
   pub forward_read_sharing : Arrives b i FwdGetS → Sharing (forward_read b i)
   forward_read_sharing a = grind (arith, nat_tests)
 
@@ -39,7 +40,7 @@ module _ (N : ℕ) (b : Block) (i : ℕ) (h : Sharing b) (s : Stages b) (o : Own
   acknowledge_waits_sharing a a1 = grind (arith, nat_tests)
 
   pub acknowledge_completes_sharing : Arrives b i InvAck → IsLast b i ≡ true → Sharing (acknowledge_completes b i)
-  acknowledge_completes_sharing a a1 = grind (arith, nat_tests, count_none N (set b.waited (b.net i).from false), count_without N b.waited (b.net i).from)
+  acknowledge_completes_sharing a a1 = grind (arith, nat_tests, last_waited N b i w z a a1)
 
   pub put_go_sharing : Arrives b i PutGo → Sharing (put_go b i)
   put_go_sharing a = grind (arith, nat_tests)

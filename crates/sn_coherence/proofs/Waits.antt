@@ -4,10 +4,11 @@ use Rattle.sn_coherence.specs.Block.{Block, Message, Line, NoLine, Shared, Owned
 use Rattle.sn_coherence.specs.CacheRows.{forward_read, forward_write, invalidate, data_shared, data_modified_waits, data_modified_completes, upgrade_granted_waits, upgrade_granted_completes, acknowledge_waits, acknowledge_completes, put_go, put_done, data_exclusive}
 use Rattle.sn_coherence.specs.HomeRows.{read_at_home, read_at_owner, take, move_ownership, upgrade, unblock_move, unblock_other, put_begins, put_is_stale, put_data, grant_exclusive}
 use Rattle.sn_coherence.specs.Others.{begin_read_miss, begin_write_miss, begin_put, begin_miss_elsewhere, end_miss_elsewhere, begin_put_elsewhere, end_put_elsewhere, numbers_elsewhere, store, evict_shared, edge, report, validate, lose, deliver_advance, recover, start}
-use Rattle.sn_coherence.specs.Kept.{Clocks, Stages, Requests, Owners, Waits, Sharing, Logs, Cuts, Frames, count, is_settled}
+use Rattle.sn_coherence.specs.Kept.{Clocks, Nodes, Stages, Requests, Owners, Waits, Sharing, Logs, Cuts, Frames, count, is_settled}
 use Rattle.sn_coherence.specs.Events.{Arrives, Owns, OtherOwns, Lists, other_sharers, NothingUnfinished, Free}
 use Rattle.sn_coherence.proofs.Rows.{At, IsLast}
 use Rattle.sn_coherence.proofs.Counts.{count_zero, count_none, no_count, count_without, count_low}
+use Rattle.sn_coherence.proofs.Acknowledged.{last_waited}
 
 
 -- one row's invalidations go to different nodes
@@ -20,7 +21,7 @@ invs_apart b i m targets due none other apart x y e1 e2 e3 = grind (arith, nat_t
 no_invs : (N : ℕ) (b : Block) → Waits N b → b.kind ≡ Idle → (x : ℕ) → is_invalidation (b.net x).body ≡ false
 no_invs N b w idle x = grind (arith, nat_tests)
 
-module _ (N : ℕ) (b : Block) (i : ℕ) (w : Waits N b) (s : Stages b) (q : Requests b) where
+module _ (N : ℕ) (b : Block) (i : ℕ) (w : Waits N b) (s : Stages b) (q : Requests b) (z : Nodes N b) where
   pub forward_read_waits : Arrives b i FwdGetS → Waits N (forward_read b i)
   forward_read_waits a = grind (arith, nat_tests, w.one_inv i, s.one_token i)
 
@@ -49,7 +50,7 @@ module _ (N : ℕ) (b : Block) (i : ℕ) (w : Waits N b) (s : Stages b) (q : Req
   acknowledge_waits_waits a a1 = grind (arith, nat_tests, w.one_inv i, count_without N b.waited (b.net i).from)
 
   pub acknowledge_completes_waits : Arrives b i InvAck → IsLast b i ≡ true → Waits N (acknowledge_completes b i)
-  acknowledge_completes_waits a a1 = grind (arith, nat_tests, w.one_inv i, count_none N (set b.waited (b.net i).from false), count_without N b.waited (b.net i).from)
+  acknowledge_completes_waits a a1 = grind (arith, nat_tests, w.one_inv i, last_waited N b i w z a a1, count_without N b.waited (b.net i).from)
 
   pub put_go_waits : Arrives b i PutGo → Waits N (put_go b i)
   put_go_waits a = grind (arith, nat_tests, w.one_inv i, s.one_token i)
@@ -71,15 +72,12 @@ module _ (N : ℕ) (b : Block) (i : ℕ) (w : Waits N b) (s : Stages b) (q : Req
     due_message = λ x e1. grind (arith, nat_tests, each.all, no_count N);
     due_fixed = λ m1 e1. grind (arith, nat_tests);
     get_acks = λ x e1. grind (arith, nat_tests);
-    acks_low = λ e1 e2. grind (arith, nat_tests, count_low N (others b.sharers (b.net i).from) (b.net i).from, w.get_low i);
+    acks_low = λ e1 e2. grind (arith, nat_tests, count_low N (others b.sharers (b.net i).from) (b.net i).from, z.from_low i);
     waited_of = λ m1 e1. grind (arith, nat_tests, q.get_m i);
     inv = λ x e1. grind (arith, nat_tests, each.passes (x - (b.next + 1)));
     inv_ack = λ x e1. grind (arith, nat_tests);
     one_inv = λ x y e1 e2 e3. invs_apart b i _ targets due (no_invs N b w a1) refl each.apart x y e1 e2 e3;
     ack_line = λ x e1. grind (arith, nat_tests);
-    get_low = λ x e1. grind (arith, nat_tests);
-    waited_low = λ m1 e1. grind (arith, nat_tests);
-    sharer_low = λ m1 e1. grind (arith, nat_tests);
   }
 
   pub move_ownership_waits : (targets : ℕ → ℕ) (due : ℕ) → At b i GetM → b.kind ≡ Idle → OtherOwns b (b.net i).from → Lists N (other_sharers b i) targets due → Waits N (move_ownership b i targets due)
@@ -87,15 +85,12 @@ module _ (N : ℕ) (b : Block) (i : ℕ) (w : Waits N b) (s : Stages b) (q : Req
     due_message = λ x e1. grind (arith, nat_tests, each.all, no_count N);
     due_fixed = λ m1 e1. grind (arith, nat_tests);
     get_acks = λ x e1. grind (arith, nat_tests);
-    acks_low = λ e1 e2. grind (arith, nat_tests, count_low N (others b.sharers (b.net i).from) (b.net i).from, w.get_low i);
+    acks_low = λ e1 e2. grind (arith, nat_tests, count_low N (others b.sharers (b.net i).from) (b.net i).from, z.from_low i);
     waited_of = λ m1 e1. grind (arith, nat_tests, q.get_m i);
     inv = λ x e1. grind (arith, nat_tests, each.passes (x - (b.next + 1)));
     inv_ack = λ x e1. grind (arith, nat_tests);
     one_inv = λ x y e1 e2 e3. invs_apart b i _ targets due (no_invs N b w a1) refl each.apart x y e1 e2 e3;
     ack_line = λ x e1. grind (arith, nat_tests);
-    get_low = λ x e1. grind (arith, nat_tests);
-    waited_low = λ m1 e1. grind (arith, nat_tests);
-    sharer_low = λ m1 e1. grind (arith, nat_tests);
   }
 
   pub upgrade_waits : (targets : ℕ → ℕ) (due : ℕ) → At b i GetM → b.kind ≡ Idle → Owns b (b.net i).from → Lists N (other_sharers b i) targets due → Waits N (upgrade b i targets due)
@@ -103,15 +98,12 @@ module _ (N : ℕ) (b : Block) (i : ℕ) (w : Waits N b) (s : Stages b) (q : Req
     due_message = λ x e1. grind (arith, nat_tests, each.all, no_count N);
     due_fixed = λ m1 e1. grind (arith, nat_tests);
     get_acks = λ x e1. grind (arith, nat_tests);
-    acks_low = λ e1 e2. grind (arith, nat_tests, count_low N (others b.sharers (b.net i).from) (b.net i).from, w.get_low i);
+    acks_low = λ e1 e2. grind (arith, nat_tests, count_low N (others b.sharers (b.net i).from) (b.net i).from, z.from_low i);
     waited_of = λ m1 e1. grind (arith, nat_tests, q.get_m i);
     inv = λ x e1. grind (arith, nat_tests, each.passes (x - (b.next + 1)));
     inv_ack = λ x e1. grind (arith, nat_tests);
     one_inv = λ x y e1 e2 e3. invs_apart b i _ targets due (no_invs N b w a1) refl each.apart x y e1 e2 e3;
     ack_line = λ x e1. grind (arith, nat_tests);
-    get_low = λ x e1. grind (arith, nat_tests);
-    waited_low = λ m1 e1. grind (arith, nat_tests);
-    sharer_low = λ m1 e1. grind (arith, nat_tests);
   }
 
   pub unblock_move_waits : At b i Unblock → b.kind ≡ Move → Waits N (unblock_move b i)
@@ -130,7 +122,7 @@ module _ (N : ℕ) (b : Block) (i : ℕ) (w : Waits N b) (s : Stages b) (q : Req
   put_data_waits a = grind (arith, nat_tests, w.one_inv i, s.one_token i)
 
   pub grant_exclusive_waits : At b i GetS → b.kind ≡ Idle → b.at_home ≡ true → ((x : ℕ) → other_sharers b i x ≡ false) → Waits N (grant_exclusive b i)
-  grant_exclusive_waits a a1 a2 a3 = grind (arith, nat_tests, no_count N, count_low N (λ x. false) (b.net i).from, w.get_low i)
+  grant_exclusive_waits a a1 a2 a3 = grind (arith, nat_tests, no_count N, count_low N (λ x. false) (b.net i).from, z.from_low i)
 
   pub deliver_advance_waits : Arrives b i Advance → Waits N (deliver_advance b i)
   deliver_advance_waits a = grind (arith, nat_tests, w.one_inv i, s.one_token i)

@@ -16,20 +16,20 @@ chosen_kept : (N : ℕ) (t : Bool) (x y : Block) → (t ≡ true → Kept N x) �
 chosen_kept N true x y first second = first refl
 chosen_kept N false x y first second = second refl
 
-equal : (x y : ℕ) → (x == y) ≡ true → x ≡ y
+pub equal : (x y : ℕ) → (x == y) ≡ true → x ≡ y
 equal x y e = grind (arith, nat_tests)
 
-unequal : (x y : ℕ) → (x == y) ≡ false → x ≢ y
+pub unequal : (x y : ℕ) → (x == y) ≡ false → x ≢ y
 unequal x y e = grind (arith, nat_tests)
 
-moves : (k : Kind) → is_move k ≡ true → k ≡ Move
+pub moves : (k : Kind) → is_move k ≡ true → k ≡ Move
 moves k e = grind arith
 
-stays : (k : Kind) → is_move k ≡ false → k ≢ Move
+pub stays : (k : Kind) → is_move k ≡ false → k ≢ Move
 stays k e = grind arith
 
 -- a message for the home has come to the home
-at : (b : Block) (i : ℕ) (body : Body) → Requests b → is_to_home body ≡ true → Arrives b i body → At b i body
+pub at : (b : Block) (i : ℕ) (body : Body) → Requests b → is_to_home body ≡ true → Arrives b i body → At b i body
 at b i body q h a = (a.0, grind (arith, q.to_home i))
 
 module _ (N : ℕ) (b : Block) (i : ℕ) (kept : Kept N b) where
@@ -51,11 +51,11 @@ module _ (N : ℕ) (b : Block) (i : ℕ) (kept : Kept N b) where
       (λ e. unblock_move_kept N b i kept a (moves _ e))
       (λ e. unblock_other_kept N b i kept a (stays _ e))
 
-  no_others : count N (other_sharers b i) ≡ 0 → (x : ℕ) → other_sharers b i x ≡ false
+  pub no_others : count N (other_sharers b i) ≡ 0 → (x : ℕ) → other_sharers b i x ≡ false
   no_others e = count_none N (other_sharers b i) e low
     where
       low : (x : ℕ) → other_sharers b i x ≡ true → x < N
-      low x s = grind (arith, nat_tests, kept.waits.sharer_low x)
+      low x s = grind (arith, nat_tests, kept.nodes.sharer_low x)
 
 pub event_kept : (N : ℕ) (b : Block) (e : Event) → Kept N b → Allows N b e → Kept N (after N b e)
 event_kept N b (ForwardRead i) k a = forward_read_kept N b i k a

@@ -20,14 +20,28 @@ pub record Clocks (N : ℕ) (b : Block) : Type 0 where
   pub tag_now : (i : ℕ) → (b.net i).body ≢ Gone → (b.net i).tag ≤ b.now (b.net i).from
   -- no Advance is above the point
   pub advance_point : (i : ℕ) → (b.net i).body ≡ Advance → (b.net i).number ≤ b.point
-  -- and it is to a node
-  pub advance_low : (i : ℕ) → (b.net i).body ≡ Advance → (b.net i).to < N
   -- whatever is open was begun at or above the point: misses, puts, and the transaction
-  pub miss_point : (n : ℕ) → n < N → (b.miss n).want ≢ Nothing → b.point ≤ (b.miss n).issued
-  pub put_point : (n : ℕ) → n < N → b.putting n ≢ NoPut → b.point ≤ b.put_issued n
+  pub miss_point : (n : ℕ) → (b.miss n).want ≢ Nothing → b.point ≤ (b.miss n).issued
+  pub put_point : (n : ℕ) → b.putting n ≢ NoPut → b.point ≤ b.put_issued n
   pub begun_point : b.kind ≢ Idle → b.point ≤ b.begun
-  -- the home is a node
+
+-- Nodes. Whatever is spoken of is a node, a number below N.
+pub record Nodes (N : ℕ) (b : Block) : Type 0 where
+  -- the home, and both ends of each message
   pub home_low : b.home < N
+  pub from_low : (i : ℕ) → (b.net i).body ≢ Gone → (b.net i).from < N
+  pub to_low : (i : ℕ) → (b.net i).body ≢ Gone → (b.net i).to < N
+  -- r, sharers, and who is waited for
+  pub requester_low : b.kind ≢ Idle → b.requester < N
+  pub sharer_low : (n : ℕ) → b.sharers n ≡ true → n < N
+  pub waited_low : (n : ℕ) → b.waited n ≡ true → n < N
+  -- the cache that the home names, now and at each cut
+  pub owner_low : b.at_home ≡ false → b.owner < N
+  pub named_low : (j : ℕ) → b.named_home j ≡ false → b.named j < N
+  -- who has a line, a miss or a put
+  pub line_low : (n : ℕ) → b.line n ≢ NoLine → n < N
+  pub miss_low : (n : ℕ) → (b.miss n).want ≢ Nothing → n < N
+  pub put_low : (n : ℕ) → b.putting n ≢ NoPut → n < N
 
 -- Stages. How far the open transaction has come, and the one message of it that may be in flight.
 pub record Stages (b : Block) : Type 0 where
@@ -148,10 +162,6 @@ pub record Waits (N : ℕ) (b : Block) : Type 0 where
   pub one_inv : (i j : ℕ) → is_invalidation (b.net i).body ≡ true → is_invalidation (b.net j).body ≡ true → sharer_of (b.net i) ≡ sharer_of (b.net j) → i ≡ j
   -- who sent an InvAck has no line
   pub ack_line : (i : ℕ) → (b.net i).body ≡ InvAck → b.line (b.net i).from ≡ NoLine
-  -- requests come from nodes; sharers and who is waited for are nodes
-  pub get_low : (i : ℕ) → is_get (b.net i).body ≡ true → (b.net i).from < N
-  pub waited_low : (n : ℕ) → b.waited n ≡ true → n < N
-  pub sharer_low : (n : ℕ) → b.sharers n ≡ true → n < N
 
 -- Sharing. Who may have a copy beside whom.
 pub record Sharing (b : Block) : Type 0 where
@@ -221,6 +231,7 @@ pub record Frames (N : ℕ) (b : Block) : Type 0 where
 -- All of it.
 pub record Kept (N : ℕ) (b : Block) : Type 0 where
   pub clocks : Clocks N b
+  pub nodes : Nodes N b
   pub stages : Stages b
   pub requests : Requests b
   pub owners : Owners b

@@ -4,3 +4,5 @@ pub mod HomeRows
 pub mod Others
 pub mod Kept
 pub mod Events
+pub mod Records
+pub mod KeptRecords
