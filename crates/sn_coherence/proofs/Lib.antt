@@ -21,3 +21,4 @@ pub mod CutContents
 pub mod EndsRecords
 pub mod EachRowRecords
 pub mod WholeRecords
+pub mod Consequences

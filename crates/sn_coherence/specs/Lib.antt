@@ -6,3 +6,4 @@ pub mod Kept
 pub mod Events
 pub mod Records
 pub mod KeptRecords
+pub mod Consequences
