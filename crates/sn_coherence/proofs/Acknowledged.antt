@@ -1,5 +1,5 @@
 -- The last acknowledgement is that of the one node that is still waited for.
-use Rattle.std.proofs.Common.{◌≡◌, ◌≢◌, ℕ, ◌+◌, ◌<◌, ◌≤◌, Bool, true, false, ◌==◌, ◌&&◌, arith}
+use Rattle.std.proofs.Common.{◌≡◌, ℕ, ◌<◌, true, false, arith}
 use Rattle.std.proofs.lemmas.Bool.Decides.{nat_tests}
 use Rattle.sn_coherence.specs.Block.{Block, InvAck, set}
 use Rattle.sn_coherence.specs.Kept.{Waits, Nodes, count}

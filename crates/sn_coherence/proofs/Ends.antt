@@ -1,12 +1,12 @@
 -- The start has all of it, and so has what a recovery leaves.
-use Rattle.std.proofs.Common.{◌≡◌, ◌≢◌, ℕ, zero, suc, ◌+◌, ◌<◌, ◌≤◌, Bool, true, false, refl, arith}
+use Rattle.std.proofs.Common.{◌≡◌, ℕ, ◌<◌, true, arith}
 use Rattle.std.proofs.lemmas.Bool.Decides.{nat_tests}
-use Rattle.sn_coherence.specs.Block.{Block}
+use Rattle.sn_coherence.specs.Block.{Block, Content}
 use Rattle.sn_coherence.specs.Others.{start, recover}
-use Rattle.sn_coherence.specs.Kept.{Clocks, Nodes, Stages, Requests, Owners, Waits, Sharing, Logs, Cuts, Frames, Kept, count, is_settled}
+use Rattle.sn_coherence.specs.Kept.{Clocks, Nodes, Stages, Requests, Owners, Waits, Sharing, Logs, Cuts, Frames, Kept, is_settled}
 use Rattle.sn_coherence.proofs.Counts.{no_count}
 
-pub start_kept : (N home v : ℕ) → home < N → Kept N (start home v)
+pub start_kept : (N home : ℕ) (v : Content) → home < N → Kept N (start home v)
 start_kept N home v low = record {
   clocks = grind (arith, nat_tests);
   nodes = grind (arith, nat_tests);

@@ -1,14 +1,14 @@
 -- The start has all of the records' sentences, and so has what a recovery leaves.
-use Rattle.std.proofs.Common.{◌≡◌, ◌≢◌, ℕ, zero, suc, ◌+◌, ◌<◌, ◌≤◌, Bool, true, false, refl, arith}
+use Rattle.std.proofs.Common.{◌≡◌, ℕ, true, arith}
 use Rattle.std.proofs.lemmas.Bool.Decides.{nat_tests}
-use Rattle.sn_coherence.specs.Block.{Block}
+use Rattle.sn_coherence.specs.Block.{Block, Content}
 use Rattle.sn_coherence.specs.Others.{start, recover}
-use Rattle.sn_coherence.specs.Kept.{Clocks, Nodes, Stages, Cuts, Kept, is_settled}
+use Rattle.sn_coherence.specs.Kept.{Clocks, Nodes, Cuts, Kept, is_settled}
 use Rattle.sn_coherence.specs.Records.{Records, rolls_back, no_records}
 use Rattle.sn_coherence.specs.KeptRecords.{Reports, Contents, Accesses, CutContents, KeptRecords}
 use Rattle.sn_coherence.proofs.Ends.{point_settled}
 
-pub start_recorded : (home v : ℕ) → KeptRecords (start home v) (no_records v)
+pub start_recorded : (home : ℕ) (v : Content) → KeptRecords (start home v) (no_records v)
 start_recorded home v = record {
   reports = grind (arith, nat_tests);
   contents = grind (arith, nat_tests);

@@ -1,62 +1,66 @@
-use Rattle.std.proofs.Common.{◌≡◌, ◌≢◌, ℕ, zero, suc, ◌+◌, ◌-◌, ◌<◌, ◌≤◌, Bool, true, false, cond, ◌==◌, ◌&&◌, ◌⊎◌, refl, arith}
+-- Stages: each row and event keeps the transaction and its message in step.
+use Rattle.std.proofs.Common.{◌≡◌, ◌≢◌, ℕ, ◌+◌, ◌<◌, true, false, ◌⊎◌, arith}
 use Rattle.std.proofs.lemmas.Bool.Decides.{nat_tests}
-use Rattle.sn_coherence.specs.Block.{Block, Message, Line, NoLine, Shared, Owned, Modified, Exclusive, Want, Nothing, Reads, Writes, Elsewhere, Putting, NoPut, Here, PutElsewhere, Kind, Idle, Read, Take, Move, Upgrade, Put, Stage, Asked, Given, Inside, Done, Body, Gone, GetS, GetM, FwdGetS, FwdGetM, Inv, DataS, DataM, DataE, UpgOk, InvAck, Unblock, PutReq, PutData, PutGo, PutDone, Ready, Advance, is_owned, is_writable, is_here, takes, gets, is_get, is_invalidation, sharer_of, set, others, invalidates}
-use Rattle.sn_coherence.specs.CacheRows.{forward_read, forward_write, invalidate, data_shared, data_modified_waits, data_modified_completes, upgrade_granted_waits, upgrade_granted_completes, acknowledge_waits, acknowledge_completes, put_go, put_done, data_exclusive}
+use Rattle.sn_coherence.specs.Block.{Block, Content, NoLine, Shared, Nothing, Elsewhere, NoPut, PutElsewhere, Idle, Move, GetS, GetM, FwdGetS, FwdGetM, Inv, DataS, DataM, DataE, UpgOk, InvAck, Unblock, PutReq, PutData, PutGo, PutDone, Advance, is_owned, is_writable, is_here}
+use Rattle.sn_coherence.specs.CacheRows.{forward_read, forward_write, invalidate, data_shared, data_modified_open, data_modified_complete, upgrade_granted_open, upgrade_granted_complete, acknowledge_open, acknowledge_complete, put_go, put_done, data_exclusive}
 use Rattle.sn_coherence.specs.HomeRows.{read_at_home, read_at_owner, take, move_ownership, upgrade, unblock_move, unblock_other, put_begins, put_is_stale, put_data, grant_exclusive}
-use Rattle.sn_coherence.specs.Others.{begin_read_miss, begin_write_miss, begin_put, begin_miss_elsewhere, end_miss_elsewhere, begin_put_elsewhere, end_put_elsewhere, numbers_elsewhere, store, evict_shared, edge, report, validate, lose, deliver_advance, recover, start}
-use Rattle.sn_coherence.specs.Kept.{Clocks, Nodes, Stages, Requests, Owners, Waits, Sharing, Logs, Cuts, Frames, count, is_settled}
-use Rattle.sn_coherence.specs.Events.{Arrives, Owns, OtherOwns, Lists, other_sharers, NothingUnfinished, Free}
+use Rattle.sn_coherence.specs.Others.{begin_read_miss, begin_write_miss, begin_put, begin_miss_elsewhere, end_miss_elsewhere, begin_put_elsewhere, end_put_elsewhere, numbers_elsewhere, store, evict_shared, edge, report, validate, lose, deliver_advance}
+use Rattle.sn_coherence.specs.Kept.{Stages, Requests, Owners, Waits}
+use Rattle.sn_coherence.specs.Events.{Arrives, Owns, OtherOwns, other_sharers, NothingUnfinished, Free}
 use Rattle.sn_coherence.proofs.Rows.{At, IsLast}
 
+module _ (N : ℕ) (b : Block) (i : ℕ) (stages : Stages b) (requests : Requests b) where
+  -- The cache's rows.
 
-module _ (N : ℕ) (b : Block) (i : ℕ) (s : Stages b) (q : Requests b) where
   pub forward_read_stages : Arrives b i FwdGetS → Stages (forward_read b i)
-  forward_read_stages a = grind (arith, nat_tests, s.one_token i)
+  forward_read_stages arrives = grind (arith, nat_tests, stages.one_token i)
 
   pub forward_write_stages : Arrives b i FwdGetM → Stages (forward_write b i)
-  forward_write_stages a = grind (arith, nat_tests, s.one_token i)
+  forward_write_stages arrives = grind (arith, nat_tests, stages.one_token i)
 
   pub invalidate_stages : Waits N b → Arrives b i Inv → Stages (invalidate b i)
-  invalidate_stages w a = grind (arith, nat_tests, s.one_token i)
+  invalidate_stages waits arrives = grind (arith, nat_tests, stages.one_token i)
 
   pub data_shared_stages : Arrives b i DataS → Stages (data_shared b i)
-  data_shared_stages a = grind (arith, nat_tests, s.one_token i)
+  data_shared_stages arrives = grind (arith, nat_tests, stages.one_token i)
 
-  pub data_modified_waits_stages : Arrives b i DataM → (b.miss (b.net i).to).acks ≢ (b.net i).due → Stages (data_modified_waits b i)
-  data_modified_waits_stages a a1 = grind (arith, nat_tests, s.one_token i)
+  pub data_modified_open_stages : Arrives b i DataM → (b.miss (b.net i).to).acks ≢ (b.net i).due → Stages (data_modified_open b i)
+  data_modified_open_stages arrives some_lack = grind (arith, nat_tests, stages.one_token i)
 
-  pub data_modified_completes_stages : Arrives b i DataM → (b.miss (b.net i).to).acks ≡ (b.net i).due → Stages (data_modified_completes b i)
-  data_modified_completes_stages a a1 = grind (arith, nat_tests, s.one_token i)
+  pub data_modified_complete_stages : Arrives b i DataM → (b.miss (b.net i).to).acks ≡ (b.net i).due → Stages (data_modified_complete b i)
+  data_modified_complete_stages arrives all_in = grind (arith, nat_tests, stages.one_token i)
 
-  pub upgrade_granted_waits_stages : Owners b → Arrives b i UpgOk → (b.miss (b.net i).to).acks ≢ (b.net i).due → Stages (upgrade_granted_waits b i)
-  upgrade_granted_waits_stages o a a1 = grind (arith, nat_tests, s.one_token i)
+  pub upgrade_granted_open_stages : Owners b → Arrives b i UpgOk → (b.miss (b.net i).to).acks ≢ (b.net i).due → Stages (upgrade_granted_open b i)
+  upgrade_granted_open_stages owners arrives some_lack = grind (arith, nat_tests, stages.one_token i)
 
-  pub upgrade_granted_completes_stages : Arrives b i UpgOk → (b.miss (b.net i).to).acks ≡ (b.net i).due → Stages (upgrade_granted_completes b i)
-  upgrade_granted_completes_stages a a1 = grind (arith, nat_tests, s.one_token i)
+  pub upgrade_granted_complete_stages : Arrives b i UpgOk → (b.miss (b.net i).to).acks ≡ (b.net i).due → Stages (upgrade_granted_complete b i)
+  upgrade_granted_complete_stages arrives all_in = grind (arith, nat_tests, stages.one_token i)
 
-  pub acknowledge_waits_stages : Waits N b → Arrives b i InvAck → IsLast b i ≡ false → Stages (acknowledge_waits b i)
-  acknowledge_waits_stages w a a1 = grind (arith, nat_tests, s.one_token i)
+  pub acknowledge_open_stages : Waits N b → Arrives b i InvAck → IsLast b i ≡ false → Stages (acknowledge_open b i)
+  acknowledge_open_stages waits arrives not_last = grind (arith, nat_tests, stages.one_token i)
 
-  pub acknowledge_completes_stages : Waits N b → Arrives b i InvAck → IsLast b i ≡ true → Stages (acknowledge_completes b i)
-  acknowledge_completes_stages w a a1 = grind (arith, nat_tests, s.one_token i)
+  pub acknowledge_complete_stages : Waits N b → Arrives b i InvAck → IsLast b i ≡ true → Stages (acknowledge_complete b i)
+  acknowledge_complete_stages waits arrives last = grind (arith, nat_tests, stages.one_token i)
 
   pub put_go_stages : Arrives b i PutGo → Stages (put_go b i)
-  put_go_stages a = grind (arith, nat_tests, s.one_token i)
+  put_go_stages arrives = grind (arith, nat_tests, stages.one_token i)
 
   pub put_done_stages : Arrives b i PutDone → Stages (put_done b i)
-  put_done_stages a = grind (arith, nat_tests, s.one_token i)
+  put_done_stages arrives = grind (arith, nat_tests, stages.one_token i)
 
   pub data_exclusive_stages : Arrives b i DataE → Stages (data_exclusive b i)
-  data_exclusive_stages a = grind (arith, nat_tests, s.one_token i)
+  data_exclusive_stages arrives = grind (arith, nat_tests, stages.one_token i)
+
+  -- The home's rows.
 
   pub read_at_home_stages : At b i GetS → b.kind ≡ Idle → b.at_home ≡ true → Stages (read_at_home b i)
-  read_at_home_stages a a1 a2 = grind (arith, nat_tests, s.one_token i)
+  read_at_home_stages arrives idle home_owns = grind (arith, nat_tests, stages.one_token i)
 
   pub read_at_owner_stages : At b i GetS → b.kind ≡ Idle → b.at_home ≡ false → Stages (read_at_owner b i)
-  read_at_owner_stages a a1 a2 = grind (arith, nat_tests, s.one_token i)
+  read_at_owner_stages arrives idle cache_owns = grind (arith, nat_tests, stages.one_token i)
 
   pub take_stages : (targets : ℕ → ℕ) (due : ℕ) → At b i GetM → b.kind ≡ Idle → b.at_home ≡ true → Stages (take b i targets due)
-  take_stages targets due a a1 a2 = record {
+  take_stages targets due arrives idle home_owns = record {
     fresh = λ x e1. grind (arith, nat_tests);
     read_shape = λ e1. grind (arith, nat_tests);
     put_shape = λ e1. grind (arith, nat_tests);
@@ -87,7 +91,7 @@ module _ (N : ℕ) (b : Block) (i : ℕ) (s : Stages b) (q : Requests b) where
   }
 
   pub move_ownership_stages : (targets : ℕ → ℕ) (due : ℕ) → At b i GetM → b.kind ≡ Idle → OtherOwns b (b.net i).from → Stages (move_ownership b i targets due)
-  move_ownership_stages targets due a a1 a2 = record {
+  move_ownership_stages targets due arrives idle other_owns = record {
     fresh = λ x e1. grind (arith, nat_tests);
     read_shape = λ e1. grind (arith, nat_tests);
     put_shape = λ e1. grind (arith, nat_tests);
@@ -118,7 +122,7 @@ module _ (N : ℕ) (b : Block) (i : ℕ) (s : Stages b) (q : Requests b) where
   }
 
   pub upgrade_stages : (targets : ℕ → ℕ) (due : ℕ) → At b i GetM → b.kind ≡ Idle → Owns b (b.net i).from → Stages (upgrade b i targets due)
-  upgrade_stages targets due a a1 a2 = record {
+  upgrade_stages targets due arrives idle sender_owns = record {
     fresh = λ x e1. grind (arith, nat_tests);
     read_shape = λ e1. grind (arith, nat_tests);
     put_shape = λ e1. grind (arith, nat_tests);
@@ -149,25 +153,27 @@ module _ (N : ℕ) (b : Block) (i : ℕ) (s : Stages b) (q : Requests b) where
   }
 
   pub unblock_move_stages : At b i Unblock → b.kind ≡ Move → Stages (unblock_move b i)
-  unblock_move_stages a a1 = grind (arith, nat_tests, s.one_token i)
+  unblock_move_stages arrives move = grind (arith, nat_tests, stages.one_token i)
 
   pub unblock_other_stages : At b i Unblock → b.kind ≢ Move → Stages (unblock_other b i)
-  unblock_other_stages a a1 = grind (arith, nat_tests, s.one_token i)
+  unblock_other_stages arrives no_move = grind (arith, nat_tests, stages.one_token i)
 
   pub put_begins_stages : At b i PutReq → b.kind ≡ Idle → Owns b (b.net i).from → Stages (put_begins b i)
-  put_begins_stages a a1 a2 = grind (arith, nat_tests, s.one_token i)
+  put_begins_stages arrives idle sender_owns = grind (arith, nat_tests, stages.one_token i)
 
   pub put_is_stale_stages : At b i PutReq → b.kind ≡ Idle → (b.at_home ≡ true) ⊎ (b.owner ≢ (b.net i).from) → Stages (put_is_stale b i)
-  put_is_stale_stages a a1 a2 = grind (arith, nat_tests, s.one_token i)
+  put_is_stale_stages arrives idle stale = grind (arith, nat_tests, stages.one_token i)
 
   pub put_data_stages : At b i PutData → Stages (put_data b i)
-  put_data_stages a = grind (arith, nat_tests, s.one_token i)
+  put_data_stages arrives = grind (arith, nat_tests, stages.one_token i)
 
   pub grant_exclusive_stages : At b i GetS → b.kind ≡ Idle → b.at_home ≡ true → ((x : ℕ) → other_sharers b i x ≡ false) → Stages (grant_exclusive b i)
-  grant_exclusive_stages a a1 a2 a3 = grind (arith, nat_tests, s.one_token i)
+  grant_exclusive_stages arrives idle home_owns none = grind (arith, nat_tests, stages.one_token i)
+
+  -- The other events.
 
   pub deliver_advance_stages : Arrives b i Advance → Stages (deliver_advance b i)
-  deliver_advance_stages a = record {
+  deliver_advance_stages arrives = record {
     fresh = λ x e1. grind (arith, nat_tests);
     read_shape = λ e1. grind (arith, nat_tests);
     put_shape = λ e1. grind (arith, nat_tests);
@@ -198,43 +204,43 @@ module _ (N : ℕ) (b : Block) (i : ℕ) (s : Stages b) (q : Requests b) where
   }
 
   pub lose_stages : Stages (lose b i)
-  lose_stages = grind (arith, nat_tests, s.one_token i)
+  lose_stages = grind (arith, nat_tests, stages.one_token i)
 
   pub begin_read_miss_stages : Free N b i → b.line i ≡ NoLine → Stages (begin_read_miss b i)
-  begin_read_miss_stages a a1 = grind (arith, nat_tests, s.one_token i)
+  begin_read_miss_stages free line = grind (arith, nat_tests, stages.one_token i)
 
   pub begin_write_miss_stages : Free N b i → is_writable (b.line i) ≡ false → Stages (begin_write_miss b i)
-  begin_write_miss_stages a a1 = grind (arith, nat_tests, s.one_token i)
+  begin_write_miss_stages free line = grind (arith, nat_tests, stages.one_token i)
 
   pub begin_put_stages : i < N → is_here (b.miss i).want ≡ false → b.putting i ≡ NoPut → is_owned (b.line i) ≡ true → Stages (begin_put b i)
-  begin_put_stages a a1 a2 a3 = grind (arith, nat_tests, s.one_token i)
+  begin_put_stages low no_miss no_put line = grind (arith, nat_tests, stages.one_token i)
 
   pub begin_miss_elsewhere_stages : i < N → (b.miss i).want ≡ Nothing → Stages (begin_miss_elsewhere b i)
-  begin_miss_elsewhere_stages a a1 = grind (arith, nat_tests, s.one_token i)
+  begin_miss_elsewhere_stages low no_miss = grind (arith, nat_tests, stages.one_token i)
 
   pub end_miss_elsewhere_stages : (b.miss i).want ≡ Elsewhere → Stages (end_miss_elsewhere b i)
-  end_miss_elsewhere_stages a = grind (arith, nat_tests, s.one_token i)
+  end_miss_elsewhere_stages there = grind (arith, nat_tests, stages.one_token i)
 
   pub begin_put_elsewhere_stages : i < N → b.putting i ≡ NoPut → Stages (begin_put_elsewhere b i)
-  begin_put_elsewhere_stages a a1 = grind (arith, nat_tests, s.one_token i)
+  begin_put_elsewhere_stages low no_put = grind (arith, nat_tests, stages.one_token i)
 
   pub end_put_elsewhere_stages : b.putting i ≡ PutElsewhere → Stages (end_put_elsewhere b i)
-  end_put_elsewhere_stages a = grind (arith, nat_tests, s.one_token i)
+  end_put_elsewhere_stages there = grind (arith, nat_tests, stages.one_token i)
 
   pub numbers_elsewhere_stages : Stages (numbers_elsewhere b i)
-  numbers_elsewhere_stages = grind (arith, nat_tests, s.one_token i)
+  numbers_elsewhere_stages = grind (arith, nat_tests, stages.one_token i)
 
-  pub store_stages : (v : ℕ) → Free N b i → is_writable (b.line i) ≡ true → Stages (store b i v)
-  store_stages v a a1 = grind (arith, nat_tests, s.one_token i)
+  pub store_stages : (v : Content) → Free N b i → is_writable (b.line i) ≡ true → Stages (store b i v)
+  store_stages v free line = grind (arith, nat_tests, stages.one_token i)
 
   pub evict_shared_stages : is_here (b.miss i).want ≡ false → b.line i ≡ Shared → Stages (evict_shared b i)
-  evict_shared_stages a a1 = grind (arith, nat_tests, s.one_token i)
+  evict_shared_stages no_miss line = grind (arith, nat_tests, stages.one_token i)
 
   pub edge_stages : i < N → b.now i < b.known i + 4 → Stages (edge b i)
-  edge_stages a a1 = grind (arith, nat_tests, s.one_token i)
+  edge_stages low room = grind (arith, nat_tests, stages.one_token i)
 
   pub report_stages : (k : ℕ) → i < N → Stages (report b i k)
-  report_stages k a = grind (arith, nat_tests, s.one_token i)
+  report_stages k low = grind (arith, nat_tests, stages.one_token i)
 
   pub validate_stages : NothingUnfinished N b (b.point + 1) → Stages (validate N b)
-  validate_stages a = grind (arith, nat_tests, s.one_token i)
+  validate_stages finished = grind (arith, nat_tests, stages.one_token i)

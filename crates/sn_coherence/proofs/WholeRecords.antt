@@ -1,17 +1,15 @@
 -- Every event keeps all of the records' sentences.
-use Rattle.std.proofs.Common.{◌≡◌, ◌≢◌, ℕ, ◌+◌, ◌<◌, ◌≤◌, Bool, true, false, cond, ◌==◌, ◌⊎◌, refl, arith}
-use Rattle.std.proofs.lemmas.Bool.Decides.{nat_tests}
+use Rattle.std.proofs.Common.{◌≡◌, ℕ, ◌+◌, ◌<◌, Bool, true, false, cond, refl, arith}
 use Rattle.sn_coherence.specs.Block.{Block, DataM, UpgOk, InvAck, Unblock}
 use Rattle.sn_coherence.specs.CacheRows.{data_modified, upgrade_granted, acknowledge}
 use Rattle.sn_coherence.specs.HomeRows.{unblock}
-use Rattle.sn_coherence.specs.Others.{recover}
 use Rattle.sn_coherence.specs.Kept.{Kept}
 use Rattle.sn_coherence.specs.Events.{Event, ForwardRead, ForwardWrite, Invalidate, DataShared, DataModified, UpgradeGranted, Acknowledge, PutGoes, PutIsDone, DataExclusive, ReadAtHome, ReadAtOwner, Takes, MovesOwnership, Upgrades, Unblocks, PutBegins, PutIsStale, PutDataComes, GrantExclusive, DeliverReady, DeliverAdvance, Lose, BeginReadMiss, BeginWriteMiss, BeginPut, BeginMissElsewhere, EndMissElsewhere, BeginPutElsewhere, EndPutElsewhere, NumbersElsewhere, Load, LoadReserved, Store, StoreConditionalDone, StoreConditionalUndone, EvictShared, Edge, Report, Validate, Recover, Allows, NothingUnfinished, after, Arrives}
 use Rattle.sn_coherence.specs.Records.{Records, recorded, MayHappen}
 use Rattle.sn_coherence.specs.KeptRecords.{KeptRecords, Reports}
 use Rattle.sn_coherence.proofs.Rows.{At}
 use Rattle.sn_coherence.proofs.Whole.{at, equal, unequal, moves, stays, no_others}
-use Rattle.sn_coherence.proofs.EachRowRecords.{forward_read_recorded, forward_write_recorded, invalidate_recorded, data_shared_recorded, data_modified_waits_recorded, data_modified_completes_recorded, upgrade_granted_waits_recorded, upgrade_granted_completes_recorded, acknowledge_waits_recorded, acknowledge_completes_recorded, put_go_recorded, put_done_recorded, data_exclusive_recorded, read_at_home_recorded, read_at_owner_recorded, take_recorded, move_ownership_recorded, upgrade_recorded, unblock_move_recorded, unblock_other_recorded, put_begins_recorded, put_is_stale_recorded, put_data_recorded, grant_exclusive_recorded, deliver_advance_recorded, lose_recorded, begin_read_miss_recorded, begin_write_miss_recorded, begin_put_recorded, begin_miss_elsewhere_recorded, end_miss_elsewhere_recorded, begin_put_elsewhere_recorded, end_put_elsewhere_recorded, numbers_elsewhere_recorded, store_recorded, store_conditional_recorded, evict_shared_recorded, edge_recorded, report_recorded, validate_recorded, load_recorded, load_reserved_recorded, store_conditional_undone_recorded, deliver_ready_recorded}
+use Rattle.sn_coherence.proofs.EachRowRecords.{forward_read_recorded, forward_write_recorded, invalidate_recorded, data_shared_recorded, data_modified_open_recorded, data_modified_complete_recorded, upgrade_granted_open_recorded, upgrade_granted_complete_recorded, acknowledge_open_recorded, acknowledge_complete_recorded, put_go_recorded, put_done_recorded, data_exclusive_recorded, read_at_home_recorded, read_at_owner_recorded, take_recorded, move_ownership_recorded, upgrade_recorded, unblock_move_recorded, unblock_other_recorded, put_begins_recorded, put_is_stale_recorded, put_data_recorded, grant_exclusive_recorded, deliver_advance_recorded, lose_recorded, begin_read_miss_recorded, begin_write_miss_recorded, begin_put_recorded, begin_miss_elsewhere_recorded, end_miss_elsewhere_recorded, begin_put_elsewhere_recorded, end_put_elsewhere_recorded, numbers_elsewhere_recorded, store_recorded, store_conditional_recorded, evict_shared_recorded, edge_recorded, report_recorded, validate_recorded, load_recorded, load_reserved_recorded, store_conditional_undone_recorded, deliver_ready_recorded}
 use Rattle.sn_coherence.proofs.EndsRecords.{recover_recorded}
 
 -- a row with two ends
@@ -75,16 +73,16 @@ allowed N b r Recover k v a = a
 module _ (N : ℕ) (b : Block) (r : Records) (i : ℕ) (k : Kept N b) (v : KeptRecords b r) where
   data_modified_recorded : Arrives b i DataM → KeptRecords (data_modified b i) r
   data_modified_recorded a = chosen_recorded _ _ _ r
-      (λ e. data_modified_completes_recorded N b r i k v a (equal _ _ e))
-      (λ e. data_modified_waits_recorded N b r i k v a (unequal _ _ e))
+      (λ e. data_modified_complete_recorded N b r i k v a (equal _ _ e))
+      (λ e. data_modified_open_recorded N b r i k v a (unequal _ _ e))
 
   upgrade_granted_recorded : Arrives b i UpgOk → KeptRecords (upgrade_granted b i) r
   upgrade_granted_recorded a = chosen_recorded _ _ _ r
-      (λ e. upgrade_granted_completes_recorded N b r i k v a (equal _ _ e))
-      (λ e. upgrade_granted_waits_recorded N b r i k v a (unequal _ _ e))
+      (λ e. upgrade_granted_complete_recorded N b r i k v a (equal _ _ e))
+      (λ e. upgrade_granted_open_recorded N b r i k v a (unequal _ _ e))
 
   acknowledge_recorded : Arrives b i InvAck → KeptRecords (acknowledge b i) r
-  acknowledge_recorded a = chosen_recorded _ _ _ r (λ e. acknowledge_completes_recorded N b r i k v a e) (λ e. acknowledge_waits_recorded N b r i k v a e)
+  acknowledge_recorded a = chosen_recorded _ _ _ r (λ e. acknowledge_complete_recorded N b r i k v a e) (λ e. acknowledge_open_recorded N b r i k v a e)
 
   unblock_recorded : At b i Unblock → KeptRecords (unblock b i) r
   unblock_recorded a = chosen_recorded _ _ _ r

@@ -1,5 +1,12 @@
 -- One block of memory as the whole machine sees it: a record of functions of nodes, of message numbers and of cuts.
-use Rattle.std.specs.Prelude.{ℕ, ◌+◌, ◌-◌, Bool, true, false, ◌==◌, nat_lt, nat_le, cond}
+use Rattle.std.specs.Prelude.{ℕ, ◌+◌, ◌-◌, Bool, true, false, ◌==◌, nat_lt, nat_le, cond, List, []}
+
+-- What a block's bytes are, in order. Where there is no content it is `nothing`.
+abbrev pub Content : Type 0
+Content = List ℕ
+
+abbrev pub nothing : Content
+nothing = []
 
 -- What a cache has of the block.
 pub data Line : Type 0 where
@@ -71,7 +78,7 @@ pub record Message : Type 0 where
   pub due : ℕ
   -- the interval of atomicity of an Unblock, the checkpoint of a Ready or Advance
   pub number : ℕ
-  pub content : ℕ
+  pub content : Content
 
 -- A node's open miss. The last four are of a miss on this block: 0 and false in any other.
 pub record Miss : Type 0 where
@@ -82,7 +89,7 @@ pub record Miss : Type 0 where
   pub due : ℕ
   pub acks : ℕ
 
--- The block. Contents are numbers that stand for what 64 bytes hold.
+-- The block.
 pub record Block : Type 0 where
   -- the recovery point, and the node that is the block's home
   pub point : ℕ
@@ -91,14 +98,14 @@ pub record Block : Type 0 where
   pub now : ℕ → ℕ
   pub known : ℕ → ℕ
   pub line : ℕ → Line
-  pub content : ℕ → ℕ
+  pub content : ℕ → Content
   pub miss : ℕ → Miss
   pub putting : ℕ → Putting
   pub put_issued : ℕ → ℕ
   -- the home's entry: whether the home itself owns and with which content, else which cache; sharers; transaction
   pub at_home : Bool
   pub owner : ℕ
-  pub home_content : ℕ
+  pub home_content : Content
   pub sharers : ℕ → Bool
   pub kind : Kind
   pub requester : ℕ
@@ -109,12 +116,12 @@ pub record Block : Type 0 where
   -- what the logs say: whether cache n holds the block at cut j and with which content, and one more than the interval
   -- of its newest entry of the block, 0 where it has none
   pub holds : ℕ → ℕ → Bool
-  pub held : ℕ → ℕ → ℕ
+  pub held : ℕ → ℕ → Content
   pub last : ℕ → ℕ
   -- the same of the home's side: whether it names itself at cut j and with which content, else which cache
   pub named_home : ℕ → Bool
   pub named : ℕ → ℕ
-  pub home_held : ℕ → ℕ
+  pub home_held : ℕ → Content
   pub home_last : ℕ
   -- for the proof alone: the stage of the open transaction and, once it is given, its interval of atomicity; the nodes
   -- whose acknowledgement its requester waits for; whether the block had a frame of node n at its edge to interval j
@@ -305,18 +312,18 @@ abbrev pub others : (ℕ → Bool) → ℕ → ℕ → Bool
 others f r n = cond (n == r) false (f n)
 
 abbrev pub gone : Message
-gone = record { body = Gone; from = 0; to = 0; tag = 0; requester = 0; due = 0; number = 0; content = 0 }
+gone = record { body = Gone; from = 0; to = 0; tag = 0; requester = 0; due = 0; number = 0; content = nothing }
 
 abbrev pub plain : Body → ℕ → ℕ → ℕ → Message
-plain body from to tag = record { body = body; from = from; to = to; tag = tag; requester = 0; due = 0; number = 0; content = 0 }
+plain body from to tag = record { body = body; from = from; to = to; tag = tag; requester = 0; due = 0; number = 0; content = nothing }
 
 abbrev pub with_number : Body → ℕ → ℕ → ℕ → ℕ → Message
-with_number body from to tag number = record { body = body; from = from; to = to; tag = tag; requester = 0; due = 0; number = number; content = 0 }
+with_number body from to tag number = record { body = body; from = from; to = to; tag = tag; requester = 0; due = 0; number = number; content = nothing }
 
 abbrev pub forward : Body → ℕ → ℕ → ℕ → ℕ → ℕ → Message
-forward body from to tag requester due = record { body = body; from = from; to = to; tag = tag; requester = requester; due = due; number = 0; content = 0 }
+forward body from to tag requester due = record { body = body; from = from; to = to; tag = tag; requester = requester; due = due; number = 0; content = nothing }
 
-abbrev pub answer : Body → ℕ → ℕ → ℕ → ℕ → ℕ → Message
+abbrev pub answer : Body → ℕ → ℕ → ℕ → ℕ → Content → Message
 answer body from to tag due content = record { body = body; from = from; to = to; tag = tag; requester = 0; due = due; number = 0; content = content }
 
 -- the net without message i

@@ -1,6 +1,6 @@
 -- The rows of a cache, in the order of its table. Message i has come to the node that it is for.
-use Rattle.std.specs.Prelude.{ℕ, ◌+◌, Bool, true, false, ◌==◌, ◌&&◌, cond}
-use Rattle.sn_coherence.specs.Block.{Block, Miss, Line, NoLine, Shared, Owned, Modified, Exclusive, Want, Putting, NoPut, Stage, Given, Inside, Done, Body, Message, DataS, DataM, InvAck, Unblock, PutData, is_write, set, set_row, above, no_miss, plain, with_number, answer, taken, replaced}
+use Rattle.std.specs.Prelude.{ℕ, ◌+◌, true, false, ◌==◌, ◌&&◌, cond}
+use Rattle.sn_coherence.specs.Block.{Block, Miss, NoLine, Shared, Owned, Modified, Exclusive, NoPut, Given, Inside, Done, Message, DataS, DataM, InvAck, Unblock, PutData, is_write, set, set_row, above, nothing, no_miss, plain, with_number, answer, taken, replaced}
 
 -- FwdGetS for r, at the owner: the line is owned and no longer writable; DataS with the content to r.
 abbrev pub forward_read : Block → ℕ → Block
@@ -18,9 +18,9 @@ abbrev pub forward_write : Block → ℕ → Block
 forward_write b i =
     record b {
       line = set b.line (b.net i).to NoLine;
-      content = set b.content (b.net i).to 0;
+      content = set b.content (b.net i).to nothing;
       holds = set_row b.holds (b.net i).to (above (b.holds (b.net i).to) (b.now (b.net i).to) false);
-      held = set_row b.held (b.net i).to (above (b.held (b.net i).to) (b.now (b.net i).to) 0);
+      held = set_row b.held (b.net i).to (above (b.held (b.net i).to) (b.now (b.net i).to) nothing);
       last = set b.last (b.net i).to (b.now (b.net i).to + 1);
       net = replaced b i (answer DataM (b.net i).to (b.net i).requester (b.now (b.net i).to) (b.net i).due (b.content (b.net i).to));
       next = b.next + 1;
@@ -33,7 +33,7 @@ abbrev pub invalidate : Block → ℕ → Block
 invalidate b i =
     record b {
       line = set b.line (b.net i).to NoLine;
-      content = set b.content (b.net i).to 0;
+      content = set b.content (b.net i).to nothing;
       net = replaced b i (plain InvAck (b.net i).to (b.net i).requester (b.now (b.net i).to));
       next = b.next + 1;
     }
@@ -60,8 +60,8 @@ data_shared b i =
 
 -- DataM: that nothing was owned is noted under the message's tag; the line is Modified with the content;
 -- the miss is fixed at the tag ..
-abbrev pub data_modified_waits : Block → ℕ → Block
-data_modified_waits b i =
+abbrev pub data_modified_open : Block → ℕ → Block
+data_modified_open b i =
     record b {
       line = set b.line (b.net i).to Modified;
       content = set b.content (b.net i).to (b.net i).content;
@@ -74,8 +74,8 @@ data_modified_waits b i =
     }
 
 -- .. and complete where all acknowledgements due are in.
-abbrev pub data_modified_completes : Block → ℕ → Block
-data_modified_completes b i =
+abbrev pub data_modified_complete : Block → ℕ → Block
+data_modified_complete b i =
     record b {
       line = set b.line (b.net i).to Modified;
       content = set b.content (b.net i).to (b.net i).content;
@@ -89,11 +89,11 @@ data_modified_completes b i =
     }
 
 abbrev pub data_modified : Block → ℕ → Block
-data_modified b i = cond ((b.miss (b.net i).to).acks == (b.net i).due) (data_modified_completes b i) (data_modified_waits b i)
+data_modified b i = cond ((b.miss (b.net i).to).acks == (b.net i).due) (data_modified_complete b i) (data_modified_open b i)
 
 -- UpgOk: the miss is fixed at the message's tag ..
-abbrev pub upgrade_granted_waits : Block → ℕ → Block
-upgrade_granted_waits b i =
+abbrev pub upgrade_granted_open : Block → ℕ → Block
+upgrade_granted_open b i =
     record b {
       miss = set b.miss (b.net i).to (fixes (b.miss (b.net i).to) (b.net i).tag (b.net i).due);
       net = taken b i;
@@ -101,8 +101,8 @@ upgrade_granted_waits b i =
     }
 
 -- .. and complete, with the line in Modified, where all acknowledgements due are in.
-abbrev pub upgrade_granted_completes : Block → ℕ → Block
-upgrade_granted_completes b i =
+abbrev pub upgrade_granted_complete : Block → ℕ → Block
+upgrade_granted_complete b i =
     record b {
       line = set b.line (b.net i).to Modified;
       miss = set b.miss (b.net i).to no_miss;
@@ -112,11 +112,11 @@ upgrade_granted_completes b i =
     }
 
 abbrev pub upgrade_granted : Block → ℕ → Block
-upgrade_granted b i = cond ((b.miss (b.net i).to).acks == (b.net i).due) (upgrade_granted_completes b i) (upgrade_granted_waits b i)
+upgrade_granted b i = cond ((b.miss (b.net i).to).acks == (b.net i).due) (upgrade_granted_complete b i) (upgrade_granted_open b i)
 
 -- InvAck: one more acknowledgement is in ..
-abbrev pub acknowledge_waits : Block → ℕ → Block
-acknowledge_waits b i =
+abbrev pub acknowledge_open : Block → ℕ → Block
+acknowledge_open b i =
     record b {
       miss = set b.miss (b.net i).to (record (b.miss (b.net i).to) { acks = (b.miss (b.net i).to).acks + 1 });
       net = taken b i;
@@ -124,8 +124,8 @@ acknowledge_waits b i =
     }
 
 -- .. and the miss is complete, with the line in Modified where it wanted to write, where it is fixed and all are in.
-abbrev pub acknowledge_completes : Block → ℕ → Block
-acknowledge_completes b i =
+abbrev pub acknowledge_complete : Block → ℕ → Block
+acknowledge_complete b i =
     record b {
       line = set b.line (b.net i).to (cond (is_write (b.miss (b.net i).to).want) Modified (b.line (b.net i).to));
       miss = set b.miss (b.net i).to no_miss;
@@ -137,16 +137,16 @@ acknowledge_completes b i =
 
 abbrev pub acknowledge : Block → ℕ → Block
 acknowledge b i =
-    cond ((b.miss (b.net i).to).is_fixed && ((b.miss (b.net i).to).acks + 1 == (b.miss (b.net i).to).due)) (acknowledge_completes b i) (acknowledge_waits b i)
+    cond ((b.miss (b.net i).to).is_fixed && ((b.miss (b.net i).to).acks + 1 == (b.miss (b.net i).to).due)) (acknowledge_complete b i) (acknowledge_open b i)
 
 -- PutGo: the old content is noted under now, the copy is lost, the put is closed; PutData to the home.
 abbrev pub put_go : Block → ℕ → Block
 put_go b i =
     record b {
       line = set b.line (b.net i).to NoLine;
-      content = set b.content (b.net i).to 0;
+      content = set b.content (b.net i).to nothing;
       holds = set_row b.holds (b.net i).to (above (b.holds (b.net i).to) (b.now (b.net i).to) false);
-      held = set_row b.held (b.net i).to (above (b.held (b.net i).to) (b.now (b.net i).to) 0);
+      held = set_row b.held (b.net i).to (above (b.held (b.net i).to) (b.now (b.net i).to) nothing);
       last = set b.last (b.net i).to (b.now (b.net i).to + 1);
       putting = set b.putting (b.net i).to NoPut;
       put_issued = set b.put_issued (b.net i).to 0;

@@ -1,6 +1,6 @@
 -- What follows from the sentences.
-use Rattle.std.specs.Prelude.{◌≡◌, ◌≢◌, ◌⊎◌, ℕ, ◌+◌, ◌<◌, ◌≤◌, Bool, true, false}
-use Rattle.sn_coherence.specs.Block.{Block, Line, NoLine, Shared, Owned, Modified, Want, Nothing, Reads, Writes, Putting, NoPut, Here, Kind, Idle, Move, Put, Body, Gone, GetS, GetM, FwdGetS, FwdGetM, Inv, DataS, DataM, DataE, UpgOk, InvAck, Unblock, PutReq, PutData, PutGo, PutDone, is_owned, is_writable, is_here, gets, is_to_home}
+use Rattle.std.specs.Prelude.{◌≡◌, ◌≢◌, ◌⊎◌, ℕ, ◌+◌, ◌<◌, ◌≤◌, true, false}
+use Rattle.sn_coherence.specs.Block.{Block, NoLine, Shared, Owned, Modified, Nothing, Reads, Writes, NoPut, Here, Idle, Move, Put, Gone, GetS, FwdGetS, FwdGetM, Inv, DataS, DataM, DataE, UpgOk, InvAck, Unblock, PutData, PutGo, PutDone, is_owned, is_writable, is_here, gets, is_to_home}
 use Rattle.sn_coherence.specs.Records.{Records}
 use Rattle.sn_coherence.specs.Events.{Free}
 

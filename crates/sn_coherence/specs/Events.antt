@@ -1,6 +1,6 @@
 -- Every event that touches the block: when it can happen, and what the block is after it.
 use Rattle.std.specs.Prelude.{◌≡◌, ◌≢◌, ◌⊎◌, ℕ, ◌+◌, ◌<◌, ◌≤◌, Bool, true, false}
-use Rattle.sn_coherence.specs.Block.{Block, Line, NoLine, Shared, Want, Nothing, Elsewhere, Putting, NoPut, Here, PutElsewhere, Kind, Idle, Body, Gone, GetS, GetM, FwdGetS, FwdGetM, Inv, DataS, DataM, DataE, UpgOk, InvAck, Unblock, PutReq, PutData, PutGo, PutDone, Ready, Advance, is_owned, is_writable, is_here, others}
+use Rattle.sn_coherence.specs.Block.{Block, Content, NoLine, Shared, Nothing, Elsewhere, NoPut, Here, PutElsewhere, Idle, Body, Gone, GetS, GetM, FwdGetS, FwdGetM, Inv, DataS, DataM, DataE, UpgOk, InvAck, Unblock, PutReq, PutData, PutGo, PutDone, Ready, Advance, is_owned, is_writable, is_here, others}
 use Rattle.sn_coherence.specs.CacheRows.{forward_read, forward_write, invalidate, data_shared, data_modified, upgrade_granted, acknowledge, put_go, put_done, data_exclusive}
 use Rattle.sn_coherence.specs.HomeRows.{read_at_home, read_at_owner, take, move_ownership, upgrade, unblock, put_begins, put_is_stale, put_data, grant_exclusive}
 use Rattle.sn_coherence.specs.Others.{begin_read_miss, begin_write_miss, begin_put, begin_miss_elsewhere, end_miss_elsewhere, begin_put_elsewhere, end_put_elsewhere, numbers_elsewhere, store, evict_shared, edge, report, validate, lose, deliver_advance, recover}
@@ -42,8 +42,8 @@ pub data Event : Type 0 where
   Load : ℕ → Event
   LoadReserved : ℕ → Event
   -- with the content after the write
-  Store : ℕ → ℕ → Event
-  StoreConditionalDone : ℕ → ℕ → Event
+  Store : ℕ → Content → Event
+  StoreConditionalDone : ℕ → Content → Event
   -- an SC that isn't done, and an LR of another block
   StoreConditionalUndone : ℕ → Event
   EvictShared : ℕ → Event

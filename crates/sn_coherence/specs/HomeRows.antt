@@ -1,7 +1,7 @@
 -- The rows of a home, in the order of its table. Message i has come to the home, r is its sender.
 -- `targets` and `due` are the sharers without r, in order, and how many they are.
 use Rattle.std.specs.Prelude.{ℕ, ◌+◌, Bool, true, false, cond}
-use Rattle.sn_coherence.specs.Block.{Block, Kind, Idle, Read, Take, Move, Upgrade, Put, Stage, Asked, Given, Body, FwdGetS, FwdGetM, DataS, DataM, DataE, UpgOk, PutGo, PutDone, leaves_cache, set, above, others, plain, forward, answer, taken, replaced, invalidates}
+use Rattle.sn_coherence.specs.Block.{Block, Kind, Idle, Read, Take, Move, Upgrade, Put, Asked, Given, FwdGetS, FwdGetM, DataS, DataM, DataE, UpgOk, PutGo, PutDone, nothing, set, above, others, plain, forward, answer, taken, replaced, invalidates}
 
 -- GetS, the home owns and there are other sharers: a Read opens; r joins the sharers; DataS to r.
 abbrev pub read_at_home : Block → ℕ → Block
@@ -40,10 +40,10 @@ take b i targets due =
       begun = b.now b.home;
       at_home = false;
       owner = (b.net i).from;
-      home_content = 0;
+      home_content = nothing;
       named_home = above b.named_home (b.now b.home) false;
       named = above b.named (b.now b.home) (b.net i).from;
-      home_held = above b.home_held (b.now b.home) 0;
+      home_held = above b.home_held (b.now b.home) nothing;
       home_last = b.now b.home + 1;
       sharers = λ n. false;
       net = invalidates b i (answer DataM b.home (b.net i).from (b.now b.home) due b.home_content) targets due;
@@ -75,7 +75,7 @@ upgrade b i targets due =
       requester = (b.net i).from;
       begun = b.now b.home;
       sharers = λ n. false;
-      net = invalidates b i (answer UpgOk b.home (b.net i).from (b.now b.home) due 0) targets due;
+      net = invalidates b i (answer UpgOk b.home (b.net i).from (b.now b.home) due nothing) targets due;
       next = b.next + (1 + due);
       stage = Given;
       at = b.now b.home;
@@ -92,7 +92,7 @@ unblock_move b i =
       owner = (b.net i).from;
       named_home = above b.named_home (b.net i).number false;
       named = above b.named (b.net i).number (b.net i).from;
-      home_held = above b.home_held (b.net i).number 0;
+      home_held = above b.home_held (b.net i).number nothing;
       home_last = (b.net i).number + 1;
       net = taken b i;
       waited = λ n. false;
@@ -153,10 +153,10 @@ grant_exclusive b i =
       begun = b.now b.home;
       at_home = false;
       owner = (b.net i).from;
-      home_content = 0;
+      home_content = nothing;
       named_home = above b.named_home (b.now b.home) false;
       named = above b.named (b.now b.home) (b.net i).from;
-      home_held = above b.home_held (b.now b.home) 0;
+      home_held = above b.home_held (b.now b.home) nothing;
       home_last = b.now b.home + 1;
       sharers = λ n. false;
       net = replaced b i (answer DataE b.home (b.net i).from (b.now b.home) 0 b.home_content);

@@ -1,7 +1,7 @@
 -- What every event keeps of one block, without the records of accesses. Names: r is the requester of the open
 -- transaction, an entry is an entry of a log, a cut is a number of a checkpoint.
 use Rattle.std.specs.Prelude.{◌≡◌, ◌≢◌, ◌⊎◌, ℕ, zero, suc, ◌+◌, ◌<◌, ◌≤◌, Bool, true, false, cond, nat_le}
-use Rattle.sn_coherence.specs.Block.{Block, Line, NoLine, Shared, Owned, Modified, Want, Nothing, Reads, Writes, Putting, NoPut, Here, Kind, Idle, Read, Take, Move, Upgrade, Put, Stage, Asked, Given, Inside, Done, Body, Gone, GetS, GetM, FwdGetS, FwdGetM, Inv, DataS, DataM, DataE, UpgOk, InvAck, Unblock, PutReq, PutData, PutGo, PutDone, Ready, Advance, is_owned, is_writable, is_here, takes, gets, hands_over, leaves_cache, comes_to_cache, is_early, is_late, is_token, is_get, has_due, is_to_home, is_from_home, is_invalidation, sharer_of, is_put_request, putter_of}
+use Rattle.sn_coherence.specs.Block.{Block, NoLine, Shared, Owned, Modified, Nothing, Reads, Writes, NoPut, Here, Kind, Idle, Read, Take, Move, Upgrade, Put, Stage, Asked, Given, Inside, Done, Gone, GetS, GetM, FwdGetS, FwdGetM, Inv, DataS, DataM, DataE, UpgOk, InvAck, Unblock, PutData, PutGo, Ready, Advance, is_owned, is_writable, is_here, takes, gets, hands_over, leaves_cache, comes_to_cache, is_early, is_late, is_token, is_get, has_due, is_to_home, is_from_home, is_invalidation, sharer_of, is_put_request, putter_of}
 
 -- how many nodes below n pass
 unfoldable pub count : ℕ → (ℕ → Bool) → ℕ

@@ -2,8 +2,11 @@ pub mod Block
 pub mod CacheRows
 pub mod HomeRows
 pub mod Others
-pub mod Kept
 pub mod Events
+pub mod Kept
 pub mod Records
 pub mod KeptRecords
 pub mod Consequences
+pub mod Runs
+pub mod Example
+pub mod Log

@@ -1,6 +1,6 @@
 -- The events of one block that are no delivery of a coherence message.
-use Rattle.std.specs.Prelude.{ℕ, ◌+◌, Bool, true, false, ◌==◌, nat_lt, nat_le, max, min, cond}
-use Rattle.sn_coherence.specs.Block.{Block, Line, NoLine, Modified, Want, Nothing, Reads, Writes, Elsewhere, Putting, NoPut, Here, PutElsewhere, Kind, Idle, Stage, Asked, Body, GetS, GetM, PutReq, Ready, Message, has_frame, set, set_row, above, freed, newest_freed, no_miss, new_miss, gone, plain, with_number, taken, tells_all}
+use Rattle.std.specs.Prelude.{ℕ, ◌+◌, true, false, ◌==◌, nat_lt, max, cond}
+use Rattle.sn_coherence.specs.Block.{Block, Content, nothing, NoLine, Modified, Reads, Writes, Elsewhere, NoPut, Here, PutElsewhere, Idle, Asked, GetS, GetM, PutReq, Ready, has_frame, set, set_row, above, freed, newest_freed, no_miss, new_miss, gone, plain, with_number, taken, tells_all}
 
 -- Node n misses for a read: GetS to the home.
 abbrev pub begin_read_miss : Block → ℕ → Block
@@ -48,7 +48,7 @@ abbrev pub numbers_elsewhere : Block → ℕ → Block
 numbers_elsewhere b k = record b { next = b.next + k }
 
 -- Node n writes, and the block is v then: the old content is noted under now, the line is Modified.
-abbrev pub store : Block → ℕ → ℕ → Block
+abbrev pub store : Block → ℕ → Content → Block
 store b n v =
     record b {
       line = set b.line n Modified;
@@ -60,7 +60,7 @@ store b n v =
 
 -- Node n drops a Shared line.
 abbrev pub evict_shared : Block → ℕ → Block
-evict_shared b n = record b { line = set b.line n NoLine; content = set b.content n 0 }
+evict_shared b n = record b { line = set b.line n NoLine; content = set b.content n nothing }
 
 -- Node n's clock edge.
 abbrev pub edge : Block → ℕ → Block
@@ -130,7 +130,7 @@ recover N b =
     }
 
 -- The start: the home owns v, which nobody has.
-abbrev pub start : ℕ → ℕ → Block
+abbrev pub start : ℕ → Content → Block
 start home v =
     record {
       point = 0;
@@ -138,7 +138,7 @@ start home v =
       now = λ n. 0;
       known = λ n. 0;
       line = λ n. NoLine;
-      content = λ n. 0;
+      content = λ n. nothing;
       miss = λ n. no_miss;
       putting = λ n. NoPut;
       put_issued = λ n. 0;
@@ -152,7 +152,7 @@ start home v =
       net = λ i. gone;
       next = 0;
       holds = λ n j. false;
-      held = λ n j. 0;
+      held = λ n j. nothing;
       last = λ n. 0;
       named_home = λ j. true;
       named = λ j. 0;

@@ -1,16 +1,16 @@
 -- Beside the block, what the records of accesses say of it, and what each event makes of that.
 -- The sorted list is the accesses of the block in order of intervals, and in each interval in order of retirement.
-use Rattle.std.specs.Prelude.{◌≡◌, ◌≢◌, ℕ, ◌+◌, ◌<◌, ◌≤◌, Bool, true, false, ◌==◌, ◌&&◌, nat_lt, nat_le, max, min, cond}
-use Rattle.sn_coherence.specs.Block.{Block, set, above}
-use Rattle.sn_coherence.specs.Events.{Event, ForwardRead, ForwardWrite, Invalidate, DataShared, DataModified, UpgradeGranted, Acknowledge, PutGoes, PutIsDone, DataExclusive, ReadAtHome, ReadAtOwner, Takes, MovesOwnership, Upgrades, Unblocks, PutBegins, PutIsStale, PutDataComes, GrantExclusive, DeliverReady, DeliverAdvance, Lose, BeginReadMiss, BeginWriteMiss, BeginPut, BeginMissElsewhere, EndMissElsewhere, BeginPutElsewhere, EndPutElsewhere, NumbersElsewhere, Load, LoadReserved, Store, StoreConditionalDone, StoreConditionalUndone, EvictShared, Edge, Report, Validate, Recover, Allows}
+use Rattle.std.specs.Prelude.{◌≡◌, ℕ, ◌+◌, ◌<◌, Bool, true, false, ◌==◌, ◌&&◌, nat_lt, nat_le, max, min, cond}
+use Rattle.sn_coherence.specs.Block.{Block, Content, set, above}
+use Rattle.sn_coherence.specs.Events.{Event, ForwardWrite, Invalidate, PutGoes, DeliverReady, Load, LoadReserved, Store, StoreConditionalDone, StoreConditionalUndone, EvictShared, Edge, Validate, Recover, Allows}
 
 pub record Records : Type 0 where
   -- bounds: no write of the sorted list lies in an interval of this number or above, and no access of node n
   pub last_write : ℕ
   pub last_access : ℕ → ℕ
   -- the content after the part of the sorted list in intervals below j, and after all of it
-  pub below : ℕ → ℕ
-  pub value : ℕ
+  pub below : ℕ → Content
+  pub value : Content
   -- the core of node n has its reservation on the block, and no other node has written the block since that core's last LR of it
   pub reserved : ℕ → Bool
   pub alone : ℕ → Bool
@@ -26,7 +26,7 @@ abbrev pub loads_reserved : Records → ℕ → ℕ → Records
 loads_reserved r n x = record (loads r n x) { reserved = set r.reserved n true; alone = set r.alone n true }
 
 -- node n writes in interval x, and the block is v then
-abbrev pub stores : Records → ℕ → ℕ → ℕ → Records
+abbrev pub stores : Records → ℕ → ℕ → Content → Records
 stores r n x v =
     record r {
       last_write = max r.last_write (x + 1);
@@ -41,7 +41,7 @@ abbrev pub unreserves : Records → ℕ → Records
 unreserves r n = record r { reserved = set r.reserved n false }
 
 -- by an SC that is done
-abbrev pub stores_conditional : Records → ℕ → ℕ → ℕ → Records
+abbrev pub stores_conditional : Records → ℕ → ℕ → Content → Records
 stores_conditional r n x v = record (stores r n x v) { reserved = set r.reserved n false }
 
 -- the controller hears k from node n
@@ -62,7 +62,7 @@ rolls_back r N k =
     }
 
 -- at the start nothing was accessed
-abbrev pub no_records : ℕ → Records
+abbrev pub no_records : Content → Records
 no_records v = record { last_write = 0; last_access = λ n. 0; below = λ j. v; value = v; reserved = λ n. false; alone = λ n. false; reported = λ n. 0 }
 
 -- the records after an event

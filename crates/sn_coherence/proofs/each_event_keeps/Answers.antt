@@ -1,4 +1,3 @@
-use Rattle.std.proofs.Common.{◌≡◌, ℕ}
 use Rattle.sn_coherence.proofs.each_event_keeps.Goals as goal
 use Rattle.sn_coherence.proofs.Whole.{event_kept}
 

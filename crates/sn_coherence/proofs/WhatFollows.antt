@@ -1,9 +1,9 @@
 -- What follows from the sentences.
-use Rattle.std.proofs.Common.{◌≡◌, ◌≢◌, ◌⊎◌, ℕ, ◌+◌, ◌<◌, ◌≤◌, Bool, true, false, cond, refl, arith}
+use Rattle.std.proofs.Common.{◌≡◌, ◌≢◌, ℕ, ◌≤◌, true, arith}
 use Rattle.std.proofs.lemmas.Bool.Decides.{nat_tests}
-use Rattle.sn_coherence.specs.Block.{Block, Idle}
+use Rattle.sn_coherence.specs.Block.{Block}
 use Rattle.sn_coherence.specs.Others.{recover}
-use Rattle.sn_coherence.specs.Kept.{Clocks, Nodes, Stages, Requests, Owners, Waits, Sharing, Logs, Cuts, Kept, count, is_settled}
+use Rattle.sn_coherence.specs.Kept.{Nodes, Stages, Requests, Owners, Waits, Sharing, Logs, Cuts, Kept, count, is_settled}
 use Rattle.sn_coherence.specs.Records.{Records, rolls_back}
 use Rattle.sn_coherence.specs.KeptRecords.{Contents, Accesses, CutContents, KeptRecords}
 use Rattle.sn_coherence.specs.Consequences.{MeetsRows, MeetsNotes, HasOneHolder, HasContent, NoneBegun, IsLegal, IsRestored}
