@@ -4,6 +4,7 @@ pub mod MemoryLaws
 pub mod BlockLaws
 pub mod Swap
 pub mod Sorted
+pub mod Reserved
 pub mod FlatStep
 pub mod Execution
 pub mod CommittedPart

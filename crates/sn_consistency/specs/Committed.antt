@@ -1,5 +1,6 @@
--- The committed part of the sorted list: the records of interval 0, then of interval 1, up to the recovery point less one.
-use Rattle.std.specs.Prelude.{◌≡◌, ℕ, cond, List, [], ◌∷◌, ◌++◌, ◌==◌, nat_lt}
+-- The committed part of the sorted list: the records of interval 0, then of interval 1, up to the recovery point less
+-- one.
+use Rattle.std.specs.Prelude.{◌≡◌, ℕ, if◌then◌else◌, List, [], ◌∷◌, ◌++◌, ◌==◌, nat_lt}
 use Rattle.rv_core.specs.declared.step.Record.{Record}
 use Rattle.sn_base.specs.Image.{ImageData}
 use Rattle.sn_consistency.specs.Entries.{Entry}
@@ -26,9 +27,9 @@ pub record Retirement (A : Type 0) : Type 0 where
 -- what interval x has of a list of retirements, in their order
 abbrev pub by_interval : {A : Type 0} → List (Retirement A) → ℕ → List A
 by_interval [] x = []
-by_interval (r ∷ rs) x = cond (x == r.interval) (r.item ∷ by_interval rs x) (by_interval rs x)
+by_interval (r ∷ rs) x = if x == r.interval then r.item ∷ by_interval rs x else by_interval rs x
 
 -- what a recovery to k leaves of it
 abbrev pub kept : {A : Type 0} → List (Retirement A) → ℕ → List (Retirement A)
 kept [] k = []
-kept (r ∷ rs) k = cond (nat_lt r.interval k) (r ∷ kept rs k) (kept rs k)
+kept (r ∷ rs) k = if nat_lt r.interval k then r ∷ kept rs k else kept rs k

@@ -1,5 +1,5 @@
 -- The flat machine over entries, place by place. An entry is a record with the core that it found.
-use Rattle.std.specs.Prelude.{◌≡◌, ◌≢◌, ℕ, ◌<◌, Bool, true, false, not, ◌&&◌, ◌||◌, cond, List, [], ◌∷◌, ◌++◌, ◌==◌, nat_eq, is_some, option_to_list}
+use Rattle.std.specs.Prelude.{◌≡◌, ◌≢◌, ℕ, ◌<◌, Bool, true, false, not, ◌&&◌, ◌||◌, if◌then◌else◌, List, [], ◌∷◌, ◌++◌, ◌==◌, nat_eq, is_some, option_to_list}
 use Rattle.rv_core.specs.declared.state.CoreState.{CoreState}
 use Rattle.rv_core.specs.declared.step.Record.{Record}
 use Rattle.sn_base.specs.Image.{ImageData}
@@ -11,7 +11,8 @@ pub record Entry : Type 0 where
   pub found : CoreState
   pub did : Record
 
--- a flat state by places: cores without reservations, whether core n holds a reservation of block b, blocks, and the bytes that core n has taken
+-- a flat state by places: cores without reservations, whether core n has a reservation of block b, blocks, and the
+-- bytes that core n has taken
 pub record Places : Type 0 where
   pub core : ℕ → CoreState
   pub held : ℕ → ℕ → Bool
@@ -25,19 +26,26 @@ wrote image e = writes (kind image e.found) e.did.sc_done
 abbrev pub touches : ImageData → Entry → Bool
 touches image e = reads (kind image e.found) || wrote image e
 
+-- whether it writes block b
+abbrev pub writes_to : ImageData → Entry → ℕ → Bool
+writes_to image e b = wrote image e && (b == block image e.found)
+
 abbrev pub put : {A : Type 0} → (ℕ → A) → ℕ → A → ℕ → A
-put f k v j = cond (j == k) v (f j)
+put f k v j = if j == k then v else f j
 
 -- what an entry makes of its own core's reservation of block b
 abbrev pub own : ImageData → Entry → ℕ → Bool → Bool
-own image e b old = cond (is_lr (kind image e.found)) (nat_eq (block image e.found) b) (cond (is_sc (kind image e.found)) false old)
+own image e b old =
+    if is_lr (kind image e.found) then nat_eq (block image e.found) b
+    else if is_sc (kind image e.found) then false
+    else old
 
 abbrev pub step : ImageData → Places → Entry → Places
 step image F e = record {
   core = put F.core e.did.core (bare (next image e.found e.did));
-  held = λ n b. cond (n == e.did.core) (own image e b (F.held n b)) (F.held n b && not (wrote image e && (b == block image e.found)));
-  content = λ b. cond (wrote image e && (b == block image e.found)) (content_after image e.found e.did (F.content b)) (F.content b);
-  taken = λ n. cond (nat_eq e.did.core n) (F.taken n ++ option_to_list e.did.read) (F.taken n);
+  held = λ n b. if n == e.did.core then own image e b (F.held n b) else F.held n b && not (writes_to image e b);
+  content = λ b. if writes_to image e b then content_after image e.found e.did (F.content b) else F.content b;
+  taken = λ n. if nat_eq e.did.core n then F.taken n ++ option_to_list e.did.read else F.taken n;
 }
 
 -- what an entry has to fulfil whatever the state is
@@ -51,7 +59,8 @@ pub record Fits (image : ImageData) (N : ℕ) (e : Entry) : Type 0 where
 pub record Legal (image : ImageData) (N : ℕ) (F : Places) (e : Entry) : Type 0 where
   pub fits : Fits image N e
   pub same : e.found ≡ F.core e.did.core
-  pub seen : reads (kind image e.found) ≡ true → e.did.seen ≡ block_word (F.content (block image e.found)) (place image e.found)
+  pub seen : reads (kind image e.found) ≡ true →
+      e.did.seen ≡ block_word (F.content (block image e.found)) (place image e.found)
   pub done : e.did.sc_done ≡ true → F.held e.did.core (block image e.found) ≡ true
 
 abbrev pub run : ImageData → Places → List Entry → Places
@@ -65,7 +74,8 @@ Good image N F (e ∷ es) = Legal image N F e × Good image N (step image F e) e
 -- may change places: of different cores, and no write of a block that both touch
 pub record Apart (image : ImageData) (e y : Entry) : Type 0 where
   pub cores : e.did.core ≢ y.did.core
-  pub reads_only : touches image e ≡ true → touches image y ≡ true → block image e.found ≡ block image y.found → (wrote image e ≡ false) × (wrote image y ≡ false)
+  pub reads_only : touches image e ≡ true → touches image y ≡ true → block image e.found ≡ block image y.found →
+      (wrote image e ≡ false) × (wrote image y ≡ false)
 
 abbrev pub AllApart : ImageData → Entry → List Entry → Type 0
 AllApart image e [] = Unit {0}

@@ -16,4 +16,5 @@ own_reservation _ old = old
 abbrev pub WriteFits : ℕ → Bool → Option Write → Type 0
 WriteFits address wanted None = wanted ≡ false
 WriteFits address wanted (Some w) =
-    (wanted ≡ true) × (w.address ≡ address) × (ram_start ≤ address) × (address + bytes_of w.width ≤ ram_start + ram_size) × (address % bytes_of w.width ≡ 0)
+    (wanted ≡ true) × (w.address ≡ address) × (ram_start ≤ address)
+    × (address + bytes_of w.width ≤ ram_start + ram_size) × (address % bytes_of w.width ≡ 0)

@@ -1,5 +1,6 @@
--- The projections of a list of records: on a core its records, on a block the accesses to it. First as folds over the whole list that skip what is not theirs, then as filtered lists.
-use Rattle.std.specs.Prelude.{◌≡◌, ℕ, ◌<◌, Bool, true, false, not, ◌&&◌, ◌||◌, cond, List, [], ◌∷◌, ◌==◌, is_some, take, length, suc, slice_get, Some}
+-- The projections of a list of records: on a core its records, on a block the accesses to it. First as folds over the
+-- whole list that skip what is not theirs, then as filtered lists.
+use Rattle.std.specs.Prelude.{◌≡◌, ℕ, ◌<◌, Bool, true, false, not, ◌&&◌, ◌||◌, if◌then◌else◌, List, [], ◌∷◌, ◌==◌, is_some, take, length, suc, slice_get, Some}
 use Rattle.rv_core.specs.declared.state.CoreState.{CoreState}
 use Rattle.rv_core.specs.declared.step.Record.{Record}
 use Rattle.sn_base.specs.Image.{ImageData}
@@ -7,7 +8,7 @@ use Rattle.rv_core.specs.Flat.{FlatState, core_at, HasStep}
 use Rattle.rv_core.specs.Execution.{Executes, state_after}
 use Rattle.sn_consistency.specs.Words.{Content, kind, block, place, next, content_after, block_word, reads, is_lr, is_sc, takes, block_in}
 use Rattle.rv_core.specs.Core.{bare, is_running, is_reserved}
-use Rattle.sn_consistency.specs.Entries.{Entry, wrote, touches}
+use Rattle.sn_consistency.specs.Entries.{Entry, writes_to, touches}
 
 -- a record as its core's step alone allows it, where the core's reservation is what its own instructions left
 pub record Replays (image : ImageData) (N : ℕ) (c : CoreState) (r : Record) : Type 0 where
@@ -20,7 +21,7 @@ pub record Replays (image : ImageData) (N : ℕ) (c : CoreState) (r : Record) : 
 
 -- core n after a record, which is its own or not
 abbrev pub core_step : ImageData → ℕ → CoreState → Record → CoreState
-core_step image n c r = cond (n == r.core) (next image c r) c
+core_step image n c r = if n == r.core then next image c r else c
 
 -- core n after a list
 abbrev pub core_after : ImageData → ℕ → CoreState → List Record → CoreState
@@ -35,7 +36,8 @@ CoreGood image N n c (r ∷ rs) = (n ≡ r.core → Replays image N c r) × Core
 -- the records with the cores that they find, each core by its own records alone
 abbrev pub entries : ImageData → (ℕ → CoreState) → List Record → List Entry
 entries image c [] = []
-entries image c (r ∷ rs) = record { found = bare (c r.core); did = r } ∷ entries image (λ n. core_step image n (c n) r) rs
+entries image c (r ∷ rs) =
+    record { found = bare (c r.core); did = r } ∷ entries image (λ n. core_step image n (c n) r) rs
 
 -- a block alone: what the writes so far leave, and for which core no other has written it since that core's last LR of it
 pub record BlockState : Type 0 where
@@ -44,8 +46,10 @@ pub record BlockState : Type 0 where
 
 abbrev pub block_step : ImageData → ℕ → BlockState → Entry → BlockState
 block_step image b v e = record {
-  content = cond (wrote image e && (b == block image e.found)) (content_after image e.found e.did v.content) v.content;
-  intact = λ n. cond (n == e.did.core) (v.intact n || (is_lr (kind image e.found) && (b == block image e.found))) (v.intact n && not (wrote image e && (b == block image e.found)));
+  content = if writes_to image e b then content_after image e.found e.did v.content else v.content;
+  intact = λ n.
+      if n == e.did.core then v.intact n || (is_lr (kind image e.found) && (b == block image e.found))
+      else v.intact n && not (writes_to image e b);
 }
 
 -- the word seen is what the earlier writes leave, and no other core's write lies between a done SC and its core's last LR
@@ -56,7 +60,8 @@ pub record BlockLegal (image : ImageData) (v : BlockState) (e : Entry) : Type 0 
 -- the projection on block b is good: a fold that skips what is of other blocks
 abbrev pub BlockGood : ImageData → ℕ → BlockState → List Entry → Type 0
 BlockGood image b v [] = Unit {0}
-BlockGood image b v (e ∷ es) = (b ≡ block image e.found → BlockLegal image v e) × BlockGood image b (block_step image b v e) es
+BlockGood image b v (e ∷ es) =
+    (b ≡ block image e.found → BlockLegal image v e) × BlockGood image b (block_step image b v e) es
 
 -- a block of a flat state, before any record
 abbrev pub block_of_state : FlatState → ℕ → BlockState
@@ -70,7 +75,7 @@ pub record AllGood (image : ImageData) (N : ℕ) (s : FlatState) (rs : List Reco
 -- the records of core n
 abbrev pub records_of : ℕ → List Record → List Record
 records_of n [] = []
-records_of n (r ∷ rs) = cond (n == r.core) (r ∷ records_of n rs) (records_of n rs)
+records_of n (r ∷ rs) = if n == r.core then r ∷ records_of n rs else records_of n rs
 
 -- they replay the core's step alone
 abbrev pub ReplaysAll : ImageData → ℕ → CoreState → List Record → Type 0
@@ -80,7 +85,8 @@ ReplaysAll image N c (r ∷ rs) = Replays image N c r × ReplaysAll image N (nex
 -- the accesses to block b
 abbrev pub accesses_of : ImageData → ℕ → List Entry → List Entry
 accesses_of image b [] = []
-accesses_of image b (e ∷ es) = cond (touches image e && (b == block image e.found)) (e ∷ accesses_of image b es) (accesses_of image b es)
+accesses_of image b (e ∷ es) =
+    if touches image e && (b == block image e.found) then e ∷ accesses_of image b es else accesses_of image b es
 
 -- each finds what the earlier ones leave
 abbrev pub AgreesAll : ImageData → ℕ → BlockState → List Entry → Type 0

@@ -1,5 +1,5 @@
 -- The sorted list: what each interval has, in order of retirement, and the flat state at each cut of it.
-use Rattle.std.specs.Prelude.{◌≡◌, ◌≢◌, ℕ, zero, suc, ◌<◌, cond, List, [], ◌∷◌, ◌++◌, ◌==◌, nat_lt, true, false}
+use Rattle.std.specs.Prelude.{◌≡◌, ◌≢◌, ℕ, zero, suc, ◌<◌, if◌then◌else◌, List, [], ◌∷◌, ◌++◌, ◌==◌, nat_lt, true, false}
 use Rattle.sn_base.specs.Image.{ImageData}
 use Rattle.sn_consistency.specs.Words.{block}
 use Rattle.sn_consistency.specs.Entries.{Entry, Places, Legal, Good, wrote, touches, run}
@@ -20,13 +20,14 @@ GoodList image N F f = (k : ℕ) → Good image N (at_cut image F f k) (f k)
 
 -- interval x has one more at its end
 abbrev pub retire : (ℕ → List Entry) → ℕ → Entry → ℕ → List Entry
-retire f x e j = cond (j == x) (f j ++ e ∷ []) (f j)
+retire f x e j = if j == x then f j ++ e ∷ [] else f j
 
 -- a recovery to k drops the intervals at and above it
 abbrev pub cut_off : (ℕ → List Entry) → ℕ → ℕ → List Entry
-cut_off f k j = cond (nat_lt j k) (f j) []
+cut_off f k j = if nat_lt j k then f j else []
 
--- y may stand above the interval at whose end e is put: it is another core's, it writes no block that e reads or writes, and it neither reads nor writes a block that e writes
+-- y may stand above the interval at whose end e is put: it is another core's, it writes no block that e reads or
+-- writes, and it neither reads nor writes a block that e writes
 pub record LetsPass (image : ImageData) (e y : Entry) : Type 0 where
   pub cores : e.did.core ≢ y.did.core
   pub no_later_write : touches image e ≡ true → block image e.found ≡ block image y.found → wrote image y ≡ false
@@ -36,7 +37,8 @@ abbrev pub AllPass : ImageData → Entry → List Entry → Type 0
 AllPass image e [] = Unit {0}
 AllPass image e (y ∷ ys) = LetsPass image e y × AllPass image e ys
 
--- e may retire at the end of interval x: it is legal there, where a done SC has its reservation, and all that stands above lets it pass
+-- e may retire at the end of interval x: it is legal there, where an SC that is done has its reservation, and all that
+-- stands above lets it pass
 pub record MayRetire (image : ImageData) (N : ℕ) (F : Places) (f : ℕ → List Entry) (x : ℕ) (e : Entry) : Type 0 where
   pub legal : Legal image N (at_cut image F f (suc x)) e
   pub above : (j : ℕ) → x < j → AllPass image e (f j)

@@ -1,4 +1,5 @@
--- The core's step as the proofs read it: what each instruction wants, of which block, and what it leaves. No proof but those of the core's own laws opens these words.
+-- The core's step as the proofs read it: what each instruction wants, of which block, and what it leaves. No proof but
+-- those of the core's own laws opens these words.
 use Rattle.std.specs.Prelude.{ℕ, ◌-◌, ◌*◌, ◌/◌, ◌%◌, Bool, true, false, List, take, drop, Option, Some, None, option_to_list}
 use Rattle.byteorder.specs.Endian.{little_number, little_bytes}
 use Rattle.sn_base.specs.Blocks.{ram_start, bytes_of, stored_in}

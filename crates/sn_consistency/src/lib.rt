@@ -22,7 +22,10 @@ pub use committed::{
 pub use projections::{
     execution_is_good_projections, execution_is_good_skipping, first_refused_is_least_failing,
 };
-pub use retirement::{apart_steps_change_places, list_stays_good, retirement_steps_later_cuts};
+pub use retirement::{
+    apart_steps_change_places, list_stays_good, reservation_stands_since_its_lr,
+    retirement_steps_later_cuts,
+};
 pub use step::{
     block_has_its_store, block_has_its_word, only_lr_and_sc_change_reservation,
     reservation_plays_no_part, write_fits_its_block,

@@ -1,0 +1,33 @@
+-- What every event keeps holds after a whole run.
+use Rattle.std.proofs.Common.{ℕ, ◌≤◌, ◌<◌, List, [], ◌∷◌}
+use Rattle.sn_coherence.specs.Block.{Block, Content}
+use Rattle.sn_coherence.specs.Others.{start}
+use Rattle.sn_coherence.specs.Kept.{Kept}
+use Rattle.sn_coherence.specs.Events.{Event, after}
+use Rattle.sn_coherence.specs.Records.{Records, no_records, recorded}
+use Rattle.sn_coherence.specs.KeptRecords.{KeptRecords}
+use Rattle.sn_coherence.specs.Runs.{CanRun, block_after, records_after, IsCoherent}
+use Rattle.sn_coherence.proofs.Ends.{start_kept}
+use Rattle.sn_coherence.proofs.EndsRecords.{start_recorded}
+use Rattle.sn_coherence.proofs.Whole.{event_kept}
+use Rattle.sn_coherence.proofs.WholeRecords.{allowed, event_recorded}
+use Rattle.sn_coherence.proofs.WhatFollows.{kept_meets_rows, kept_meets_notes, kept_one_holder, kept_content, kept_legal}
+
+pub run_kept : (N : ℕ) (b : Block) (r : Records) (es : List Event) → Kept N b → KeptRecords b r → CanRun N b r es → Kept N (block_after N b es) × KeptRecords (block_after N b es) (records_after N b r es)
+run_kept N b r [] k v c = (k, v)
+run_kept N b r (e ∷ es) k v c =
+    run_kept N (after N b e) (recorded N b r e) es (event_kept N b e k (allowed N b r e k v c.0)) (event_recorded N b r e k v c.0) c.1
+
+pub kept_coherent : (N : ℕ) (b : Block) (r : Records) → N ≤ 16 → Kept N b → KeptRecords b r → IsCoherent N b r
+kept_coherent N b r few k v = record {
+  rows = kept_meets_rows N b few k;
+  notes = kept_meets_notes N b k;
+  accesses = kept_legal N b r v;
+  holder = kept_one_holder N b k;
+  content = kept_content N b r v;
+}
+
+pub run_coherent : (N home : ℕ) (v : Content) (es : List Event) → home < N → N ≤ 16 → CanRun N (start home v) (no_records v) es →
+    IsCoherent N (block_after N (start home v) es) (records_after N (start home v) (no_records v) es)
+run_coherent N home v es low few c =
+    let k : _ = run_kept N (start home v) (no_records v) es (start_kept N home v low) (start_recorded home v) c in kept_coherent N _ _ few k.0 k.1

@@ -1,0 +1,12 @@
+pub mod Block
+pub mod CacheRows
+pub mod HomeRows
+pub mod Others
+pub mod Events
+pub mod Kept
+pub mod Records
+pub mod KeptRecords
+pub mod Consequences
+pub mod Runs
+pub mod Example
+pub mod Log

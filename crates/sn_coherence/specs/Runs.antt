@@ -1,0 +1,30 @@
+-- Whole runs of one block.
+use Rattle.std.specs.Prelude.{ℕ, ◌≤◌, List, [], ◌∷◌, ⊤}
+use Rattle.sn_coherence.specs.Block.{Block}
+use Rattle.sn_coherence.specs.Events.{Event, after}
+use Rattle.sn_coherence.specs.Records.{Records, recorded, MayHappen}
+use Rattle.sn_coherence.specs.Consequences.{MeetsRows, MeetsNotes, HasOneHolder, HasContent, NoneBegun, IsLegal}
+
+-- each event of the list can happen when its turn comes
+abbrev pub CanRun : ℕ → Block → Records → List Event → Type 0
+CanRun N b r [] = ⊤
+CanRun N b r (e ∷ es) = MayHappen N b r e × CanRun N (after N b e) (recorded N b r e) es
+
+-- the block and its records after the list
+abbrev pub block_after : ℕ → Block → List Event → Block
+block_after N b [] = b
+block_after N b (e ∷ es) = block_after N (after N b e) es
+
+abbrev pub records_after : ℕ → Block → Records → List Event → Records
+records_after N b r [] = r
+records_after N b r (e ∷ es) = records_after N (after N b e) (recorded N b r e) es
+
+-- What holds of a block at every moment: each message in flight meets its row, and each note is of an interval that may
+-- be noted; every access that can be made is legal; each cut from the point on below which no transaction was begun has
+-- one holder, with the right content.
+pub record IsCoherent (N : ℕ) (b : Block) (r : Records) : Type 0 where
+  pub rows : MeetsRows b
+  pub notes : MeetsNotes b
+  pub accesses : IsLegal N b r
+  pub holder : (j : ℕ) → b.point ≤ j → NoneBegun b j → HasOneHolder b j
+  pub content : (j : ℕ) → b.point ≤ j → HasContent b r j

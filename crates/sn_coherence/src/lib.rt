@@ -1,0 +1,71 @@
+//! One block of the coherence protocol, as a pure machine.
+//!
+//! A block's state is a record of functions of nodes, message numbers and cuts; each row of the cache's and the home's
+//! table, and each other event that touches a block, is one function on it. This crate proves once, for one block, what
+//! the layers above rest on: every event keeps a set of named sentences, whatever is delivered, lost, evicted or
+//! checkpointed in whatever order; and from the sentences follow the conditions of the rows, one holder at each cut,
+//! and that each access is legal. The fabric and the machine project their lists on each block and cite the lemmas. No
+//! code depends on this crate; its functions have empty bodies, and their contracts are the theorems.
+//!
+//! Source: the protocol of SafetyNet (Sorin, Martin, Hill, Wood, ISCA 2002), in this project's profile.
+#![tactic(auto)]
+
+ghost use Rattle.std.specs.Prelude.{ℕ, ◌+◌, ◌<◌, ◌≤◌, Bool, List, [], ◌∷◌};
+ghost use Rattle.sn_coherence.specs.Block.{Block, Content};
+ghost use Rattle.sn_coherence.specs.Others.{start, recover};
+ghost use Rattle.sn_coherence.specs.Kept.{Kept};
+ghost use Rattle.sn_coherence.specs.Events.{Event, Validate, Allows, after};
+ghost use Rattle.sn_coherence.specs.Records.{Records, no_records, rolls_back, recorded, MayHappen};
+ghost use Rattle.sn_coherence.specs.KeptRecords.{KeptRecords};
+ghost use Rattle.sn_coherence.specs.Consequences.{MeetsRows, MeetsNotes, HasOneHolder, HasContent, NoneBegun, IsLegal, IsRestored};
+ghost use Rattle.sn_coherence.specs.Log.{NoteLaws, NoNoteLaws, FreeLaws};
+ghost use Rattle.sn_coherence.specs.Runs.{CanRun, block_after, records_after, IsCoherent};
+ghost use Rattle.sn_coherence.specs.Example.{example_start, handed_over, recovered, EndsHandedOver, EndsRecovered};
+
+/// At the start, when the block's home owns it and nobody has it, all sentences hold.
+pub fn start_is_kept()
+    ensures block { (N home : ℕ) (v : Content) → home < N → Kept N (start home v) }
+    ensures records { (home : ℕ) (v : Content) → KeptRecords (start home v) (no_records v) }
+{}
+
+/// Every event that can happen keeps the sentences on the block. They know nothing of who accessed it.
+pub fn each_event_keeps()
+    ensures { (N : ℕ) (b : Block) (e : Event) → Kept N b → Allows N b e → Kept N (after N b e) }
+{}
+
+/// Every event that the machine does can happen to the block, and keeps the sentences on the records of accesses too.
+pub fn each_event_keeps_records()
+    ensures allowed { (N : ℕ) (b : Block) (r : Records) (e : Event) → Kept N b → KeptRecords b r → MayHappen N b r e → Allows N b e }
+    ensures kept { (N : ℕ) (b : Block) (r : Records) (e : Event) → Kept N b → KeptRecords b r → MayHappen N b r e → KeptRecords (after N b e) (recorded N b r e) }
+{}
+
+/// What the sentences say of every moment: of deliveries, of cuts, of accesses, and of what a recovery leaves.
+pub fn consequences()
+    ensures rows { (N : ℕ) (b : Block) → N ≤ 16 → Kept N b → MeetsRows b }
+    ensures notes { (N : ℕ) (b : Block) → Kept N b → MeetsNotes b }
+    ensures holder { (N : ℕ) (b : Block) → Kept N b → (j : ℕ) → b.point ≤ j → NoneBegun b j → HasOneHolder b j }
+    ensures content { (b : Block) (r : Records) → KeptRecords b r → (j : ℕ) → b.point ≤ j → HasContent b r j }
+    ensures legal { (N : ℕ) (b : Block) (r : Records) → KeptRecords b r → IsLegal N b r }
+    ensures validated { (N : ℕ) (b : Block) (r : Records) → Kept N b → KeptRecords b r → MayHappen N b r Validate → NoneBegun b (b.point + 1) × HasOneHolder b (b.point + 1) }
+    ensures restored { (N : ℕ) (b : Block) (r : Records) → Kept N b → KeptRecords b r → IsRestored N (recover N b) (rolls_back r N b.point) }
+{}
+
+/// Whatever is delivered, lost, evicted, checkpointed or recovered, in whatever order, the block is coherent after it.
+pub fn every_run_is_coherent()
+    ensures { (N home : ℕ) (v : Content) (es : List Event) → home < N → N ≤ 16 → CanRun N (start home v) (no_records v) es
+        → IsCoherent N (block_after N (start home v) es) (records_after N (start home v) (no_records v) es) }
+{}
+
+/// Two short runs can happen, and end as their definitions say: so the theorems are of something.
+pub fn some_runs_can_happen()
+    ensures handed_over { CanRun 2 example_start (no_records (5 ∷ [])) handed_over × EndsHandedOver (block_after 2 example_start handed_over) }
+    ensures recovered { CanRun 2 example_start (no_records (5 ∷ [])) recovered × EndsRecovered (block_after 2 example_start recovered) }
+{}
+
+/// How the list of a log's entries says what the block says at each cut: whether a cache held it, which cache was
+/// named, and which content there was.
+pub fn laws_of_a_log()
+    ensures note { NoteLaws Bool × NoteLaws ℕ × NoteLaws Content }
+    ensures no_note { NoNoteLaws Bool × NoNoteLaws ℕ × NoNoteLaws Content }
+    ensures free { FreeLaws Bool × FreeLaws ℕ × FreeLaws Content }
+{}
