@@ -1,8 +1,8 @@
 -- how many rows and columns there are, and that each step along a ring leads to a switch that is there
-use Rattle.std.proofs.Common.{◌≡◌, ℕ, zero, suc, ◌+◌, ◌-◌, ◌*◌, ◌/◌, ◌%◌, ◌<◌, ◌≤◌, Bool, true, false, cond, ◌&&◌, eqb, leb, List, [], ◌∷◌, refl, sym, ap, ◌∙◌, arith}
+use Rattle.std.proofs.Common.{◌≡◌, ℕ, zero, suc, ◌+◌, ◌-◌, ◌*◌, ◌/◌, ◌%◌, ◌<◌, ◌≤◌, Bool, true, false, cond, ◌&&◌, eqb, [], ◌∷◌, refl, ap, arith}
 use Rattle.std.proofs.lemmas.Bool.Decides.{nat_tests}
 use Rattle.std.proofs.lemmas.Nat.{mul-add-lt, div_below, mod_below, div-add-mod'}
-use Rattle.route_plan.specs.Grid.{greatest_divisor, row_count, column_count, after, before, along, partner, is_a, node_of}
+use Rattle.route_plan.specs.Grid.{greatest_divisor, row_count, column_count, after, before, along, partner, is_a}
 use Rattle.route_plan.specs.Sizes.{IsGrid}
 
 some_step : (b : Bool) (r g : ℕ) → 1 ≤ g → 1 ≤ cond b (suc r) g
@@ -109,7 +109,7 @@ pub neighbours-b : (n rows columns s : ℕ) → IsGrid n rows columns → s % 2 
     along after n s ∷ along before n s ∷ partner s ∷ []
 neighbours-b n rows columns s g e = rw (along-column after n rows columns s g e, along-column before n rows columns s g e, partner-b s e) refl
 
-grid_of : (n : ℕ) → 1 ≤ n → n ≤ 16 → IsGrid n (row_count n) (n / row_count n)
+pub grid_of : (n : ℕ) → 1 ≤ n → n ≤ 16 → IsGrid n (row_count n) (n / row_count n)
 grid_of n l m = grid_made n (row_count n) l m refl
 
 pub after-there : (n s : ℕ) → 1 ≤ n → n ≤ 16 → s < 2 * n → along after n s < 2 * n

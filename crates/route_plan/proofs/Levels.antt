@@ -1,12 +1,12 @@
 -- levels of a search that goes out from a node, and the distances that they give
-use Rattle.std.proofs.Common.{◌≡◌, ℕ, zero, suc, ◌+◌, ◌*◌, ◌/◌, ◌<◌, ◌≤◌, ◌≢◌, Bool, true, false, cond, not, ◌&&◌, ◌||◌, eqb, leb, ltb, ◌⊎◌, inl, inr, List, get_or, refl, sym, ap, ◌∙◌, add-one, arith}
+use Rattle.std.proofs.Common.{◌≡◌, ℕ, zero, suc, ◌+◌, ◌*◌, ◌/◌, ◌<◌, ◌≤◌, ◌≢◌, Bool, true, false, cond, not, ◌&&◌, ◌||◌, eqb, leb, ◌⊎◌, inl, inr, List, get_or, refl, sym, ap, ◌∙◌, add-one, arith}
 use Rattle.std.proofs.lemmas.Bool.Decides.{nat_tests}
-use Rattle.std.proofs.lemmas.Bool.{false≢true, cases_Bool, cases_eq, and_parts, and_from, or_cases, eqb-true, ne_eqb, eq-eqb, le-leb, lt-leb, leb-true}
+use Rattle.std.proofs.lemmas.Bool.{false≢true, cases_eq, and_parts, and_from, or_cases, eqb-true, ne_eqb, le-leb, lt-leb}
 use Rattle.route_plan.specs.Grid.{is_linked, along, after, before, partner}
-use Rattle.route_plan.specs.Distances.{Switches, is_living, least_below, some_below, comes, distance}
+use Rattle.route_plan.specs.Distances.{Switches, is_living, some_below, comes, distance}
 use Rattle.route_plan.specs.Tables.{IsSized, level, IsLevel, is_near, is_next, grown}
 use Rattle.route_plan.proofs.Grids.{after-there, before-there, partner-there}
-use Rattle.route_plan.proofs.Least.{least_below-at, least_below-is, least_below-before, least_below-passes, some_below-true, some_below-found, some_below-none, some_below-same, Found}
+use Rattle.route_plan.proofs.Least.{least_below-at, least_below-is, least_below-passes, some_below-true, some_below-none, some_below-same}
 
 or_left : (b c : Bool) → b ≡ true → (b || c) ≡ true
 or_left b c e = grind arith
@@ -111,7 +111,7 @@ linked-there m s t z l e =
     (linked-from m.nodes s t e)
 
 -- some neighbour comes over at most k links
-pub nearby : Switches → ℕ → ℕ → ℕ → Bool
+unfoldable pub nearby : Switches → ℕ → ℕ → ℕ → Bool
 nearby m to k s = comes m to k (along after m.nodes s) || comes m to k (along before m.nodes s) || comes m to k (partner s)
 
 near_step : (a b p k : ℕ) (x y z : Bool) → leb a k ≡ x → leb b k ≡ y → leb p k ≡ z → (leb a k || leb b k || leb p k) ≡ (x || y || z)

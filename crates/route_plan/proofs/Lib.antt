@@ -3,3 +3,10 @@ pub mod Least
 pub mod Growth
 pub mod Levels
 pub mod Steps
+pub mod Walks
+pub mod Reach
+pub mod Rings
+pub mod Turns
+pub mod Joined
+pub mod Whole
+pub mod Options

@@ -1,11 +1,11 @@
 -- where a message goes on to, by the distances of three neighbours
-use Rattle.std.proofs.Common.{◌≡◌, ℕ, suc, ◌+◌, ◌*◌, ◌<◌, ◌≤◌, ◌≢◌, min, Bool, true, false, cond, ◌&&◌, eqb, leb, ltb, ◌⊎◌, inl, inr, List, [], ◌∷◌, get_or, Option, Some, None, refl, sym, ap, ◌∙◌, arith}
+use Rattle.std.proofs.Common.{◌≡◌, ℕ, ◌+◌, ◌*◌, ◌<◌, ◌≤◌, ◌≢◌, min, Bool, true, false, cond, ◌&&◌, eqb, leb, ltb, ◌⊎◌, inl, inr, List, [], ◌∷◌, get_or, Some, None, refl, sym, ap, arith}
 use Rattle.std.proofs.lemmas.Bool.{and_from, eqb-true, le-leb, le-ltb, lt-ltb}
 use Rattle.route_plan.specs.Grid.{is_linked, along, after, before, partner}
 use Rattle.route_plan.specs.Distances.{Switches, least_below, distance}
 use Rattle.route_plan.specs.Routes.{next_of, is_cut_off, cut_off_from, first_cut_off}
 use Rattle.route_plan.specs.Tables.{IsSized}
-use Rattle.route_plan.proofs.Grids.{after-there, before-there, partner-there}
+use Rattle.route_plan.proofs.Grids.{after-there}
 use Rattle.route_plan.proofs.Least.{least_below-is, least_below-le}
 use Rattle.route_plan.proofs.Levels.{linked-from, linked-is, far_step}
 
@@ -56,24 +56,27 @@ nearest-is m to s z l = least_below-is (2 * m.nodes) _ (nearest m to s) (omega (
   where
     a : ℕ
     a = along after m.nodes s
+
     most : nearer m to s (along after m.nodes s) ≤ 2 * m.nodes
     most = nearer_most _ (along after m.nodes s) (2 * m.nodes) (after-there m.nodes s z.some z.few l)
+
     below : (t : ℕ) → t < nearest m to s → (is_linked m.nodes s t && eqb (distance m to t + 1) (distance m to s)) ≡ false
     below t i = far_step (is_linked m.nodes s t) _ (λ e. elim (linked-from m.nodes s t e) [
-        inl h ↦ passed_over m to s (nearest m to s) (along after m.nodes s) t (omega arith) i h
+      | inl h ↦ passed_over m to s (nearest m to s) (along after m.nodes s) t (omega arith) i h
       | inr h ↦ elim h [
-          inl g ↦ passed_over m to s (nearest m to s) (along before m.nodes s) t (omega arith) i g
+        | inl g ↦ passed_over m to s (nearest m to s) (along before m.nodes s) t (omega arith) i g
         | inr g ↦ passed_over m to s (nearest m to s) (partner s) t (omega arith) i g
-        ]
-      ])
+      ]
+    ])
+
     at : nearest m to s < 2 * m.nodes → (is_linked m.nodes s (nearest m to s) && eqb (distance m to (nearest m to s) + 1) (distance m to s)) ≡ true
     at i = elim (one_of_three (nearer m to s (along after m.nodes s)) (nearer m to s (along before m.nodes s)) (nearer m to s (partner s))) [
-        inl h ↦ chosen m to s (nearest m to s) (along after m.nodes s) h i (λ t e. inl e)
+      | inl h ↦ chosen m to s (nearest m to s) (along after m.nodes s) h i (λ t e. inl e)
       | inr h ↦ elim h [
-          inl g ↦ chosen m to s (nearest m to s) (along before m.nodes s) g i (λ t e. inr (inl e))
+        | inl g ↦ chosen m to s (nearest m to s) (along before m.nodes s) g i (λ t e. inr (inl e))
         | inr g ↦ chosen m to s (nearest m to s) (partner s) g i (λ t e. inr (inr e))
-        ]
       ]
+    ]
 
 -- the least of three answers, as the code takes it
 pub nearest-by : (m : Switches) (to s grid links x y z a b : ℕ) (r : List ℕ) → grid ≡ m.nodes → links ≡ distance m to s →
@@ -107,12 +110,12 @@ pub pair-found : (m : Switches) (a b : ℕ) → a < m.nodes → b < m.nodes → 
 unfolding first_cut_off
 pair-found m a b l i h e =
     let f : least_below m.nodes (λ a. ltb (cut_off_from m a) m.nodes) ≡ a =
-        least_below-is m.nodes _ a (omega arith) (λ c n. rw (h c n) (le-ltb m.nodes m.nodes (omega arith))) (λ n. rw (← e) (lt-ltb b m.nodes i)) in
+    least_below-is m.nodes _ a (omega arith) (λ c n. rw (h c n) (le-ltb m.nodes m.nodes (omega arith))) (λ n. rw (← e) (lt-ltb b m.nodes i)) in
     rw (f, lt-ltb a m.nodes l, ← e) refl
 
 pub pair-none : (m : Switches) → ((c : ℕ) → c < m.nodes → cut_off_from m c ≡ m.nodes) → None ≡ first_cut_off m
 unfolding first_cut_off
 pair-none m h =
     let f : least_below m.nodes (λ a. ltb (cut_off_from m a) m.nodes) ≡ m.nodes =
-        least_below-is m.nodes _ m.nodes (omega arith) (λ c n. rw (h c n) (le-ltb m.nodes m.nodes (omega arith))) (λ n. absurd (omega arith)) in
+    least_below-is m.nodes _ m.nodes (omega arith) (λ c n. rw (h c n) (le-ltb m.nodes m.nodes (omega arith))) (λ n. absurd (omega arith)) in
     rw (f, le-ltb m.nodes m.nodes (omega arith)) refl

@@ -1,5 +1,5 @@
 -- How far the switches are from a node, over living switches.
-use Rattle.std.specs.Prelude.{ℕ, zero, suc, ◌+◌, ◌*◌, Bool, false, not, ◌&&◌, ◌||◌, nat_eq, nat_lt, if◌then◌else◌, List, slice_index_or}
+use Rattle.std.specs.Prelude.{ℕ, zero, suc, ◌*◌, Bool, false, not, ◌&&◌, ◌||◌, nat_eq, nat_lt, if◌then◌else◌, List, slice_index_or}
 use Rattle.route_plan.specs.Grid.{node_of, is_linked}
 
 -- how many nodes there are, and the marks of the dead switches in order of their numbers

@@ -1,13 +1,13 @@
 -- Paths of living switches, and what the routes are among them.
-use Rattle.std.specs.Prelude.{◌≡◌, ℕ, ◌+◌, ◌*◌, ◌<◌, ◌≤◌, ◌⊎◌, IsTrue, List, [], ◌∷◌, length, Option, Some, None}
+use Rattle.std.specs.Prelude.{◌≡◌, ℕ, ◌+◌, ◌*◌, ◌<◌, ◌≤◌, ◌⊎◌, true, List, [], ◌∷◌, length, Some, None}
 use Rattle.route_plan.specs.Grid.{node_of, is_linked}
 use Rattle.route_plan.specs.Distances.{Switches, is_living, distance}
 use Rattle.route_plan.specs.Routes.{next_of}
 
 -- A path is a list of living switches, each linked with the next: here its first and the others, so one of these for each link.
 abbrev pub IsPath : Switches → ℕ → List ℕ → Type 0
-IsPath m s [] = IsTrue (is_living m s)
-IsPath m s (t ∷ others) = IsTrue (is_living m s) × IsTrue (is_linked m.nodes s t) × IsPath m t others
+IsPath m s [] = is_living m s ≡ true
+IsPath m s (t ∷ others) = (is_living m s ≡ true) × (is_linked m.nodes s t ≡ true) × IsPath m t others
 
 -- its last switch
 abbrev pub last_of : ℕ → List ℕ → ℕ
@@ -38,6 +38,20 @@ pub record IsShortestWalk (m : Switches) (to s : ℕ) : Type 0 where
   pub leads : Leads m to s others
   pub links : length others ≡ distance m to s
   pub shortest : (path : List ℕ) → Leads m to s path → length others ≤ length path
+
+-- what `next` names: a living neighbour that is one link nearer, and no other such neighbour has a lesser number
+pub record IsStep (m : Switches) (to s next : ℕ) : Type 0 where
+  pub linked : is_linked m.nodes s next ≡ true
+  pub living : is_living m next ≡ true
+  pub nearer : distance m to next + 1 ≡ distance m to s
+  pub least : (t : ℕ) → is_linked m.nodes s t ≡ true → distance m to t + 1 ≡ distance m to s → next ≤ t
+
+-- what `enter` names: the walk from there is a shortest one, also among the paths from the node's other switch, and switch A
+-- stands back only where the walk from B is shorter
+pub record IsShortestEntry (m : Switches) (from to s : ℕ) : Type 0 where
+  pub walk : IsShortestWalk m to s
+  pub shortest : (t : ℕ) (path : List ℕ) → node_of t ≡ from → Leads m to t path → distance m to s ≤ length path
+  pub second : s ≡ 2 * from + 1 → distance m to s < distance m to (2 * from)
 
 -- a and b are cut off, and no earlier pair is
 pub record IsFirstCutOff (m : Switches) (a b : ℕ) : Type 0 where

@@ -1,7 +1,7 @@
 -- The routes: where a message to a node enters, where it goes on to, and which nodes no path joins.
 use Rattle.std.specs.Prelude.{ℕ, ◌+◌, ◌*◌, Bool, ◌&&◌, nat_eq, nat_le, nat_lt, if◌then◌else◌, Option, Some, None}
 use Rattle.route_plan.specs.Grid.{is_linked}
-use Rattle.route_plan.specs.Distances.{Switches, least_below, some_below, distance}
+use Rattle.route_plan.specs.Distances.{Switches, least_below, distance}
 
 -- the least-numbered neighbour that is one link nearer
 unfoldable pub next_of : Switches → ℕ → ℕ → Option ℕ

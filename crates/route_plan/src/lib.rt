@@ -10,7 +10,10 @@
 mod dead;
 mod distances;
 mod grid;
-//mod routes;
+mod routes;
 
 pub use dead::Dead;
-//pub use routes::{PlanFault, Routes, cut_off, plan};
+pub use routes::{PlanFault, Routes, cut_off, plan};
+
+#[cfg(test)]
+mod tests;

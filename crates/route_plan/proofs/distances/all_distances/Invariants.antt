@@ -1,5 +1,4 @@
 use Rattle.std.proofs.Common.{◌≡◌, ℕ, ◌<◌, [], length, get_or}
-use Rattle.route_plan.specs.Distances.{Switches}
 use Rattle.route_plan.specs.Tables.{IsTable}
 use Rattle.route_plan.proofs.distances.all_distances.Given as goal
 

@@ -1,5 +1,4 @@
-use Rattle.std.proofs.Common.{◌≡◌, sym, ap, ◌∙◌, add-one, arith}
-use Rattle.route_plan.specs.Distances.{Switches}
+use Rattle.std.proofs.Common.{◌≡◌, ap, ◌∙◌, arith}
 use Rattle.route_plan.specs.Tables.{level}
 use Rattle.route_plan.proofs.Levels.{level-grows, level-last, level-still, still-table}
 use Rattle.route_plan.proofs.distances.distances_to.Goals as goal

@@ -1,4 +1,4 @@
-use Rattle.std.proofs.Common.{◌≡◌, ℕ, ◌*◌, ◌+◌, ◌<◌, get_or, replicate, refl, arith}
+use Rattle.std.proofs.Common.{◌≡◌, ℕ, ◌<◌, get_or, replicate, refl}
 use Rattle.std.proofs.lemmas.List.{get_or-replicate}
 use Rattle.route_plan.proofs.Growth.{first_table}
 use Rattle.route_plan.proofs.Levels.{level-first}

@@ -1,4 +1,4 @@
-use Rattle.std.proofs.Common.{◌≡◌, sym, ◌∙◌, arith}
+use Rattle.std.proofs.Common.{sym, ◌∙◌, arith}
 use Rattle.route_plan.proofs.Growth.{joined, passed}
 use Rattle.route_plan.proofs.distances.grow.Goals as goal
 use Rattle.route_plan.proofs.distances.grow.Goals.{then-is_next, else-is_next}

@@ -1,4 +1,4 @@
-use Rattle.std.proofs.Common.{rules, ◌≡◌, slice_index_or, arith}
+use Rattle.std.proofs.Common.{arith}
 use Rattle.std.proofs.lemmas.Bool.Decides.{nat_tests}
 use Rattle.route_plan.specs.Tables.{is_near}
 use Rattle.route_plan.proofs.distances.has_near.Goals as goal

@@ -1,4 +1,4 @@
-use Rattle.std.proofs.Common.{◌≡◌, arith, rules}
+use Rattle.std.proofs.Common.{arith}
 use Rattle.route_plan.specs.Grid.{row_count}
 use Rattle.route_plan.proofs.grid.rows_of.Goals as goal
 

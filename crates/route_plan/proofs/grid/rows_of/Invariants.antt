@@ -1,4 +1,4 @@
-use Rattle.std.proofs.Common.{◌≡◌, ◌≤◌}
+use Rattle.std.proofs.Common.{◌≡◌}
 use Rattle.route_plan.specs.Grid.{greatest_divisor}
 use Rattle.route_plan.proofs.grid.rows_of.Given as goal
 

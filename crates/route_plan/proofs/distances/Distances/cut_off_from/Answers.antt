@@ -1,4 +1,4 @@
-use Rattle.std.proofs.Common.{◌≡◌, ◌≤◌, ◌<◌, sym, ap, ◌∙◌, arith}
+use Rattle.std.proofs.Common.{sym, ap, ◌∙◌, arith}
 use Rattle.route_plan.specs.Routes.{is_cut_off}
 use Rattle.route_plan.proofs.Steps.{cut_off-found, cut_off-none}
 use Rattle.route_plan.proofs.distances.Distances.cut_off_from.Goals as goal

@@ -1,5 +1,5 @@
-use Rattle.std.proofs.Common.{◌≡◌, ◌<◌, ℕ, sym, ap, ◌∙◌, arith}
-use Rattle.route_plan.specs.Routes.{cut_off_from, first_cut_off}
+use Rattle.std.proofs.Common.{◌≡◌, ap, ◌∙◌, arith}
+use Rattle.route_plan.specs.Routes.{cut_off_from}
 use Rattle.route_plan.proofs.Steps.{pair-found, pair-none}
 use Rattle.route_plan.proofs.distances.Distances.first_cut_off.Goals as goal
 

@@ -1,4 +1,3 @@
-use Rattle.std.proofs.Common.{◌≡◌, ◌<◌, ◌≤◌, get_or, ap, arith}
 use Rattle.route_plan.specs.Distances.{Switches}
 use Rattle.route_plan.proofs.Steps.{distance-most}
 use Rattle.route_plan.proofs.distances.Distances.get.Goals as goal

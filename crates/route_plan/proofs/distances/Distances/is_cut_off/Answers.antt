@@ -1,4 +1,4 @@
-use Rattle.std.proofs.Common.{◌≡◌, arith}
+use Rattle.std.proofs.Common.{arith}
 use Rattle.std.proofs.lemmas.Bool.Decides.{nat_tests}
 use Rattle.route_plan.specs.Routes.{is_cut_off}
 use Rattle.route_plan.proofs.distances.Distances.is_cut_off.Goals as goal

@@ -1,4 +1,4 @@
-use Rattle.std.proofs.Common.{◌≡◌, ◌<◌, ◌%◌, arith, sym}
+use Rattle.std.proofs.Common.{arith}
 use Rattle.route_plan.specs.Grid.{after, before}
 use Rattle.route_plan.proofs.Grids.{neighbours-a, neighbours-b, along-there, after-stays, before-stays, partner-there}
 use Rattle.route_plan.proofs.grid.Grid.neighbours.Goals as goal

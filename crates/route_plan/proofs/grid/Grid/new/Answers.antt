@@ -1,4 +1,3 @@
-use Rattle.std.proofs.Common.{◌≡◌, ◌≤◌, arith}
 use Rattle.route_plan.specs.Grid.{row_count}
 use Rattle.route_plan.proofs.Grids.{divisor-some, grid_made}
 use Rattle.route_plan.proofs.grid.Grid.new.Goals as goal
