@@ -152,6 +152,8 @@ pub record Waits (N : ℕ) (b : Block) : Type 0 where
   pub due_fixed : (n : ℕ) → (b.miss n).is_fixed ≡ true → (b.miss n).due ≡ count N b.waited + (b.miss n).acks
   -- a request comes before any acknowledgement
   pub get_acks : (i : ℕ) → is_get (b.net i).body ≡ true → (b.miss (b.net i).from).acks ≡ 0
+  -- a miss for a read waits for none
+  pub read_acks : (n : ℕ) → (b.miss n).want ≡ Reads → (b.miss n).acks ≡ 0
   -- there are fewer than nodes
   pub acks_low : takes b.kind ≡ true → is_here (b.miss b.requester).want ≡ true → count N b.waited + (b.miss b.requester).acks < N
   -- who is waited for is another node than r of a Take, Move or Upgrade, and r's miss is open for a write

@@ -43,10 +43,10 @@ pub fn each_event_keeps_records()
 pub fn consequences()
     ensures rows { (N : ℕ) (b : Block) → N ≤ 16 → Kept N b → MeetsRows b }
     ensures notes { (N : ℕ) (b : Block) → Kept N b → MeetsNotes b }
-    ensures holder { (N : ℕ) (b : Block) → Kept N b → (j : ℕ) → b.point ≤ j → NoneBegun b j → HasOneHolder b j }
+    ensures holder { (N : ℕ) (b : Block) → Kept N b → (j : ℕ) → b.point ≤ j → NoneBegun b j → HasOneHolder N b j }
     ensures content { (b : Block) (r : Records) → KeptRecords b r → (j : ℕ) → b.point ≤ j → HasContent b r j }
     ensures legal { (N : ℕ) (b : Block) (r : Records) → KeptRecords b r → IsLegal N b r }
-    ensures validated { (N : ℕ) (b : Block) (r : Records) → Kept N b → KeptRecords b r → MayHappen N b r Validate → NoneBegun b (b.point + 1) × HasOneHolder b (b.point + 1) }
+    ensures validated { (N : ℕ) (b : Block) (r : Records) → Kept N b → KeptRecords b r → MayHappen N b r Validate → NoneBegun b (b.point + 1) × HasOneHolder N b (b.point + 1) }
     ensures restored { (N : ℕ) (b : Block) (r : Records) → Kept N b → KeptRecords b r → IsRestored N (recover N b) (rolls_back r N b.point) }
 {}
 
