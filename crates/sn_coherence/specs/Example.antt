@@ -16,15 +16,21 @@ written_and_read =
 
 -- Then node 0 gets it to write, and makes it 9. Node 1's clock ticked before it gave the block away, so the data can't
 -- come to node 0 before node 0's clock has ticked too.
+abbrev pub hand_over : List Event
+hand_over = Edge 1 ∷ BeginWriteMiss 0 ∷ MovesOwnership 8 (λ k. 0) 0 ∷ ForwardWrite 9 ∷ Edge 0 ∷ DataModified 10 ∷ Unblocks 11 ∷ Store 0 (9 ∷ []) ∷ []
+
 abbrev pub handed_over : List Event
-handed_over = written_and_read ++ Edge 1 ∷ BeginWriteMiss 0 ∷ MovesOwnership 8 (λ k. 0) 0 ∷ ForwardWrite 9 ∷ Edge 0 ∷ DataModified 10 ∷ Unblocks 11 ∷ Store 0 (9 ∷ []) ∷ []
+handed_over = written_and_read ++ hand_over
 
 -- Or both clocks tick, node 0 asks for the block to write, and the data is lost. Both nodes are ready for checkpoint 1 all
 -- the same, which is validated, and the machine recovers to it.
-abbrev pub recovered : List Event
-recovered =
-    written_and_read ++ Edge 1 ∷ Edge 0 ∷ BeginWriteMiss 0 ∷ MovesOwnership 8 (λ k. 0) 0 ∷ ForwardWrite 9 ∷ Lose 10 ∷
+abbrev pub lose_and_recover : List Event
+lose_and_recover =
+    Edge 1 ∷ Edge 0 ∷ BeginWriteMiss 0 ∷ MovesOwnership 8 (λ k. 0) 0 ∷ ForwardWrite 9 ∷ Lose 10 ∷
     Report 0 1 ∷ Report 1 1 ∷ DeliverReady 11 ∷ DeliverReady 12 ∷ Validate ∷ Recover ∷ []
+
+abbrev pub recovered : List Event
+recovered = written_and_read ++ lose_and_recover
 
 -- After the first run node 0 owns the block. At cut 0 the home has what it began with; at cut 1 node 1 has what it wrote;
 -- above, node 0 has what it wrote.

@@ -78,9 +78,13 @@ report b n k = record b { net = set b.net b.next (with_number Ready n 0 (b.now n
 abbrev pub validate : ℕ → Block → Block
 validate N b = record b { point = b.point + 1; net = tells_all b N (b.point + 1); next = b.next + N }
 
--- Message i is taken and does nothing to the block (a Ready), or is lost.
+-- Message i is lost. Where none has this number nothing changes.
 abbrev pub lose : Block → ℕ → Block
 lose b i = record b { net = taken b i }
+
+-- Ready at the controller: the block is as before.
+abbrev pub deliver_ready : Block → ℕ → Block
+deliver_ready b i = record b { net = taken b i }
 
 -- Advance k at a node: it knows the greater of k and what it knew, and frees the entries below k.
 abbrev pub deliver_advance : Block → ℕ → Block
