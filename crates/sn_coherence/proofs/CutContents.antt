@@ -4,7 +4,7 @@ use Rattle.std.proofs.lemmas.Bool.Decides.{nat_tests}
 use Rattle.sn_coherence.specs.Block.{Block, Content, NoLine, Shared, Nothing, Elsewhere, NoPut, PutElsewhere, Idle, Move, GetS, GetM, FwdGetS, FwdGetM, Inv, DataS, DataM, DataE, UpgOk, InvAck, Unblock, PutReq, PutData, PutGo, PutDone, Ready, Advance, is_owned, is_writable, is_here}
 use Rattle.sn_coherence.specs.CacheRows.{forward_read, forward_write, invalidate, data_shared, data_modified_open, data_modified_complete, upgrade_granted_open, upgrade_granted_complete, acknowledge_open, acknowledge_complete, put_go, put_done, data_exclusive}
 use Rattle.sn_coherence.specs.HomeRows.{read_at_home, read_at_owner, take, move_ownership, upgrade, unblock_move, unblock_other, put_begins, put_is_stale, put_data, grant_exclusive}
-use Rattle.sn_coherence.specs.Others.{begin_read_miss, begin_write_miss, begin_put, begin_miss_elsewhere, end_miss_elsewhere, begin_put_elsewhere, end_put_elsewhere, numbers_elsewhere, store, evict_shared, edge, report, validate, lose, deliver_advance, learned}
+use Rattle.sn_coherence.specs.Others.{begin_read_miss, begin_write_miss, begin_put, begin_miss_elsewhere, end_miss_elsewhere, begin_put_elsewhere, end_put_elsewhere, numbers_elsewhere, store, evict_shared, edge, report, validate, lose, deliver_advance}
 use Rattle.sn_coherence.specs.Kept.{Clocks, Nodes, Stages, Requests, Owners, Waits, Sharing, Logs, Cuts}
 use Rattle.sn_coherence.specs.Events.{IsReady, Arrives, Owns, OtherOwns, other_sharers, NothingUnfinished, Free}
 use Rattle.sn_coherence.proofs.Rows.{At, IsLast}
@@ -12,14 +12,14 @@ use Rattle.sn_coherence.specs.Records.{Records, loads, loads_reserved, stores, u
 use Rattle.sn_coherence.specs.KeptRecords.{Contents, Accesses, CutContents}
 
 -- what a node learns is at most the point
-learned_low : (N : ℕ) (b : Block) (i : ℕ) → Clocks N b → Nodes N b → Arrives b i Advance → learned b i ≤ b.point
-learned_low N b i c z a = grind (arith, nat_tests, c.known_point (b.net i).to)
+learned_low : (N : ℕ) (b : Block) (i : ℕ) → Clocks N b → Arrives b i Advance → (b.net i).number ≤ b.point
+learned_low N b i c a = grind (arith, c.advance_point i)
 
 -- so freeing leaves the cuts from the point on
-freed_home_held : (b : Block) (r : Records) (i : ℕ) → CutContents b r → learned b i ≤ b.point → (j : ℕ) → b.point ≤ j → (deliver_advance b i).named_home j ≡ true → (deliver_advance b i).home_held j ≡ r.below j
+freed_home_held : (b : Block) (r : Records) (i : ℕ) → CutContents b r → (b.net i).number ≤ b.point → (j : ℕ) → b.point ≤ j → (deliver_advance b i).named_home j ≡ true → (deliver_advance b i).home_held j ≡ r.below j
 freed_home_held b r i d low j e1 e2 = grind (arith, nat_tests, d.home_held j)
 
-freed_held : (b : Block) (r : Records) (i : ℕ) → CutContents b r → learned b i ≤ b.point → (n j : ℕ) → b.point ≤ j → (deliver_advance b i).holds n j ≡ true → (deliver_advance b i).held n j ≡ r.below j
+freed_held : (b : Block) (r : Records) (i : ℕ) → CutContents b r → (b.net i).number ≤ b.point → (n j : ℕ) → b.point ≤ j → (deliver_advance b i).holds n j ≡ true → (deliver_advance b i).held n j ≡ r.below j
 freed_held b r i d low n j e1 e2 = grind (arith, nat_tests, d.held n j)
 
 module _ (N : ℕ) (b : Block) (r : Records) (i : ℕ) (cut_contents : CutContents b r) (contents : Contents b r) (accesses : Accesses b r) (stages : Stages b) (owners : Owners b) (logs : Logs b) (cuts : Cuts b) (clocks : Clocks N b) (nodes : Nodes N b) where
@@ -112,8 +112,8 @@ module _ (N : ℕ) (b : Block) (r : Records) (i : ℕ) (cut_contents : CutConten
 
   pub deliver_advance_cut_contents : Arrives b i Advance → CutContents (deliver_advance b i) r
   deliver_advance_cut_contents arrives = record {
-    held = λ m1 y e1 e2. freed_held b r i cut_contents (learned_low N b i clocks nodes arrives) m1 y e1 e2;
-    home_held = λ y e1 e2. freed_home_held b r i cut_contents (learned_low N b i clocks nodes arrives) y e1 e2;
+    held = λ m1 y e1 e2. freed_held b r i cut_contents (learned_low N b i clocks arrives) m1 y e1 e2;
+    home_held = λ y e1 e2. freed_home_held b r i cut_contents (learned_low N b i clocks arrives) y e1 e2;
   }
 
   pub lose_cut_contents : CutContents (lose b i) r

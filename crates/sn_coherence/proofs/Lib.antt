@@ -24,4 +24,5 @@ pub mod WholeRecords
 pub mod WhatFollows
 pub mod Runs
 pub mod Example
+pub mod Same
 pub mod Log

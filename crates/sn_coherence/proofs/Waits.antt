@@ -76,6 +76,7 @@ module _ (N : ℕ) (b : Block) (i : ℕ) (waits : Waits N b) (stages : Stages b)
     due_message = λ x e1. grind (arith, nat_tests, each.all, no_count N);
     due_fixed = λ m1 e1. grind (arith, nat_tests);
     get_acks = λ x e1. grind (arith, nat_tests);
+    read_acks = λ m1 e1. grind (arith, nat_tests);
     acks_low = λ e1 e2. grind (arith, nat_tests, count_low N (others b.sharers (b.net i).from) (b.net i).from, nodes.from_low i);
     waited_of = λ m1 e1. grind (arith, nat_tests, requests.get_m i);
     inv = λ x e1. grind (arith, nat_tests, each.passes (x - (b.next + 1)));
@@ -89,6 +90,7 @@ module _ (N : ℕ) (b : Block) (i : ℕ) (waits : Waits N b) (stages : Stages b)
     due_message = λ x e1. grind (arith, nat_tests, each.all, no_count N);
     due_fixed = λ m1 e1. grind (arith, nat_tests);
     get_acks = λ x e1. grind (arith, nat_tests);
+    read_acks = λ m1 e1. grind (arith, nat_tests);
     acks_low = λ e1 e2. grind (arith, nat_tests, count_low N (others b.sharers (b.net i).from) (b.net i).from, nodes.from_low i);
     waited_of = λ m1 e1. grind (arith, nat_tests, requests.get_m i);
     inv = λ x e1. grind (arith, nat_tests, each.passes (x - (b.next + 1)));
@@ -102,6 +104,7 @@ module _ (N : ℕ) (b : Block) (i : ℕ) (waits : Waits N b) (stages : Stages b)
     due_message = λ x e1. grind (arith, nat_tests, each.all, no_count N);
     due_fixed = λ m1 e1. grind (arith, nat_tests);
     get_acks = λ x e1. grind (arith, nat_tests);
+    read_acks = λ m1 e1. grind (arith, nat_tests);
     acks_low = λ e1 e2. grind (arith, nat_tests, count_low N (others b.sharers (b.net i).from) (b.net i).from, nodes.from_low i);
     waited_of = λ m1 e1. grind (arith, nat_tests, requests.get_m i);
     inv = λ x e1. grind (arith, nat_tests, each.passes (x - (b.next + 1)));

@@ -40,8 +40,8 @@ module _ (N : ℕ) (b : Block) where
   none_settled : Stages b → (j : ℕ) → NoneBegun b j → is_settled b j ≡ true
   none_settled s j e = grind (arith, nat_tests)
 
-  one_holder : Stages b → Cuts b → (j : ℕ) → b.point ≤ j → NoneBegun b j → HasOneHolder b j
-  one_holder s u j l e = grind (arith, none_settled s j e)
+  one_holder : Stages b → Nodes N b → Cuts b → (j : ℕ) → b.point ≤ j → NoneBegun b j → HasOneHolder N b j
+  one_holder s z u j l e = grind (arith, none_settled s j e)
 
   content : (r : Records) → CutContents b r → (j : ℕ) → b.point ≤ j → HasContent b r j
   content r d j l = grind arith
@@ -58,8 +58,8 @@ module _ (N : ℕ) (b : Block) where
   pub kept_meets_notes : Kept N b → MeetsNotes b
   kept_meets_notes k = meets_notes k.stages k.owners k.logs
 
-  pub kept_one_holder : Kept N b → (j : ℕ) → b.point ≤ j → NoneBegun b j → HasOneHolder b j
-  kept_one_holder k = one_holder k.stages k.cuts
+  pub kept_one_holder : Kept N b → (j : ℕ) → b.point ≤ j → NoneBegun b j → HasOneHolder N b j
+  kept_one_holder k = one_holder k.stages k.nodes k.cuts
 
   pub kept_content : (r : Records) → KeptRecords b r → (j : ℕ) → b.point ≤ j → HasContent b r j
   kept_content r v = content r v.cut_contents

@@ -110,7 +110,7 @@ pub record Block : Type 0 where
   pub kind : Kind
   pub requester : ℕ
   pub begun : ℕ
-  -- the messages in flight by number, and the number of the next one
+  -- the messages in flight by number, those of this block and each Ready and Advance, and the number of the next one
   pub net : ℕ → Message
   pub next : ℕ
   -- what the logs say: whether cache n holds the block at cut j and with which content, and one more than the interval

@@ -11,15 +11,15 @@ pub record MeetsRows (b : Block) : Type 0 where
   pub forward_write : (i : ℕ) → (b.net i).body ≡ FwdGetM → is_owned (b.line (b.net i).to) ≡ true
   -- an invalidation never finds one
   pub invalidate : (i : ℕ) → (b.net i).body ≡ Inv → is_owned (b.line (b.net i).to) ≡ false
-  -- an answer finds its miss open, of its kind and not fixed, and the line that it expects
+  -- an answer finds its miss open, of its kind and not fixed, and the line that it expects; at a read no acknowledgement is in
   pub data_shared : (i : ℕ) → (b.net i).body ≡ DataS →
-      ((b.miss (b.net i).to).want ≡ Reads) × ((b.miss (b.net i).to).is_fixed ≡ false) × (b.line (b.net i).to ≡ NoLine)
+      ((b.miss (b.net i).to).want ≡ Reads) × ((b.miss (b.net i).to).is_fixed ≡ false) × ((b.miss (b.net i).to).acks ≡ 0) × (b.line (b.net i).to ≡ NoLine)
   pub data_modified : (i : ℕ) → (b.net i).body ≡ DataM →
       ((b.miss (b.net i).to).want ≡ Writes) × ((b.miss (b.net i).to).is_fixed ≡ false) × ((b.line (b.net i).to ≡ NoLine) ⊎ (b.line (b.net i).to ≡ Shared))
   pub upgrade_granted : (i : ℕ) → (b.net i).body ≡ UpgOk →
       ((b.miss (b.net i).to).want ≡ Writes) × ((b.miss (b.net i).to).is_fixed ≡ false) × (b.line (b.net i).to ≡ Owned)
   pub data_exclusive : (i : ℕ) → (b.net i).body ≡ DataE →
-      ((b.miss (b.net i).to).want ≡ Reads) × ((b.miss (b.net i).to).is_fixed ≡ false) × (b.line (b.net i).to ≡ NoLine)
+      ((b.miss (b.net i).to).want ≡ Reads) × ((b.miss (b.net i).to).is_fixed ≡ false) × ((b.miss (b.net i).to).acks ≡ 0) × (b.line (b.net i).to ≡ NoLine)
   -- an acknowledgement finds the miss open, and fewer than 15 are in
   pub acknowledge : (i : ℕ) → (b.net i).body ≡ InvAck → (is_here (b.miss (b.net i).to).want ≡ true) × ((b.miss (b.net i).to).acks < 15)
   -- a PutGo finds the line owned and the put open, a PutDone the put open
@@ -48,9 +48,9 @@ pub record MeetsNotes (b : Block) : Type 0 where
   pub put_data : (i : ℕ) → (b.net i).body ≡ PutData → b.home_last ≤ (b.net i).tag + 1
 
 -- One(j). At cut j there is exactly one holder, a cache or the home, and the home names it.
-pub record HasOneHolder (b : Block) (j : ℕ) : Type 0 where
+pub record HasOneHolder (N : ℕ) (b : Block) (j : ℕ) : Type 0 where
   pub named : (n : ℕ) → b.holds n j ≡ true → (b.named_home j ≡ false) × (b.named j ≡ n)
-  pub holds : b.named_home j ≡ false → b.holds (b.named j) j ≡ true
+  pub holds : b.named_home j ≡ false → (b.named j < N) × (b.holds (b.named j) j ≡ true)
 
 -- That holder has the content that the sorted list below j leaves.
 pub record HasContent (b : Block) (r : Records) (j : ℕ) : Type 0 where

@@ -1,9 +1,9 @@
 -- Every event that touches the block: when it can happen, and what the block is after it.
 use Rattle.std.specs.Prelude.{◌≡◌, ◌≢◌, ◌⊎◌, ℕ, ◌+◌, ◌<◌, ◌≤◌, Bool, true, false}
-use Rattle.sn_coherence.specs.Block.{Block, Content, NoLine, Shared, Nothing, Elsewhere, NoPut, Here, PutElsewhere, Idle, Body, Gone, GetS, GetM, FwdGetS, FwdGetM, Inv, DataS, DataM, DataE, UpgOk, InvAck, Unblock, PutReq, PutData, PutGo, PutDone, Ready, Advance, is_owned, is_writable, is_here, others}
+use Rattle.sn_coherence.specs.Block.{Block, Content, NoLine, Shared, Nothing, Elsewhere, NoPut, Here, PutElsewhere, Idle, Body, GetS, GetM, FwdGetS, FwdGetM, Inv, DataS, DataM, DataE, UpgOk, InvAck, Unblock, PutReq, PutData, PutGo, PutDone, Ready, Advance, is_owned, is_writable, is_here, others}
 use Rattle.sn_coherence.specs.CacheRows.{forward_read, forward_write, invalidate, data_shared, data_modified, upgrade_granted, acknowledge, put_go, put_done, data_exclusive}
 use Rattle.sn_coherence.specs.HomeRows.{read_at_home, read_at_owner, take, move_ownership, upgrade, unblock, put_begins, put_is_stale, put_data, grant_exclusive}
-use Rattle.sn_coherence.specs.Others.{begin_read_miss, begin_write_miss, begin_put, begin_miss_elsewhere, end_miss_elsewhere, begin_put_elsewhere, end_put_elsewhere, numbers_elsewhere, store, evict_shared, edge, report, validate, lose, deliver_advance, recover}
+use Rattle.sn_coherence.specs.Others.{begin_read_miss, begin_write_miss, begin_put, begin_miss_elsewhere, end_miss_elsewhere, begin_put_elsewhere, end_put_elsewhere, numbers_elsewhere, store, evict_shared, edge, report, validate, lose, deliver_ready, deliver_advance, recover}
 use Rattle.sn_coherence.specs.Kept.{count}
 
 -- Deliveries name the message, and those that invalidate the targets and how many they are. Other events name the node.
@@ -120,7 +120,7 @@ Allows N b (PutDataComes i) = Arrives b i PutData
 Allows N b (GrantExclusive i) = Served b i GetS × (b.at_home ≡ true) × (count N (other_sharers b i) ≡ 0)
 Allows N b (DeliverReady i) = Arrives b i Ready
 Allows N b (DeliverAdvance i) = Arrives b i Advance
-Allows N b (Lose i) = (b.net i).body ≢ Gone
+Allows N b (Lose i) = Unit {0}
 Allows N b (BeginReadMiss n) = Free N b n × (b.line n ≡ NoLine)
 Allows N b (BeginWriteMiss n) = Free N b n × (is_writable (b.line n) ≡ false)
 Allows N b (BeginPut n) = (n < N) × (is_here (b.miss n).want ≡ false) × (b.putting n ≡ NoPut) × (is_owned (b.line n) ≡ true)
@@ -162,7 +162,7 @@ after N b (PutBegins i) = put_begins b i
 after N b (PutIsStale i) = put_is_stale b i
 after N b (PutDataComes i) = put_data b i
 after N b (GrantExclusive i) = grant_exclusive b i
-after N b (DeliverReady i) = lose b i
+after N b (DeliverReady i) = deliver_ready b i
 after N b (DeliverAdvance i) = deliver_advance b i
 after N b (Lose i) = lose b i
 after N b (BeginReadMiss n) = begin_read_miss b n

@@ -1,4 +1,4 @@
--- Two short runs of two nodes, node 0 being the block's home. Messages are numbered from 0 as they are sent.
+-- Two short runs of two nodes, node 0 being the block's home. Messages are numbered from 1 as they are sent.
 use Rattle.std.specs.Prelude.{◌≡◌, true, false, List, [], ◌∷◌, ◌++◌}
 use Rattle.sn_coherence.specs.Block.{Block, Modified, NoLine}
 use Rattle.sn_coherence.specs.Others.{start}
@@ -11,20 +11,26 @@ example_start = start 0 (5 ∷ [])
 -- Node 1 gets the block to write, and makes it 7; node 0 reads it there.
 abbrev pub written_and_read : List Event
 written_and_read =
-    BeginWriteMiss 1 ∷ Takes 0 (λ k. 0) 0 ∷ DataModified 1 ∷ Unblocks 2 ∷ Store 1 (7 ∷ []) ∷
-    BeginReadMiss 0 ∷ ReadAtOwner 3 ∷ ForwardRead 4 ∷ DataShared 5 ∷ Unblocks 6 ∷ Load 0 ∷ []
+    BeginWriteMiss 1 ∷ Takes 1 (λ k. 0) 0 ∷ DataModified 2 ∷ Unblocks 3 ∷ Store 1 (7 ∷ []) ∷
+    BeginReadMiss 0 ∷ ReadAtOwner 4 ∷ ForwardRead 5 ∷ DataShared 6 ∷ Unblocks 7 ∷ Load 0 ∷ []
 
 -- Then node 0 gets it to write, and makes it 9. Node 1's clock ticked before it gave the block away, so the data can't
 -- come to node 0 before node 0's clock has ticked too.
+abbrev pub hand_over : List Event
+hand_over = Edge 1 ∷ BeginWriteMiss 0 ∷ MovesOwnership 8 (λ k. 0) 0 ∷ ForwardWrite 9 ∷ Edge 0 ∷ DataModified 10 ∷ Unblocks 11 ∷ Store 0 (9 ∷ []) ∷ []
+
 abbrev pub handed_over : List Event
-handed_over = written_and_read ++ Edge 1 ∷ BeginWriteMiss 0 ∷ MovesOwnership 7 (λ k. 0) 0 ∷ ForwardWrite 8 ∷ Edge 0 ∷ DataModified 9 ∷ Unblocks 10 ∷ Store 0 (9 ∷ []) ∷ []
+handed_over = written_and_read ++ hand_over
 
 -- Or both clocks tick, node 0 asks for the block to write, and the data is lost. Both nodes are ready for checkpoint 1 all
 -- the same, which is validated, and the machine recovers to it.
+abbrev pub lose_and_recover : List Event
+lose_and_recover =
+    Edge 1 ∷ Edge 0 ∷ BeginWriteMiss 0 ∷ MovesOwnership 8 (λ k. 0) 0 ∷ ForwardWrite 9 ∷ Lose 10 ∷
+    Report 0 1 ∷ Report 1 1 ∷ DeliverReady 11 ∷ DeliverReady 12 ∷ Validate ∷ Recover ∷ []
+
 abbrev pub recovered : List Event
-recovered =
-    written_and_read ++ Edge 1 ∷ Edge 0 ∷ BeginWriteMiss 0 ∷ MovesOwnership 7 (λ k. 0) 0 ∷ ForwardWrite 8 ∷ Lose 9 ∷
-    Report 0 1 ∷ Report 1 1 ∷ DeliverReady 10 ∷ DeliverReady 11 ∷ Validate ∷ Recover ∷ []
+recovered = written_and_read ++ lose_and_recover
 
 -- After the first run node 0 owns the block. At cut 0 the home has what it began with; at cut 1 node 1 has what it wrote;
 -- above, node 0 has what it wrote.

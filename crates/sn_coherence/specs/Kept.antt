@@ -147,12 +147,15 @@ pub record Owners (b : Block) : Type 0 where
 
 -- Waits. Acknowledgements, and the nodes that are waited for.
 pub record Waits (N : ℕ) (b : Block) : Type 0 where
-  -- the acknowledgements due are those that are in and one of each node that is waited for: in a message and in a fixed miss
+  -- the acknowledgements due, in a message and in a fixed miss, are those that are in and one of each node that is waited
+  -- for
   pub due_message : (i : ℕ) → has_due (b.net i).body ≡ true → (b.net i).due ≡ count N b.waited + (b.miss b.requester).acks
   pub due_fixed : (n : ℕ) → (b.miss n).is_fixed ≡ true → (b.miss n).due ≡ count N b.waited + (b.miss n).acks
   -- a request comes before any acknowledgement
   pub get_acks : (i : ℕ) → is_get (b.net i).body ≡ true → (b.miss (b.net i).from).acks ≡ 0
-  -- there are fewer than nodes
+  -- none is in at a miss for a read
+  pub read_acks : (n : ℕ) → (b.miss n).want ≡ Reads → (b.miss n).acks ≡ 0
+  -- those that are in and those that lack are fewer than the nodes
   pub acks_low : takes b.kind ≡ true → is_here (b.miss b.requester).want ≡ true → count N b.waited + (b.miss b.requester).acks < N
   -- who is waited for is another node than r of a Take, Move or Upgrade, and r's miss is open for a write
   pub waited_of : (n : ℕ) → b.waited n ≡ true → (takes b.kind ≡ true) × (b.requester ≢ n) × ((b.miss b.requester).want ≡ Writes)
@@ -186,7 +189,8 @@ pub record Logs (b : Block) : Type 0 where
   pub named_now : (j : ℕ) → b.home_last ≤ j → b.at_home ≡ false → b.named j ≡ b.owner
   -- a node's entries lie at or below its now
   pub own : (n : ℕ) → b.last n ≤ b.now n + 1
-  -- all caches' entries lie at or below the now of the owner, a cache or the home, and, where the block is on its way, at or below the interval of atomicity
+  -- all caches' entries lie at or below the now of the owner, a cache or the home, and, where the block is on its way, at
+  -- or below the interval of atomicity
   pub below_owner : (n m : ℕ) → is_owned (b.line m) ≡ true → b.last n ≤ b.now m + 1
   pub below_home : (n : ℕ) → b.at_home ≡ true → b.last n ≤ b.now b.home + 1
   pub below_given : (n : ℕ) → hands_over b.kind ≡ true → b.stage ≡ Given → b.last n ≤ b.at + 1
@@ -219,8 +223,9 @@ pub record Cuts (b : Block) : Type 0 where
   pub named_still : (j : ℕ) → b.point ≤ j → is_settled b j ≡ false → (b.named_home j ≡ false) × (b.named j ≡ b.owner)
   pub holds_still : (n j : ℕ) → b.point ≤ j → is_settled b j ≡ false → b.holds n j ≡ is_owned (b.line n)
 
--- Frames. What a cache holds at a cut had a frame at that edge.
+-- Frames. What had a frame at an edge.
 pub record Frames (N : ℕ) (b : Block) : Type 0 where
+  -- what a cache holds at a cut from the point to its now had one there,
   pub holds_framed : (n j : ℕ) → n < N → b.point ≤ j → j ≤ b.now n → b.holds n j ≡ true → b.framed n j ≡ true
   -- and so had an open miss at each edge since it was issued
   pub miss_framed : (n j : ℕ) → is_here (b.miss n).want ≡ true → (b.miss n).issued < j → j ≤ b.now n → b.framed n j ≡ true

@@ -9,4 +9,5 @@ pub mod KeptRecords
 pub mod Consequences
 pub mod Runs
 pub mod Example
+pub mod Same
 pub mod Log

@@ -78,25 +78,26 @@ report b n k = record b { net = set b.net b.next (with_number Ready n 0 (b.now n
 abbrev pub validate : ℕ → Block → Block
 validate N b = record b { point = b.point + 1; net = tells_all b N (b.point + 1); next = b.next + N }
 
--- Message i is taken and does nothing to the block (a Ready), or is lost.
+-- Message i is lost. Where none has this number nothing changes.
 abbrev pub lose : Block → ℕ → Block
 lose b i = record b { net = taken b i }
 
--- Advance k at a node: it knows the greater of k and what it knew, and frees the entries below that.
-abbrev pub learned : Block → ℕ → ℕ
-learned b i = max (b.known (b.net i).to) (b.net i).number
+-- Ready at the controller: the block is as before.
+abbrev pub deliver_ready : Block → ℕ → Block
+deliver_ready b i = record b { net = taken b i }
 
+-- Advance k at a node: it knows the greater of k and what it knew, and frees the entries below k.
 abbrev pub deliver_advance : Block → ℕ → Block
 deliver_advance b i =
     record b {
-      known = set b.known (b.net i).to (learned b i);
-      holds = set_row b.holds (b.net i).to (freed (b.holds (b.net i).to) (learned b i));
-      held = set_row b.held (b.net i).to (freed (b.held (b.net i).to) (learned b i));
-      last = set b.last (b.net i).to (newest_freed (b.last (b.net i).to) (learned b i));
-      named_home = λ j. cond ((b.net i).to == b.home) (freed b.named_home (learned b i) j) (b.named_home j);
-      named = λ j. cond ((b.net i).to == b.home) (freed b.named (learned b i) j) (b.named j);
-      home_held = λ j. cond ((b.net i).to == b.home) (freed b.home_held (learned b i) j) (b.home_held j);
-      home_last = cond ((b.net i).to == b.home) (newest_freed b.home_last (learned b i)) b.home_last;
+      known = set b.known (b.net i).to (max (b.known (b.net i).to) (b.net i).number);
+      holds = set_row b.holds (b.net i).to (freed (b.holds (b.net i).to) (b.net i).number);
+      held = set_row b.held (b.net i).to (freed (b.held (b.net i).to) (b.net i).number);
+      last = set b.last (b.net i).to (newest_freed (b.last (b.net i).to) (b.net i).number);
+      named_home = λ j. cond ((b.net i).to == b.home) (freed b.named_home (b.net i).number j) (b.named_home j);
+      named = λ j. cond ((b.net i).to == b.home) (freed b.named (b.net i).number j) (b.named j);
+      home_held = λ j. cond ((b.net i).to == b.home) (freed b.home_held (b.net i).number j) (b.home_held j);
+      home_last = cond ((b.net i).to == b.home) (newest_freed b.home_last (b.net i).number) b.home_last;
       net = taken b i;
     }
 
@@ -129,7 +130,7 @@ recover N b =
       waited = λ n. false;
     }
 
--- The start: the home owns v, which nobody has.
+-- The start: the home owns v, which nobody has. The first message is number 1.
 abbrev pub start : ℕ → Content → Block
 start home v =
     record {
@@ -150,7 +151,7 @@ start home v =
       requester = 0;
       begun = 0;
       net = λ i. gone;
-      next = 0;
+      next = 1;
       holds = λ n j. false;
       held = λ n j. nothing;
       last = λ n. 0;

@@ -26,5 +26,5 @@ pub record IsCoherent (N : ℕ) (b : Block) (r : Records) : Type 0 where
   pub rows : MeetsRows b
   pub notes : MeetsNotes b
   pub accesses : IsLegal N b r
-  pub holder : (j : ℕ) → b.point ≤ j → NoneBegun b j → HasOneHolder b j
+  pub holder : (j : ℕ) → b.point ≤ j → NoneBegun b j → HasOneHolder N b j
   pub content : (j : ℕ) → b.point ≤ j → HasContent b r j

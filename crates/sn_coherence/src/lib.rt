@@ -18,6 +18,7 @@ ghost use Rattle.sn_coherence.specs.Events.{Event, Validate, Allows, after};
 ghost use Rattle.sn_coherence.specs.Records.{Records, no_records, rolls_back, recorded, MayHappen};
 ghost use Rattle.sn_coherence.specs.KeptRecords.{KeptRecords};
 ghost use Rattle.sn_coherence.specs.Consequences.{MeetsRows, MeetsNotes, HasOneHolder, HasContent, NoneBegun, IsLegal, IsRestored};
+ghost use Rattle.sn_coherence.specs.Same.{IsSame};
 ghost use Rattle.sn_coherence.specs.Log.{NoteLaws, NoNoteLaws, FreeLaws};
 ghost use Rattle.sn_coherence.specs.Runs.{CanRun, block_after, records_after, IsCoherent};
 ghost use Rattle.sn_coherence.specs.Example.{example_start, handed_over, recovered, EndsHandedOver, EndsRecovered};
@@ -43,10 +44,10 @@ pub fn each_event_keeps_records()
 pub fn consequences()
     ensures rows { (N : ℕ) (b : Block) → N ≤ 16 → Kept N b → MeetsRows b }
     ensures notes { (N : ℕ) (b : Block) → Kept N b → MeetsNotes b }
-    ensures holder { (N : ℕ) (b : Block) → Kept N b → (j : ℕ) → b.point ≤ j → NoneBegun b j → HasOneHolder b j }
+    ensures holder { (N : ℕ) (b : Block) → Kept N b → (j : ℕ) → b.point ≤ j → NoneBegun b j → HasOneHolder N b j }
     ensures content { (b : Block) (r : Records) → KeptRecords b r → (j : ℕ) → b.point ≤ j → HasContent b r j }
     ensures legal { (N : ℕ) (b : Block) (r : Records) → KeptRecords b r → IsLegal N b r }
-    ensures validated { (N : ℕ) (b : Block) (r : Records) → Kept N b → KeptRecords b r → MayHappen N b r Validate → NoneBegun b (b.point + 1) × HasOneHolder b (b.point + 1) }
+    ensures validated { (N : ℕ) (b : Block) (r : Records) → Kept N b → KeptRecords b r → MayHappen N b r Validate → NoneBegun b (b.point + 1) × HasOneHolder N b (b.point + 1) }
     ensures restored { (N : ℕ) (b : Block) (r : Records) → Kept N b → KeptRecords b r → IsRestored N (recover N b) (rolls_back r N b.point) }
 {}
 
@@ -60,6 +61,12 @@ pub fn every_run_is_coherent()
 pub fn some_runs_can_happen()
     ensures handed_over { CanRun 2 example_start (no_records (5 ∷ [])) handed_over × EndsHandedOver (block_after 2 example_start handed_over) }
     ensures recovered { CanRun 2 example_start (no_records (5 ∷ [])) recovered × EndsRecovered (block_after 2 example_start recovered) }
+{}
+
+/// A block is what it is at each place: so a machine's block that is so after an event keeps what the event's row keeps.
+pub fn same_at_each_place_is_same()
+    ensures block { (N : ℕ) (a b : Block) → IsSame a b → Kept N b → Kept N a }
+    ensures records { (a b : Block) (r : Records) → IsSame a b → KeptRecords b r → KeptRecords a r }
 {}
 
 /// How the list of a log's entries says what the block says at each cut: whether a cache held it, which cache was
