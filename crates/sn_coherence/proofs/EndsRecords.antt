@@ -2,7 +2,7 @@
 use Rattle.std.proofs.Common.{◌≡◌, ℕ, true, arith}
 use Rattle.std.proofs.lemmas.Bool.Decides.{nat_tests}
 use Rattle.sn_coherence.specs.Block.{Block, Content}
-use Rattle.sn_coherence.specs.Others.{start, recover}
+use Rattle.sn_coherence.specs.OtherEvents.{start, recover}
 use Rattle.sn_coherence.specs.Kept.{Clocks, Nodes, Cuts, Kept, is_settled}
 use Rattle.sn_coherence.specs.Records.{Records, rolls_back, no_records}
 use Rattle.sn_coherence.specs.KeptRecords.{Reports, Contents, Accesses, CutContents, KeptRecords}

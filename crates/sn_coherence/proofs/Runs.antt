@@ -1,7 +1,7 @@
 -- What every event keeps holds after a whole run.
 use Rattle.std.proofs.Common.{ℕ, ◌≤◌, ◌<◌, List, [], ◌∷◌}
 use Rattle.sn_coherence.specs.Block.{Block, Content}
-use Rattle.sn_coherence.specs.Others.{start}
+use Rattle.sn_coherence.specs.OtherEvents.{start}
 use Rattle.sn_coherence.specs.Kept.{Kept}
 use Rattle.sn_coherence.specs.Events.{Event, after}
 use Rattle.sn_coherence.specs.Records.{Records, no_records, recorded}
@@ -11,7 +11,7 @@ use Rattle.sn_coherence.proofs.Ends.{start_kept}
 use Rattle.sn_coherence.proofs.EndsRecords.{start_recorded}
 use Rattle.sn_coherence.proofs.Whole.{event_kept}
 use Rattle.sn_coherence.proofs.WholeRecords.{allowed, event_recorded}
-use Rattle.sn_coherence.proofs.WhatFollows.{kept_meets_rows, kept_meets_notes, kept_one_holder, kept_content, kept_legal}
+use Rattle.sn_coherence.proofs.WhatFollows.{kept_meets_rows, kept_meets_notes, kept_one_holder, kept_content, kept_legal, kept_finished, kept_point}
 
 pub run_kept : (N : ℕ) (b : Block) (r : Records) (es : List Event) → Kept N b → KeptRecords b r → CanRun N b r es → Kept N (block_after N b es) × KeptRecords (block_after N b es) (records_after N b r es)
 run_kept N b r [] k v c = (k, v)
@@ -22,9 +22,13 @@ pub kept_coherent : (N : ℕ) (b : Block) (r : Records) → N ≤ 16 → Kept N 
 kept_coherent N b r few k v = record {
   rows = kept_meets_rows N b few k;
   notes = kept_meets_notes N b k;
+  writer = k.sharing.writer_alone;
+  copies = v.contents.of_line;
   accesses = kept_legal N b r v;
   holder = kept_one_holder N b k;
   content = kept_content N b r v;
+  finished = kept_finished N b k;
+  point = kept_point N b k;
 }
 
 pub run_coherent : (N home : ℕ) (v : Content) (es : List Event) → home < N → N ≤ 16 → CanRun N (start home v) (no_records v) es →

@@ -2,8 +2,9 @@
 use Rattle.std.proofs.Common.{◌≡◌, ◌≢◌, ℕ, ◌≤◌, true, arith}
 use Rattle.std.proofs.lemmas.Bool.Decides.{nat_tests}
 use Rattle.sn_coherence.specs.Block.{Block}
-use Rattle.sn_coherence.specs.Others.{recover}
-use Rattle.sn_coherence.specs.Kept.{Nodes, Stages, Requests, Owners, Waits, Sharing, Logs, Cuts, Kept, count, is_settled}
+use Rattle.sn_coherence.specs.OtherEvents.{recover}
+use Rattle.sn_coherence.specs.Kept.{Clocks, Nodes, Stages, Requests, Owners, Waits, Sharing, Logs, Cuts, Kept, count, is_settled}
+use Rattle.sn_coherence.specs.Events.{NothingUnfinished}
 use Rattle.sn_coherence.specs.Records.{Records, rolls_back}
 use Rattle.sn_coherence.specs.KeptRecords.{Contents, Accesses, CutContents, KeptRecords}
 use Rattle.sn_coherence.specs.Consequences.{MeetsRows, MeetsNotes, HasOneHolder, HasContent, NoneBegun, IsLegal, IsRestored}
@@ -43,6 +44,10 @@ module _ (N : ℕ) (b : Block) where
   one_holder : Stages b → Nodes N b → Cuts b → (j : ℕ) → b.point ≤ j → NoneBegun b j → HasOneHolder N b j
   one_holder s z u j l e = grind (arith, none_settled s j e)
 
+  -- whatever is open was begun at or above the point
+  finished : Clocks N b → NothingUnfinished N b b.point
+  finished c = grind arith
+
   content : (r : Records) → CutContents b r → (j : ℕ) → b.point ≤ j → HasContent b r j
   content r d j l = grind arith
 
@@ -66,6 +71,12 @@ module _ (N : ℕ) (b : Block) where
 
   pub kept_legal : (r : Records) → KeptRecords b r → IsLegal N b r
   kept_legal r v = legal r v.contents v.accesses
+
+  pub kept_finished : Kept N b → NothingUnfinished N b b.point
+  kept_finished k = finished k.clocks
+
+  pub kept_point : Kept N b → HasOneHolder N b b.point
+  kept_point k = one_holder k.stages k.nodes k.cuts b.point (omega arith) k.clocks.begun_point
 
   pub kept_restored : (r : Records) → Kept N b → KeptRecords b r → IsRestored N (recover N b) (rolls_back r N b.point)
   kept_restored r k v = restored r (point_settled N b k.clocks k.stages) k.cuts v.cut_contents

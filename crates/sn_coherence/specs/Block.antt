@@ -89,7 +89,10 @@ pub record Miss : Type 0 where
   pub due : ℕ
   pub acks : ℕ
 
--- The block.
+-- The block. What isn't there has one form: without a line the content is `nothing`; without a put it was issued in 0;
+-- while the home owns, `owner` is 0, and while a cache owns, `home_content` is `nothing`; without a transaction `requester`
+-- and `begun` are 0; and at a cut `held` is `nothing` where the cache doesn't hold, `named` is 0 where the home names itself,
+-- and `home_held` is `nothing` where it names a cache.
 pub record Block : Type 0 where
   -- the recovery point, and the node that is the block's home
   pub point : ℕ

@@ -1,7 +1,7 @@
 -- Two short runs of two nodes, node 0 being the block's home. Messages are numbered from 1 as they are sent.
 use Rattle.std.specs.Prelude.{◌≡◌, true, false, List, [], ◌∷◌, ◌++◌}
 use Rattle.sn_coherence.specs.Block.{Block, Modified, NoLine}
-use Rattle.sn_coherence.specs.Others.{start}
+use Rattle.sn_coherence.specs.OtherEvents.{start}
 use Rattle.sn_coherence.specs.Events.{Event, BeginWriteMiss, Takes, DataModified, Unblocks, Store, BeginReadMiss, ReadAtOwner, ForwardRead, DataShared, Load, Edge, MovesOwnership, ForwardWrite, Lose, Report, DeliverReady, Validate, Recover}
 
 -- the home has the content 5

@@ -40,7 +40,7 @@ pub record Accesses (b : Block) (r : Records) : Type 0 where
   -- nor above the interval of atomicity of a Take that is given to a reader
   pub alone : (x : ℕ) → b.kind ≡ Take → b.stage ≡ Given → (b.miss b.requester).want ≡ Reads → r.last_access x ≤ b.at + 1
   -- an access above the now of the owner, a cache or the home, or above the interval of atomicity where the block is on
-  -- its way, is by a node that is listed or waited for, or it lies at or below the now of r of a Take or Move
+  -- its way, is by a node that is listed or waited for, or it lies at or below the now of the requester of a Take or Move
   pub owner : (n x : ℕ) → is_owned (b.line n) ≡ true → b.now n + 1 < r.last_access x →
       (b.sharers x ≡ true) ⊎ (b.waited x ≡ true) ⊎ ((comes_to_cache b.kind ≡ true) × (r.last_access x ≤ b.now b.requester + 1))
   pub home : (x : ℕ) → b.at_home ≡ true → b.now b.home + 1 < r.last_access x →

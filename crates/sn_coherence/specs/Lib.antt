@@ -1,7 +1,7 @@
 pub mod Block
 pub mod CacheRows
 pub mod HomeRows
-pub mod Others
+pub mod OtherEvents
 pub mod Events
 pub mod Kept
 pub mod Records

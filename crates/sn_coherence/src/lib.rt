@@ -12,12 +12,12 @@
 
 ghost use Rattle.std.specs.Prelude.{ℕ, ◌+◌, ◌<◌, ◌≤◌, Bool, List, [], ◌∷◌};
 ghost use Rattle.sn_coherence.specs.Block.{Block, Content};
-ghost use Rattle.sn_coherence.specs.Others.{start, recover};
+ghost use Rattle.sn_coherence.specs.OtherEvents.{start, recover};
 ghost use Rattle.sn_coherence.specs.Kept.{Kept};
-ghost use Rattle.sn_coherence.specs.Events.{Event, Validate, Allows, after};
+ghost use Rattle.sn_coherence.specs.Events.{Event, Validate, Allows, NothingUnfinished, after};
 ghost use Rattle.sn_coherence.specs.Records.{Records, no_records, rolls_back, recorded, MayHappen};
 ghost use Rattle.sn_coherence.specs.KeptRecords.{KeptRecords};
-ghost use Rattle.sn_coherence.specs.Consequences.{MeetsRows, MeetsNotes, HasOneHolder, HasContent, NoneBegun, IsLegal, IsRestored};
+ghost use Rattle.sn_coherence.specs.Consequences.{MeetsRows, MeetsNotes, HasOneHolder, HasContent, NoneBegun, IsRestored};
 ghost use Rattle.sn_coherence.specs.Same.{IsSame};
 ghost use Rattle.sn_coherence.specs.Log.{NoteLaws, NoNoteLaws, FreeLaws};
 ghost use Rattle.sn_coherence.specs.Runs.{CanRun, block_after, records_after, IsCoherent};
@@ -40,14 +40,14 @@ pub fn each_event_keeps_records()
     ensures kept { (N : ℕ) (b : Block) (r : Records) (e : Event) → Kept N b → KeptRecords b r → MayHappen N b r e → KeptRecords (after N b e) (recorded N b r e) }
 {}
 
-/// What the sentences say of every moment: of deliveries, of cuts, of accesses, and of what a recovery leaves.
+/// What the sentences say of every moment: of deliveries, of notes, of cuts, of all that the block shows, of a validation
+/// that can happen, and of what a recovery leaves.
 pub fn consequences()
     ensures rows { (N : ℕ) (b : Block) → N ≤ 16 → Kept N b → MeetsRows b }
     ensures notes { (N : ℕ) (b : Block) → Kept N b → MeetsNotes b }
     ensures holder { (N : ℕ) (b : Block) → Kept N b → (j : ℕ) → b.point ≤ j → NoneBegun b j → HasOneHolder N b j }
-    ensures content { (b : Block) (r : Records) → KeptRecords b r → (j : ℕ) → b.point ≤ j → HasContent b r j }
-    ensures legal { (N : ℕ) (b : Block) (r : Records) → KeptRecords b r → IsLegal N b r }
-    ensures validated { (N : ℕ) (b : Block) (r : Records) → Kept N b → KeptRecords b r → MayHappen N b r Validate → NoneBegun b (b.point + 1) × HasOneHolder N b (b.point + 1) }
+    ensures coherent { (N : ℕ) (b : Block) (r : Records) → N ≤ 16 → Kept N b → KeptRecords b r → IsCoherent N b r }
+    ensures validated { (N : ℕ) (b : Block) (r : Records) → Kept N b → KeptRecords b r → MayHappen N b r Validate → NothingUnfinished N b (b.point + 1) × HasOneHolder N b (b.point + 1) × HasContent b r (b.point + 1) }
     ensures restored { (N : ℕ) (b : Block) (r : Records) → Kept N b → KeptRecords b r → IsRestored N (recover N b) (rolls_back r N b.point) }
 {}
 
