@@ -12,3 +12,4 @@ pub mod ProjectionLaw
 pub mod Filters
 pub mod Places
 pub mod Start
+pub mod Kept
