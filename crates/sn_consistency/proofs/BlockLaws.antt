@@ -22,7 +22,8 @@ use Rattle.sn_consistency.proofs.CoreLaws.{write_fits}
 use Rattle.sn_consistency.proofs.MemoryLaws.{length-stored_in, part, part_at, part-stored_in}
 
 -- an aligned word of the memory is one of its block
-word_part : (m : List ℕ) (o : ℕ) → little_number 4 (drop (o / 4 * 4) m) ≡ little_number 4 (drop (o % 64 / 4 * 4) (part m (o / 64)))
+word_part : (m : List ℕ) (o : ℕ) →
+    little_number 4 (drop (o / 4 * 4) m) ≡ little_number 4 (drop (o % 64 / 4 * 4) (part m (o / 64)))
 word_part m o =
     let p = o % 64 / 4 * 4 in
     let e : o / 4 * 4 ≡ 64 * (o / 64) + p = omega arith in
@@ -36,15 +37,18 @@ word_part m o =
     let d = byte 3 (omega arith) in
     cc
 
-pub word_block : (m : List ℕ) (address : ℕ) → word_at m address ≡ block_word (block_in m (block_of address)) ((address - ram_start) % 64 / 4 * 4)
+pub word_block : (m : List ℕ) (address : ℕ) →
+    word_at m address ≡ block_word (block_in m (block_of address)) ((address - ram_start) % 64 / 4 * 4)
 unfolding block_word block_in
 word_block m address = word_part m (address - ram_start)
 
-pub seen_block : (image : ImageData) (c : CoreState) (m : List ℕ) → seen_by (want_of image c) m ≡ cond (reads (kind image c)) (block_word (block_in m (block image c)) (place image c)) 0
+pub seen_block : (image : ImageData) (c : CoreState) (m : List ℕ) →
+    seen_by (want_of image c) m ≡ cond (reads (kind image c)) (block_word (block_in m (block image c)) (place image c)) 0
 unfolding kind kind_of block place address_of block_word block_in
 seen_block image c m = of_want (want_of image c)
   where
-    of_want : (w : Want) → seen_by w m ≡ cond (reads (kind_of w)) (little_number 4 (drop ((address_of w - ram_start) % 64 / 4 * 4) (part m (block_of (address_of w))))) 0
+    of_want : (w : Want) →
+        seen_by w m ≡ cond (reads (kind_of w)) (little_number 4 (drop ((address_of w - ram_start) % 64 / 4 * 4) (part m (block_of (address_of w))))) 0
     of_want Nothing = refl
     of_want (Load a) = word_part m (a - ram_start)
     of_want (Store a) = refl
@@ -59,7 +63,8 @@ inside_block Byte a e l = omega arith
 inside_block Half a e l = omega arith
 inside_block Word a e l = omega arith
 
-stored_part : (m : List ℕ) (w : Width) (v a b : ℕ) → length m ≡ ram_size → ram_start ≤ a → a + bytes_of w ≤ ram_start + ram_size → a % bytes_of w ≡ 0 →
+stored_part : (m : List ℕ) (w : Width) (v a b : ℕ) → length m ≡ ram_size → ram_start ≤ a →
+    a + bytes_of w ≤ ram_start + ram_size → a % bytes_of w ≡ 0 →
     part (stored_in m (a - ram_start) (little_bytes (bytes_of w) v)) b ≡ cond (b == block_of a) (stored_in (part m b) ((a - ram_start) % 64) (little_bytes (bytes_of w) v)) (part m b)
 stored_part m w v a b size low high aligned =
     let o = a - ram_start in
@@ -69,7 +74,8 @@ stored_part m w v a b size low high aligned =
     ap (λ p. part (stored_in m p (little_bytes (bytes_of w) v)) b) e
     ∙ part-stored_in m (little_bytes (bytes_of w) v) (o / 64) (o % 64) (omega arith) (omega arith) b
 
-pub store_block : (m : List ℕ) (w : Width) (v a b : ℕ) → length m ≡ ram_size → ram_start ≤ a → a + bytes_of w ≤ ram_start + ram_size → a % bytes_of w ≡ 0 →
+pub store_block : (m : List ℕ) (w : Width) (v a b : ℕ) → length m ≡ ram_size → ram_start ≤ a →
+    a + bytes_of w ≤ ram_start + ram_size → a % bytes_of w ≡ 0 →
     block_in (stored_in m (a - ram_start) (little_bytes (bytes_of w) v)) b ≡ cond (b == block_of a) (stored_in (block_in m b) ((a - ram_start) % 64) (little_bytes (bytes_of w) v)) (block_in m b)
 unfolding block_in
 store_block = stored_part
@@ -81,7 +87,8 @@ module _ (image : ImageData) (c : CoreState) (r : Record) (m : List ℕ) (size :
   unfolding kind block content_after block_in
   written_block b = of_write (next_of image c r.seen r.sc_done r.read).effect.write (writes (kind_of (want_of image c)) r.sc_done) (address_of (want_of image c)) (write_fits image c r.seen r.sc_done r.read)
     where
-      of_write : (w : Option Write) (q : Bool) (a : ℕ) → WriteFits a q w → part (written m w) b ≡ cond (q && (b == block_of a)) (write_block w (part m b)) (part m b)
+      of_write : (w : Option Write) (q : Bool) (a : ℕ) → WriteFits a q w →
+          part (written m w) b ≡ cond (q && (b == block_of a)) (write_block w (part m b)) (part m b)
       of_write None q a f = rw f refl
       of_write (Some w) q a f =
           let s = stored_part m w.width w.value w.address b size (rw f.1 f.2) (rw f.1 f.3) (rw f.1 f.4) in
@@ -111,11 +118,14 @@ module _ (k : CoreState) where
   lost None b d = refl
   lost (Some e) b d = grind (arith, nat_tests)
 
-  after_held : (w : Option Write) (q : Bool) (a d : ℕ) → WriteFits a q w → is_reserved (after_write w k).reservation d ≡ (is_reserved k.reservation d && not (q && (d == block_of a)))
+  after_held : (w : Option Write) (q : Bool) (a d : ℕ) → WriteFits a q w →
+      is_reserved (after_write w k).reservation d ≡ (is_reserved k.reservation d && not (q && (d == block_of a)))
   after_held None q a d f = rw f (grind arith)
   after_held (Some w) q a d f = rw (f.0, ← f.1) (go (is_reserved k.reservation (block_of w.address)) refl (lost k.reservation (block_of w.address) d))
     where
-      go : (q : Bool) → is_reserved k.reservation (block_of w.address) ≡ q → is_reserved (cond (is_reserved k.reservation (block_of w.address)) None k.reservation) d ≡ (is_reserved k.reservation d && not (d == block_of w.address))
+      go : (q : Bool) → is_reserved k.reservation (block_of w.address) ≡ q →
+          is_reserved (cond (is_reserved k.reservation (block_of w.address)) None k.reservation) d
+          ≡ (is_reserved k.reservation d && not (d == block_of w.address))
           → is_reserved (cond q (bare k) k).reservation d ≡ (is_reserved k.reservation d && not (d == block_of w.address))
       go true e h = rw e at h
       go false e h = rw e at h
@@ -124,6 +134,8 @@ module _ (image : ImageData) (c : CoreState) (r : Record) (k : CoreState) where
   pub cleared_bare : bare (after_write (next_of image c r.seen r.sc_done r.read).effect.write k) ≡ bare k
   cleared_bare = after_bare k (next_of image c r.seen r.sc_done r.read).effect.write
 
-  pub cleared_held : (b : ℕ) → is_reserved (after_write (next_of image c r.seen r.sc_done r.read).effect.write k).reservation b ≡ (is_reserved k.reservation b && not (writes (kind image c) r.sc_done && (b == block image c)))
+  pub cleared_held : (b : ℕ) →
+      is_reserved (after_write (next_of image c r.seen r.sc_done r.read).effect.write k).reservation b
+      ≡ (is_reserved k.reservation b && not (writes (kind image c) r.sc_done && (b == block image c)))
   unfolding kind block
   cleared_held b = after_held k (next_of image c r.seen r.sc_done r.read).effect.write (writes (kind_of (want_of image c)) r.sc_done) (address_of (want_of image c)) b (write_fits image c r.seen r.sc_done r.read)

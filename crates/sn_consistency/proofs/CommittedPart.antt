@@ -27,11 +27,13 @@ module _ (image : ImageData) (N : ℕ) (s : FlatState) (F : Places) (start : Sho
   committed_end = subst (λ G. Shows N (state_after image s (committed f k)) G) (run-below image F f k) (good_end image N s F start (below f k) (below_good image F f N g k))
 
 -- the bytes put out
-puts_is : (image : ImageData) (c : CoreState) (r : Record) → option_to_list (next_of image c r.seen r.sc_done r.read).effect.out ≡ puts image c r
+puts_is : (image : ImageData) (c : CoreState) (r : Record) →
+    option_to_list (next_of image c r.seen r.sc_done r.read).effect.out ≡ puts image c r
 unfolding puts
 puts_is image c r = refl
 
-good_out : (image : ImageData) (N : ℕ) (s : FlatState) (F : Places) → Shows N s F → (es : List Entry) → Good image N F es → put_out_by image s (records es) ≡ outs image es
+good_out : (image : ImageData) (N : ℕ) (s : FlatState) (F : Places) → Shows N s F → (es : List Entry) →
+    Good image N F es → put_out_by image s (records es) ≡ outs image es
 good_out image N s F t [] g = refl
 good_out image N s F t (e ∷ es) g =
     let i : e.found ≡ bare (core_at s e.did.core) = g.0.same ∙ sym (t.core e.did.core) in
@@ -40,20 +42,24 @@ good_out image N s F t (e ∷ es) g =
     let b = good_out image N (flat_step image s e.did) (step image F e) (shows_step image N s F t e i g.0.fits.within) es g.1 in
     cc
 
-pub committed_out : (image : ImageData) (N : ℕ) (s : FlatState) (F : Places) → Shows N s F → (f : ℕ → List Entry) → GoodList image N F f → (k : ℕ) → put_out_by image s (committed f k) ≡ released image f k
+pub committed_out : (image : ImageData) (N : ℕ) (s : FlatState) (F : Places) → Shows N s F → (f : ℕ → List Entry) →
+    GoodList image N F f → (k : ℕ) → put_out_by image s (committed f k) ≡ released image f k
 committed_out image N s F start f g k = good_out image N s F start (below f k) (below_good image F f N g k)
 
 -- the bytes read
-taken_step : (a r : List ℕ) (q : Bool) (x : Option ℕ) → cond q (a ++ option_to_list x) a ++ r ≡ a ++ (cond q (option_to_list x) [] ++ r)
+taken_step : (a r : List ℕ) (q : Bool) (x : Option ℕ) →
+    cond q (a ++ option_to_list x) a ++ r ≡ a ++ (cond q (option_to_list x) [] ++ r)
 taken_step a r true None = append_assoc a [] r
 taken_step a r true (Some x) = append_assoc a (x ∷ []) r
 taken_step a r false x = refl
 
-taken-in_of : (image : ImageData) (F : Places) (es : List Entry) (n : ℕ) → (run image F es).taken n ≡ F.taken n ++ in_of n (records es)
+taken-in_of : (image : ImageData) (F : Places) (es : List Entry) (n : ℕ) →
+    (run image F es).taken n ≡ F.taken n ++ in_of n (records es)
 taken-in_of image F [] n = sym (append-nil (F.taken n))
 taken-in_of image F (e ∷ es) n = taken-in_of image (step image F e) es n ∙ taken_step (F.taken n) (in_of n (records es)) (nat_eq e.did.core n) e.did.read
 
-pub committed_reads : (image : ImageData) (F : Places) (f : ℕ → List Entry) (n k : ℕ) → (at_cut image F f k).taken n ≡ F.taken n ++ in_of n (committed f k)
+pub committed_reads : (image : ImageData) (F : Places) (f : ℕ → List Entry) (n k : ℕ) →
+    (at_cut image F f k).taken n ≡ F.taken n ++ in_of n (committed f k)
 committed_reads image F f n k = ap (λ G. G.taken n) (sym (run-below image F f k)) ∙ taken-in_of image F (below f k) n
 
 -- lists after lists
@@ -74,7 +80,8 @@ pub committed_next : (f : ℕ → List Entry) (k : ℕ) → committed f (suc k) 
 unfolding below
 committed_next f k = records-append (below f k) (f k)
 
-pub released_next : (image : ImageData) (f : ℕ → List Entry) (k : ℕ) → released image f (suc k) ≡ released image f k ++ outs image (f k)
+pub released_next : (image : ImageData) (f : ℕ → List Entry) (k : ℕ) →
+    released image f (suc k) ≡ released image f k ++ outs image (f k)
 unfolding below
 released_next image f k = outs-append image (below f k) (f k)
 
@@ -82,7 +89,8 @@ pub committed_begins : (f : ℕ → List Entry) (k j : ℕ) → k ≤ j → Begi
 committed_begins f k zero l = let i : k ≡ zero = omega arith in record { more = []; is = ap (committed f) (sym i) ∙ sym (append-nil (committed f k)) }
 committed_begins f k (suc j) l = go (cases_order k (suc j)) (committed_begins f k j)
   where
-    go : ((k ≡ suc j) ⊎ ((k < suc j) ⊎ (suc j < k))) → (k ≤ j → Begins (committed f k) (committed f j)) → Begins (committed f k) (committed f (suc j))
+    go : ((k ≡ suc j) ⊎ ((k < suc j) ⊎ (suc j < k))) → (k ≤ j → Begins (committed f k) (committed f j)) →
+        Begins (committed f k) (committed f (suc j))
     go (inl i) h = record { more = []; is = ap (committed f) (sym i) ∙ sym (append-nil (committed f k)) }
     go (inr (inl m)) h =
         let r = h (omega arith) in
@@ -111,12 +119,15 @@ below_cut f point (suc k) l = go (cases_order point (suc k)) (below_cut f point 
     nothing : point ≤ k → cut_off f point k ≡ []
     nothing m = grind (arith, nat_tests)
 
-    go : ((point ≡ suc k) ⊎ ((point < suc k) ⊎ (suc k < point))) → (point ≤ k → below (cut_off f point) k ≡ below f point) → below (cut_off f point) k ++ cut_off f point k ≡ below f point
+    go : ((point ≡ suc k) ⊎ ((point < suc k) ⊎ (suc k < point))) →
+        (point ≤ k → below (cut_off f point) k ≡ below f point) →
+        below (cut_off f point) k ++ cut_off f point k ≡ below f point
     go (inl i) h = below_recovered f point (suc k) (omega arith) ∙ ap (below f) (sym i)
     go (inr (inl m)) h = rw (nothing (omega arith)) (append-nil (below (cut_off f point) k) ∙ h (omega arith))
     go (inr (inr m)) h = absurd (omega arith)
 
-pub recovered_execution : (image : ImageData) (N : ℕ) (s : FlatState) (F : Places) → Shows N s F → (f : ℕ → List Entry) → GoodList image N F f → (point k : ℕ) → Executes image s (committed (cut_off f point) k)
+pub recovered_execution : (image : ImageData) (N : ℕ) (s : FlatState) (F : Places) → Shows N s F →
+    (f : ℕ → List Entry) → GoodList image N F f → (point k : ℕ) → Executes image s (committed (cut_off f point) k)
 recovered_execution image N s F start f g point k = committed_execution image N s F start (cut_off f point) (cut_off_good image F f point N g) k
 
 -- a list of retirements, by interval
@@ -125,20 +136,26 @@ module _ {A : Type 0} where
       → cond (x == r.interval) (r.item ∷ l) l ≡ cond (x == q.interval) (cond (x == r.interval) (r.item ∷ k) k ++ q.item ∷ []) (cond (x == r.interval) (r.item ∷ k) k)
   by_step r q x l k e = grind (arith, nat_tests)
 
-  kept_in : (r : Retirement A) (x k : ℕ) (l b : List A) → nat_lt r.interval k ≡ true → l ≡ cond (nat_lt x k) b [] → cond (x == r.interval) (r.item ∷ l) l ≡ cond (nat_lt x k) (cond (x == r.interval) (r.item ∷ b) b) []
+  kept_in : (r : Retirement A) (x k : ℕ) (l b : List A) → nat_lt r.interval k ≡ true → l ≡ cond (nat_lt x k) b [] →
+      cond (x == r.interval) (r.item ∷ l) l ≡ cond (nat_lt x k) (cond (x == r.interval) (r.item ∷ b) b) []
   kept_in r x k l b q e = grind (arith, nat_tests)
 
-  kept_out : (r : Retirement A) (x k : ℕ) (l b : List A) → nat_lt r.interval k ≡ false → l ≡ cond (nat_lt x k) b [] → l ≡ cond (nat_lt x k) (cond (x == r.interval) (r.item ∷ b) b) []
+  kept_out : (r : Retirement A) (x k : ℕ) (l b : List A) → nat_lt r.interval k ≡ false → l ≡ cond (nat_lt x k) b [] →
+      l ≡ cond (nat_lt x k) (cond (x == r.interval) (r.item ∷ b) b) []
   kept_out r x k l b q e = grind (arith, nat_tests)
 
-  pub by_interval-push : (rs : List (Retirement A)) (q : Retirement A) (x : ℕ) → by_interval (rs ++ q ∷ []) x ≡ cond (x == q.interval) (by_interval rs x ++ q.item ∷ []) (by_interval rs x)
+  pub by_interval-push : (rs : List (Retirement A)) (q : Retirement A) (x : ℕ) →
+      by_interval (rs ++ q ∷ []) x ≡ cond (x == q.interval) (by_interval rs x ++ q.item ∷ []) (by_interval rs x)
   by_interval-push [] q x = refl
   by_interval-push (r ∷ rs) q x = by_step r q x (by_interval (rs ++ q ∷ []) x) (by_interval rs x) (by_interval-push rs q x)
 
-  pub by_interval-kept : (rs : List (Retirement A)) (k x : ℕ) → by_interval (kept rs k) x ≡ cond (nat_lt x k) (by_interval rs x) []
+  pub by_interval-kept : (rs : List (Retirement A)) (k x : ℕ) →
+      by_interval (kept rs k) x ≡ cond (nat_lt x k) (by_interval rs x) []
   by_interval-kept [] k x = grind arith
   by_interval-kept (r ∷ rs) k x = go (nat_lt r.interval k) refl (by_interval-kept rs k x)
     where
-      go : (q : Bool) → nat_lt r.interval k ≡ q → by_interval (kept rs k) x ≡ cond (nat_lt x k) (by_interval rs x) [] → by_interval (cond q (r ∷ kept rs k) (kept rs k)) x ≡ cond (nat_lt x k) (cond (x == r.interval) (r.item ∷ by_interval rs x) (by_interval rs x)) []
+      go : (q : Bool) → nat_lt r.interval k ≡ q → by_interval (kept rs k) x ≡ cond (nat_lt x k) (by_interval rs x) [] →
+          by_interval (cond q (r ∷ kept rs k) (kept rs k)) x
+          ≡ cond (nat_lt x k) (cond (x == r.interval) (r.item ∷ by_interval rs x) (by_interval rs x)) []
       go true q h = kept_in r x k (by_interval (kept rs k) x) (by_interval rs x) q h
       go false q h = kept_out r x k (by_interval (kept rs k) x) (by_interval rs x) q h

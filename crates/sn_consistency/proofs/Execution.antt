@@ -20,14 +20,16 @@ use Rattle.sn_consistency.proofs.BlockLaws.{written_block, length-written, clear
 
 -- the cores after a step
 module _ (cs : List CoreState) (nobody : CoreState) where
-  map_at : (f : CoreState → CoreState) → f nobody ≡ nobody → (n : ℕ) → get_or (map f cs) n nobody ≡ f (get_or cs n nobody)
+  map_at : (f : CoreState → CoreState) → f nobody ≡ nobody → (n : ℕ) →
+      get_or (map f cs) n nobody ≡ f (get_or cs n nobody)
   map_at f same n = go (cases_lt n (length cs))
     where
       go : (n < length cs) ⊎ (length cs ≤ n) → get_or (map f cs) n nobody ≡ f (get_or cs n nobody)
       go (inl l) = get_or-map f cs n nobody nobody l
       go (inr l) = get_or_past (map f cs) n nobody (omega (arith, length-map cs f)) ∙ sym (ap f (get_or_past cs n nobody l) ∙ same)
 
-  set_at : (k : ℕ) (c : CoreState) (n : ℕ) → k < length cs → get_or (set cs k c) n nobody ≡ cond (n == k) c (get_or cs n nobody)
+  set_at : (k : ℕ) (c : CoreState) (n : ℕ) → k < length cs →
+      get_or (set cs k c) n nobody ≡ cond (n == k) c (get_or cs n nobody)
   set_at k c n l = go (cases_order n k)
     where
       go : ((n ≡ k) ⊎ ((n < k) ⊎ (k < n))) → get_or (set cs k c) n nobody ≡ cond (n == k) c (get_or cs n nobody)
@@ -49,7 +51,8 @@ module _ (image : ImageData) (s : FlatState) (r : Record) where
   abbrev wrote_by : Option Write
   wrote_by = (next_of image (core_at s r.core) r.seen r.sc_done r.read).effect.write
 
-  core_after : (n : ℕ) → r.core < length s.cores → core_at (flat_step image s r) n ≡ cond (n == r.core) (next image (core_at s r.core) r) (after_write wrote_by (core_at s n))
+  core_after : (n : ℕ) → r.core < length s.cores →
+      core_at (flat_step image s r) n ≡ cond (n == r.core) (next image (core_at s r.core) r) (after_write wrote_by (core_at s n))
   unfolding next
   core_after n l =
       set_at (map (after_write wrote_by) s.cores) (start_of 0 0) r.core (next_of image (core_at s r.core) r.seen r.sc_done r.read).core n (omega (arith, length-map s.cores (after_write wrote_by)))
@@ -72,7 +75,8 @@ module _ (image : ImageData) (N : ℕ) (s : FlatState) (F : Places) (t : Shows N
   found_running : is_running e.found.end ≡ is_running (core_at s e.did.core).end
   found_running = rw same refl
 
-  found_written : (v : Content) → content_after image e.found e.did v ≡ content_after image (core_at s e.did.core) e.did v
+  found_written : (v : Content) →
+      content_after image e.found e.did v ≡ content_after image (core_at s e.did.core) e.did v
   found_written v = rw same (written_bare image (core_at s e.did.core) e.did v)
 
   found_next : bare (next image e.found e.did) ≡ bare (next image (core_at s e.did.core) e.did)
@@ -157,12 +161,14 @@ module _ (image : ImageData) (N : ℕ) (s : FlatState) (F : Places) (t : Shows N
     }
 
 module _ (image : ImageData) (N : ℕ) where
-  pub good_execution : (s : FlatState) (F : Places) → Shows N s F → (es : List Entry) → Good image N F es → Executes image s (records es)
+  pub good_execution : (s : FlatState) (F : Places) → Shows N s F → (es : List Entry) → Good image N F es →
+      Executes image s (records es)
   good_execution s F t [] g = tt
   good_execution s F t (e ∷ es) g =
       let i : e.found ≡ bare (core_at s e.did.core) = g.0.same ∙ sym (t.core e.did.core) in
       (legal_has image N s F t e i g.0, good_execution (flat_step image s e.did) (step image F e) (shows_step image N s F t e i g.0.fits.within) es g.1)
 
-  pub good_end : (s : FlatState) (F : Places) → Shows N s F → (es : List Entry) → Good image N F es → Shows N (state_after image s (records es)) (run image F es)
+  pub good_end : (s : FlatState) (F : Places) → Shows N s F → (es : List Entry) → Good image N F es →
+      Shows N (state_after image s (records es)) (run image F es)
   good_end s F t [] g = t
   good_end s F t (e ∷ es) g = good_end (flat_step image s e.did) (step image F e) (shows_step image N s F t e (g.0.same ∙ sym (t.core e.did.core)) g.0.fits.within) es g.1

@@ -31,7 +31,9 @@ module _ (image : ImageData) (N n : ℕ) where
   core_to c [] g = tt
   core_to c (r ∷ rs) g = go (pick n r.core) (λ d. core_to d rs)
     where
-      go : ((n ≡ r.core) ⊎ (n ≢ r.core)) → ((d : CoreState) → CoreGood image N n d rs → ReplaysAll image N d (records_of n rs)) → ReplaysAll image N c (cond (n == r.core) (r ∷ records_of n rs) (records_of n rs))
+      go : ((n ≡ r.core) ⊎ (n ≢ r.core)) →
+          ((d : CoreState) → CoreGood image N n d rs → ReplaysAll image N d (records_of n rs)) →
+          ReplaysAll image N c (cond (n == r.core) (r ∷ records_of n rs) (records_of n rs))
       go (inl i) h =
           let q = same_test n r.core i in
           rw q (g.0 i, h (next image c r) (rw q at g.1))
@@ -43,7 +45,9 @@ module _ (image : ImageData) (N n : ℕ) where
   core_from c [] g = tt
   core_from c (r ∷ rs) g = go (pick n r.core) (λ d. core_from d rs)
     where
-      go : ((n ≡ r.core) ⊎ (n ≢ r.core)) → ((d : CoreState) → ReplaysAll image N d (records_of n rs) → CoreGood image N n d rs) → (n ≡ r.core → Replays image N c r) × CoreGood image N n (cond (n == r.core) (next image c r) c) rs
+      go : ((n ≡ r.core) ⊎ (n ≢ r.core)) →
+          ((d : CoreState) → ReplaysAll image N d (records_of n rs) → CoreGood image N n d rs) →
+          (n ≡ r.core → Replays image N c r) × CoreGood image N n (cond (n == r.core) (next image c r) c) rs
       go (inl i) h =
           let q = same_test n r.core i in
           let p = rw q at g in
@@ -54,7 +58,8 @@ module _ (image : ImageData) (N n : ℕ) where
 
 -- a block's accesses: what doesn't touch it leaves it
 module _ (image : ImageData) (b : ℕ) where
-  same_block : (v : BlockState) (e : Entry) → (touches image e && (b == block image e.found)) ≡ false → block_step image b v e ≡ v
+  same_block : (v : BlockState) (e : Entry) → (touches image e && (b == block image e.found)) ≡ false →
+      block_step image b v e ≡ v
   same_block v e q = λ i. record { content = same_content i; intact = fun_ext same_intact i }
     where
       same_content : (block_step image b v e).content ≡ v.content
@@ -63,25 +68,33 @@ module _ (image : ImageData) (b : ℕ) where
       same_intact : (n : ℕ) → (block_step image b v e).intact n ≡ v.intact n
       same_intact n = grind (arith, nat_tests)
 
-  touch_step : (v : BlockState) (e : Entry) → (touches image e && (b == block image e.found)) ≡ true → (b ≡ block image e.found → BlockLegal image v e) → BlockLegal image v e
+  touch_step : (v : BlockState) (e : Entry) → (touches image e && (b == block image e.found)) ≡ true →
+      (b ≡ block image e.found → BlockLegal image v e) → BlockLegal image v e
   touch_step v e q h = h (grind (arith, nat_tests))
 
-  free_step : (v : BlockState) (e : Entry) → (touches image e && (b == block image e.found)) ≡ false → b ≡ block image e.found → BlockLegal image v e
+  free_step : (v : BlockState) (e : Entry) → (touches image e && (b == block image e.found)) ≡ false →
+      b ≡ block image e.found → BlockLegal image v e
   free_step v e q i = record { seen = λ r. grind (arith, nat_tests); done = λ c d. grind (arith, nat_tests) }
 
-  pub block_to : (v : BlockState) (es : List Entry) → BlockGood image b v es → AgreesAll image b v (accesses_of image b es)
+  pub block_to : (v : BlockState) (es : List Entry) → BlockGood image b v es →
+      AgreesAll image b v (accesses_of image b es)
   block_to v [] g = tt
   block_to v (e ∷ es) g = go (touches image e && (b == block image e.found)) refl (block_to (block_step image b v e) es g.1)
     where
-      go : (q : Bool) → (touches image e && (b == block image e.found)) ≡ q → AgreesAll image b (block_step image b v e) (accesses_of image b es) → AgreesAll image b v (cond q (e ∷ accesses_of image b es) (accesses_of image b es))
+      go : (q : Bool) → (touches image e && (b == block image e.found)) ≡ q →
+          AgreesAll image b (block_step image b v e) (accesses_of image b es) →
+          AgreesAll image b v (cond q (e ∷ accesses_of image b es) (accesses_of image b es))
       go true q h = (touch_step v e q g.0, h)
       go false q h = subst (λ w. AgreesAll image b w (accesses_of image b es)) (same_block v e q) h
 
-  pub block_from : (v : BlockState) (es : List Entry) → AgreesAll image b v (accesses_of image b es) → BlockGood image b v es
+  pub block_from : (v : BlockState) (es : List Entry) → AgreesAll image b v (accesses_of image b es) →
+      BlockGood image b v es
   block_from v [] g = tt
   block_from v (e ∷ es) g = go (touches image e && (b == block image e.found)) refl g (block_from (block_step image b v e) es)
     where
-      go : (q : Bool) → (touches image e && (b == block image e.found)) ≡ q → AgreesAll image b v (cond q (e ∷ accesses_of image b es) (accesses_of image b es)) → (AgreesAll image b (block_step image b v e) (accesses_of image b es) → BlockGood image b (block_step image b v e) es) →
+      go : (q : Bool) → (touches image e && (b == block image e.found)) ≡ q →
+          AgreesAll image b v (cond q (e ∷ accesses_of image b es) (accesses_of image b es)) →
+          (AgreesAll image b (block_step image b v e) (accesses_of image b es) → BlockGood image b (block_step image b v e) es) →
           (b ≡ block image e.found → BlockLegal image v e) × BlockGood image b (block_step image b v e) es
       go true q p h = ((λ i. p.0), h p.1)
       go false q p h = (free_step v e q, h (subst (λ w. AgreesAll image b w (accesses_of image b es)) (sym (same_block v e q)) p))

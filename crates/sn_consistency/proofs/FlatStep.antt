@@ -22,7 +22,8 @@ pub record Allowed (image : ImageData) (N : ℕ) (memory : List ℕ) (c : CoreSt
   pub byte : is_some r.read ≡ takes (kind image c)
 
 -- a reservation of the wanted block is there, and an SC wanted
-sc_to : (w : Want) (c : CoreState) → holds_reservation c w ≡ true → (is_sc (kind_of w) ≡ true) × (is_reserved c.reservation (block_of (address_of w)) ≡ true)
+sc_to : (w : Want) (c : CoreState) → holds_reservation c w ≡ true →
+    (is_sc (kind_of w) ≡ true) × (is_reserved c.reservation (block_of (address_of w)) ≡ true)
 unfolding kind_of address_of
 sc_to (Sc a) c i = (refl, i)
 sc_to Nothing c i = absurd (cc)
@@ -32,7 +33,8 @@ sc_to (Amo a) c i = absurd (cc)
 sc_to (Lr a) c i = absurd (cc)
 sc_to Input c i = absurd (cc)
 
-sc_from : (w : Want) (c : CoreState) → is_sc (kind_of w) ≡ true → is_reserved c.reservation (block_of (address_of w)) ≡ true → holds_reservation c w ≡ true
+sc_from : (w : Want) (c : CoreState) → is_sc (kind_of w) ≡ true →
+    is_reserved c.reservation (block_of (address_of w)) ≡ true → holds_reservation c w ≡ true
 unfolding kind_of address_of
 sc_from (Sc a) c i j = j
 sc_from Nothing c i j = i

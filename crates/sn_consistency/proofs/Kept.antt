@@ -17,28 +17,33 @@ use Rattle.sn_consistency.proofs.Sorted.{all_apart, retire_low, retire_high, ret
 
 module _ (image : ImageData) where
   -- who is placed stays so while intervals rise, and writes and accesses grow
-  AllPlaced-more : (t l t' l' : ℕ → ℕ) (a a' : ℕ → ℕ → ℕ → Bool) (x : ℕ) → ((n : ℕ) → x ≤ t n → x ≤ t' n) → ((b : ℕ) → x < l b → x < l' b) → ((b n : ℕ) → a b n x ≡ true → a' b n x ≡ true) → (ys : List Entry) → AllPlaced image t l a x ys → AllPlaced image t' l' a' x ys
+  AllPlaced-more : (t l t' l' : ℕ → ℕ) (a a' : ℕ → ℕ → ℕ → Bool) (x : ℕ) → ((n : ℕ) → x ≤ t n → x ≤ t' n) →
+      ((b : ℕ) → x < l b → x < l' b) → ((b n : ℕ) → a b n x ≡ true → a' b n x ≡ true) → (ys : List Entry) →
+      AllPlaced image t l a x ys → AllPlaced image t' l' a' x ys
   AllPlaced-more t l t' l' a a' x p q r [] s = tt
   AllPlaced-more t l t' l' a a' x p q r (y ∷ ys) s = (
     record { early = p y.did.core s.0.early; write = λ w. q (block image y.found) (s.0.write w); touch = λ u. r (block image y.found) y.did.core (s.0.touch u) },
     AllPlaced-more t l t' l' a a' x p q r ys s.1,
   )
 
-  AllPlaced-append : (t l : ℕ → ℕ) (a : ℕ → ℕ → ℕ → Bool) (x : ℕ) (ys : List Entry) (e : Entry) → AllPlaced image t l a x ys → Placed image t l a x e → AllPlaced image t l a x (ys ++ e ∷ [])
+  AllPlaced-append : (t l : ℕ → ℕ) (a : ℕ → ℕ → ℕ → Bool) (x : ℕ) (ys : List Entry) (e : Entry) →
+      AllPlaced image t l a x ys → Placed image t l a x e → AllPlaced image t l a x (ys ++ e ∷ [])
   AllPlaced-append t l a x [] e s p = (p, tt)
   AllPlaced-append t l a x (y ∷ ys) e s p = (s.0, AllPlaced-append t l a x ys e s.1 p)
 
 module _ (image : ImageData) (N : ℕ) (F : Places) (m : Outline) (t : Keeps image N F m) where
   module _ (e : Entry) (r : Retires image N m e) where
     -- what stands above lets it pass
-    one_passes : (j : ℕ) → m.interval e.did.core < j → (y : Entry) → Placed image m.interval m.last_write m.accessed j y → LetsPass image e y
+    one_passes : (j : ℕ) → m.interval e.did.core < j → (y : Entry) →
+        Placed image m.interval m.last_write m.accessed j y → LetsPass image e y
     one_passes j l y s = record {
       cores = grind arith;
       no_later_write = λ u b. grind (arith, nat_tests, s.write, r.newest);
       no_later_access = λ w b. grind (arith, nat_tests, s.touch, r.alone);
     }
 
-    above_pass : (j : ℕ) → m.interval e.did.core < j → (ys : List Entry) → AllPlaced image m.interval m.last_write m.accessed j ys → AllPass image e ys
+    above_pass : (j : ℕ) → m.interval e.did.core < j → (ys : List Entry) →
+        AllPlaced image m.interval m.last_write m.accessed j ys → AllPass image e ys
     above_pass j l [] s = tt
     above_pass j l (y ∷ ys) s = (one_passes j l y s.0, above_pass j l ys s.1)
 
@@ -56,13 +61,15 @@ module _ (image : ImageData) (N : ℕ) (F : Places) (m : Outline) (t : Keeps ima
     low : (k : ℕ) → k ≤ m.interval e.did.core → at_cut image F (retired image m e).list k ≡ at_cut image F m.list k
     low = retire_low image F m.list (m.interval e.did.core) e
 
-    high : (k : ℕ) → m.interval e.did.core < k → at_cut image F (retired image m e).list k ≡ step image (at_cut image F m.list k) e
+    high : (k : ℕ) → m.interval e.did.core < k →
+        at_cut image F (retired image m e).list k ≡ step image (at_cut image F m.list k) e
     high = retire_high image F m.list (m.interval e.did.core) e (λ j l. all_apart image e (m.list j) (all_pass j l))
 
     new_placed : Placed image m.interval (retired image m e).last_write (retired image m e).accessed (m.interval e.did.core) e
     new_placed = record { early = grind arith; write = λ w. grind (arith, nat_tests); touch = λ a. grind (arith, nat_tests) }
 
-    placed_now : (x : ℕ) → AllPlaced image m.interval (retired image m e).last_write (retired image m e).accessed x (m.list x)
+    placed_now : (x : ℕ) →
+        AllPlaced image m.interval (retired image m e).last_write (retired image m e).accessed x (m.list x)
     placed_now x =
         AllPlaced-more image m.interval m.last_write m.interval (retired image m e).last_write m.accessed (retired image m e).accessed x
         (λ n l. l) (λ b l. grind (arith, nat_tests, r.newest)) (λ b n a. grind arith) (m.list x) (t.placed x)
@@ -73,7 +80,9 @@ module _ (image : ImageData) (N : ℕ) (F : Places) (m : Outline) (t : Keeps ima
     not_now : (x : ℕ) → x ≢ m.interval e.did.core → (retired image m e).list x ≡ m.list x
     not_now x i = grind (arith, nat_tests)
 
-    placed_step : (x : ℕ) → ((x ≡ m.interval e.did.core) ⊎ ((x < m.interval e.did.core) ⊎ (m.interval e.did.core < x))) → AllPlaced image m.interval (retired image m e).last_write (retired image m e).accessed x ((retired image m e).list x)
+    placed_step : (x : ℕ) →
+        ((x ≡ m.interval e.did.core) ⊎ ((x < m.interval e.did.core) ⊎ (m.interval e.did.core < x))) →
+        AllPlaced image m.interval (retired image m e).last_write (retired image m e).accessed x ((retired image m e).list x)
     placed_step x (inl i) =
         rw (is_now x i)
         (AllPlaced-append image m.interval (retired image m e).last_write (retired image m e).accessed x (m.list x) e (placed_now x)
@@ -88,19 +97,24 @@ module _ (image : ImageData) (N : ℕ) (F : Places) (m : Outline) (t : Keeps ima
     abbrev High : ℕ → Type 0
     High j = m.interval e.did.core < j → at_cut image F (retired image m e).list j ≡ step image (at_cut image F m.list j) e
 
-    core_step : (n j : ℕ) → m.interval n < j → High j → Low j → (at_cut image F (retired image m e).list j).core n ≡ (retired image m e).core n
+    core_step : (n j : ℕ) → m.interval n < j → High j → Low j →
+        (at_cut image F (retired image m e).list j).core n ≡ (retired image m e).core n
     core_step n j l h g = grind (arith, nat_tests, t.core n j)
 
-    checkpoint_step : (n j : ℕ) → m.known n ≤ j → j ≤ m.interval n → High j → Low j → (at_cut image F (retired image m e).list j).core n ≡ m.checkpoint n j
+    checkpoint_step : (n j : ℕ) → m.known n ≤ j → j ≤ m.interval n → High j → Low j →
+        (at_cut image F (retired image m e).list j).core n ≡ m.checkpoint n j
     checkpoint_step n j k l h g = grind (arith, nat_tests, t.checkpoint n j)
 
-    after_step : (b j : ℕ) → m.point ≤ j → High j → Low j → (at_cut image F (retired image m e).list j).content b ≡ (retired image m e).after b j
+    after_step : (b j : ℕ) → m.point ≤ j → High j → Low j →
+        (at_cut image F (retired image m e).list j).content b ≡ (retired image m e).after b j
     after_step b j u h g = grind (arith, nat_tests, t.after b j, t.after_last b j, r.newest)
 
-    reserved_step : (n j b : ℕ) → m.interval n < j → (retired image m e).reserved n b ≡ true → High j → Low j → (at_cut image F (retired image m e).list j).held n b ≡ true
+    reserved_step : (n j b : ℕ) → m.interval n < j → (retired image m e).reserved n b ≡ true → High j → Low j →
+        (at_cut image F (retired image m e).list j).held n b ≡ true
     reserved_step n j b l d h g = grind (arith, nat_tests, t.reserved n j b, r.lost)
 
-    given_step : (n j : ℕ) → m.interval n < j → High j → Low j → m.given n ≡ (at_cut image F (retired image m e).list j).taken n ++ (retired image m e).waiting n
+    given_step : (n j : ℕ) → m.interval n < j → High j → Low j →
+        m.given n ≡ (at_cut image F (retired image m e).list j).taken n ++ (retired image m e).waiting n
     given_step n j l h g = grind (arith, nat_tests, t.given n j, r.input, append_assoc)
 
     pub retired_keeps : Keeps image N F (retired image m e)
@@ -133,7 +147,8 @@ module _ (image : ImageData) (N : ℕ) (F : Places) (m : Outline) (t : Keeps ima
   }
 
   -- reservations are lost
-  pub lost_keeps : (reserved : ℕ → ℕ → Bool) → ((n b : ℕ) → reserved n b ≡ true → m.reserved n b ≡ true) → Keeps image N F (lost_to m reserved)
+  pub lost_keeps : (reserved : ℕ → ℕ → Bool) → ((n b : ℕ) → reserved n b ≡ true → m.reserved n b ≡ true) →
+      Keeps image N F (lost_to m reserved)
   lost_keeps reserved f = record {
     good = t.good;
     placed = t.placed;
@@ -196,10 +211,12 @@ module _ (image : ImageData) (N : ℕ) (F : Places) (m : Outline) (t : Keeps ima
     at_point : (j : ℕ) → m.point ≤ j → at_cut image F (recovered m waiting).list j ≡ at_cut image F m.list m.point
     at_point j l = cut_off_high image F m.list m.point j l
 
-    placed_one : (x : ℕ) → (y : Entry) → x < m.point → Placed image m.interval m.last_write m.accessed x y → Placed image (recovered m waiting).interval (recovered m waiting).last_write (recovered m waiting).accessed x y
+    placed_one : (x : ℕ) → (y : Entry) → x < m.point → Placed image m.interval m.last_write m.accessed x y →
+        Placed image (recovered m waiting).interval (recovered m waiting).last_write (recovered m waiting).accessed x y
     placed_one x y l s = record { early = grind arith; write = λ w. grind (arith, nat_tests); touch = λ a. grind (arith, nat_tests, s.touch) }
 
-    placed_all : (x : ℕ) → (ys : List Entry) → x < m.point → AllPlaced image m.interval m.last_write m.accessed x ys → AllPlaced image (recovered m waiting).interval (recovered m waiting).last_write (recovered m waiting).accessed x ys
+    placed_all : (x : ℕ) → (ys : List Entry) → x < m.point → AllPlaced image m.interval m.last_write m.accessed x ys →
+        AllPlaced image (recovered m waiting).interval (recovered m waiting).last_write (recovered m waiting).accessed x ys
     placed_all x [] l s = tt
     placed_all x (y ∷ ys) l s = (placed_one x y l s.0, placed_all x ys l s.1)
 
@@ -209,7 +226,8 @@ module _ (image : ImageData) (N : ℕ) (F : Places) (m : Outline) (t : Keeps ima
     kept_there : (x : ℕ) → x < m.point → cut_off m.list m.point x ≡ m.list x
     kept_there x l = grind (arith, nat_tests)
 
-    placed_below : (x : ℕ) → ((x ≡ m.point) ⊎ ((x < m.point) ⊎ (m.point < x))) → AllPlaced image (recovered m waiting).interval (recovered m waiting).last_write (recovered m waiting).accessed x ((recovered m waiting).list x)
+    placed_below : (x : ℕ) → ((x ≡ m.point) ⊎ ((x < m.point) ⊎ (m.point < x))) →
+        AllPlaced image (recovered m waiting).interval (recovered m waiting).last_write (recovered m waiting).accessed x ((recovered m waiting).list x)
     placed_below x (inl i) = rw (nothing x (omega arith)) tt
     placed_below x (inr (inl l)) = rw (kept_there x l) (placed_all x (m.list x) l (t.placed x))
     placed_below x (inr (inr l)) = rw (nothing x (omega arith)) tt

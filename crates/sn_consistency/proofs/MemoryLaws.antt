@@ -8,13 +8,16 @@ use Rattle.std.proofs.lemmas.List.{places, same_lists, get_or-take, get_or-drop,
 pub length-stored_in : (p : ℕ) (ys xs : List ℕ) → p + length ys ≤ length xs → length (stored_in xs p ys) ≡ length xs
 length-stored_in p ys xs l = omega (arith, length-append (take p xs ++ ys) (drop (p + length ys) xs), length-append (take p xs) ys, length-take p xs, length-drop (p + length ys) xs)
 
-over_before : (p : ℕ) (ys xs : List ℕ) (k d : ℕ) → p + length ys ≤ length xs → k < p → get_or (stored_in xs p ys) k d ≡ get_or xs k d
+over_before : (p : ℕ) (ys xs : List ℕ) (k d : ℕ) → p + length ys ≤ length xs → k < p →
+    get_or (stored_in xs p ys) k d ≡ get_or xs k d
 over_before p ys xs k d l b = grind (arith, places)
 
-over_inside : (p : ℕ) (ys xs : List ℕ) (k d : ℕ) → p + length ys ≤ length xs → k < length ys → get_or (stored_in xs p ys) (p + k) d ≡ get_or ys k d
+over_inside : (p : ℕ) (ys xs : List ℕ) (k d : ℕ) → p + length ys ≤ length xs → k < length ys →
+    get_or (stored_in xs p ys) (p + k) d ≡ get_or ys k d
 over_inside p ys xs k d l b = grind (arith, places)
 
-over_after : (p : ℕ) (ys xs : List ℕ) (k d : ℕ) → p + length ys ≤ length xs → p + length ys ≤ k → get_or (stored_in xs p ys) k d ≡ get_or xs k d
+over_after : (p : ℕ) (ys xs : List ℕ) (k d : ℕ) → p + length ys ≤ length xs → p + length ys ≤ k →
+    get_or (stored_in xs p ys) k d ≡ get_or xs k d
 over_after p ys xs k d l b = grind (arith, places)
 
 -- 64 bytes from place 64 b on
@@ -40,7 +43,8 @@ module _ (m ys : List ℕ) (q i : ℕ) (l : i + length ys ≤ 64) (fits : 64 * q
       (same_length q ∙ sym (length-stored_in i ys (part m q) inside))
       (λ k d h. go k d (omega (arith, same_length q, length-part m q)) (cases_lt k i) (cases_lt k (i + length ys)))
     where
-      go : (k d : ℕ) → k < 64 → ((k < i) ⊎ (i ≤ k)) → ((k < i + length ys) ⊎ (i + length ys ≤ k)) → get_or (part (stored_in m (64 * q + i) ys) q) k d ≡ get_or (stored_in (part m q) i ys) k d
+      go : (k d : ℕ) → k < 64 → ((k < i) ⊎ (i ≤ k)) → ((k < i + length ys) ⊎ (i + length ys ≤ k)) →
+          get_or (part (stored_in m (64 * q + i) ys) q) k d ≡ get_or (stored_in (part m q) i ys) k d
       go k d s (inl a) c =
           part_at (stored_in m (64 * q + i) ys) q k d s ∙ over_before (64 * q + i) ys m (64 * q + k) d (omega arith) (omega arith)
           ∙ sym (part_at m q k d s) ∙ sym (over_before i ys (part m q) k d inside a)
@@ -58,14 +62,17 @@ module _ (m ys : List ℕ) (q i : ℕ) (l : i + length ys ≤ 64) (fits : 64 * q
       same_lists (part (stored_in m (64 * q + i) ys) b) (part m b) (same_length b)
       (λ k d h. go k d (omega (arith, same_length b, length-part m b)) o)
     where
-      go : (k d : ℕ) → k < 64 → (b < q) ⊎ (q < b) → get_or (part (stored_in m (64 * q + i) ys) b) k d ≡ get_or (part m b) k d
+      go : (k d : ℕ) → k < 64 → (b < q) ⊎ (q < b) →
+          get_or (part (stored_in m (64 * q + i) ys) b) k d ≡ get_or (part m b) k d
       go k d s (inl a) = part_at (stored_in m (64 * q + i) ys) b k d s ∙ over_before (64 * q + i) ys m (64 * b + k) d (omega arith) (omega arith) ∙ sym (part_at m b k d s)
       go k d s (inr a) = part_at (stored_in m (64 * q + i) ys) b k d s ∙ over_after (64 * q + i) ys m (64 * b + k) d (omega arith) (omega arith) ∙ sym (part_at m b k d s)
 
-  pub part-stored_in : (b : ℕ) → part (stored_in m (64 * q + i) ys) b ≡ cond (b == q) (stored_in (part m b) i ys) (part m b)
+  pub part-stored_in : (b : ℕ) →
+      part (stored_in m (64 * q + i) ys) b ≡ cond (b == q) (stored_in (part m b) i ys) (part m b)
   part-stored_in b = go (cases_order b q)
     where
-      go : ((b ≡ q) ⊎ ((b < q) ⊎ (q < b))) → part (stored_in m (64 * q + i) ys) b ≡ cond (b == q) (stored_in (part m b) i ys) (part m b)
+      go : ((b ≡ q) ⊎ ((b < q) ⊎ (q < b))) →
+          part (stored_in m (64 * q + i) ys) b ≡ cond (b == q) (stored_in (part m b) i ys) (part m b)
       go (inl e) =
           let t : (b == q) ≡ true = grind (arith, nat_tests) in
           rw t (ap (part (stored_in m (64 * q + i) ys)) e ∙ here ∙ ap (λ c. stored_in (part m c) i ys) (sym e))

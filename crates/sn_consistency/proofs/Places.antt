@@ -13,18 +13,23 @@ use Rattle.sn_consistency.proofs.ProjectionLaw.{law_to, law_from}
 
 -- a record more at the end
 module _ (image : ImageData) where
-  front_executes : (s : FlatState) (rs : List Record) (p : ℕ) (r : Record) → slice_get rs p ≡ Some r → Executes image s (take (suc p) rs) → HasStep image (state_after image s (take p rs)) r
+  front_executes : (s : FlatState) (rs : List Record) (p : ℕ) (r : Record) → slice_get rs p ≡ Some r →
+      Executes image s (take (suc p) rs) → HasStep image (state_after image s (take p rs)) r
   front_executes s [] p r e g = absurd (cc)
   front_executes s (x ∷ rs) zero r e g = let i : x ≡ r = cc in subst (HasStep image s) i g.0
   front_executes s (x ∷ rs) (suc p) r e g = front_executes (flat_step image s x) rs p r e g.1
 
-  more_executes : (s : FlatState) (rs : List Record) (p : ℕ) → Executes image s (take p rs) → ((r : Record) → slice_get rs p ≡ Some r → HasStep image (state_after image s (take p rs)) r) → Executes image s (take (suc p) rs)
+  more_executes : (s : FlatState) (rs : List Record) (p : ℕ) → Executes image s (take p rs) →
+      ((r : Record) → slice_get rs p ≡ Some r → HasStep image (state_after image s (take p rs)) r) →
+      Executes image s (take (suc p) rs)
   more_executes s [] zero g h = tt
   more_executes s [] (suc p) g h = tt
   more_executes s (x ∷ rs) zero g h = (h x refl, tt)
   more_executes s (x ∷ rs) (suc p) g h = (g.0, more_executes (flat_step image s x) rs p g.1 h)
 
-  only_executes : (s : FlatState) (rs : List Record) (p : ℕ) (r : Record) → slice_get rs p ≡ Some r → Executes image s (take p rs) → HasStep image (state_after image s (take p rs)) r → Executes image s (take (suc p) rs)
+  only_executes : (s : FlatState) (rs : List Record) (p : ℕ) (r : Record) → slice_get rs p ≡ Some r →
+      Executes image s (take p rs) → HasStep image (state_after image s (take p rs)) r →
+      Executes image s (take (suc p) rs)
   only_executes s rs p r e g h = more_executes s rs p g (λ q f. let i : r ≡ q = cc in subst (HasStep image (state_after image s (take p rs))) i h)
 
 -- where there is a record at a place
@@ -56,26 +61,32 @@ module _ (image : ImageData) (N : ℕ) (s : FlatState) (shows : Shows N s (place
 
 -- a front of a list is a front of each projection
 module _ (image : ImageData) where
-  pub CoreGood-front : (N n : ℕ) (c : CoreState) (xs ys : List Record) → CoreGood image N n c (xs ++ ys) → CoreGood image N n c xs
+  pub CoreGood-front : (N n : ℕ) (c : CoreState) (xs ys : List Record) → CoreGood image N n c (xs ++ ys) →
+      CoreGood image N n c xs
   CoreGood-front N n c [] ys g = tt
   CoreGood-front N n c (x ∷ xs) ys g = (g.0, CoreGood-front N n (core_step image n c x) xs ys g.1)
 
-  pub CoreGood-append : (N n : ℕ) (c : CoreState) (xs ys : List Record) → CoreGood image N n c xs → CoreGood image N n (core_after image n c xs) ys → CoreGood image N n c (xs ++ ys)
+  pub CoreGood-append : (N n : ℕ) (c : CoreState) (xs ys : List Record) → CoreGood image N n c xs →
+      CoreGood image N n (core_after image n c xs) ys → CoreGood image N n c (xs ++ ys)
   CoreGood-append N n c [] ys g h = h
   CoreGood-append N n c (x ∷ xs) ys g h = (g.0, CoreGood-append N n (core_step image n c x) xs ys g.1 h)
 
-  pub CoreGood-back : (N n : ℕ) (c : CoreState) (xs ys : List Record) → CoreGood image N n c (xs ++ ys) → CoreGood image N n (core_after image n c xs) ys
+  pub CoreGood-back : (N n : ℕ) (c : CoreState) (xs ys : List Record) → CoreGood image N n c (xs ++ ys) →
+      CoreGood image N n (core_after image n c xs) ys
   CoreGood-back N n c [] ys g = g
   CoreGood-back N n c (x ∷ xs) ys g = CoreGood-back N n (core_step image n c x) xs ys g.1
 
-  pub core_after-append : (n : ℕ) (c : CoreState) (xs ys : List Record) → core_after image n c (xs ++ ys) ≡ core_after image n (core_after image n c xs) ys
+  pub core_after-append : (n : ℕ) (c : CoreState) (xs ys : List Record) →
+      core_after image n c (xs ++ ys) ≡ core_after image n (core_after image n c xs) ys
   core_after-append n c [] ys = refl
   core_after-append n c (x ∷ xs) ys = core_after-append n (core_step image n c x) xs ys
 
-  pub entries-append : (c : ℕ → CoreState) (xs ys : List Record) → entries image c (xs ++ ys) ≡ entries image c xs ++ entries image (λ n. core_after image n (c n) xs) ys
+  pub entries-append : (c : ℕ → CoreState) (xs ys : List Record) →
+      entries image c (xs ++ ys) ≡ entries image c xs ++ entries image (λ n. core_after image n (c n) xs) ys
   entries-append c [] ys = refl
   entries-append c (x ∷ xs) ys = ap (λ l. record { found = bare (c x.core); did = x } ∷ l) (entries-append (λ n. core_step image n (c n) x) xs ys)
 
-  pub BlockGood-front : (b : ℕ) (v : BlockState) (xs ys : List Entry) → BlockGood image b v (xs ++ ys) → BlockGood image b v xs
+  pub BlockGood-front : (b : ℕ) (v : BlockState) (xs ys : List Entry) → BlockGood image b v (xs ++ ys) →
+      BlockGood image b v xs
   BlockGood-front b v [] ys g = tt
   BlockGood-front b v (x ∷ xs) ys g = (g.0, BlockGood-front b (block_step image b v x) xs ys g.1)

@@ -34,7 +34,9 @@ module _ (image : ImageData) (N : ℕ) (F : Places) (c : ℕ → CoreState) (v :
       let m = t.core n in
       grind (arith, nat_tests)
 
-  tied_held : (n b : ℕ) → (step image F (entry c r)).held n b ≡ (is_reserved (after image c r n).reservation b && (block_step image b (v b) (entry c r)).intact n)
+  tied_held : (n b : ℕ) →
+      (step image F (entry c r)).held n b
+      ≡ (is_reserved (after image c r n).reservation b && (block_step image b (v b) (entry c r)).intact n)
   tied_held n b =
       let w = kind_bare image (c r.core) in
       let p = block_bare image (c r.core) in
@@ -65,13 +67,15 @@ module _ (image : ImageData) (N : ℕ) (F : Places) (c : ℕ → CoreState) (v :
         byte = grind (arith, l.fits.byte);
       })
 
-  block_to : Legal image N F (entry c r) → (b : ℕ) → b ≡ block image (bare (c r.core)) → BlockLegal image (v b) (entry c r)
+  block_to : Legal image N F (entry c r) → (b : ℕ) → b ≡ block image (bare (c r.core)) →
+      BlockLegal image (v b) (entry c r)
   block_to l b i =
       let m = t.content b in
       let h = t.held r.core b in
       record { seen = λ q. grind (arith, l.seen); done = λ q d. grind (arith, l.done) }
 
-  legal_from : Replays image N (c r.core) r → BlockLegal image (v (block image (bare (c r.core)))) (entry c r) → Legal image N F (entry c r)
+  legal_from : Replays image N (c r.core) r → BlockLegal image (v (block image (bare (c r.core)))) (entry c r) →
+      Legal image N F (entry c r)
   legal_from k l =
       let w = kind_bare image (c r.core) in
       let p = block_bare image (c r.core) in
@@ -92,17 +96,21 @@ module _ (image : ImageData) (N : ℕ) (F : Places) (c : ℕ → CoreState) (v :
       }
 
 module _ (image : ImageData) (N : ℕ) where
-  cores_good : (F : Places) (c : ℕ → CoreState) (v : ℕ → BlockState) → Tied F c v → (rs : List Record) → Good image N F (entries image c rs) → (n : ℕ) → CoreGood image N n (c n) rs
+  cores_good : (F : Places) (c : ℕ → CoreState) (v : ℕ → BlockState) → Tied F c v → (rs : List Record) →
+      Good image N F (entries image c rs) → (n : ℕ) → CoreGood image N n (c n) rs
   cores_good F c v t [] g n = tt
   cores_good F c v t (r ∷ rs) g n =
       (replays_to image N F c v t r g.0 n, cores_good (step image F (entry c r)) (after image c r) (λ b. block_step image b (v b) (entry c r)) (tied_step image N F c v t r) rs g.1 n)
 
-  blocks_good : (F : Places) (c : ℕ → CoreState) (v : ℕ → BlockState) → Tied F c v → (rs : List Record) → Good image N F (entries image c rs) → (b : ℕ) → BlockGood image b (v b) (entries image c rs)
+  blocks_good : (F : Places) (c : ℕ → CoreState) (v : ℕ → BlockState) → Tied F c v → (rs : List Record) →
+      Good image N F (entries image c rs) → (b : ℕ) → BlockGood image b (v b) (entries image c rs)
   blocks_good F c v t [] g b = tt
   blocks_good F c v t (r ∷ rs) g b =
       (block_to image N F c v t r g.0 b, blocks_good (step image F (entry c r)) (after image c r) (λ d. block_step image d (v d) (entry c r)) (tied_step image N F c v t r) rs g.1 b)
 
-  all_good : (F : Places) (c : ℕ → CoreState) (v : ℕ → BlockState) → Tied F c v → (rs : List Record) → ((n : ℕ) → CoreGood image N n (c n) rs) → ((b : ℕ) → BlockGood image b (v b) (entries image c rs)) → Good image N F (entries image c rs)
+  all_good : (F : Places) (c : ℕ → CoreState) (v : ℕ → BlockState) → Tied F c v → (rs : List Record) →
+      ((n : ℕ) → CoreGood image N n (c n) rs) → ((b : ℕ) → BlockGood image b (v b) (entries image c rs)) →
+      Good image N F (entries image c rs)
   all_good F c v t [] p q = tt
   all_good F c v t (r ∷ rs) p q = (
     legal_from image N F c v t r ((p r.core).0 refl) ((q (block image (bare (c r.core)))).0 refl),
@@ -110,7 +118,8 @@ module _ (image : ImageData) (N : ℕ) where
   )
 
   -- an execution's entries are good
-  execution_good : (s : FlatState) (F : Places) → Shows N s F → (c : ℕ → CoreState) (v : ℕ → BlockState) → Tied F c v → (rs : List Record) → Executes image s rs → Good image N F (entries image c rs)
+  execution_good : (s : FlatState) (F : Places) → Shows N s F → (c : ℕ → CoreState) (v : ℕ → BlockState) → Tied F c v →
+      (rs : List Record) → Executes image s rs → Good image N F (entries image c rs)
   execution_good s F t c v q [] g = tt
   execution_good s F t c v q (r ∷ rs) g =
       let i : bare (c r.core) ≡ bare (core_at s r.core) = sym (q.core r.core) ∙ sym (t.core r.core) in (

@@ -24,16 +24,19 @@ module _ (image : ImageData) where
   run-append F [] ys = refl
   run-append F (x ∷ xs) ys = run-append (step image F x) xs ys
 
-  pub Good-append : (N : ℕ) (F : Places) (xs ys : List Entry) → Good image N F xs → Good image N (run image F xs) ys → Good image N F (xs ++ ys)
+  pub Good-append : (N : ℕ) (F : Places) (xs ys : List Entry) → Good image N F xs → Good image N (run image F xs) ys →
+      Good image N F (xs ++ ys)
   Good-append N F [] ys g h = h
   Good-append N F (x ∷ xs) ys g h = (g.0, Good-append N (step image F x) xs ys g.1 h)
 
   -- a step before a list that is apart from it, or after it
-  run_late : (F : Places) (e : Entry) (ys : List Entry) → AllApart image e ys → run image (step image F e) ys ≡ step image (run image F ys) e
+  run_late : (F : Places) (e : Entry) (ys : List Entry) → AllApart image e ys →
+      run image (step image F e) ys ≡ step image (run image F ys) e
   run_late F e [] a = refl
   run_late F e (y ∷ ys) a = ap (λ G. run image G ys) (swap image F e y a.0) ∙ run_late (step image F y) e ys a.1
 
-  good_late : (N : ℕ) (F : Places) (e : Entry) (ys : List Entry) → AllApart image e ys → Good image N F ys → Good image N (step image F e) ys
+  good_late : (N : ℕ) (F : Places) (e : Entry) (ys : List Entry) → AllApart image e ys → Good image N F ys →
+      Good image N (step image F e) ys
   good_late N F e [] a g = tt
   good_late N F e (y ∷ ys) a g =
       (legal_after image F e y a.0 N g.0, subst (λ G. Good image N G ys) (sym (swap image F e y a.0)) (good_late N (step image F y) e ys a.1 g.1))
@@ -45,7 +48,8 @@ module _ (image : ImageData) (F : Places) (f : ℕ → List Entry) (x : ℕ) (e 
   retire_low zero l = refl
   retire_low (suc k) l = low_step k l (retire_low k (omega arith))
     where
-      low_step : (k : ℕ) → suc k ≤ x → at_cut image F (retire f x e) k ≡ at_cut image F f k → run image (at_cut image F (retire f x e) k) (retire f x e k) ≡ run image (at_cut image F f k) (f k)
+      low_step : (k : ℕ) → suc k ≤ x → at_cut image F (retire f x e) k ≡ at_cut image F f k →
+          run image (at_cut image F (retire f x e) k) (retire f x e k) ≡ run image (at_cut image F f k) (f k)
       low_step k l h = grind (arith, nat_tests)
 
   module _ (a : (j : ℕ) → x < j → AllApart image e (f j)) where
@@ -55,18 +59,28 @@ module _ (image : ImageData) (F : Places) (f : ℕ → List Entry) (x : ℕ) (e 
     retire_high zero l = absurd (omega arith)
     retire_high (suc k) l = go k (cases_order k x) l (retire_high k)
       where
-        go : (k : ℕ) → ((k ≡ x) ⊎ ((k < x) ⊎ (x < k))) → x < suc k → (x < k → at_cut image F (retire f x e) k ≡ step image (at_cut image F f k) e) → run image (at_cut image F (retire f x e) k) (retire f x e k) ≡ step image (run image (at_cut image F f k) (f k)) e
+        go : (k : ℕ) → ((k ≡ x) ⊎ ((k < x) ⊎ (x < k))) → x < suc k →
+            (x < k → at_cut image F (retire f x e) k ≡ step image (at_cut image F f k) e) →
+            run image (at_cut image F (retire f x e) k) (retire f x e k)
+            ≡ step image (run image (at_cut image F f k) (f k)) e
         go k (inl i) l h = same_step k i (retire_low k (omega arith))
           where
-            same_step : (k : ℕ) → k ≡ x → at_cut image F (retire f x e) k ≡ at_cut image F f k → run image (at_cut image F (retire f x e) k) (retire f x e k) ≡ step image (run image (at_cut image F f k) (f k)) e
+            same_step : (k : ℕ) → k ≡ x → at_cut image F (retire f x e) k ≡ at_cut image F f k →
+                run image (at_cut image F (retire f x e) k) (retire f x e k)
+                ≡ step image (run image (at_cut image F f k) (f k)) e
             same_step k i q = let r = run-append image (at_cut image F f k) (f k) (e ∷ []) in grind (arith, nat_tests)
         go k (inr (inl m)) l h = absurd (omega arith)
         go k (inr (inr m)) l h = more_step k m (h m) (run_late image (at_cut image F f k) e (f k) (a k m))
           where
-            more_step : (k : ℕ) → x < k → at_cut image F (retire f x e) k ≡ step image (at_cut image F f k) e → run image (step image (at_cut image F f k) e) (f k) ≡ step image (run image (at_cut image F f k) (f k)) e → run image (at_cut image F (retire f x e) k) (retire f x e k) ≡ step image (run image (at_cut image F f k) (f k)) e
+            more_step : (k : ℕ) → x < k → at_cut image F (retire f x e) k ≡ step image (at_cut image F f k) e →
+                run image (step image (at_cut image F f k) e) (f k)
+                ≡ step image (run image (at_cut image F f k) (f k)) e →
+                run image (at_cut image F (retire f x e) k) (retire f x e k)
+                ≡ step image (run image (at_cut image F f k) (f k)) e
             more_step k m h r = grind (arith, nat_tests)
 
-    pub retire_good : (N : ℕ) → GoodList image N F f → Legal image N (at_cut image F f (suc x)) e → GoodList image N F (retire f x e)
+    pub retire_good : (N : ℕ) → GoodList image N F f → Legal image N (at_cut image F f (suc x)) e →
+        GoodList image N F (retire f x e)
     unfolding at_cut
     retire_good N g l k = go (cases_order k x)
       where
@@ -90,7 +104,8 @@ module _ (image : ImageData) (F : Places) (f : ℕ → List Entry) (k : ℕ) whe
   cut_off_low zero l = refl
   cut_off_low (suc j) l = low_step j l (cut_off_low j (omega arith))
     where
-      low_step : (j : ℕ) → suc j ≤ k → at_cut image F (cut_off f k) j ≡ at_cut image F f j → run image (at_cut image F (cut_off f k) j) (cut_off f k j) ≡ run image (at_cut image F f j) (f j)
+      low_step : (j : ℕ) → suc j ≤ k → at_cut image F (cut_off f k) j ≡ at_cut image F f j →
+          run image (at_cut image F (cut_off f k) j) (cut_off f k j) ≡ run image (at_cut image F f j) (f j)
       low_step j l h = grind (arith, nat_tests)
 
   none : (j : ℕ) → k ≤ j → cut_off f k j ≡ []
@@ -104,7 +119,8 @@ module _ (image : ImageData) (F : Places) (f : ℕ → List Entry) (k : ℕ) whe
   cut_off_high zero l = let i : k ≡ zero = omega arith in subst (λ j. F ≡ at_cut image F f j) (sym i) refl
   cut_off_high (suc j) l = go (cases_order (suc j) k) (cut_off_high j)
     where
-      go : ((suc j ≡ k) ⊎ ((suc j < k) ⊎ (k < suc j))) → (k ≤ j → at_cut image F (cut_off f k) j ≡ at_cut image F f k) → run image (at_cut image F (cut_off f k) j) (cut_off f k j) ≡ at_cut image F f k
+      go : ((suc j ≡ k) ⊎ ((suc j < k) ⊎ (k < suc j))) → (k ≤ j → at_cut image F (cut_off f k) j ≡ at_cut image F f k) →
+          run image (at_cut image F (cut_off f k) j) (cut_off f k j) ≡ at_cut image F f k
       go (inl i) h = cut_off_low (suc j) (omega arith) ∙ ap (at_cut image F f) i
       go (inr (inl m)) h = absurd (omega arith)
       go (inr (inr m)) h = rw (none j (omega arith)) (h (omega arith))

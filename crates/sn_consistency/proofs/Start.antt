@@ -19,7 +19,8 @@ start_size : (image : ImageData) → length (initial_memory image) ≡ ram_size
 unfolding initial_memory
 start_size image = length-bytes_from ram_size image.segments ram_start
 
-pub start_shows : (image : ImageData) (nodes : ℕ) → Shows nodes (flat_start image nodes) (places_of (flat_start image nodes))
+pub start_shows : (image : ImageData) (nodes : ℕ) →
+    Shows nodes (flat_start image nodes) (places_of (flat_start image nodes))
 start_shows image nodes = record {
   size = start_size image;
   count = length-first_cores nodes image.entry;

@@ -47,11 +47,15 @@ module _ (image : ImageData) (c : CoreState) where
     written_bare v = ap (λ e. write_block e.write v) (effect_bare image c r.seen r.sc_done r.read)
 
     -- a core's reservation after its own step
-    pub next_held : (b : ℕ) → is_reserved (next image c r).reservation b ≡ cond (is_lr (kind image c)) (nat_eq (block image c) b) (cond (is_sc (kind image c)) false (is_reserved c.reservation b))
+    pub next_held : (b : ℕ) →
+        is_reserved (next image c r).reservation b
+        ≡ cond (is_lr (kind image c)) (nat_eq (block image c) b) (cond (is_sc (kind image c)) false (is_reserved c.reservation b))
     unfolding next kind block kind_of address_of
     next_held b = ap (λ o. is_reserved o b) (next_reservation image c r.seen r.sc_done r.read) ∙ of_want (want_of image c)
       where
-        of_want : (w : Want) → is_reserved (own_reservation w c.reservation) b ≡ cond (is_lr (kind_of w)) (nat_eq (block_of (address_of w)) b) (cond (is_sc (kind_of w)) false (is_reserved c.reservation b))
+        of_want : (w : Want) →
+            is_reserved (own_reservation w c.reservation) b
+            ≡ cond (is_lr (kind_of w)) (nat_eq (block_of (address_of w)) b) (cond (is_sc (kind_of w)) false (is_reserved c.reservation b))
         of_want Nothing = refl
         of_want (Load a) = refl
         of_want (Store a) = refl

@@ -49,6 +49,9 @@ pub fn committed_part_stays()
 pub fn recovery_leaves_execution()
     ensures good { (image : ImageData) (nodes : ℕ) (F : Places) (f : ℕ → List Entry) → GoodList image nodes F f →
         (point : ℕ) → GoodList image nodes F (cut_off f point) }
+    ensures executes { (image : ImageData) (nodes : ℕ) (s : FlatState) (F : Places) → Shows nodes s F →
+        (f : ℕ → List Entry) → GoodList image nodes F f → (point k : ℕ) →
+        Executes image s (committed (cut_off f point) k) }
     ensures earlier { (image : ImageData) (F : Places) (f : ℕ → List Entry) (point k : ℕ) → k ≤ point →
         at_cut image F (cut_off f point) k ≡ at_cut image F f k }
     ensures later { (image : ImageData) (F : Places) (f : ℕ → List Entry) (point k : ℕ) → point ≤ k →
