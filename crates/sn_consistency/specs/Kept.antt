@@ -1,5 +1,5 @@
 -- What a machine keeps of the sorted list while its nodes retire, count intervals, validate and recover.
-use Rattle.std.specs.Prelude.{◌≡◌, ◌≢◌, ℕ, suc, ◌<◌, ◌≤◌, Bool, true, false, ◌&&◌, ◌||◌, if◌then◌else◌, max, List, [], ◌∷◌, ◌++◌, ◌==◌, nat_eq, nat_lt, length, drop, option_to_list}
+use Rattle.std.specs.Prelude.{◌≡◌, ◌≢◌, ℕ, suc, ◌<◌, ◌≤◌, Bool, true, false, ◌&&◌, if◌then◌else◌, max, min, List, [], ◌∷◌, ◌++◌, ◌==◌, nat_eq, nat_lt, nat_le, length, drop, option_to_list}
 use Rattle.sn_base.specs.Image.{ImageData}
 use Rattle.rv_core.specs.declared.state.CoreState.{CoreState}
 use Rattle.rv_core.specs.Core.{bare}
@@ -7,9 +7,9 @@ use Rattle.sn_consistency.specs.Words.{Content, kind, block, place, next, conten
 use Rattle.sn_consistency.specs.Entries.{Entry, Places, Fits, own, put, touches, wrote, writes_to}
 use Rattle.sn_consistency.specs.Sorted.{at_cut, GoodList, retire, cut_off}
 
--- a machine as the sorted list sees it. Cores are without reservations; `value` is a block's newest content, `after` what
--- it is at a cut, `last_write` one more than the interval of its last write, or 0, and `accessed` says of a block, a node
--- and an interval whether the node reads or writes the block in it
+-- a machine as the sorted list sees it. Cores are without reservations. Of a block, `value` is its newest content and
+-- `content` what it is at a cut; `last_write` and, for each node, `last_access` are bounds: no write and no access of the
+-- node lies in an interval of that number or above
 pub record Outline : Type 0 where
   pub point : ℕ
   pub interval : ℕ → ℕ
@@ -20,27 +20,27 @@ pub record Outline : Type 0 where
   pub given : ℕ → List ℕ
   pub waiting : ℕ → List ℕ
   pub list : ℕ → List Entry
-  pub after : ℕ → ℕ → Content
+  pub content : ℕ → ℕ → Content
   pub value : ℕ → Content
   pub last_write : ℕ → ℕ
-  pub accessed : ℕ → ℕ → ℕ → Bool
+  pub last_access : ℕ → ℕ → ℕ
 
 -- an entry of interval x
-pub record Placed (image : ImageData) (interval last_write : ℕ → ℕ) (accessed : ℕ → ℕ → ℕ → Bool) (x : ℕ) (y : Entry)
+pub record Placed (image : ImageData) (interval last_write : ℕ → ℕ) (last_access : ℕ → ℕ → ℕ) (x : ℕ) (y : Entry)
     : Type 0 where
   pub early : x ≤ interval y.did.core
   pub write : wrote image y ≡ true → x < last_write (block image y.found)
-  pub touch : touches image y ≡ true → accessed (block image y.found) y.did.core x ≡ true
+  pub touch : touches image y ≡ true → x < last_access (block image y.found) y.did.core
 
-abbrev pub AllPlaced : ImageData → (ℕ → ℕ) → (ℕ → ℕ) → (ℕ → ℕ → ℕ → Bool) → ℕ → List Entry → Type 0
-AllPlaced image interval last_write accessed x [] = Unit {0}
-AllPlaced image interval last_write accessed x (y ∷ ys) =
-    Placed image interval last_write accessed x y × AllPlaced image interval last_write accessed x ys
+abbrev pub AllPlaced : ImageData → (ℕ → ℕ) → (ℕ → ℕ) → (ℕ → ℕ → ℕ) → ℕ → List Entry → Type 0
+AllPlaced image interval last_write last_access x [] = Unit {0}
+AllPlaced image interval last_write last_access x (y ∷ ys) =
+    Placed image interval last_write last_access x y × AllPlaced image interval last_write last_access x ys
 
 -- what it keeps, F being the start
 pub record Keeps (image : ImageData) (N : ℕ) (F : Places) (m : Outline) : Type 0 where
   pub good : GoodList image N F m.list
-  pub placed : (x : ℕ) → AllPlaced image m.interval m.last_write m.accessed x (m.list x)
+  pub placed : (x : ℕ) → AllPlaced image m.interval m.last_write m.last_access x (m.list x)
   -- above a node's interval each cut has the node's core as it is, its reservations, and the bytes that it has taken
   pub core : (n j : ℕ) → m.interval n < j → (at_cut image F m.list j).core n ≡ m.core n
   pub reserved : (n j b : ℕ) → m.interval n < j → m.reserved n b ≡ true → (at_cut image F m.list j).held n b ≡ true
@@ -48,8 +48,8 @@ pub record Keeps (image : ImageData) (N : ℕ) (F : Places) (m : Outline) : Type
   -- up to it, its register checkpoints
   pub checkpoint : (n j : ℕ) → m.known n ≤ j → j ≤ m.interval n → (at_cut image F m.list j).core n ≡ m.checkpoint n j
   -- from the point on, the contents of the blocks
-  pub after : (b j : ℕ) → m.point ≤ j → (at_cut image F m.list j).content b ≡ m.after b j
-  pub after_last : (b j : ℕ) → m.last_write b ≤ j → m.after b j ≡ m.value b
+  pub content : (b j : ℕ) → m.point ≤ j → (at_cut image F m.list j).content b ≡ m.content b j
+  pub unwritten : (b j : ℕ) → m.last_write b ≤ j → m.content b j ≡ m.value b
   pub known_point : (n : ℕ) → m.known n ≤ m.point
   pub point_interval : (n : ℕ) → m.point ≤ m.interval n
 
@@ -62,8 +62,7 @@ pub record Retires (image : ImageData) (N : ℕ) (m : Outline) (e : Entry) : Typ
       e.did.seen ≡ block_word (m.value (block image e.found)) (place image e.found)
   pub done : e.did.sc_done ≡ true → m.reserved e.did.core (block image e.found) ≡ true
   pub newest : touches image e ≡ true → m.last_write (block image e.found) ≤ suc (m.interval e.did.core)
-  pub alone : wrote image e ≡ true → (n x : ℕ) →
-      m.accessed (block image e.found) n x ≡ true → x ≤ m.interval e.did.core
+  pub alone : wrote image e ≡ true → (n : ℕ) → m.last_access (block image e.found) n ≤ suc (m.interval e.did.core)
   pub lost : wrote image e ≡ true → (n : ℕ) → n ≢ e.did.core → m.reserved n (block image e.found) ≡ false
   pub input : m.waiting e.did.core ≡
       option_to_list e.did.read ++ drop (length (option_to_list e.did.read)) (m.waiting e.did.core)
@@ -75,14 +74,15 @@ retired image m e = record m {
   reserved = λ n b. if n == e.did.core then own image e b (m.reserved n b) else m.reserved n b;
   waiting = λ n. if nat_eq e.did.core n then drop (length (option_to_list e.did.read)) (m.waiting n) else m.waiting n;
   list = retire m.list (m.interval e.did.core) e;
-  after = λ b j.
+  content = λ b j.
       if writes_to image e b && nat_lt (m.interval e.did.core) j then content_after image e.found e.did (m.value b)
-      else m.after b j;
+      else m.content b j;
   value = λ b. if writes_to image e b then content_after image e.found e.did (m.value b) else m.value b;
-  last_write = λ b. if writes_to image e b then suc (m.interval e.did.core) else m.last_write b;
-  accessed = λ b n x.
-      m.accessed b n x
-      || (touches image e && ((b == block image e.found) && ((n == e.did.core) && (x == m.interval e.did.core))));
+  last_write = λ b. if writes_to image e b then max (m.last_write b) (suc (m.interval e.did.core)) else m.last_write b;
+  last_access = λ b n.
+      if touches image e && ((b == block image e.found) && (n == e.did.core)) then
+      max (m.last_access b n) (suc (m.interval e.did.core))
+      else m.last_access b n;
 }
 
 -- a program's start
@@ -97,10 +97,10 @@ begun F = record {
   given = λ n. [];
   waiting = λ n. [];
   list = λ x. [];
-  after = λ b j. F.content b;
+  content = λ b j. F.content b;
   value = F.content;
   last_write = λ b. 0;
-  accessed = λ b n x. false;
+  last_access = λ b n. 0;
 }
 
 -- a node's edge: its next interval begins, with a register checkpoint and without reservations
@@ -139,8 +139,24 @@ recovered m waiting = record m {
   reserved = λ n b. false;
   waiting = waiting;
   list = cut_off m.list m.point;
-  after = λ b j. m.after b m.point;
-  value = λ b. m.after b m.point;
-  last_write = λ b. m.point;
-  accessed = λ b n x. m.accessed b n x && nat_lt x m.point;
+  content = λ b j. if nat_le j m.point then m.content b j else m.content b m.point;
+  value = λ b. m.content b m.point;
+  last_write = λ b. min (m.last_write b) m.point;
+  last_access = λ b n. min (m.last_access b n) m.point;
 }
+
+-- two outlines that are the same at each place
+pub record IsSameOutline (m p : Outline) : Type 0 where
+  pub point : m.point ≡ p.point
+  pub interval : (n : ℕ) → m.interval n ≡ p.interval n
+  pub known : (n : ℕ) → m.known n ≡ p.known n
+  pub core : (n : ℕ) → m.core n ≡ p.core n
+  pub reserved : (n b : ℕ) → m.reserved n b ≡ p.reserved n b
+  pub checkpoint : (n j : ℕ) → m.checkpoint n j ≡ p.checkpoint n j
+  pub given : (n : ℕ) → m.given n ≡ p.given n
+  pub waiting : (n : ℕ) → m.waiting n ≡ p.waiting n
+  pub list : (x : ℕ) → m.list x ≡ p.list x
+  pub content : (b j : ℕ) → m.content b j ≡ p.content b j
+  pub value : (b : ℕ) → m.value b ≡ p.value b
+  pub last_write : (b : ℕ) → m.last_write b ≡ p.last_write b
+  pub last_access : (b n : ℕ) → m.last_access b n ≡ p.last_access b n

@@ -1,6 +1,6 @@
 //! What a machine keeps of the list from event to event, and what follows from it at the recovery point. The machine is
 //! seen by an outline: its intervals, cores, reservations, register checkpoints and input, and of each block the newest
-//! content, the contents at the cuts, and in which intervals it was last written and accessed.
+//! content, the contents at the cuts, and bounds for the intervals of its writes and of each node's accesses.
 ghost use Rattle.std.specs.Prelude.{◌≡◌, ℕ, suc, ◌≤◌, Bool, true, List, [], ◌++◌};
 ghost use Rattle.sn_base.specs.Image.{ImageData};
 ghost use Rattle.rv_core.specs.Core.{bare};
@@ -11,7 +11,7 @@ ghost use Rattle.sn_consistency.specs.Entries.{Entry, Places};
 ghost use Rattle.sn_consistency.specs.Sorted.{at_cut};
 ghost use Rattle.sn_consistency.specs.Shows.{Shows};
 ghost use Rattle.sn_consistency.specs.Committed.{committed, Begins};
-ghost use Rattle.sn_consistency.specs.Kept.{Outline, Keeps, Retires, retired, begun, edged, lost_to, learned, given_to, validated, recovered};
+ghost use Rattle.sn_consistency.specs.Kept.{Outline, Keeps, Retires, IsSameOutline, retired, begun, edged, lost_to, learned, given_to, validated, recovered};
 
 /// A program's start keeps it, and so does each event: a retirement that may be, an edge, the loss of reservations, the
 /// news of a point that isn't above the machine's, a byte of input, a validation where no node's interval is below the
@@ -46,10 +46,17 @@ pub fn point_is_last_state()
         (m : Outline) → Keeps image nodes F m → Executes image s (committed m.list m.point) }
     ensures contents { (image : ImageData) (nodes : ℕ) (s : FlatState) (F : Places) → Shows nodes s F →
         (m : Outline) → Keeps image nodes F m → (b : ℕ) →
-        block_in (state_after image s (committed m.list m.point)).memory b ≡ m.after b m.point }
+        block_in (state_after image s (committed m.list m.point)).memory b ≡ m.content b m.point }
     ensures cores { (image : ImageData) (nodes : ℕ) (s : FlatState) (F : Places) → Shows nodes s F →
         (m : Outline) → Keeps image nodes F m → (n : ℕ) →
         bare (core_at (state_after image s (committed m.list m.point)) n) ≡ m.checkpoint n m.point }
     ensures reads { (image : ImageData) (nodes : ℕ) (F : Places) (m : Outline) → Keeps image nodes F m →
         (n : ℕ) → F.taken n ≡ [] → Begins (in_of n (committed m.list m.point)) (m.given n) }
+{}
+
+/// An outline that is the same at each place keeps what the other keeps: so a machine's, made of its parts after an event,
+/// keeps what the event's outline keeps.
+pub fn same_at_each_place_keeps()
+    ensures { (image : ImageData) (nodes : ℕ) (F : Places) (m p : Outline) → IsSameOutline m p →
+        Keeps image nodes F m → Keeps image nodes F p }
 {}

@@ -1,0 +1,5 @@
+use Rattle.sn_consistency.proofs.Kept.{same_keeps}
+use Rattle.sn_consistency.proofs.machine.same_at_each_place_keeps.Goals as goal
+
+pub returns : goal.returns
+returns c = same_keeps
