@@ -67,6 +67,12 @@ pub records-append : (xs ys : List Entry) → records (xs ++ ys) ≡ records xs 
 records-append [] ys = refl
 records-append (x ∷ xs) ys = ap (λ l. x.did ∷ l) (records-append xs ys)
 
+-- the committed part is that of the records by intervals
+pub records-below : (f : ℕ → List Entry) (k : ℕ) → records (below f k) ≡ below (λ j. records (f j)) k
+unfolding below
+records-below f zero = refl
+records-below f (suc k) = records-append (below f k) (f k) ∙ ap (λ l. l ++ records (f k)) (records-below f k)
+
 pub in_of-append : (n : ℕ) (xs ys : List Record) → in_of n (xs ++ ys) ≡ in_of n xs ++ in_of n ys
 in_of-append n [] ys = refl
 in_of-append n (x ∷ xs) ys = ap (λ l. cond (nat_eq x.core n) (option_to_list x.read) [] ++ l) (in_of-append n xs ys) ∙ sym (append_assoc (cond (nat_eq x.core n) (option_to_list x.read) []) (in_of n xs) (in_of n ys))

@@ -19,6 +19,7 @@ pub record Places : Type 0 where
   pub content : ℕ → Content
   pub taken : ℕ → List ℕ
 
+-- whether it writes a block
 abbrev pub wrote : ImageData → Entry → Bool
 wrote image e = writes (kind image e.found) e.did.sc_done
 
@@ -30,6 +31,7 @@ touches image e = reads (kind image e.found) || wrote image e
 abbrev pub writes_to : ImageData → Entry → ℕ → Bool
 writes_to image e b = wrote image e && (b == block image e.found)
 
+-- a function with another value at one place
 abbrev pub put : {A : Type 0} → (ℕ → A) → ℕ → A → ℕ → A
 put f k v j = if j == k then v else f j
 
@@ -40,6 +42,7 @@ own image e b old =
     else if is_sc (kind image e.found) then false
     else old
 
+-- the flat state after an entry
 abbrev pub step : ImageData → Places → Entry → Places
 step image F e = record {
   core = put F.core e.did.core (bare (next image e.found e.did));
@@ -56,6 +59,8 @@ pub record Fits (image : ImageData) (N : ℕ) (e : Entry) : Type 0 where
   pub done_sc : e.did.sc_done ≡ true → is_sc (kind image e.found) ≡ true
   pub byte : is_some e.did.read ≡ takes (kind image e.found)
 
+-- what it has to fulfil in a state: it is its core's next instruction, it sees what the state has, and an SC that is done
+-- has its reservation
 pub record Legal (image : ImageData) (N : ℕ) (F : Places) (e : Entry) : Type 0 where
   pub fits : Fits image N e
   pub same : e.found ≡ F.core e.did.core
@@ -63,10 +68,12 @@ pub record Legal (image : ImageData) (N : ℕ) (F : Places) (e : Entry) : Type 0
       e.did.seen ≡ block_word (F.content (block image e.found)) (place image e.found)
   pub done : e.did.sc_done ≡ true → F.held e.did.core (block image e.found) ≡ true
 
+-- the flat state after a list
 abbrev pub run : ImageData → Places → List Entry → Places
 run image F [] = F
 run image F (e ∷ es) = run image (step image F e) es
 
+-- each entry in turn is legal
 abbrev pub Good : ImageData → ℕ → Places → List Entry → Type 0
 Good image N F [] = Unit {0}
 Good image N F (e ∷ es) = Legal image N F e × Good image N (step image F e) es

@@ -25,6 +25,7 @@ places_of s = record {
   taken = λ n. [];
 }
 
+-- the records of entries
 abbrev pub records : List Entry → List Record
 records [] = []
 records (e ∷ es) = e.did ∷ records es

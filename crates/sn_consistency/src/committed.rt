@@ -4,7 +4,7 @@ ghost use Rattle.sn_base.specs.Image.{ImageData};
 ghost use Rattle.rv_core.specs.Flat.{FlatState, flat_start};
 ghost use Rattle.rv_core.specs.Execution.{Executes, state_after, put_out_by, in_of, IsExecution, end_of, out_of};
 ghost use Rattle.sn_consistency.specs.Entries.{Entry, Places};
-ghost use Rattle.sn_consistency.specs.Sorted.{at_cut, GoodList, retire, cut_off};
+ghost use Rattle.sn_consistency.specs.Sorted.{below, at_cut, GoodList, retire, cut_off};
 ghost use Rattle.sn_consistency.specs.Shows.{Shows, places_of, records, outs};
 ghost use Rattle.sn_consistency.specs.Committed.{committed, released, Begins, Retirement, by_interval, kept};
 
@@ -31,6 +31,7 @@ pub fn committed_part_grows()
     ensures released { (image : ImageData) (f : ℕ → List Entry) (point : ℕ) → released image f (suc point) ≡
         released image f point ++ outs image (f point) }
     ensures later { (f : ℕ → List Entry) (point k : ℕ) → point ≤ k → Begins (committed f point) (committed f k) }
+    ensures by_interval { (f : ℕ → List Entry) (point : ℕ) → committed f point ≡ below (λ j. records (f j)) point }
 {}
 
 /// A retirement at or above the point and a recovery to it leave the committed part and its output as they were.

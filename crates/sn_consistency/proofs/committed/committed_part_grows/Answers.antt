@@ -1,4 +1,4 @@
-use Rattle.sn_consistency.proofs.CommittedPart.{committed_next, released_next, committed_begins}
+use Rattle.sn_consistency.proofs.CommittedPart.{committed_next, released_next, committed_begins, records-below}
 use Rattle.sn_consistency.proofs.committed.committed_part_grows.Goals as goal
 
 pub returns-clause-next : goal.returns-clause-next
@@ -9,3 +9,6 @@ returns-clause-released c = released_next
 
 pub returns-clause-later : goal.returns-clause-later
 returns-clause-later c = committed_begins
+
+pub returns-clause-by_interval : goal.returns-clause-by_interval
+returns-clause-by_interval c = records-below
