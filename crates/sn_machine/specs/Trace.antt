@@ -1,0 +1,56 @@
+-- The committed trace of a run, made from the retirements along it.
+use Rattle.std.specs.Prelude.{ℕ, zero, suc, nat_lt, nat_eq, List, [], ◌∷◌, ◌++◌, map, filter, filter_map, Option}
+use Rattle.sn_base.specs.Image.{ImageData}
+use Rattle.sn_base.specs.declared.event.Event.{Event}
+use Rattle.sn_base.specs.declared.event.Event.TheVariants.{Step}
+use Rattle.sn_base.specs.declared.event.Answer.{Answer}
+use Rattle.sn_base.specs.declared.event.Answer.TheVariants.{Retired, Recovered}
+use Rattle.rv_core.specs.declared.step.Record.{Record}
+use Rattle.sn_machine.specs.State.{State, node_at}
+use Rattle.sn_machine.specs.Step.{step_of, next_at, retirement_at, byte_read}
+
+-- an instruction that retired: its interval, its record, and the byte that it put out
+pub record Entry : Type 0 where
+  pub interval : ℕ
+  pub did : Record
+  pub out : Option ℕ
+
+-- the next instruction of a node, as it retires
+abbrev pub entry_at : ImageData → State → ℕ → Entry
+entry_at image s n = record {
+  interval = (node_at s n).now;
+  did = (retirement_at s n (byte_read image s n)).did;
+  out = (next_at image s n (byte_read image s n)).effect.out;
+}
+
+-- the retirements, with those of this event
+abbrev pub with_event : ImageData → State → Event → List Entry → List Entry
+with_event image s (Step n) trace = trace ++ entry_at image s n ∷ []
+with_event image s _ trace = trace
+
+-- an instruction that retired is added; a recovery takes those from its checkpoint on away; nothing else changes the list
+abbrev pub traced : ImageData → State → Event → Answer → List Entry → List Entry
+traced image s event Retired trace = with_event image s event trace
+traced image s event (Recovered undo) trace = filter (λ e. nat_lt e.interval undo.to) trace
+traced image s event _ trace = trace
+
+-- the retirements along the events, from this list on
+abbrev pub trace_after : ImageData → State → List Event → List Entry → List Entry
+trace_after image s [] trace = trace
+trace_after image s (event ∷ events) trace = trace_after image (step_of image s event).state events (traced image s event (step_of image s event).answer trace)
+
+-- those of an interval, in order of retirement
+abbrev pub of_interval : List Entry → ℕ → List Entry
+of_interval trace k = filter (λ e. nat_eq e.interval k) trace
+
+-- those of interval 0, then of interval 1, and so on below an interval
+abbrev pub below : List Entry → ℕ → List Entry
+below trace zero = []
+below trace (suc k) = below trace k ++ of_interval trace k
+
+-- the committed trace at a recovery point, and the bytes that it puts out
+abbrev pub committed_trace : List Entry → ℕ → List Record
+committed_trace trace point = map (λ e. e.did) (below trace point)
+
+abbrev pub committed_output : List Entry → ℕ → List ℕ
+committed_output trace point = filter_map (λ e. e.out) (below trace point)
