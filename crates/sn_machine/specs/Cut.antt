@@ -9,7 +9,7 @@ use Rattle.sn_machine.specs.State.{State, Node, node_at, checkpoint_of}
 -- reservation
 pub record KeepsCheckpoint (node : Node) (k : ℕ) (core : CoreState) : Type 0 where
   pub kept : node.known ≤ k
-  pub reached : k ≤ node.now
+  pub reached : k ≤ node.interval
   pub same : checkpoint_of node k ≡ bare core
 
 -- checkpoint k of the machine is this state of the flat machine
@@ -18,7 +18,7 @@ IsCut s k flat = (n : ℕ) → n < length s.nodes → KeepsCheckpoint (node_at s
 
 -- the node begins the interval of a recovery point with this core
 pub record IsRestoredNode (node : Node) (point : ℕ) (core : CoreState) : Type 0 where
-  pub now : node.now ≡ point
+  pub interval : node.interval ≡ point
   pub known : node.known ≡ point
   pub same : node.core ≡ bare core
 

@@ -3,3 +3,5 @@ pub mod Step
 pub mod Run
 pub mod Trace
 pub mod Cut
+pub mod Parts
+pub mod Kept

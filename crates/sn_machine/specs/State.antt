@@ -14,7 +14,7 @@ use Rattle.sn_machine.specs.declared.held.HeldByte.{HeldByte}
 -- interval in order, and the bytes of input that it was given
 pub record Node : Type 0 where
   pub core : CoreState
-  pub now : ℕ
+  pub interval : ℕ
   pub known : ℕ
   pub checkpoints : List CoreState
   pub given : List ℕ
@@ -47,7 +47,7 @@ pub record MachineData : Type 0 where
 abbrev pub first_node : ℕ → ℕ → Node
 first_node number entry = record {
   core = start_core number entry;
-  now = 0;
+  interval = 0;
   known = 0;
   checkpoints = start_core number entry ∷ [];
   given = [];

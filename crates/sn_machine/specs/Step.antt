@@ -55,7 +55,7 @@ next_at image s n read = next_of image (node_at s n).core 0 false read
 -- it as the trace keeps it
 abbrev pub retirement_at : State → ℕ → Option ℕ → Retirement
 retirement_at s n read = record {
-  interval = (node_at s n).now;
+  interval = (node_at s n).interval;
   did = record { core = n; seen = 0; sc_done = false; read = read };
 }
 
@@ -67,7 +67,7 @@ held_in interval out = map (λ (b : ℕ). record { interval = interval; byte = b
 abbrev pub retired : ImageData → State → ℕ → Option ℕ → State
 retired image s n read = record (with_node s n (record (node_at s n) { core = (next_at image s n read).core })) {
   pending = s.pending ++ retirement_at s n read ∷ [];
-  held = s.held ++ held_in (node_at s n).now (next_at image s n read).effect.out;
+  held = s.held ++ held_in (node_at s n).interval (next_at image s n read).effect.out;
 }
 
 -- the next byte of a node's input, where it hasn't taken all that it was given
@@ -98,14 +98,14 @@ stepped image s n =
 abbrev pub after_edge : Node → Node
 after_edge node = record node {
   core = bare node.core;
-  now = node.now + 1;
+  interval = node.interval + 1;
   checkpoints = node.checkpoints ++ bare node.core ∷ [];
 }
 
 abbrev pub edged : State → ℕ → Stepped
 edged s n =
-    if nat_eq ((node_at s n).now - (node_at s n).known) checkpoint_limit then refused s CheckpointsFull
-    else answered (with_node s n (after_edge (node_at s n))) (Edged ((node_at s n).now + 1))
+    if nat_eq ((node_at s n).interval - (node_at s n).known) checkpoint_limit then refused s CheckpointsFull
+    else answered (with_node s n (after_edge (node_at s n))) (Edged ((node_at s n).interval + 1))
 
 -- deliver i: each message stands at its receiver from the moment it is sent
 
@@ -128,7 +128,7 @@ told s m _ = s
 abbrev pub delivered_to : State → Option Message → Stepped
 delivered_to s None = refused s NoMessage
 delivered_to s (Some m) =
-    if nat_lt (node_at s m.to).now m.tag then refused s Held
+    if nat_lt (node_at s m.to).interval m.tag then refused s Held
     else answered (told (record s { net = without s.net m.id }) m m.body) Delivered
 
 abbrev pub delivered : State → ℕ → Stepped
@@ -145,10 +145,10 @@ posted s messages = record s { net = s.net ++ messages; next_id = s.next_id + le
 
 -- the checkpoint before which a node has completed everything: no transaction is open
 abbrev pub ready_of : Node → ℕ
-ready_of node = node.now
+ready_of node = node.interval
 
 abbrev pub readiness : State → ℕ → Message
-readiness s n = record { id = s.next_id; from = n; to = 0; tag = (node_at s n).now; block = 0; body = Ready (ready_of (node_at s n)) }
+readiness s n = record { id = s.next_id; from = n; to = 0; tag = (node_at s n).interval; block = 0; body = Ready (ready_of (node_at s n)) }
 
 abbrev pub reported_by : State → ℕ → Stepped
 reported_by s n =
@@ -198,7 +198,7 @@ committed_next s = record s {
 
 -- what tells the nodes of it
 abbrev pub news : State → List Message
-news s = advances s.next_id 0 (node_at s 0).now (s.point + 1) s.nodes
+news s = advances s.next_id 0 (node_at s 0).interval (s.point + 1) s.nodes
 
 abbrev pub validated_unless : State → Option ℕ → Stepped
 validated_unless s (Some node) = refused s (NotReady node)
@@ -218,7 +218,7 @@ validated s = validated_unless s (unready_node s)
 abbrev pub restored_node : ℕ → Node → Node
 restored_node k node = record node {
   core = checkpoint_of node k;
-  now = k;
+  interval = k;
   known = k;
   checkpoints = checkpoint_of node k ∷ [];
 }

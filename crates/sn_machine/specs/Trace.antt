@@ -18,7 +18,7 @@ pub record Entry : Type 0 where
 -- the next instruction of a node, as it retires
 abbrev pub entry_at : ImageData → State → ℕ → Entry
 entry_at image s n = record {
-  interval = (node_at s n).now;
+  interval = (node_at s n).interval;
   did = (retirement_at s n (byte_read image s n)).did;
   out = (next_at image s n (byte_read image s n)).effect.out;
 }

@@ -10,6 +10,10 @@
 #![tactic(auto)]
 
 mod held;
+mod history;
+mod net;
+mod node;
+mod output;
 mod sent;
 
 pub use held::{HeldByte, Retirement};

@@ -1,0 +1,64 @@
+-- The parts of a machine of one node, as the private layers below the machine keep them.
+use Rattle.std.specs.Prelude.{◌≡◌, ℕ, ◌+◌, ◌≤◌, List, [], ◌∷◌}
+use Rattle.sn_base.specs.declared.event.Answer.{Answer}
+use Rattle.rv_core.specs.declared.step.Record.{Record}
+use Rattle.sn_msg.specs.declared.Message.{Message}
+use Rattle.sn_machine.specs.declared.sent.Sent.{Sent}
+use Rattle.sn_machine.specs.declared.held.Retirement.{Retirement}
+use Rattle.sn_machine.specs.declared.held.HeldByte.{HeldByte}
+use Rattle.sn_machine.specs.State.{State, Node}
+use Rattle.sn_machine.specs.Step.{Stepped}
+
+-- the messages in flight, and the number of the next one
+pub record NetData : Type 0 where
+  pub messages : List Message
+  pub next_id : ℕ
+
+-- the records that wait, those that are committed, and for how many more there is room
+pub record HistoryData : Type 0 where
+  pub pending : List Retirement
+  pub committed : List Record
+  pub spare : ℕ
+
+-- the bytes that are held, those that are released, and for how many more there is room
+pub record OutputData : Type 0 where
+  pub held : List HeldByte
+  pub released : List ℕ
+  pub spare : ℕ
+
+-- the state of a machine of one node, by its parts
+pub record Parts : Type 0 where
+  pub node : Node
+  pub net : NetData
+  pub point : ℕ
+  pub reported : ℕ
+  pub pending : List Retirement
+  pub committed : List Record
+  pub held : List HeldByte
+  pub released : List ℕ
+
+-- these parts, what the last event sent, and for how many more instructions there is room
+pub record HardwareData : Type 0 where
+  pub parts : Parts
+  pub sent : List Sent
+  pub spare : ℕ
+
+abbrev pub state_of : Parts → State
+state_of p = record {
+  nodes = p.node ∷ [];
+  net = p.net.messages;
+  point = p.point;
+  reported = p.reported ∷ [];
+  pending = p.pending;
+  committed = p.committed;
+  held = p.held;
+  released = p.released;
+  next_id = p.net.next_id;
+}
+
+-- the parts went through this step, which took the room of at most one instruction
+pub record Does (old new : HardwareData) (answer : Answer) (step : Stepped) : Type 0 where
+  pub state : state_of new.parts ≡ step.state
+  pub answer_is : answer ≡ step.answer
+  pub sent : new.sent ≡ step.sent
+  pub room : old.spare ≤ new.spare + 1
