@@ -3,10 +3,11 @@ use Rattle.std.specs.Prelude.{◌≡◌, ℕ, ◌+◌, ◌≤◌, List, [], ◌�
 use Rattle.sn_base.specs.declared.event.Answer.{Answer}
 use Rattle.rv_core.specs.declared.step.Record.{Record}
 use Rattle.sn_msg.specs.declared.Message.{Message}
+use Rattle.sn_msg.specs.declared.Body.{Body}
 use Rattle.sn_machine.specs.declared.sent.Sent.{Sent}
 use Rattle.sn_machine.specs.declared.held.Retirement.{Retirement}
 use Rattle.sn_machine.specs.declared.held.HeldByte.{HeldByte}
-use Rattle.sn_machine.specs.State.{State, Node}
+use Rattle.sn_machine.specs.State.{State, Node, first_node}
 use Rattle.sn_machine.specs.Step.{Stepped}
 
 -- the messages in flight, and the number of the next one
@@ -55,6 +56,29 @@ state_of p = record {
   released = p.released;
   next_id = p.net.next_id;
 }
+
+-- the parts at the start of a program
+abbrev pub first_parts : ℕ → Parts
+first_parts entry = record {
+  node = first_node 0 entry;
+  net = record { messages = []; next_id = 1 };
+  point = 0;
+  reported = 0;
+  pending = [];
+  committed = [];
+  held = [];
+  released = [];
+}
+
+-- the next message, from the node to itself
+abbrev pub self_message : Parts → Body → Message
+self_message p body = record { id = p.net.next_id; from = 0; to = 0; tag = p.node.interval; block = 0; body = body }
+
+-- the same parts, with room for as many instructions or more
+pub record HasMoreRoom (old new : HardwareData) : Type 0 where
+  pub parts : new.parts ≡ old.parts
+  pub sent : new.sent ≡ old.sent
+  pub room : old.spare ≤ new.spare
 
 -- the parts went through this step, which took the room of at most one instruction
 pub record Does (old new : HardwareData) (answer : Answer) (step : Stepped) : Type 0 where

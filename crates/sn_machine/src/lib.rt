@@ -9,6 +9,7 @@
 //! the last validated checkpoint. No event takes memory: `reserve` takes the room for so many events beforehand.
 #![tactic(auto)]
 
+mod hardware;
 mod held;
 mod history;
 mod net;

@@ -5,7 +5,7 @@ ghost use Rattle.rv_core.specs.Step.{want_of, next_of};
 ghost use Rattle.sn_machine.specs.State.{first_node, checkpoint_of};
 ghost use Rattle.sn_machine.specs.Step.{after_edge, learned, restored_node, checkpoint_limit};
 
-use rv_core::{CoreState, Effect};
+use rv_core::{CoreState, Effect, End, Want};
 use sn_base::{Image, Interval, Memory, NodeId};
 use std::alloc::Global;
 use std::marker::Model;
@@ -72,9 +72,27 @@ impl NodeState {
     }
 
     pub fn is_full(&self) -> bool
-        ensures { result ≡ nat_eq (self.now.interval - self.now.known) checkpoint_limit }
+        ensures full { result ≡ nat_eq (self.now.interval - self.now.known) checkpoint_limit }
+        ensures few { self.now.interval - self.now.known ≤ checkpoint_limit }
     {
         self.interval - self.known == CHECKPOINTS
+    }
+
+    pub fn is_running(&self) -> bool
+        ensures { result ≡ is_running self.now.core.end }
+    {
+        match self.core.end {
+            End::Running => true,
+            End::Exited(_) | End::Trapped(_) => false,
+        }
+    }
+
+    /// What the core's next instruction wants.
+    pub fn want(&self, image: &Image) -> Want
+        requires { is_running self.now.core.end ≡ true }
+        ensures { result ≡ want_of image.now self.now.core }
+    {
+        self.core.want(image)
     }
 
     /// Does the core's next instruction, which wants no memory.
