@@ -1,5 +1,5 @@
 -- What the steps come to in the cases that the code tells apart.
-use Rattle.std.proofs.Common.{◌≡◌, ℕ, ◌≤◌, ◌<◌, ◌+◌, true, false, nat_lt, nat_eq, List, [], length, Some, None, if◌then◌else◌, arith, refl, sym, ap, ◌∙◌}
+use Rattle.std.proofs.Common.{◌≡◌, ℕ, ◌≤◌, Bool, true, false, nat_lt, [], Some, None, if◌then◌else◌, arith, refl, sym, ap, ◌∙◌}
 use Rattle.std.proofs.lemmas.Bool.Decides.{nat_tests}
 use Rattle.sn_base.specs.Image.{ImageData}
 use Rattle.sn_base.specs.declared.event.Answer.TheVariants.{NoInput, Delivered}
@@ -7,8 +7,8 @@ use Rattle.rv_core.specs.declared.step.Want.TheVariants.{Input}
 use Rattle.rv_core.specs.Core.{is_running}
 use Rattle.rv_core.specs.Step.{want_of}
 use Rattle.sn_msg.specs.declared.Message.{Message}
-use Rattle.sn_machine.specs.State.{State, Node, node_at}
-use Rattle.sn_machine.specs.Step.{Stepped, message_in, without, told, answered, refused, delivered, delivered_to, stepped, step_wanting, step_reading, next_byte, taken_by}
+use Rattle.sn_machine.specs.State.{State, node_at}
+use Rattle.sn_machine.specs.Step.{Stepped, message_in, without, told, answered, refused, delivered, stepped, step_reading, next_byte}
 use Rattle.sn_machine.specs.Parts.{Parts, NetData, HardwareData, Does, state_of}
 use Rattle.sn_base.specs.declared.event.Answer.{Answer}
 
@@ -38,3 +38,8 @@ does old new answer step case e h = record {
 -- a message does the same over messages in flight that are the same
 pub told-same : (p : Parts) (net other : NetData) (m : Message) (new : State) → new ≡ told (state_of (record p { net = net })) m m.body → net ≡ other → new ≡ told (state_of (record p { net = other })) m m.body
 told-same p net other m new h e = h ∙ ap (λ (n : NetData). told (state_of (record p { net = n })) m m.body) e
+
+-- a choice, by what its test comes to
+pub by_test : {A : Type 0} (P : A → Type 0) (test : Bool) (yes_ no_ : A) → (test ≡ true → P yes_) → (test ≡ false → P no_) → P (if test then yes_ else no_)
+by_test P true yes_ no_ f g = f refl
+by_test P false yes_ no_ f g = g refl

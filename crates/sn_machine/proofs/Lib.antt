@@ -1,1 +1,10 @@
 pub mod Cases
+pub mod Lists
+pub mod Sorted
+pub mod OneCore
+pub mod Ordered
+pub mod Traced
+pub mod Kept
+pub mod Start
+pub mod EachStep
+pub mod Laws

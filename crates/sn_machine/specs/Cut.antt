@@ -1,8 +1,11 @@
 -- What a checkpoint stands for, and the machine after a recovery.
-use Rattle.std.specs.Prelude.{◌≡◌, ℕ, ◌<◌, ◌≤◌, [], length, slice_index}
+use Rattle.std.specs.Prelude.{◌≡◌, ℕ, ◌<◌, ◌≤◌, List, [], ◌++◌, length, slice_index, ⊤}
+use Rattle.sn_base.specs.declared.event.Answer.{Answer}
+use Rattle.sn_base.specs.declared.event.Answer.TheVariants.{Recovered}
 use Rattle.rv_core.specs.declared.state.CoreState.{CoreState}
 use Rattle.rv_core.specs.Core.{bare}
 use Rattle.rv_core.specs.Flat.{FlatState, core_at}
+use Rattle.rv_core.specs.Execution.{in_of}
 use Rattle.sn_machine.specs.State.{State, Node, node_at, checkpoint_of}
 
 -- the node keeps register checkpoint k, and it is this core in its program counter, registers and end, without a
@@ -29,3 +32,12 @@ pub record IsRestored (s : State) (flat : FlatState) : Type 0 where
   pub net : s.net ≡ []
   pub pending : s.pending ≡ []
   pub held : s.held ≡ []
+
+-- what an answer Recovered promises of the state after it
+abbrev pub IsRestoredAfter : Answer → State → FlatState → Type 0
+IsRestoredAfter (Recovered undo) s flat = IsRestored s flat
+IsRestoredAfter _ s flat = ⊤
+
+-- the bytes that each node's committed records read are the first of those that it was given
+abbrev pub HasReadFirst : State → Type 0
+HasReadFirst s = (n : ℕ) → n < length s.nodes → (more : List ℕ) × ((node_at s n).given ≡ in_of n s.committed ++ more)

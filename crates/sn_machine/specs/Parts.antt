@@ -1,5 +1,5 @@
 -- The parts of a machine of one node, as the private layers below the machine keep them.
-use Rattle.std.specs.Prelude.{◌≡◌, ℕ, ◌+◌, ◌≤◌, List, [], ◌∷◌}
+use Rattle.std.specs.Prelude.{◌≡◌, ℕ, ◌+◌, ◌≤◌, List, [], ◌∷◌, slice_index}
 use Rattle.sn_base.specs.declared.event.Answer.{Answer}
 use Rattle.rv_core.specs.declared.step.Record.{Record}
 use Rattle.sn_msg.specs.declared.Message.{Message}
@@ -7,7 +7,7 @@ use Rattle.sn_msg.specs.declared.Body.{Body}
 use Rattle.sn_machine.specs.declared.sent.Sent.{Sent}
 use Rattle.sn_machine.specs.declared.held.Retirement.{Retirement}
 use Rattle.sn_machine.specs.declared.held.HeldByte.{HeldByte}
-use Rattle.sn_machine.specs.State.{State, Node, first_node}
+use Rattle.sn_machine.specs.State.{State, Node, node_at, first_node}
 use Rattle.sn_machine.specs.Step.{Stepped}
 
 -- the messages in flight, and the number of the next one
@@ -55,6 +55,19 @@ state_of p = record {
   held = p.held;
   released = p.released;
   next_id = p.net.next_id;
+}
+
+-- the parts of a machine of one node
+abbrev pub parts_of : State → Parts
+parts_of s = record {
+  node = node_at s 0;
+  net = record { messages = s.net; next_id = s.next_id };
+  point = s.point;
+  reported = slice_index s.reported 0;
+  pending = s.pending;
+  committed = s.committed;
+  held = s.held;
+  released = s.released;
 }
 
 -- the parts at the start of a program

@@ -200,15 +200,17 @@ committed_next s = record s {
 abbrev pub news : State → List Message
 news s = advances s.next_id 0 (node_at s 0).interval (s.point + 1) s.nodes
 
+abbrev pub advanced : State → Stepped
+advanced s = record {
+  state = posted (committed_next s) (news s);
+  answer = Validated (s.point + 1);
+  sent = sent_all (news s);
+}
+
 abbrev pub validated_unless : State → Option ℕ → Stepped
 validated_unless s (Some node) = refused s (NotReady node)
 validated_unless s None =
-    if nat_lt net_limit (length s.net + length s.nodes) then refused s NetFull
-    else record {
-      state = posted (committed_next s) (news s);
-      answer = Validated (s.point + 1);
-      sent = sent_all (news s);
-    }
+    if nat_lt net_limit (length s.net + length s.nodes) then refused s NetFull else advanced s
 
 abbrev pub validated : State → Stepped
 validated s = validated_unless s (unready_node s)

@@ -4,10 +4,19 @@ use Rattle.sn_base.specs.Image.{ImageData}
 use Rattle.sn_base.specs.declared.event.Event.{Event}
 use Rattle.sn_base.specs.declared.event.Event.TheVariants.{Step}
 use Rattle.sn_base.specs.declared.event.Answer.{Answer}
-use Rattle.sn_base.specs.declared.event.Answer.TheVariants.{Retired, Recovered}
+use Rattle.sn_base.specs.declared.event.Answer.TheVariants.{Retired, Validated, Recovered}
 use Rattle.rv_core.specs.declared.step.Record.{Record}
 use Rattle.sn_machine.specs.State.{State, node_at}
-use Rattle.sn_machine.specs.Step.{step_of, next_at, retirement_at, byte_read}
+use Rattle.sn_machine.specs.Step.{step_of, next_at, retirement_at, byte_read, records_of, bytes_of, retired_in, held_bytes_in}
+
+-- what belongs to an interval, in order
+abbrev pub of_interval : {A : Type 0} → (A → ℕ) → ℕ → List A → List A
+of_interval interval k all = filter (λ x. nat_eq (interval x) k) all
+
+-- what belongs to interval 0, then to interval 1, and so on below an interval
+abbrev pub sorted_below : {A : Type 0} → (A → ℕ) → List A → ℕ → List A
+sorted_below interval all zero = []
+sorted_below interval all (suc k) = sorted_below interval all k ++ of_interval interval k all
 
 -- an instruction that retired: its interval, its record, and the byte that it put out
 pub record Entry : Type 0 where
@@ -39,18 +48,19 @@ abbrev pub trace_after : ImageData → State → List Event → List Entry → L
 trace_after image s [] trace = trace
 trace_after image s (event ∷ events) trace = trace_after image (step_of image s event).state events (traced image s event (step_of image s event).answer trace)
 
--- those of an interval, in order of retirement
-abbrev pub of_interval : List Entry → ℕ → List Entry
-of_interval trace k = filter (λ e. nat_eq e.interval k) trace
-
--- those of interval 0, then of interval 1, and so on below an interval
-abbrev pub below : List Entry → ℕ → List Entry
-below trace zero = []
-below trace (suc k) = below trace k ++ of_interval trace k
-
 -- the committed trace at a recovery point, and the bytes that it puts out
 abbrev pub committed_trace : List Entry → ℕ → List Record
-committed_trace trace point = map (λ e. e.did) (below trace point)
+committed_trace trace point = map (λ e. e.did) (sorted_below (λ e. e.interval) trace point)
 
 abbrev pub committed_output : List Entry → ℕ → List ℕ
-committed_output trace point = filter_map (λ e. e.out) (below trace point)
+committed_output trace point = filter_map (λ e. e.out) (sorted_below (λ e. e.interval) trace point)
+
+-- what an answer adds to the committed trace and to the released bytes: Validated adds the interval that the point leaves
+-- behind, in order of retirement, and no other answer adds anything
+abbrev pub newly_committed : State → Answer → List Record
+newly_committed s (Validated point) = records_of (retired_in s.point s.pending)
+newly_committed s _ = []
+
+abbrev pub newly_released : State → Answer → List ℕ
+newly_released s (Validated point) = bytes_of (held_bytes_in s.point s.held)
+newly_released s _ = []

@@ -3,9 +3,13 @@ ghost use Rattle.std.specs.Prelude.{◌≡◌, ℕ, ◌+◌, ◌<◌, ◌≤◌,
 ghost use Rattle.rv_core.specs.Core.{is_running, is_input, is_access};
 ghost use Rattle.rv_core.specs.Step.{want_of};
 ghost use Rattle.sn_machine.specs.State.{checkpoint_of};
-ghost use Rattle.sn_machine.specs.Step.{answered, retired, stepped, edged, message_in, told, delivered, reported_by, validated, recovered, net_limit};
+ghost use Rattle.sn_machine.specs.Step.{step_of, is_scripted, answered, retired, stepped, edged, message_in, told, delivered, reported_by, validated, recovered, net_limit};
 ghost use Rattle.sn_machine.specs.Parts.{first_parts, self_message, state_of, Does, HasMoreRoom};
-ghost use Rattle.sn_machine.specs.Kept.{IsLocal};
+ghost use Rattle.sn_machine.specs.Kept.{IsLocal, IsYoung, IsKept};
+ghost use Rattle.rv_core.specs.Plain.{IsPlain};
+ghost use Rattle.sn_base.specs.Events.{event_fits};
+
+mod foresight;
 
 use crate::held::{HeldByte, Retirement};
 use crate::history::History;
@@ -14,7 +18,7 @@ use crate::node::NodeState;
 use crate::output::Output;
 use crate::sent::Sent;
 use rv_core::{CoreState, Record, Want};
-use sn_base::{Answer, Image, Interval, Memory, MsgId, NodeId, Undo};
+use sn_base::{Answer, Event, Image, Interval, Memory, MsgId, NodeId, Undo};
 use sn_msg::{Body, Message};
 use std::alloc::Global;
 use std::marker::Model;
@@ -38,7 +42,7 @@ pub struct Hardware {
 }
 
 impl Model for Hardware {
-    ghost use Rattle.std.specs.Prelude.{◌≤◌, min, vec_capacity};
+    ghost use Rattle.std.specs.Prelude.{◌≤◌, min, vec_len, vec_capacity};
     ghost use Rattle.sn_machine.specs.Parts.{HardwareData};
 
     ghost Value = { HardwareData };
@@ -58,7 +62,7 @@ impl Model for Hardware {
       spare = min h.history.spare h.output.spare;
     } };
 
-    ghost invariant = { λ h. 1 ≤ vec_capacity h.sent };
+    ghost invariant = { λ h. (1 ≤ vec_capacity h.sent) × (vec_len h.sent ≤ 1) };
 }
 
 impl Hardware {
@@ -87,6 +91,66 @@ impl Hardware {
         self.history.reserve(instructions)?;
         self.output.reserve(instructions)?;
         Ok(())
+    }
+
+    /// What an event does.
+    #[tactic(auto, unfolding(crate::specs::Step::step_of))]
+    pub fn apply(&mut self, image: &Image, event: Event) -> Answer
+        requires program { IsPlain image.now }
+        requires young { IsYoung self.old.parts 4000000000 }
+        requires kept { IsKept image.now self.old.parts }
+        requires fits { event_fits 1 event ≡ true }
+        requires scripted { is_scripted event ≡ true }
+        requires room { 1 ≤ self.old.spare }
+        ensures { Does self.old self.new result (step_of image.now (state_of self.old.parts) event) }
+    {
+        match event {
+            Event::Step(_) => self.step(image),
+            Event::Edge(_) => self.edge(),
+            Event::Deliver(id) => self.deliver(id),
+            Event::Report(_) => self.report(),
+            Event::Validate => self.validate(),
+            Event::Recover => self.recover(),
+            Event::Evict(_, _)
+            | Event::Hop(_)
+            | Event::Lose(_)
+            | Event::Kill(_)
+            | Event::Input(_, _) => unreachable!(),
+        }
+    }
+
+    pub fn point(&self) -> Interval
+        ensures { result ≡ self.now.parts.point }
+    {
+        self.point
+    }
+
+    /// The core as the checkpoint at the recovery point keeps it.
+    pub fn checkpoint(&self) -> &CoreState
+        requires kept { self.now.parts.node.known ≤ self.now.parts.point }
+        requires reached { self.now.parts.point ≤ self.now.parts.node.interval }
+        ensures { result.now ≡ checkpoint_of self.now.parts.node self.now.parts.point }
+    {
+        self.node.checkpoint(self.point)
+    }
+
+    pub fn committed(&self) -> &[Record]
+        ensures { result.now ≡ self.now.parts.committed }
+    {
+        self.history.committed()
+    }
+
+    pub fn released(&self) -> &[u8]
+        ensures { result.now ≡ self.now.parts.released }
+    {
+        self.output.released()
+    }
+
+    pub fn sent(&self) -> &[Sent]
+        ensures same { result.now ≡ self.now.sent }
+        ensures few { length result.now ≤ 1 }
+    {
+        self.sent.as_slice()
     }
 
     /// The core does its next instruction, which wants no memory.

@@ -12,10 +12,12 @@
 mod hardware;
 mod held;
 mod history;
+mod machine;
 mod net;
 mod node;
 mod output;
 mod sent;
 
 pub use held::{HeldByte, Retirement};
+pub use machine::{Machine, View};
 pub use sent::Sent;

@@ -1,4 +1,4 @@
-use Rattle.std.proofs.Common.{rules, arith, nat_eq, not, refl, length}
+use Rattle.std.proofs.Common.{rules, arith, nat_eq, not, refl}
 use Rattle.std.proofs.lemmas.Fn.{filter_same}
 use Rattle.std.proofs.lemmas.List.Filters.{length-filter_both}
 use Rattle.sn_machine.proofs.history.remove_interval.Goals as goal

@@ -1,4 +1,4 @@
-use Rattle.std.proofs.Common.{◌≡◌, ◌+◌, ◌≤◌, drop, vec_len, vec_capacity}
+use Rattle.std.proofs.Common.{◌≡◌, ◌+◌, drop, vec_len, vec_capacity}
 use Rattle.sn_machine.proofs.node.free.Given as goal
 
 abbrev pub invariant-copies : goal.invariant-copies

@@ -1,4 +1,4 @@
-use Rattle.std.proofs.Common.{rules, ◌≡◌, sym, ap, ◌∙◌, arith, refl}
+use Rattle.std.proofs.Common.{sym, ◌∙◌, arith, refl}
 use Rattle.sn_machine.specs.Parts.{Parts}
 use Rattle.sn_machine.proofs.Cases.{delivered-found, does, told-same}
 use Rattle.sn_machine.proofs.hardware.Hardware.deliver.Goals as goal

@@ -1,4 +1,4 @@
-use Rattle.std.proofs.Common.{rules, ◌≡◌, sym, ap, ◌∙◌, arith, refl}
+use Rattle.std.proofs.Common.{sym, ◌∙◌, arith, refl}
 use Rattle.sn_machine.proofs.Cases.{stepped-waits, does}
 use Rattle.sn_machine.proofs.hardware.Hardware.step.Goals as goal
 
