@@ -203,7 +203,7 @@ goes-recovered image p k =
 
 -- every event
 
-first : (n : ℕ) → nat_lt n 1 ≡ true → n ≡ 0
+pub first : (n : ℕ) → nat_lt n 1 ≡ true → n ≡ 0
 first n fits = grind (arith, nat_tests, fits)
 
 pub goes-step : (image : ImageData) (p : Parts) (event : Event) → IsPlain image → event_fits 1 event ≡ true → is_scripted event ≡ true → IsKept image p → Goes image p (step_of image (state_of p) event).state

@@ -8,3 +8,6 @@ pub mod Kept
 pub mod Start
 pub mod EachStep
 pub mod Laws
+pub mod RunTrace
+pub mod RunSteps
+pub mod Run
