@@ -40,6 +40,6 @@ pub told-same : (p : Parts) (net other : NetData) (m : Message) (new : State) �
 told-same p net other m new h e = h ∙ ap (λ (n : NetData). told (state_of (record p { net = n })) m m.body) e
 
 -- a choice, by what its test comes to
-pub by_test : {A : Type 0} (P : A → Type 0) (test : Bool) (yes_ no_ : A) → (test ≡ true → P yes_) → (test ≡ false → P no_) → P (if test then yes_ else no_)
-by_test P true yes_ no_ f g = f refl
-by_test P false yes_ no_ f g = g refl
+pub by_test : {A : Type 0} (P : A → Type 0) (test : Bool) (one other : A) → (test ≡ true → P one) → (test ≡ false → P other) → P (if test then one else other)
+by_test P true one other f g = f refl
+by_test P false one other f g = g refl

@@ -103,10 +103,10 @@ goes-edged image p k =
 -- deliver
 
 kept-take : (image : ImageData) (p : Parts) (id : ℕ) → IsKept image p → IsKept image (with_net p (without p.net.messages id))
-kept-take image p id k = record { ordered = ordered-take p id k.ordered; plain = record { core = k.plain.core; checkpoints = k.plain.checkpoints; given = k.plain.given }; traced = record { executes = k.traced.executes; now_ = k.traced.now_; then_ = k.traced.then_; puts_out = k.traced.puts_out; reads = k.traced.reads } }
+kept-take image p id k = record { ordered = ordered-take p id k.ordered; plain = record { core = k.plain.core; checkpoints = k.plain.checkpoints; given = k.plain.given }; traced = record { executes = k.traced.executes; core = k.traced.core; checkpoints = k.traced.checkpoints; puts_out = k.traced.puts_out; reads = k.traced.reads } }
 
 kept-ready : (image : ImageData) (p : Parts) (k : ℕ) → k ≤ p.node.interval → IsKept image p → IsKept image (record p { reported = max p.reported k })
-kept-ready image p k reached h = record { ordered = ordered-ready p k reached h.ordered; plain = record { core = h.plain.core; checkpoints = h.plain.checkpoints; given = h.plain.given }; traced = record { executes = h.traced.executes; now_ = h.traced.now_; then_ = h.traced.then_; puts_out = h.traced.puts_out; reads = h.traced.reads } }
+kept-ready image p k reached h = record { ordered = ordered-ready p k reached h.ordered; plain = record { core = h.plain.core; checkpoints = h.plain.checkpoints; given = h.plain.given }; traced = record { executes = h.traced.executes; core = h.traced.core; checkpoints = h.traced.checkpoints; puts_out = h.traced.puts_out; reads = h.traced.reads } }
 
 kept-advance : (image : ImageData) (p : Parts) (k : ℕ) → k ≤ p.point → IsKept image p → IsKept image (record p { node = learned p.node k })
 kept-advance image p k there h = record {
@@ -146,7 +146,7 @@ goes-delivered image p id k = go (message_in p.net.messages id) (All-find (IsLoc
 -- report
 
 kept-send : (image : ImageData) (p : Parts) (body : Body) → SaysKnown p.node.interval p.point body → IsKept image p → IsKept image (with_sent p body)
-kept-send image p body says k = record { ordered = ordered-send p body says k.ordered; plain = record { core = k.plain.core; checkpoints = k.plain.checkpoints; given = k.plain.given }; traced = record { executes = k.traced.executes; now_ = k.traced.now_; then_ = k.traced.then_; puts_out = k.traced.puts_out; reads = k.traced.reads } }
+kept-send image p body says k = record { ordered = ordered-send p body says k.ordered; plain = record { core = k.plain.core; checkpoints = k.plain.checkpoints; given = k.plain.given }; traced = record { executes = k.traced.executes; core = k.traced.core; checkpoints = k.traced.checkpoints; puts_out = k.traced.puts_out; reads = k.traced.reads } }
 
 goes-reported : (image : ImageData) (p : Parts) → IsKept image p → Goes image p (reported_by (state_of p) 0).state
 goes-reported image p k =

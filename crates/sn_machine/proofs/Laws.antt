@@ -35,7 +35,7 @@ kept-reads image p k = sym (ap (in_of 0) (records_point p k.ordered)) ∙ k.trac
 pub kept-core : (image : ImageData) (p : Parts) → IsKept image p → checkpoint_of p.node p.point ≡ bare (core_at (end_of image 1 p.committed) 0)
 kept-core image p k =
     let cores : (end_of image 1 p.committed).cores ≡ checkpoint_of p.node p.point ∷ [] =
-    sym (ap (λ rs. (end_of image 1 rs).cores) (records_point p k.ordered)) ∙ k.traced.then_ p.point p.node.core (omega arith) k.ordered.reached in
+    sym (ap (λ rs. (end_of image 1 rs).cores) (records_point p k.ordered)) ∙ k.traced.checkpoints p.point p.node.core (omega arith) k.ordered.reached in
     let free = (k.plain.checkpoints (p.point - p.node.known) p.node.core (omega (arith, k.ordered.copies, k.ordered.reached, k.ordered.known))).free in
     rw cores (ap (λ (r : Option ℕ). record (checkpoint_of p.node p.point) { reservation = r }) free)
 

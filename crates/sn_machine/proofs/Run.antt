@@ -7,7 +7,7 @@ use Rattle.rv_core.specs.Plain.{IsPlain}
 use Rattle.rv_core.specs.Execution.{IsExecution, end_of, out_of}
 use Rattle.sn_machine.specs.State.{State, start_of}
 use Rattle.sn_machine.specs.Step.{step_of, is_scripted}
-use Rattle.sn_machine.specs.Run.{state_after}
+use Rattle.sn_machine.specs.Run.{state_after, IsTaken, IsKeptRun}
 use Rattle.sn_machine.specs.Trace.{Entry, traced, trace_after, committed_trace, committed_output}
 use Rattle.sn_machine.specs.Cut.{IsCut, HasReadFirst}
 use Rattle.sn_machine.specs.Parts.{state_of, parts_of}
@@ -17,11 +17,6 @@ use Rattle.sn_machine.proofs.Start.{kept-start}
 use Rattle.sn_machine.proofs.Laws.{kept-execution, kept-output, kept-cut, kept-read}
 use Rattle.sn_machine.proofs.RunTrace.{IsMadeFrom}
 use Rattle.sn_machine.proofs.RunSteps.{follows-step}
-
--- an event of a machine of one node without memory
-pub record IsTaken (event : Event) : Type 0 where
-  pub fits : event_fits 1 event ≡ true
-  pub scripted : is_scripted event ≡ true
 
 -- what is kept along a run, with the trace so far
 record Runs (image : ImageData) (s : State) (trace : List Entry) : Type 0 where
@@ -50,16 +45,6 @@ runs-start image aligned = record {
   kept = kept-start image aligned;
   made = record { committed = refl; released = refl; pending = refl; held = refl };
 }
-
--- what holds after every run: the committed trace is an execution, and the one that the retirements along the run make;
--- the released bytes are those that it puts out; the recovery point is a cut of it; it read what was given first
-pub record IsKeptRun (image : ImageData) (s : State) (trace : List Entry) : Type 0 where
-  pub execution : IsExecution image 1 s.committed
-  pub output : s.released ≡ out_of image 1 s.committed
-  pub cut : IsCut s s.point (end_of image 1 s.committed)
-  pub input : HasReadFirst s
-  pub committed : s.committed ≡ committed_trace trace s.point
-  pub released : s.released ≡ committed_output trace s.point
 
 kept_run : (image : ImageData) (s : State) (trace : List Entry) → Runs image s trace → IsKeptRun image s trace
 kept_run image s trace r = record {

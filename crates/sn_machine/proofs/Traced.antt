@@ -89,10 +89,10 @@ pub traced_by : (image : ImageData) (p : Parts) → ((j : ℕ) → TracedAt imag
     ((j : ℕ) → p.node.interval < j → (end_of image 1 (records_below p j)).cores ≡ p.node.core ∷ []) →
     ((j : ℕ) (d : CoreState) → p.point ≤ j → j ≤ p.node.interval → (end_of image 1 (records_below p j)).cores ≡ get_or p.node.checkpoints (j - p.node.known) d ∷ []) →
     IsTraced image p
-traced_by image p each now_ then_ = record {
+traced_by image p each core checkpoints = record {
   executes = λ j. (each j).executes;
-  now_ = now_;
-  then_ = then_;
+  core = core;
+  checkpoints = checkpoints;
   puts_out = λ j. (each j).puts_out;
   reads = λ j. (each j).reads;
 }
@@ -114,7 +114,7 @@ module _ (image : ImageData) (p : Parts) (h : IsOrdered p) (t : IsTraced image p
       high : p.node.interval < j → TracedAt image (records_below after j) (bytes_below after j)
       high l =
           traced_same image _ _ _ _ (retired_records_high p next.core next.effect.out h j l) (retired_bytes_high p next.core next.effect.out h j l)
-          (traced_push image (records_below p j) (bytes_below p j) p.node.core (traced_at image p t j) (t.now_ j l) runs plain quiet)
+          (traced_push image (records_below p j) (bytes_below p j) p.node.core (traced_at image p t j) (t.core j l) runs plain quiet)
 
       go : ((j ≡ p.node.interval) ⊎ ((j < p.node.interval) ⊎ (p.node.interval < j))) → TracedAt image (records_below after j) (bytes_below after j)
       go (inl here) = low (omega (arith, here))
@@ -123,8 +123,8 @@ module _ (image : ImageData) (p : Parts) (h : IsOrdered p) (t : IsTraced image p
 
   pub traced-retire : IsTraced image after
   traced-retire = traced_by image after retire_at
-      (λ j above. ap (λ rs. (end_of image 1 rs).cores) (retired_records_high p next.core next.effect.out h j above) ∙ cores_push image (records_below p j) p.node.core (t.now_ j above) runs plain quiet)
-      (λ j d reached low. ap (λ rs. (end_of image 1 rs).cores) (retired_records_low p next.core next.effect.out h j low) ∙ t.then_ j d reached low)
+      (λ j above. ap (λ rs. (end_of image 1 rs).cores) (retired_records_high p next.core next.effect.out h j above) ∙ cores_push image (records_below p j) p.node.core (t.core j above) runs plain quiet)
+      (λ j d reached low. ap (λ rs. (end_of image 1 rs).cores) (retired_records_low p next.core next.effect.out h j low) ∙ t.checkpoints j d reached low)
 
 -- the next interval: its checkpoint is the core, which has no reservation
 last_copy : (copies : List CoreState) (core d : CoreState) (i : ℕ) → i ≡ length copies → get_or (copies ++ core ∷ []) i d ≡ core
@@ -132,25 +132,25 @@ last_copy copies core d i last = get_or_push copies core d i (sym last)
 
 pub traced-edge : (image : ImageData) (p : Parts) → IsOrdered p → bare p.node.core ≡ p.node.core → IsTraced image p → IsTraced image (with_edge p)
 traced-edge image p h free t = traced_by image (with_edge p) (traced_at image p t)
-    (λ j above. t.now_ j (omega (arith, above)) ∙ ap (λ (c : CoreState). c ∷ []) (sym free))
+    (λ j above. t.core j (omega (arith, above)) ∙ ap (λ (c : CoreState). c ∷ []) (sym free))
     (λ j d reached low. go j d reached low (cases_order j p.node.interval))
   where
     earlier : (j : ℕ) (d : CoreState) → p.point ≤ j → j ≤ p.node.interval → (end_of image 1 (records_below p j)).cores ≡ get_or (p.node.checkpoints ++ bare p.node.core ∷ []) (j - p.node.known) d ∷ []
     earlier j d reached low =
-        t.then_ j d reached low
+        t.checkpoints j d reached low
         ∙ ap (λ (c : CoreState). c ∷ []) (sym (get_or-append p.node.checkpoints (bare p.node.core ∷ []) d (j - p.node.known) (omega (arith, reached, low, h.copies, h.known))))
 
     go : (j : ℕ) (d : CoreState) → p.point ≤ j → j ≤ p.node.interval + 1 → ((j ≡ p.node.interval) ⊎ ((j < p.node.interval) ⊎ (p.node.interval < j))) → (end_of image 1 (records_below p j)).cores ≡ get_or (p.node.checkpoints ++ bare p.node.core ∷ []) (j - p.node.known) d ∷ []
     go j d reached low (inl here) = earlier j d reached (omega (arith, here))
     go j d reached low (inr (inl less)) = earlier j d reached (omega (arith, less))
     go j d reached low (inr (inr more)) =
-        t.now_ j more
+        t.core j more
         ∙ ap (λ (c : CoreState). c ∷ []) (sym free ∙ sym (last_copy p.node.checkpoints (bare p.node.core) d (j - p.node.known) (omega (arith, low, more, h.copies, h.known, h.reached))))
 
 -- a message that only tells of numbers
 pub traced-advance : (image : ImageData) (p : Parts) (k : ℕ) → k ≤ p.point → IsTraced image p → IsTraced image (record p { node = learned p.node k })
-traced-advance image p k there t = traced_by image _ (traced_at image p t) t.now_
-    (λ j d reached low. t.then_ j d reached low ∙ ap (λ (c : CoreState). c ∷ [])
+traced-advance image p k there t = traced_by image _ (traced_at image p t) t.core
+    (λ j d reached low. t.checkpoints j d reached low ∙ ap (λ (c : CoreState). c ∷ [])
     (let same : j - p.node.known ≡ (max p.node.known k - p.node.known) + (j - max p.node.known k) = omega (arith, there, reached) in
     ap (λ (i : ℕ). get_or p.node.checkpoints i d) same ∙ sym (get_or-drop (max p.node.known k - p.node.known) p.node.checkpoints (j - max p.node.known k) d)))
 
@@ -174,8 +174,8 @@ module _ (p : Parts) (h : IsOrdered p) where
 pub traced-point : (image : ImageData) (p : Parts) → p.point < p.reported → IsOrdered p → IsTraced image p → IsTraced image (with_point p)
 traced-point image p ready h t = traced_by image (with_point p)
     (λ j. traced_same image _ _ _ _ (point_records p h j) (point_bytes p h j) (traced_at image p t (max j (suc p.point))))
-    (λ j above. ap (λ rs. (end_of image 1 rs).cores) (point_later p h j (omega (arith, above, ready, h.reported))) ∙ t.now_ j above)
-    (λ j d reached low. ap (λ rs. (end_of image 1 rs).cores) (point_later p h j (omega (arith, reached))) ∙ t.then_ j d (omega (arith, reached)) low)
+    (λ j above. ap (λ rs. (end_of image 1 rs).cores) (point_later p h j (omega (arith, above, ready, h.reported))) ∙ t.core j above)
+    (λ j d reached low. ap (λ rs. (end_of image 1 rs).cores) (point_later p h j (omega (arith, reached))) ∙ t.checkpoints j d (omega (arith, reached)) low)
 
 -- nothing waits below the point
 pub records_point : (p : Parts) → IsOrdered p → records_below p p.point ≡ p.committed
@@ -194,8 +194,8 @@ recovered_bytes p h j = ap (λ bs. p.released ++ bytes_of bs) (below_nothing (λ
 pub traced-recovery : (image : ImageData) (p : Parts) → IsOrdered p → IsTraced image p → IsTraced image (with_recovery p)
 traced-recovery image p h t = traced_by image (with_recovery p)
     (λ j. traced_same image _ _ _ _ (recovered_records p h j) (recovered_bytes p h j) (traced_at image p t p.point))
-    (λ j above. ap (λ rs. (end_of image 1 rs).cores) (recovered_records p h j) ∙ t.then_ p.point p.node.core (omega arith) h.reached)
+    (λ j above. ap (λ rs. (end_of image 1 rs).cores) (recovered_records p h j) ∙ t.checkpoints p.point p.node.core (omega arith) h.reached)
     (λ j d reached low.
     let none : j - p.point ≡ 0 = omega (arith, low) in
-    ap (λ rs. (end_of image 1 rs).cores) (recovered_records p h j) ∙ t.then_ p.point p.node.core (omega arith) h.reached
+    ap (λ rs. (end_of image 1 rs).cores) (recovered_records p h j) ∙ t.checkpoints p.point p.node.core (omega arith) h.reached
     ∙ ap (λ (i : ℕ). get_or (checkpoint_of p.node p.point ∷ []) i d ∷ []) (sym none))

@@ -72,8 +72,8 @@ bytes_below p j = p.released ++ bytes_of (sorted_below (λ b. b.interval) p.held
 -- there, the bytes below it are those that they put out, and they read nothing
 pub record IsTraced (image : ImageData) (p : Parts) : Type 0 where
   pub executes : (j : ℕ) → IsExecution image 1 (records_below p j)
-  pub now_ : (j : ℕ) → p.node.interval < j → (end_of image 1 (records_below p j)).cores ≡ p.node.core ∷ []
-  pub then_ : (j : ℕ) (d : CoreState) → p.point ≤ j → j ≤ p.node.interval → (end_of image 1 (records_below p j)).cores ≡ get_or p.node.checkpoints (j - p.node.known) d ∷ []
+  pub core : (j : ℕ) → p.node.interval < j → (end_of image 1 (records_below p j)).cores ≡ p.node.core ∷ []
+  pub checkpoints : (j : ℕ) (d : CoreState) → p.point ≤ j → j ≤ p.node.interval → (end_of image 1 (records_below p j)).cores ≡ get_or p.node.checkpoints (j - p.node.known) d ∷ []
   pub puts_out : (j : ℕ) → out_of image 1 (records_below p j) ≡ bytes_below p j
   pub reads : (j : ℕ) → in_of 0 (records_below p j) ≡ []
 

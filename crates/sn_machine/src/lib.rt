@@ -17,6 +17,8 @@ mod net;
 mod node;
 mod output;
 mod sent;
+#[cfg(test)]
+mod tests;
 
 pub use held::{HeldByte, Retirement};
 pub use machine::{Machine, View};
