@@ -1,0 +1,13 @@
+pub mod Cases
+pub mod Lists
+pub mod Sorted
+pub mod OneCore
+pub mod Ordered
+pub mod Traced
+pub mod Kept
+pub mod Start
+pub mod EachStep
+pub mod Laws
+pub mod RunTrace
+pub mod RunSteps
+pub mod Run
