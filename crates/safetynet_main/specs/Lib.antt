@@ -1,0 +1,5 @@
+pub mod Status
+pub mod Lines
+pub mod Digits
+pub mod Program
+pub mod Script
