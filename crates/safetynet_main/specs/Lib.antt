@@ -3,3 +3,5 @@ pub mod Lines
 pub mod Digits
 pub mod Program
 pub mod Script
+pub mod Text
+pub mod Pieces

@@ -7,9 +7,13 @@
 //! ends with the status's number. Nothing is written before all words and files were found good.
 #![tactic(auto)]
 
+mod event_text;
+mod line;
+mod play;
 mod program;
 mod refusal;
 mod script;
+mod state_text;
 mod status;
 
 pub use status::{Part, Status};
