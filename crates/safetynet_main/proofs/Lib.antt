@@ -5,3 +5,4 @@ pub mod Programs
 pub mod Texts
 pub mod PieceLaws
 pub mod SoFar
+pub mod CallLaws

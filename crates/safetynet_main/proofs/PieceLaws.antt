@@ -15,6 +15,7 @@ use Rattle.rv_core.specs.Execution.{end_of}
 use Rattle.sn_machine.specs.State.{State, MachineData, node_at, checkpoint_of}
 use Rattle.sn_machine.specs.Step.{Stepped, step_of}
 use Rattle.sn_machine.specs.Cut.{IsCut}
+use Rattle.sn_machine.specs.declared.sent.Sent.{Sent}
 use Rattle.sn_io.specs.Outside.{followed_by}
 use Rattle.safetynet_main.specs.Text.{core_line}
 use Rattle.safetynet_main.specs.Pieces.{Piece, Console, Report, console_text, report_text, first_bytes, Ends, ends, after, Breaks, console_piece, flat_at, core_lines, recovered_lines, group_of, turn_pieces}
@@ -113,8 +114,23 @@ pub record IsTurn (image : ImageData) (nodes place : ℕ) (s : State) (event : E
   pub fresh_is : fresh ≡ drop (length s.released) (step_of image s event).state.released
   pub text_is : text ≡ group_of image nodes place event (step_of image s event)
 
-pub turn-is : (image : ImageData) (place number : ℕ) (s next : State) (event : Event) (step : Stepped) (had got fresh line text : List ℕ) → had ≡ s.released → next ≡ (step_of image s event).state → got ≡ next.released → fresh ≡ drop (length had) got → step ≡ step_of image s event → number ≡ place → line ≡ group_of image 1 number event step → text ≡ line → IsTurn image 1 place s event fresh text
-turn-is image place number s next event step had got fresh line text a b d e f g h i = record { fresh_is = cc; text_is = cc }
+step-is : (t : Stepped) (state : State) (answer : Answer) (sent : List Sent) → state ≡ t.state → answer ≡ t.answer → sent ≡ t.sent → (let step : Stepped = record { state = state; answer = answer; sent = sent } in step) ≡ t
+step-is t state answer sent a b d = rw (a, b, d)
+
+-- what a machine shows before an event (`before`, of the machine `m`) and after it (`behind`, of `n`) is what the
+-- definition says of the fresh bytes
+pub fresh-is : (m n before behind : MachineData) (event : Event) (had got fresh : List ℕ) → before ≡ m → had ≡ before.state.released → behind ≡ n → got ≡ behind.state.released → fresh ≡ drop (length had) got → n.state ≡ (step_of m.image m.state event).state → fresh ≡ drop (length m.state.released) (step_of m.image m.state event).state.released
+fresh-is m n before behind event had got fresh a b d e f stepped =
+    let was : had ≡ m.state.released = b ∙ ap (λ (t : MachineData). t.state.released) a in
+    let is : got ≡ (step_of m.image m.state event).state.released = e ∙ ap (λ (t : MachineData). t.state.released) d ∙ ap (λ (t : State). t.released) stepped in
+    f ∙ ap (λ t. drop (length t) got) was ∙ ap (drop (length m.state.released)) is
+
+pub text-is : (m n : MachineData) (event : Event) (answer : Answer) (number : ℕ) (line text : List ℕ) → n.image ≡ m.image → n.applied ≡ m.applied + 1 → n.state ≡ (step_of m.image m.state event).state → answer ≡ (step_of m.image m.state event).answer → n.sent ≡ (step_of m.image m.state event).sent → number ≡ n.applied → line ≡ group_of n.image 1 number event (record { state = n.state; answer = answer; sent = n.sent }) → text ≡ line → text ≡ group_of m.image 1 (m.applied + 1) event (step_of m.image m.state event)
+text-is m n event answer number line text program counted stepped answered sent numbered written same =
+    same ∙ written
+    ∙ ap (λ t. group_of n.image 1 number event t) (step-is (step_of m.image m.state event) n.state answer n.sent stepped answered sent)
+    ∙ ap (λ (t : ImageData). group_of t 1 number event (step_of m.image m.state event)) program
+    ∙ ap (λ t. group_of m.image 1 t event (step_of m.image m.state event)) (numbered ∙ counted)
 
 -- one event: both pieces were put
 pub turn-whole : (image : ImageData) (nodes place : ℕ) (s : State) (event : Event) (fresh text : List ℕ) (a b d : Ends) → IsTurn image nodes place s event fresh text → b ≡ after a (console_piece fresh) → d ≡ after b (Report text ∷ []) → d ≡ after a (turn_pieces image nodes place s event)

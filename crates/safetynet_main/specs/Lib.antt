@@ -5,3 +5,5 @@ pub mod Program
 pub mod Script
 pub mod Text
 pub mod Pieces
+pub mod Request
+pub mod Call

@@ -98,3 +98,9 @@ pieces_from image nodes done s (event ∷ events) =
 -- the pieces of a replay of a program on so many nodes
 unfoldable pub pieces_of : ImageData → ℕ → List Event → List Piece
 pieces_of image nodes events = pieces_from image nodes 0 (start_of image nodes) events
+
+-- the program, the count of events and the state after an event
+pub record IsNext (image image_now : ImageData) (done done_now : ℕ) (s next : State) (event : Event) : Type 0 where
+  pub program : image_now ≡ image
+  pub counted : done_now ≡ done + 1
+  pub stepped : next ≡ (step_of image s event).state

@@ -7,6 +7,7 @@
 //! ends with the status's number. Nothing is written before all words and files were found good.
 #![tactic(auto)]
 
+mod call;
 mod event_text;
 mod line;
 mod play;
@@ -15,5 +16,7 @@ mod refusal;
 mod script;
 mod state_text;
 mod status;
+mod words;
 
+pub use call::safetynet;
 pub use status::{Part, Status};

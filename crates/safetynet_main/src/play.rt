@@ -3,7 +3,7 @@ ghost use Rattle.std.specs.Prelude.{◌≡◌, ℕ, List, [], ◌∷◌, ◌+◌
 ghost use Rattle.sn_io.specs.Outside.{Rose, followed_by};
 ghost use Rattle.sn_machine.specs.Step.{step_of};
 ghost use Rattle.safetynet_main.specs.Script.{IsTaken};
-ghost use Rattle.safetynet_main.specs.Pieces.{Report, ends, after, Breaks, console_piece, flat_at, core_lines, recovered_lines, group_of, summary_of, turn_pieces, pieces_from};
+ghost use Rattle.safetynet_main.specs.Pieces.{Report, ends, after, Breaks, console_piece, flat_at, core_lines, recovered_lines, group_of, summary_of, turn_pieces, pieces_from, IsNext};
 
 use crate::line::Line;
 use sn_base::{Answer, Event, NodeId};
@@ -96,4 +96,67 @@ fn write_summary(line: &mut Line, machine: &Machine)
     line.count("", "committed", view.committed().len() as u64);
     line.count("", "released", view.released().len() as u64);
     write_cores(line, "", machine);
+}
+
+// One event: its piece for the console, where it releases bytes, and its group for the report.
+fn turn<C: Sink, R: Sink>(
+    machine: &mut Machine,
+    line: &mut Line,
+    event: &Event,
+    console: &mut C,
+    report: &mut R,
+) -> Result<(), Failed>
+    requires one { machine.old.config.nodes ≡ 1 }
+    requires taken { IsTaken event.now }
+    requires room { 1 ≤ machine.old.spare }
+    ensures next { IsNext machine.old.image machine.new.image machine.old.applied machine.new.applied machine.old.state machine.new.state event.now }
+    ensures sizes { machine.new.config ≡ machine.old.config }
+    ensures spare { machine.new.spare + 1 ≡ machine.old.spare }
+    ensures ok { OnOk result (ends (C.written console.new) (R.written report.new)
+        ≡ after (ends (C.written console.old) (R.written report.old)) (turn_pieces machine.old.image 1 (machine.old.applied + 1) machine.old.state event.now)) }
+    ensures err { OnErr result (Breaks (turn_pieces machine.old.image 1 (machine.old.applied + 1) machine.old.state event.now)
+        (ends (C.written console.old) (R.written report.old)) (ends (C.written console.new) (R.written report.new))) }
+    // Before and after each event the console has what is released.
+    ensures released { OnOk result ((base : Option (List ℕ)) → C.written console.old ≡ followed_by base machine.old.state.released
+        → C.written console.new ≡ followed_by base machine.new.state.released) }
+    ensures console_later { C.faults console.old ≤ C.faults console.new }
+    ensures report_later { R.faults report.old ≤ R.faults report.new }
+    ensures cause { OnErr result (Rose (C.faults console.old) (C.faults console.new) ⊎ Rose (R.faults report.old) (R.faults report.new)) }
+{
+    let had = machine.recovered().released().len();
+    let answer = machine.apply(*event);
+    let view = machine.recovered();
+    put_released(console, fresh(view.released(), had))?;
+    write_group(line, u64::from(machine.applied()), event, &answer, machine);
+    put_report(report, line.bytes())?;
+    Ok(())
+}
+
+/// Applies all events and puts their pieces, and then the summary.
+pub fn play<C: Sink, R: Sink>(
+    machine: &mut Machine,
+    line: &mut Line,
+    events: &[Event],
+    console: &mut C,
+    report: &mut R,
+) -> Result<(), Failed>
+    requires one { machine.old.config.nodes ≡ 1 }
+    requires taken { All IsTaken events.now }
+    requires room { length events.now ≤ machine.old.spare }
+    requires fresh { machine.old.state.released ≡ [] }
+    ensures ok { OnOk result (ends (C.written console.new) (R.written report.new)
+        ≡ after (ends (C.written console.old) (R.written report.old)) (pieces_from machine.old.image 1 machine.old.applied machine.old.state events.now)) }
+    ensures err { OnErr result (Breaks (pieces_from machine.old.image 1 machine.old.applied machine.old.state events.now)
+        (ends (C.written console.old) (R.written report.old)) (ends (C.written console.new) (R.written report.new))) }
+    ensures released { OnOk result (C.written console.new ≡ followed_by (C.written console.old) machine.new.state.released) }
+    ensures console_later { C.faults console.old ≤ C.faults console.new }
+    ensures report_later { R.faults report.old ≤ R.faults report.new }
+    ensures cause { OnErr result (Rose (C.faults console.old) (C.faults console.new) ⊎ Rose (R.faults report.old) (R.faults report.new)) }
+{
+    'events: for event in events {
+        turn(machine, line, event, console, report)?;
+    }
+    write_summary(line, machine);
+    put_report(report, line.bytes())?;
+    Ok(())
 }

@@ -72,7 +72,8 @@ fn after_zero(core: &CoreState) -> &[u32]
     ensures registers { result.now ≡ drop 1 core.now.x }
     ensures few { length result.now ≤ 31 }
 {
-    &core.x[1..]
+    let all: &[u32] = &core.x;
+    &all[1..]
 }
 
 impl Line {
