@@ -1,0 +1,17 @@
+use Rattle.safetynet_main.proofs.CallLaws.{clause-sure, clause-told, clause-complete, comes-rose, comes-usage}
+use Rattle.safetynet_main.proofs.call.safetynet.Goals as goal
+
+pub returns-clause-sure : goal.returns-clause-sure
+returns-clause-sure g c = clause-sure _ _ _ _ _ _ _ _ _ _ c.answer.ensures.comes
+
+pub returns-clause-complete : goal.returns-clause-complete
+returns-clause-complete g c = clause-complete _ _ _ _ _ _ _ _ _ _ _ c.answer.ensures.comes c.answer.ensures.sink_fault
+
+pub returns-clause-usage : goal.returns-clause-usage
+returns-clause-usage g c = (λ e. comes-usage _ _ _ _ _ _ _ _ _ _ (c.answer.ensures.comes (λ m. cc)) e, c.answer.ensures.usage)
+
+pub returns-clause-store_fault : goal.returns-clause-store_fault
+returns-clause-store_fault g c = λ e. comes-rose _ _ _ _ _ _ _ _ _ _ (c.answer.ensures.comes (λ m. cc)) e
+
+pub returns-clause-told : goal.returns-clause-told
+returns-clause-told g c = clause-told _ _ _ _ _ _ _ _ _ _ c.answer.ensures.comes

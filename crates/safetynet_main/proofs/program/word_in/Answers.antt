@@ -1,0 +1,6 @@
+use Rattle.std.proofs.Common.{sym, ◌∙◌, arith, refl}
+use Rattle.safetynet_main.proofs.Hex.{hex-digit, hex-other, hex-end, small-next, small-word}
+use Rattle.safetynet_main.proofs.program.word_in.Goals as goal
+
+pub overflow_add-word : goal.overflow_add-word
+overflow_add-word c = let h = small-word c.digits.word c.from.result c.digits.byte-index c.digits.invariant.small (omega arith) (omega (arith, c.in-Some.ensures.small)) in omega arith

@@ -1,0 +1,9 @@
+pub mod Status
+pub mod Lines
+pub mod Digits
+pub mod Program
+pub mod Script
+pub mod Text
+pub mod Pieces
+pub mod Request
+pub mod Call

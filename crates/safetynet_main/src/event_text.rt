@@ -1,0 +1,120 @@
+//! Events and answers as text.
+ghost use Rattle.std.specs.Prelude.{◌≡◌, ◌+◌, ◌≤◌, ◌++◌, length};
+ghost use Rattle.safetynet_main.specs.Text.{named_number, switch_text, event_text, answer_text, event_line};
+
+use crate::line::Line;
+use sn_base::{Answer, Event, NodeId, SwitchId};
+
+impl Line {
+    fn named_node(&mut self, name: &str, node: NodeId)
+        requires { length self.old + length name.now + 21 ≤ 8192 }
+        ensures text { self.new ≡ self.old ++ named_number name.now node }
+        ensures short { length self.new ≤ length self.old + length name.now + 21 }
+    {
+        self.named(name, u64::from(node.number()));
+    }
+
+    fn switch(&mut self, switch: SwitchId)
+        requires { length self.old + 21 ≤ 8192 }
+        ensures text { self.new ≡ self.old ++ switch_text switch }
+        ensures short { length self.new ≤ length self.old + 21 }
+    {
+        let number = u64::from(switch.number());
+        self.text(if number % 2 == 0 { "a" } else { "b" });
+        self.number(number / 2);
+    }
+
+    fn the_event(&mut self, event: &Event)
+        requires { length self.old + 60 ≤ 8192 }
+        ensures text { self.new ≡ self.old ++ event_text event.now }
+        ensures short { length self.new ≤ length self.old + 60 }
+    {
+        match event {
+            Event::Step(node) => self.named_node("step", *node),
+            Event::Evict(node, block) => {
+                self.named_node("evict", *node);
+                self.text(" ");
+                self.number(u64::from(block.number()));
+            }
+            Event::Edge(node) => self.named_node("edge", *node),
+            Event::Hop(id) => self.named("hop", *id),
+            Event::Deliver(id) => self.named("deliver", *id),
+            Event::Lose(id) => self.named("lose", *id),
+            Event::Kill(switch) => {
+                self.text("kill ");
+                self.switch(*switch);
+            }
+            Event::Report(node) => self.named_node("report", *node),
+            Event::Validate => self.text("validate"),
+            Event::Recover => self.text("recover"),
+            Event::Input(node, byte) => {
+                self.named_node("input", *node);
+                self.text(" ");
+                self.byte(*byte);
+            }
+        }
+    }
+
+    fn the_answer(&mut self, answer: &Answer)
+        requires { length self.old + 100 ≤ 8192 }
+        ensures text { self.new ≡ self.old ++ answer_text answer.now }
+        ensures short { length self.new ≤ length self.old + 100 }
+    {
+        match answer {
+            Answer::Retired => self.text("retired"),
+            Answer::Missed => self.text("missed"),
+            Answer::Waits => self.text("waits"),
+            Answer::NeedsEvict => self.text("needsevict"),
+            Answer::LogFull => self.text("logfull"),
+            Answer::NetFull => self.text("netfull"),
+            Answer::Ended => self.text("ended"),
+            Answer::Evicted => self.text("evicted"),
+            Answer::PutBegun => self.text("putbegun"),
+            Answer::NotCached => self.text("notcached"),
+            Answer::PutOpen => self.text("putopen"),
+            Answer::MissOpen => self.text("missopen"),
+            Answer::Edged(interval) => self.named("edged", u64::from(*interval)),
+            Answer::CheckpointsFull => self.text("checkpointsfull"),
+            Answer::Hopped => self.text("hopped"),
+            Answer::LostInDead => self.text("lostindead"),
+            Answer::Arrived => self.text("arrived"),
+            Answer::NotArrived => self.text("notarrived"),
+            Answer::NoMessage => self.text("nomessage"),
+            Answer::Delivered => self.text("delivered"),
+            Answer::Held => self.text("held"),
+            Answer::HomeBusy => self.text("homebusy"),
+            Answer::Lost => self.text("lost"),
+            Answer::Killed => self.text("killed"),
+            Answer::AlreadyDead => self.text("alreadydead"),
+            Answer::Reported(interval) => self.named("reported", u64::from(*interval)),
+            Answer::Validated(interval) => self.named("validated", u64::from(*interval)),
+            Answer::NotReady(node) => self.named_node("notready", *node),
+            Answer::Recovered(undo) => {
+                self.named("recovered", u64::from(undo.to));
+                self.named(" undone", u64::from(undo.undone));
+                self.named(" dropped", u64::from(undo.dropped));
+            }
+            Answer::CutOff(a, b) => {
+                self.named_node("cutoff", *a);
+                self.named_node("", *b);
+            }
+            Answer::Given => self.text("given"),
+            Answer::NoInput => self.text("noinput"),
+        }
+    }
+
+    /// The line of an event: its place from 1, the event as a script has it, and its answer.
+    #[tactic(auto, unfolding(crate::specs::Text::event_line))]
+    pub fn event(&mut self, place: u64, event: &Event, answer: &Answer)
+        requires { length self.old + 192 ≤ 8192 }
+        ensures text { self.new ≡ self.old ++ event_line place event.now answer.now }
+        ensures short { length self.new ≤ length self.old + 192 }
+    {
+        self.number(place);
+        self.text(" ");
+        self.the_event(event);
+        self.text(": ");
+        self.the_answer(answer);
+        self.text("\n");
+    }
+}

@@ -1,0 +1,134 @@
+//! Lines of the report.
+ghost use Rattle.std.specs.Prelude.{◌≡◌, ℕ, ◌+◌, ◌<◌, ◌≤◌, ◌++◌, [], length, decimal, codes, IfOk};
+ghost use Rattle.safetynet_main.specs.Text.{word_text, byte_text, named_number, count_line, hex_digit};
+
+use itoa::Buffer;
+use sn_base::Memory;
+use std::alloc::Global;
+use std::marker::Model;
+
+/// The bytes that a line has room for: enough for the group of any one event.
+const ROOM: usize = 8192;
+
+/// The text of one event's group. It has all its room from the start and takes no memory after `new`. Contracts see the
+/// bytes.
+#[derive(Drop)]
+pub struct Line {
+    text: Vec<u8>,
+}
+
+impl Model for Line {
+    ghost use Rattle.std.specs.Prelude.{ℕ, List, ◌≤◌, vec_capacity};
+
+    ghost Value = { List ℕ };
+
+    ghost view = { λ l. l.text.items };
+
+    ghost invariant = { λ l. 8192 ≤ vec_capacity l.text };
+}
+
+/// A hexadecimal digit, in lower case.
+fn hex_digit(digit: u32) -> u8
+    requires { digit < 16 }
+    ensures { result ≡ hex_digit digit }
+{
+    if digit < 10 {
+        b'0' + digit as u8
+    } else {
+        b'a' - 10 + digit as u8
+    }
+}
+
+impl Line {
+    pub fn new(alloc: Global) -> Result<Line, Memory>
+        ensures { IfOk result (λ line. line ≡ []) }
+    {
+        let text = Vec::with_capacity(alloc, ROOM)?;
+        Ok(Line { text })
+    }
+
+    pub fn clear(&mut self)
+        ensures { self.new ≡ [] }
+    {
+        self.text.clear();
+    }
+
+    pub fn bytes(&self) -> &[u8]
+        ensures { result.now ≡ self.now }
+    {
+        self.text.as_slice()
+    }
+
+    pub fn text(&mut self, text: &str)
+        requires { length self.old + length text.now ≤ 8192 }
+        ensures { self.new ≡ self.old ++ text.now }
+    {
+        self.text.extend_from_slice(text.as_bytes()).unwrap();
+    }
+
+    pub fn number(&mut self, number: u64)
+        requires { length self.old + 20 ≤ 8192 }
+        ensures text { self.new ≡ self.old ++ decimal number }
+        ensures short { length self.new ≤ length self.old + 20 }
+    {
+        let mut buffer = Buffer::new();
+        self.text(buffer.format(number));
+    }
+
+    /// A name, a blank and a number.
+    pub fn named(&mut self, name: &str, number: u64)
+        requires { length self.old + length name.now + 21 ≤ 8192 }
+        ensures text { self.new ≡ self.old ++ named_number name.now number }
+        ensures short { length self.new ≤ length self.old + length name.now + 21 }
+    {
+        self.text(name);
+        self.text(" ");
+        self.number(number);
+    }
+
+    /// A byte as two hexadecimal digits.
+    #[tactic(auto, unfolding(crate::specs::Text::byte_text))]
+    pub fn byte(&mut self, byte: u8)
+        requires { length self.old + 2 ≤ 8192 }
+        ensures text { self.new ≡ self.old ++ byte_text byte }
+        ensures short { length self.new ≡ length self.old + 2 }
+    {
+        let byte = u32::from(byte);
+        let digits = [hex_digit(byte / 16 % 16), hex_digit(byte % 16)];
+        self.text.extend_from_slice(&digits).unwrap();
+    }
+
+    /// A word as eight hexadecimal digits.
+    #[tactic(auto, unfolding(crate::specs::Text::word_text))]
+    pub fn word(&mut self, word: u32)
+        requires { length self.old + 8 ≤ 8192 }
+        ensures text { self.new ≡ self.old ++ word_text word }
+        ensures short { length self.new ≡ length self.old + 8 }
+    {
+        let digits = [
+            hex_digit(word / 0x1000_0000 % 16),
+            hex_digit(word / 0x100_0000 % 16),
+            hex_digit(word / 0x10_0000 % 16),
+            hex_digit(word / 0x1_0000 % 16),
+            hex_digit(word / 0x1000 % 16),
+            hex_digit(word / 0x100 % 16),
+            hex_digit(word / 0x10 % 16),
+            hex_digit(word % 16),
+        ];
+        self.text.extend_from_slice(&digits).unwrap();
+    }
+
+    /// A line of a name and a number.
+    #[tactic(auto, unfolding(crate::specs::Text::count_line))]
+    pub fn count(&mut self, before: &str, name: &str, number: u64)
+        requires room { length self.old + 64 ≤ 8192 }
+        requires before_short { length before.now ≤ 2 }
+        requires name_short { length name.now ≤ 16 }
+        ensures text { self.new ≡ self.old ++ count_line before.now name.now number }
+        ensures short { length self.new ≤ length self.old + 64 }
+    {
+        self.text(before);
+        self.named(name, number);
+        self.text("\n");
+    }
+}
