@@ -1,5 +1,8 @@
 pub mod Core
+pub mod Arithmetic
+pub mod Access
 pub mod Step
+pub mod Wanted
 pub mod Plain
 pub mod Flat
 pub mod Execution

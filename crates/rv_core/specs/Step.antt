@@ -1,16 +1,22 @@
 -- A core's step: what the next instruction wants, and the next core with what the instruction does outside. Sums are
--- modulo 2^32. (RISC-V Unprivileged ISA, "RV32I Base Integer Instruction Set".)
-use Rattle.std.specs.Prelude.{ℕ, ◌+◌, ◌-◌, ◌/◌, ◌%◌, ◌^◌, Bool, ◌&&◌, nat_eq, nat_lt, if◌then◌else◌, Option, Some, None, unwrap_or}
+-- modulo 2^32. (RISC-V Unprivileged ISA, "RV32I Base Integer Instruction Set" and "A" Standard Extension.)
+use Rattle.std.specs.Prelude.{ℕ, ◌+◌, ◌*◌, ◌/◌, ◌%◌, ◌^◌, Bool, true, false, nat_eq, if◌then◌else◌, Option, Some, None, Result, Ok, Err, ok_or, unwrap_or}
 use Rattle.sn_base.specs.Image.{ImageData, fetched}
+use Rattle.sn_base.specs.declared.block.Width.{Width}
+use Rattle.sn_base.specs.declared.block.Width.TheVariants.{Word}
+use Rattle.rv_decode.specs.declared.instr.Instr.{Instr}
+use Rattle.rv_decode.specs.declared.instr.Instr.TheVariants.{Lui, Auipc, Jal, Jalr, Branch, Load, Store, OpImm, Op, Fence, Ecall, Ebreak, Lr, Sc, Amo}
+use Rattle.rv_decode.specs.Decoded.{decoded}
 use Rattle.rv_core.specs.declared.state.CoreState.{CoreState}
 use Rattle.rv_core.specs.declared.state.End.TheVariants.{Exited}
-use Rattle.rv_core.specs.declared.state.Cause.TheVariants.{Illegal, FetchFault, UnknownCall}
+use Rattle.rv_core.specs.declared.state.Cause.{Cause}
+use Rattle.rv_core.specs.declared.state.Cause.TheVariants.{Illegal, FetchFault, MisalignedTarget, UnknownCall, Break}
 use Rattle.rv_core.specs.declared.step.Want.{Want}
-use Rattle.rv_core.specs.declared.step.Want.TheVariants.{Nothing, Input}
+use Rattle.rv_core.specs.declared.step.Want.TheVariants.{Nothing, Load as LoadAt, Store as StoreAt, Amo as AmoAt, Lr as LrAt, Sc as ScAt, Input}
 use Rattle.rv_core.specs.declared.step.Effect.{Effect}
-use Rattle.rv_core.specs.declared.step.Instruction.{Instruction}
-use Rattle.rv_core.specs.declared.step.Instruction.TheVariants.{Addi, Ecall}
-use Rattle.rv_core.specs.Core.{register, with_register, trapped}
+use Rattle.rv_core.specs.Core.{register, with_register, trapped, block_of}
+use Rattle.rv_core.specs.Arithmetic.{sum, as_word, is_taken, imm_result, reg_result, amo_result, loaded}
+use Rattle.rv_core.specs.Access.{width_of, fault_of}
 
 -- the next core, and what the instruction does outside
 pub record Next : Type 0 where
@@ -24,39 +30,54 @@ quiet = record { write = None; out = None }
 abbrev pub becomes : CoreState → Next
 becomes core = record { core = core; effect = quiet }
 
+-- the core changes and writes memory
+abbrev pub writing : CoreState → ℕ → Width → ℕ → Next
+writing core address width value = record { core = core; effect = record { write = Some (record { address = address; width = width; value = value }); out = None } }
+
 -- the address of the next instruction in order
 abbrev pub after : CoreState → ℕ
 after core = (core.pc + 4) % 2 ^ 32
 
--- the immediate of the I form, as the number modulo 2^32 that it stands for
-abbrev pub immediate : ℕ → ℕ
-immediate word = if nat_lt (word / 1048576) 2048 then word / 1048576 else word / 1048576 + (2 ^ 32 - 4096)
+-- the core at the next instruction in order, alone or with a register written
+abbrev pub passed : CoreState → CoreState
+passed core = record core { pc = after core }
 
--- ADDI: opcode 0010011, funct3 000
-abbrev pub is_addi : ℕ → Bool
-is_addi word = nat_eq (word % 128) 19 && nat_eq (word / 4096 % 8) 0
+abbrev pub gets : CoreState → ℕ → ℕ → CoreState
+gets core rd value = record core { pc = after core; x = with_register core rd value }
 
-abbrev pub is_ecall : ℕ → Bool
-is_ecall word = nat_eq word 115
+-- a taken branch, and a jump with its link; the target is a multiple of 4
+abbrev pub branches : CoreState → ℕ → CoreState
+branches core target = if nat_eq (target % 4) 0 then record core { pc = target } else trapped core MisalignedTarget
 
--- the instruction of a word, where it is one
-abbrev pub decoded : ℕ → Option Instruction
-decoded word =
-    if is_ecall word then Some Ecall
-    else if is_addi word then Some (Addi (word / 128 % 32) (word / 32768 % 32) (immediate word))
-    else None
+abbrev pub jumps : CoreState → ℕ → ℕ → CoreState
+jumps core rd target = if nat_eq (target % 4) 0 then record core { pc = target; x = with_register core rd (after core) } else trapped core MisalignedTarget
 
--- rd = x[rs1] + the immediate
-abbrev pub added : CoreState → ℕ → ℕ → ℕ → CoreState
-added core rd rs1 imm = record core { pc = after core; x = with_register core rd ((register core rs1 + imm) % 2 ^ 32) }
+-- the address of an access, and a jump's target without its lowest bit
+abbrev pub address_in : CoreState → ℕ → ℕ → ℕ
+address_in core rs1 imm = sum (register core rs1) imm
+
+abbrev pub even : ℕ → ℕ
+even n = n / 2 * 2
+
+-- LR reads a word and reserves its block
+abbrev pub reserves : CoreState → ℕ → ℕ → ℕ → CoreState
+reserves core rd address seen = record (gets core rd seen) { reservation = Some (block_of address) }
+
+-- SC gives 0 where it is done, and else 1; the reservation is gone in both cases
+abbrev pub ends_reserved : CoreState → ℕ → ℕ → CoreState
+ends_reserved core rd failed = record (gets core rd failed) { reservation = None }
+
+abbrev pub conditionally : Bool → CoreState → ℕ → ℕ → ℕ → Next
+conditionally true core rd address value = writing (ends_reserved core rd 0) address Word value
+conditionally false core rd address value = becomes (ends_reserved core rd 1)
 
 -- the low byte of a0 is put out
 abbrev pub put_out : CoreState → Next
-put_out core = record { core = record core { pc = after core }; effect = record { write = None; out = Some (register core 10 % 256) } }
+put_out core = record { core = passed core; effect = record { write = None; out = Some (register core 10 % 256) } }
 
 -- the byte read is in a0
 abbrev pub took_in : CoreState → Option ℕ → CoreState
-took_in core read = record core { pc = after core; x = with_register core 10 (unwrap_or read 0) }
+took_in core read = gets core 10 (unwrap_or read 0)
 
 -- a call by its number in a7: 1 puts a byte out, 2 reads one, 93 ends the core with the code in a0
 abbrev pub called : CoreState → Option ℕ → Next
@@ -66,35 +87,69 @@ called core read =
     else if nat_eq (register core 17) 93 then becomes (record core { end = Exited (register core 10) })
     else becomes (trapped core UnknownCall)
 
-abbrev pub does : Instruction → CoreState → Option ℕ → Next
-does (Addi rd rs1 imm) core read = becomes (added core rd rs1 imm)
-does Ecall core read = called core read
+-- an access, where it doesn't trap
+abbrev pub unless_fault : Option Cause → CoreState → Next → Next
+unless_fault None core next = next
+unless_fault (Some cause) core next = becomes (trapped core cause)
 
-abbrev pub does_decoded : Option Instruction → CoreState → Option ℕ → Next
-does_decoded None core read = becomes (trapped core Illegal)
-does_decoded (Some instruction) core read = does instruction core read
+-- each instruction, with the word seen, whether a store-conditional is done, and the byte read
+abbrev pub does : ImageData → Instr → CoreState → ℕ → Bool → Option ℕ → Next
+does image (Lui rd imm) core seen sc_done read = becomes (gets core rd imm)
+does image (Auipc rd imm) core seen sc_done read = becomes (gets core rd (sum core.pc imm))
+does image (Jal rd offset) core seen sc_done read = becomes (jumps core rd (sum core.pc (as_word offset)))
+does image (Jalr rd rs1 imm) core seen sc_done read = becomes (jumps core rd (even (address_in core rs1 (as_word imm))))
+does image (Branch op rs1 rs2 offset) core seen sc_done read =
+    becomes (if is_taken op (register core rs1) (register core rs2) then branches core (sum core.pc (as_word offset)) else passed core)
+does image (Load op rd rs1 imm) core seen sc_done read =
+    unless_fault (fault_of image (width_of op) false (address_in core rs1 (as_word imm))) core
+    (becomes (gets core rd (loaded op (address_in core rs1 (as_word imm)) seen)))
+does image (Store width rs1 rs2 imm) core seen sc_done read =
+    unless_fault (fault_of image width true (address_in core rs1 (as_word imm))) core
+    (writing (passed core) (address_in core rs1 (as_word imm)) width (register core rs2))
+does image (OpImm op rd rs1 imm) core seen sc_done read = becomes (gets core rd (imm_result op (register core rs1) (as_word imm)))
+does image (Op op rd rs1 rs2) core seen sc_done read = becomes (gets core rd (reg_result op (register core rs1) (register core rs2)))
+does image Fence core seen sc_done read = becomes (passed core)
+does image Ecall core seen sc_done read = called core read
+does image Ebreak core seen sc_done read = becomes (trapped core Break)
+does image (Lr rd rs1) core seen sc_done read =
+    unless_fault (fault_of image Word false (register core rs1)) core (becomes (reserves core rd (register core rs1) seen))
+does image (Sc rd rs1 rs2) core seen sc_done read =
+    unless_fault (fault_of image Word true (register core rs1)) core (conditionally sc_done core rd (register core rs1) (register core rs2))
+does image (Amo op rd rs1 rs2) core seen sc_done read =
+    unless_fault (fault_of image Word true (register core rs1)) core
+    (writing (gets core rd seen) (register core rs1) Word (amo_result op seen (register core rs2)))
 
--- what the word at the program counter makes of the core
-abbrev pub does_fetched : Option ℕ → CoreState → Option ℕ → Next
-does_fetched None core read = becomes (trapped core FetchFault)
-does_fetched (Some word) core read = does_decoded (decoded word) core read
+-- the instruction of the word at the program counter, or why there is none
+abbrev pub instruction_of : Option ℕ → Result Instr Cause
+instruction_of None = Err FetchFault
+instruction_of (Some word) = ok_or (decoded word) Illegal
+
+abbrev pub does_next : ImageData → Result Instr Cause → CoreState → ℕ → Bool → Option ℕ → Next
+does_next image (Ok instr) core seen sc_done read = does image instr core seen sc_done read
+does_next image (Err cause) core seen sc_done read = becomes (trapped core cause)
 
 -- the next core, with the word seen, whether a store-conditional is done, and the byte read
 unfoldable pub next_of : ImageData → CoreState → ℕ → Bool → Option ℕ → Next
-next_of image core seen sc_done read = does_fetched (fetched image.segments core.pc) core read
+next_of image core seen sc_done read = does_next image (instruction_of (fetched image.segments core.pc)) core seen sc_done read
 
-abbrev pub wants : Instruction → CoreState → Want
-wants (Addi rd rs1 imm) core = Nothing
-wants Ecall core = if nat_eq (register core 17) 2 then Input else Nothing
+-- an access is wanted where it doesn't trap
+abbrev pub wants_unless : Option Cause → Want → Want
+wants_unless None want = want
+wants_unless (Some cause) want = Nothing
 
-abbrev pub wants_decoded : Option Instruction → CoreState → Want
-wants_decoded None core = Nothing
-wants_decoded (Some instruction) core = wants instruction core
+abbrev pub wants : ImageData → Instr → CoreState → Want
+wants image (Load op rd rs1 imm) core = wants_unless (fault_of image (width_of op) false (address_in core rs1 (as_word imm))) (LoadAt (address_in core rs1 (as_word imm)))
+wants image (Store width rs1 rs2 imm) core = wants_unless (fault_of image width true (address_in core rs1 (as_word imm))) (StoreAt (address_in core rs1 (as_word imm)))
+wants image Ecall core = if nat_eq (register core 17) 2 then Input else Nothing
+wants image (Lr rd rs1) core = wants_unless (fault_of image Word false (register core rs1)) (LrAt (register core rs1))
+wants image (Sc rd rs1 rs2) core = wants_unless (fault_of image Word true (register core rs1)) (ScAt (register core rs1))
+wants image (Amo op rd rs1 rs2) core = wants_unless (fault_of image Word true (register core rs1)) (AmoAt (register core rs1))
+wants image _ core = Nothing
 
-abbrev pub wants_fetched : Option ℕ → CoreState → Want
-wants_fetched None core = Nothing
-wants_fetched (Some word) core = wants_decoded (decoded word) core
+abbrev pub wants_next : ImageData → Result Instr Cause → CoreState → Want
+wants_next image (Ok instr) core = wants image instr core
+wants_next image (Err cause) core = Nothing
 
 -- what the next instruction wants
 unfoldable pub want_of : ImageData → CoreState → Want
-want_of image core = wants_fetched (fetched image.segments core.pc) core
+want_of image core = wants_next image (instruction_of (fetched image.segments core.pc)) core

@@ -6,11 +6,16 @@
 //! definitions of the flat machine, the plain meaning of a program on several cores over one memory, stand here
 //! beside it in specs/, and so does what an execution is.
 //!
-//! The instruction set is the ADDI and ECALL of RV32I; every other word is an illegal instruction.
+//! The instruction set is RV32I and A of the RISC-V Unprivileged ISA manual, as rv_decode reads them.
 #![tactic(auto)]
 
+mod access;
+mod arithmetic;
+mod execute;
+mod rows;
 mod state;
 mod step;
 
+pub use access::needs_memory;
 pub use state::{Cause, CoreState, End};
 pub use step::{Effect, Record, Want};

@@ -1,10 +1,14 @@
 //! One instruction: what it wants, and what it does.
-ghost use Rattle.std.specs.Prelude.{◌≡◌, ◌<◌, Bool, true, Option, is_some};
-ghost use Rattle.rv_core.specs.Step.{want_of, next_of, decoded, called};
-ghost use Rattle.rv_core.specs.Core.{register, with_register, is_running, is_input, holds_reservation};
+ghost use Rattle.std.specs.Prelude.{◌≡◌, true, is_some, IfOk};
+ghost use Rattle.sn_base.specs.Image.{fetched};
+ghost use Rattle.rv_decode.specs.Table.{instr_fits};
+ghost use Rattle.rv_core.specs.Core.{is_running, is_input, holds_reservation};
+ghost use Rattle.rv_core.specs.Step.{want_of, next_of, instruction_of, wants, wants_unless};
 
-use crate::state::{Cause, CoreState, End};
-use sn_base::{Image, NodeId, Write};
+use crate::access::{fault, width_of};
+use crate::state::{Cause, CoreState};
+use rv_decode::{Instr, decode};
+use sn_base::{Image, NodeId, Width, Write};
 
 /// The access that a core's next instruction wants, with its byte address; or a byte of the core's input; or nothing
 /// from outside, as a trap and every other instruction.
@@ -36,53 +40,18 @@ pub struct Record {
     pub read: Option<u8>,
 }
 
-/// An instruction (RISC-V Unprivileged ISA, "RV32I Base Integer Instruction Set"). The immediate is the number modulo
-/// 2^32 that its sign extension stands for.
-#[derive(Clone, Copy, PartialEq, Eq)]
-enum Instruction {
-    Addi { rd: u8, rs1: u8, imm: u32 },
-    Ecall,
-}
-
-/// The instruction of a word. None where the word is none.
-fn decode(word: u32) -> Option<Instruction>
-    ensures { result ≡ decoded word }
-{
-    if word == 0x73 {
-        return Some(Instruction::Ecall);
-    }
-    if word % 128 != 0b0010011 || word / 4096 % 8 != 0 {
-        return None;
-    }
-    let low = word >> 20;
-    let imm = if low < 2048 { low } else { low + 0xffff_f000 };
-    Some(Instruction::Addi {
-        rd: (word / 128 % 32) as u8,
-        rs1: (word / 32768 % 32) as u8,
-        imm,
-    })
-}
-
 impl CoreState {
-    /// A register's value.
-    fn register(&self, number: u8) -> u32
-        requires { number < 32 }
-        ensures { result ≡ register self.now number }
+    /// The instruction of the word at the program counter, or why there is none.
+    fn instruction(&self, image: &Image) -> Result<Instr, Cause>
+        ensures same { result ≡ instruction_of (fetched image.now.segments self.now.pc) }
+        ensures fits { IfOk result (λ instr. instr_fits instr ≡ true) }
     {
-        if number == 0 {
-            0
-        } else {
-            self.x[usize::from(number)]
-        }
-    }
-
-    /// Writes a register; x0 isn't written.
-    fn set_register(&mut self, number: u8, value: u32)
-        requires { number < 32 }
-        ensures { self.new ≡ record self.old { x = with_register self.old number value } }
-    {
-        if number != 0 {
-            self.x[usize::from(number)] = value;
+        let Some(word) = image.fetch(self.pc) else {
+            return Err(Cause::FetchFault);
+        };
+        match decode(word) {
+            Ok(instr) => Ok(instr),
+            Err(_illegal) => Err(Cause::Illegal),
         }
     }
 
@@ -92,11 +61,41 @@ impl CoreState {
         requires { is_running self.now.end ≡ true }
         ensures { result ≡ want_of image.now self.now }
     {
-        let Some(word) = image.fetch(self.pc) else {
-            return Want::Nothing;
-        };
-        match decode(word) {
-            Some(Instruction::Ecall) if self.register(17) == 2 => Want::Input,
+        match self.instruction(image) {
+            Ok(instr) => self.wanted(image, instr),
+            Err(_cause) => Want::Nothing,
+        }
+    }
+
+    fn wanted(&self, image: &Image, instr: Instr) -> Want
+        requires { instr_fits instr ≡ true }
+        ensures { result ≡ wants image.now instr self.now }
+    {
+        match instr {
+            Instr::Load { op, rs1, imm, .. } => {
+                let address = self.address(rs1, imm);
+                unless_fault(
+                    fault(image, width_of(op), false, address),
+                    Want::Load(address),
+                )
+            }
+            Instr::Store { op, rs1, imm, .. } => {
+                let address = self.address(rs1, imm);
+                unless_fault(fault(image, op, true, address), Want::Store(address))
+            }
+            Instr::Ecall if self.register(17) == 2 => Want::Input,
+            Instr::Lr { rs1, .. } => {
+                let address = self.register(rs1);
+                unless_fault(fault(image, Width::Word, false, address), Want::Lr(address))
+            }
+            Instr::Sc { rs1, .. } => {
+                let address = self.register(rs1);
+                unless_fault(fault(image, Width::Word, true, address), Want::Sc(address))
+            }
+            Instr::Amo { rs1, .. } => {
+                let address = self.register(rs1);
+                unless_fault(fault(image, Width::Word, true, address), Want::Amo(address))
+            }
             _ => Want::Nothing,
         }
     }
@@ -112,48 +111,18 @@ impl CoreState {
         ensures core { self.new ≡ (next_of image.now self.old seen sc_done read).core }
         ensures effect { result ≡ (next_of image.now self.old seen sc_done read).effect }
     {
-        let _ = (seen, sc_done);
-        let quiet = Effect {
-            write: None,
-            out: None,
-        };
-        let Some(word) = image.fetch(self.pc) else {
-            self.end = End::Trapped(Cause::FetchFault);
-            return quiet;
-        };
-        match decode(word) {
-            None => {
-                self.end = End::Trapped(Cause::Illegal);
-                quiet
-            }
-            Some(Instruction::Addi { rd, rs1, imm }) => {
-                let sum = self.register(rs1).wrapping_add(imm);
-                self.set_register(rd, sum);
-                self.pc = self.pc.wrapping_add(4);
-                quiet
-            }
-            Some(Instruction::Ecall) => self.call(read),
+        match self.instruction(image) {
+            Ok(instr) => self.execute(image, instr, seen, sc_done, read),
+            Err(cause) => self.trap(cause),
         }
     }
+}
 
-    /// ECALL: the number of the call stands in a7.
-    fn call(&mut self, read: Option<u8>) -> Effect
-        ensures core { self.new ≡ (called self.old read).core }
-        ensures effect { result ≡ (called self.old read).effect }
-    {
-        let mut out = None;
-        match self.register(17) {
-            1 => {
-                out = Some((self.register(10) % 256) as u8);
-                self.pc = self.pc.wrapping_add(4);
-            }
-            2 => {
-                self.set_register(10, u32::from(read.unwrap_or(0)));
-                self.pc = self.pc.wrapping_add(4);
-            }
-            93 => self.end = End::Exited(self.register(10)),
-            _ => self.end = End::Trapped(Cause::UnknownCall),
-        }
-        Effect { write: None, out }
+fn unless_fault(fault: Option<Cause>, want: Want) -> Want
+    ensures { result ≡ wants_unless fault want }
+{
+    match fault {
+        None => want,
+        Some(_cause) => Want::Nothing,
     }
 }
