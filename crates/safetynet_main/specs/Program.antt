@@ -1,4 +1,4 @@
--- Programs: one word a line, eight lower-case hexadecimal digits each, 1 to 1,024 lines, and each word ADDI or ECALL.
+-- Programs: one word a line, eight lower-case hexadecimal digits each, 1 to 1,024 lines, and no word a load, a store or an atomic operation.
 use Rattle.std.specs.Prelude.{◌≡◌, ◌<◌, ◌^◌, ℕ, ◌*◌, Bool, true, false, ◌&&◌, nat_le, if◌then◌else◌, List, [], ◌∷◌, ◌++◌, length, Option, Some, None}
 use Rattle.byteorder.specs.Endian.{little_bytes}
 use Rattle.sn_base.specs.Blocks.{ram_start}

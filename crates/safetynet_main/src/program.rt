@@ -72,11 +72,11 @@ fn word_in(text: &[u8]) -> Option<u32>
     Some(word)
 }
 
-// Whether a word is an instruction that needs no memory: ADDI or ECALL.
+// Whether a word is no load, store or atomic operation.
 fn is_plain(word: u32) -> bool
     ensures { result ≡ is_plain_word word }
 {
-    word == 0x73 || (word % 128 == 0b0010011 && word / 4096 % 8 == 0)
+    !rv_core::needs_memory(word)
 }
 
 fn plain_word_in(text: &[u8]) -> Option<u32>

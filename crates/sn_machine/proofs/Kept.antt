@@ -38,11 +38,11 @@ goes-nowhere image p k = record { kept = k; interval = omega arith; next_id = om
 
 -- step
 
-plain-retire : (image : ImageData) (p : Parts) → IsPlainNode p → IsPlainNode (retire p (next_of image p.node.core 0 false None).core did (next_of image p.node.core 0 false None).effect.out)
-plain-retire image p h = record {
+plain-retire : (image : ImageData) (p : Parts) → is_access (want_of image p.node.core) ≡ false → IsPlainNode p → IsPlainNode (retire p (next_of image p.node.core 0 false None).core did (next_of image p.node.core 0 false None).effect.out)
+plain-retire image p plain h = record {
   core = record {
     aligned = aligned-next image p.node.core 0 false None h.core.aligned;
-    free = next_keeps_reservation image p.node.core 0 false None ∙ h.core.free;
+    free = next_keeps_reservation image p.node.core 0 false None plain ∙ h.core.free;
   };
   checkpoints = h.checkpoints;
   given = h.given;
@@ -55,7 +55,7 @@ goes-retire : (image : ImageData) (p : Parts) → IsKept image p → is_running 
 goes-retire image p k runs plain quiet = record {
   kept = record {
     ordered = ordered-retire p _ did _ k.ordered;
-    plain = plain-retire image p k.plain;
+    plain = plain-retire image p plain k.plain;
     traced = traced-retire image p k.ordered k.traced runs plain quiet;
   };
   interval = omega arith;

@@ -1,5 +1,5 @@
 -- Executions of one core that wants no memory.
-use Rattle.std.proofs.Common.{◌≡◌, ℕ, Bool, true, false, List, [], ◌∷◌, ◌++◌, nat_eq, if◌then◌else◌, Option, None, arith, refl, sym, ap, ◌∙◌}
+use Rattle.std.proofs.Common.{◌≡◌, ℕ, Bool, true, false, List, [], ◌∷◌, ◌++◌, nat_eq, if◌then◌else◌, Option, Some, None, arith, refl, sym, ap, ◌∙◌}
 use Rattle.std.specs.Prelude.{option_to_list}
 use Rattle.std.proofs.lemmas.Bool.Decides.{nat_tests}
 use Rattle.std.proofs.lemmas.List.{append-nil, append_assoc}
@@ -10,17 +10,37 @@ use Rattle.rv_core.specs.declared.step.Want.{Want}
 use Rattle.rv_core.specs.declared.step.Want.TheVariants.{Nothing, Load, Store, Amo, Lr, Sc, Input}
 use Rattle.rv_core.specs.Core.{is_running, is_access, is_input}
 use Rattle.rv_core.specs.Step.{want_of, next_of}
+use Rattle.rv_core.specs.Wanted.{WriteFits, reservation_after}
+use Rattle.rv_core.proofs.CoreLaws.{write_fits, next_reservation}
+use Rattle.sn_base.specs.declared.block.Write.{Write}
 use Rattle.rv_core.specs.Flat.{FlatState, HasStep, core_at, seen_by, flat_step, next_by}
 use Rattle.rv_core.specs.Execution.{Executes, state_after, put_out_by, in_of}
 
--- such a core writes nothing, and keeps its reservation
-pub next_writes_nothing : (image : ImageData) (c : CoreState) (seen : ℕ) (done : Bool) (read : Option ℕ) → (next_of image c seen done read).effect.write ≡ None
-unfolding next_of
-next_writes_nothing image c seen done read = grind (arith, nat_tests)
+-- a core that wants no access writes nothing, and keeps its reservation
+no_write : (want : Want) (done : Bool) (write : Option Write) → WriteFits want done write → is_access want ≡ false → write ≡ None
+no_write want done None fits plain = refl
+no_write Nothing done (Some w) fits plain = absurd (let differs = fits.0 in cc)
+no_write Input done (Some w) fits plain = absurd (let differs = fits.0 in cc)
+no_write (Load a) done (Some w) fits plain = absurd cc
+no_write (Store a) done (Some w) fits plain = absurd cc
+no_write (Amo a) done (Some w) fits plain = absurd cc
+no_write (Lr a) done (Some w) fits plain = absurd cc
+no_write (Sc a) done (Some w) fits plain = absurd cc
 
-pub next_keeps_reservation : (image : ImageData) (c : CoreState) (seen : ℕ) (done : Bool) (read : Option ℕ) → (next_of image c seen done read).core.reservation ≡ c.reservation
-unfolding next_of
-next_keeps_reservation image c seen done read = grind (arith, nat_tests)
+same_reservation : (want : Want) (old : Option ℕ) → is_access want ≡ false → reservation_after want old ≡ old
+same_reservation Nothing old plain = refl
+same_reservation Input old plain = refl
+same_reservation (Load a) old plain = absurd cc
+same_reservation (Store a) old plain = absurd cc
+same_reservation (Amo a) old plain = absurd cc
+same_reservation (Lr a) old plain = absurd cc
+same_reservation (Sc a) old plain = absurd cc
+
+pub next_writes_nothing : (image : ImageData) (c : CoreState) (seen : ℕ) (done : Bool) (read : Option ℕ) → is_access (want_of image c) ≡ false → (next_of image c seen done read).effect.write ≡ None
+next_writes_nothing image c seen done read plain = no_write (want_of image c) done _ (write_fits image c seen done read) plain
+
+pub next_keeps_reservation : (image : ImageData) (c : CoreState) (seen : ℕ) (done : Bool) (read : Option ℕ) → is_access (want_of image c) ≡ false → (next_of image c seen done read).core.reservation ≡ c.reservation
+next_keeps_reservation image c seen done read plain = next_reservation image c seen done read ∙ same_reservation (want_of image c) c.reservation plain
 
 -- one more record
 pub executes_push : (image : ImageData) (flat : FlatState) (records : List Record) (r : Record) → Executes image flat records → HasStep image (state_after image flat records) r → Executes image flat (records ++ r ∷ [])
@@ -69,9 +89,9 @@ module _ (image : ImageData) (flat : FlatState) (c : CoreState) (one : flat.core
   next_is : next_by image flat did ≡ next_of image c 0 false None
   next_is = ap (λ k. next_of image k 0 false None) core_is
 
-  cores_are : (flat_step image flat did).cores ≡ (next_of image c 0 false None).core ∷ []
-  cores_are =
-      let quiet = next_writes_nothing image c 0 false None in
+  cores_are : is_access (want_of image c) ≡ false → (flat_step image flat did).cores ≡ (next_of image c 0 false None).core ∷ []
+  cores_are plain =
+      let quiet = next_writes_nothing image c 0 false None plain in
       rw (next_is, quiet, one) refl
 
   pub does_one : is_running c.end ≡ true → is_access (want_of image c) ≡ false → is_input (want_of image c) ≡ false → DoesOne image flat c
@@ -83,6 +103,6 @@ module _ (image : ImageData) (flat : FlatState) (c : CoreState) (one : flat.core
       done = λ h. absurd cc;
       read = sym quiet;
     });
-    cores = cores_are;
+    cores = cores_are plain;
     next = next_is;
   }
