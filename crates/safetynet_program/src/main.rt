@@ -1,0 +1,89 @@
+//! The program: the real files and streams round the top call.
+//!
+//! It makes a store over the system's files and a sink over each standard stream, the console on standard output and
+//! the report on standard error, calls `safetynet` with the words that it was given, and exits with the status's
+//! number. Where that isn't Done it names the status on standard error. `--help` and `--version` are its own.
+#![tactic(auto)]
+
+use safetynet_main::{Status, safetynet};
+use sn_io::{FileStore, StdSink};
+use std::env;
+use std::io::ErrorKind;
+use std::process::ExitCode;
+
+const VERSION: &str = "safetynet 0.1.0\n";
+
+const HELP: &str = "\
+Replays a list of events on a simulated SafetyNet multiprocessor.
+
+usage: safetynet replay --nodes 1 PROGRAM SCRIPT
+       safetynet --help
+       safetynet --version
+
+PROGRAM has 1 to 1,024 lines, each one instruction word of eight lower-case
+hexadecimal digits: ADDI, or ECALL (00000073). It begins at 80000000.
+SCRIPT has at most 1,000,000 lines, each one event: step 0, edge 0,
+deliver I, report 0, validate or recover. Each line ends with a line feed.
+
+The bytes that the program puts out go to standard output once their
+checkpoint is validated. The report goes to standard error: each event with
+its answer and the messages that it sent, and then a summary.
+
+exit status:
+   0  done
+   1  usage: the words aren't a command
+   2  store: a file is lacking or couldn't be read
+   5  sink: not all of the output could be written
+   7  memory: there was not enough of it
+  11  notbuilt: a file isn't of the form above
+";
+
+/// What the words ask of the program itself, before any command is done.
+fn own_answer(words: &[String]) -> Option<&'static str> {
+    let word = match words {
+        [_, word] => word,
+        [_, command, word] if command.as_str() == "replay" => word,
+        _ => return None,
+    };
+    match word.as_str() {
+        "--help" => Some(HELP),
+        "--version" => Some(VERSION),
+        _ => None,
+    }
+}
+
+fn main(rt: HostRuntime) -> ExitCode {
+    let alloc = rt.alloc();
+    let status = match env::args(&rt) {
+        Ok(given) => match given.collect::<Vec<String>>(alloc) {
+            Ok(words) => {
+                if let Some(text) = own_answer(words.as_slice()) {
+                    let printed = print!(rt; "{text}");
+                    return ExitCode::from(if printed.is_ok() {
+                        0
+                    } else {
+                        Status::SinkFault.number()
+                    });
+                }
+                let mut store = FileStore::new(&rt);
+                let mut console = StdSink::new(rt.stdout());
+                let mut report = StdSink::new(rt.stderr());
+                safetynet(
+                    alloc,
+                    words.as_slice(),
+                    &mut store,
+                    &mut console,
+                    &mut report,
+                )
+            }
+            Err(_) => Status::Memory,
+        },
+        // A word that isn't UTF-8 is in no command.
+        Err(error) if error.kind() == ErrorKind::InvalidData => Status::Usage,
+        Err(_) => Status::Memory,
+    };
+    if status != Status::Done {
+        let _ = eprintln!(rt; "# safetynet: {}", status.word());
+    }
+    ExitCode::from(status.number())
+}
