@@ -1,0 +1,305 @@
+//! The network.
+ghost use Rattle.std.specs.Prelude.{◌≡◌, ℕ, ◌+◌, ◌-◌, ◌*◌, ◌<◌, ◌≤◌, ◌^◌, ◌↔◌, Bool, true, false, not, ◌==◌, Option, Some, None, Ok, Err, IsNone, IsSome, IfSome, IsOk, OnErr, IfOk, IfErr, IsTrue, MatchResult, List, [], length, replicate, slice_get, slice_set, vec_capacity};
+ghost use Rattle.std.specs.List.{position};
+ghost use Rattle.std.specs.Option.{option_copied};
+ghost use Rattle.route_plan.specs.Distances.{is_dead, is_living};
+ghost use Rattle.route_plan.specs.Routes.{first_cut_off};
+ghost use Rattle.route_plan.specs.Paths.{AreJoined, IsFirstCutOff};
+ghost use Rattle.switch_net.specs.Net.{NetData, IsNet, IsPlaced, has_arrived, next_switch, find_flight, without, moved, outside, entry_of, after_send, hop_answer, after_hop, take_answer, living_now};
+
+use crate::answers::{HopAnswer, TakeFault};
+use crate::flight::Flight;
+use route_plan::{Dead, PlanFault, Routes, cut_off, plan};
+use sn_base::{BlockNo, Interval, Memory, MsgId, NodeId, SwitchId};
+use sn_msg::{Body, Message};
+use std::alloc::Global;
+use std::marker::Model;
+
+/// How many messages may be in flight.
+const ROOM: usize = 1024;
+
+/// The network of a machine.
+#[derive(Drop)]
+pub struct Net {
+    nodes: u8,
+    routes: Routes,
+    dead: Dead,
+    next: MsgId,
+    flights: Vec<Flight>,
+}
+
+impl Model for Net {
+    ghost use Rattle.std.specs.Prelude.{◌≡◌, ◌≤◌, vec_capacity};
+    ghost use Rattle.switch_net.specs.Net.{NetData, IsNet};
+
+    ghost Value = { NetData };
+
+    ghost view = { λ n. record { routes = n.routes; dead = n.dead; next = n.next; flights = n.flights.items } };
+
+    ghost invariant = { λ n. IsNet (record { routes = n.routes; dead = n.dead; next = n.next; flights = n.flights.items }) × (n.routes.nodes ≡ n.nodes) × (1024 ≤ vec_capacity n.flights) };
+}
+
+fn drop_number(flights: &mut Vec<Flight>, id: MsgId)
+    ensures others { flights.new.items ≡ without flights.old.items id }
+    ensures room { vec_capacity flights.old ≤ vec_capacity flights.new }
+{
+    flights.retain(|flight| flight.message.id != id);
+}
+
+fn drop_in(flights: &mut Vec<Flight>, switch: SwitchId)
+    ensures others { flights.new.items ≡ outside flights.old.items switch }
+    ensures room { vec_capacity flights.old ≤ vec_capacity flights.new }
+{
+    flights.retain(|flight| flight.at != switch);
+}
+
+fn place_of(flights: &[Flight], id: MsgId) -> Option<usize>
+    ensures { result ≡ position (λ f. f.message.id == id) flights.now }
+{
+    flights.iter().position(|flight| flight.message.id == id)
+}
+
+fn put(flights: &mut Vec<Flight>, id: MsgId, switch: SwitchId)
+    ensures moved { flights.new.items ≡ moved flights.old.items id switch }
+    ensures room { vec_capacity flights.old ≤ vec_capacity flights.new }
+{
+    if let Some(place) = place_of(flights.as_slice(), id) {
+        flights[place].at = switch;
+    }
+}
+
+impl Net {
+    /// A network of 1 to 16 nodes with no switch dead and no message, whose first message has the number 1.
+    pub fn new(alloc: Global, nodes: u8) -> Result<Net, Memory>
+        requires some { 1 ≤ nodes }
+        requires few { nodes ≤ 16 }
+        ensures { IfOk result (λ n. n ≡ record { routes = record { nodes = nodes; dead = replicate 32 false }; dead = replicate 32 false; next = 1; flights = [] }) }
+    {
+        let dead = Dead::none();
+        let routes = match plan(alloc, nodes, dead) {
+            Ok(routes) => routes,
+            Err(PlanFault::Memory) => return Err(Memory),
+            Err(PlanFault::CutOff(_, _)) => unreachable!(),
+        };
+        let flights = Vec::with_capacity(alloc, ROOM)?;
+        Ok(Net {
+            nodes,
+            routes,
+            dead,
+            next: 1,
+            flights,
+        })
+    }
+
+    /// How many more messages there is room for.
+    pub fn spare(&self) -> usize
+        ensures { result ≡ 1024 - length self.now.flights }
+    {
+        ROOM - self.flights.len()
+    }
+
+    /// The number of the next message.
+    pub fn next_id(&self) -> MsgId
+        ensures { result ≡ self.now.next }
+    {
+        self.next
+    }
+
+    /// How many messages are in flight.
+    pub fn count(&self) -> usize
+        ensures count { result ≡ length self.now.flights }
+        ensures sound { IsNet self.now }
+    {
+        self.flights.len()
+    }
+
+    /// The message at a place of the list, and the switch that it stands in.
+    pub fn message(&self, place: usize) -> (&Message, SwitchId)
+        requires { place < length self.now.flights }
+        ensures { IfSome (slice_get self.now.flights place) (λ f. (result.0.now ≡ f.message) × (result.1 ≡ f.at)) }
+    {
+        let flight = &self.flights[place];
+        (&flight.message, flight.at)
+    }
+
+    fn found(&self, id: MsgId) -> Option<&Flight>
+        ensures flight { option_copied result ≡ find_flight self.now.flights id }
+        ensures placed { IfSome result (λ f. IsPlaced self.now.routes f.now) }
+    {
+        self.flights.iter().find(|flight| flight.message.id == id)
+    }
+
+    fn remove(&mut self, id: MsgId)
+        ensures { self.new ≡ record self.old { flights = without self.old.flights id } }
+    {
+        drop_number(&mut self.flights, id);
+    }
+
+    fn put_into(&mut self, id: MsgId, switch: SwitchId)
+        requires { is_living self.old.routes switch ≡ true }
+        ensures { self.new ≡ record self.old { flights = moved self.old.flights id switch } }
+    {
+        put(&mut self.flights, id, switch);
+    }
+
+    /// Sends a message under the next number. False where its entry switch is dead: then it is lost at once.
+    pub fn send(
+        &mut self,
+        from: NodeId,
+        to: NodeId,
+        tag: Interval,
+        block: BlockNo,
+        body: Body,
+    ) -> bool
+        requires room { length self.old.flights < 1024 }
+        requires numbers { self.old.next + 1 < 2 ^ 64 }
+        requires sender { from < self.old.routes.nodes }
+        requires receiver { to < self.old.routes.nodes }
+        ensures sent { self.new ≡ after_send self.old (record { id = self.old.next; from = from; to = to; tag = tag; block = block; body = body }) }
+        ensures lost { result ≡ not (is_dead self.old.dead (entry_of self.old (record { id = self.old.next; from = from; to = to; tag = tag; block = block; body = body }))) }
+    {
+        let message = Message {
+            id: self.next,
+            from,
+            to,
+            tag,
+            block,
+            body,
+        };
+        let at = self.routes.enter(from, to);
+        self.next += 1;
+        if self.dead.has(at) {
+            return false;
+        }
+        self.flights.push(Flight { message, at }).unwrap();
+        true
+    }
+    /// The switch to which a message goes on. None where it has arrived.
+    fn next_switch(&self, flight: &Flight) -> Option<SwitchId>
+        requires { IsPlaced self.now.routes flight.now }
+        ensures none { IsNone result ↔ (has_arrived flight.now ≡ true) }
+        ensures next { IfSome result (λ s. s ≡ next_switch self.now.routes flight.now) }
+        ensures living { IfSome result (λ s. is_living self.now.routes s ≡ true) }
+    {
+        self.routes.next(flight.at, flight.message.to)
+    }
+
+    /// The answer that `hop` would give now.
+    pub fn look_hop(&self, id: MsgId) -> HopAnswer
+        ensures { result ≡ hop_answer self.now (find_flight self.now.flights id) }
+    {
+        let Some(flight) = self.found(id) else {
+            return HopAnswer::NoMessage;
+        };
+        match self.next_switch(flight) {
+            None => HopAnswer::Arrived,
+            Some(next) if self.dead.has(next) => HopAnswer::LostInDead,
+            Some(_) => HopAnswer::Hopped,
+        }
+    }
+
+    /// Moves a message to its next switch. It is lost where that is dead.
+    pub fn hop(&mut self, id: MsgId) -> HopAnswer
+        ensures answer { result ≡ hop_answer self.old (find_flight self.old.flights id) }
+        ensures after { self.new ≡ after_hop self.old id (find_flight self.old.flights id) }
+    {
+        let Some(flight) = self.found(id) else {
+            return HopAnswer::NoMessage;
+        };
+        let Some(next) = self.next_switch(flight) else {
+            return HopAnswer::Arrived;
+        };
+        if self.dead.has(next) {
+            self.remove(id);
+            HopAnswer::LostInDead
+        } else {
+            self.put_into(id, next);
+            HopAnswer::Hopped
+        }
+    }
+
+    /// The message that `take` would give now.
+    pub fn look(&self, id: MsgId) -> Result<&Message, TakeFault>
+        ensures message { IfOk result (λ m. take_answer (find_flight self.now.flights id) ≡ Ok m.now) }
+        ensures fault { IfErr result (λ e. take_answer (find_flight self.now.flights id) ≡ Err e) }
+    {
+        let Some(flight) = self.found(id) else {
+            return Err(TakeFault::NoMessage);
+        };
+        if flight.has_arrived() {
+            Ok(&flight.message)
+        } else {
+            Err(TakeFault::NotArrived)
+        }
+    }
+
+    /// Takes a message out that stands in a switch of its receiver.
+    pub fn take(&mut self, id: MsgId) -> Result<Message, TakeFault>
+        ensures answer { result ≡ take_answer (find_flight self.old.flights id) }
+        ensures taken { IsOk result → self.new ≡ record self.old { flights = without self.old.flights id } }
+        ensures refused { OnErr result (self.new ≡ self.old) }
+    {
+        let message = *self.look(id)?;
+        self.remove(id);
+        Ok(message)
+    }
+
+    /// Loses a message. False where none in flight has this number.
+    pub fn lose(&mut self, id: MsgId) -> bool
+        ensures there { IsTrue result ↔ IsSome (find_flight self.old.flights id) }
+        ensures lost { self.new ≡ record self.old { flights = without self.old.flights id } }
+        ensures absent { result ≡ false → self.new ≡ self.old }
+    {
+        if self.found(id).is_none() {
+            return false;
+        }
+        self.remove(id);
+        true
+    }
+
+    /// A switch dies, and the messages in it are lost. False where it is dead already.
+    pub fn kill(&mut self, switch: SwitchId) -> bool
+        requires { switch < 2 * self.old.routes.nodes }
+        ensures killed { result ≡ not (is_dead self.old.dead switch) }
+        ensures after { result ≡ true → self.new ≡ record self.old { dead = slice_set self.old.dead switch true; flights = outside self.old.flights switch } }
+        ensures already { result ≡ false → self.new ≡ self.old }
+    {
+        if self.dead.has(switch) {
+            return false;
+        }
+        self.dead = self.dead.with(switch);
+        drop_in(&mut self.flights, switch);
+        true
+    }
+
+    pub fn is_dead(&self, switch: SwitchId) -> bool
+        requires { switch < 2 * self.now.routes.nodes }
+        ensures { result ≡ is_dead self.now.dead switch }
+    {
+        self.dead.has(switch)
+    }
+
+    /// The first pair of nodes that no path of living switches joins now.
+    pub fn cut_off(&self) -> Option<(NodeId, NodeId)>
+        ensures pair { result ≡ first_cut_off (living_now self.now) }
+        ensures first { IfSome result (λ p. IsFirstCutOff (living_now self.now) p.0 p.1) }
+        ensures none { IsNone result ↔ ((a b : ℕ) → a < self.now.routes.nodes → b < self.now.routes.nodes → AreJoined (living_now self.now) a b) }
+    {
+        cut_off(self.nodes, self.dead)
+    }
+
+    /// Makes the routes anew and drops every message; the answer is how many there were. It is refused where two nodes
+    /// are cut off from each other.
+    pub fn recover(&mut self) -> Result<u32, (NodeId, NodeId)>
+        ensures dropped { IfOk result (λ count. count ≡ length self.old.flights) }
+        ensures recovered { IsOk result → self.new ≡ record self.old { routes = living_now self.old; flights = [] } }
+        ensures refused { OnErr result (self.new ≡ self.old) }
+        ensures cut_off { IfSome (first_cut_off (living_now self.old)) (λ p. result ≡ Err p) }
+        ensures joined { IsNone (first_cut_off (living_now self.old)) → IsOk result }
+    {
+        self.routes.replan(self.dead)?;
+        let dropped = self.flights.len() as u32;
+        self.flights.clear();
+        Ok(dropped)
+    }
+}
