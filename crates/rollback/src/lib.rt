@@ -1,0 +1,141 @@
+//! The unwinding of a log: how a recovery gives each block back what it had at a checkpoint.
+//!
+//! What a log is unwound into, a cache or a home, is a `Restore`. The layer above knows it as a map from block to what
+//! it holds, and knows which maps fit it; after `unwind` each block that has changed since the checkpoint is held as it
+//! was there, and all others as they were. Everything that changed is let go first, since putting old contents back one
+//! after another, newest first, can need more room on the way than there is before and after. Nothing here takes
+//! memory, and nothing knows of sets, ways or sharers.
+//!
+//! Source: recovery by unwinding the logs in SafetyNet (Sorin, Martin, Hill, Wood, ISCA 2002).
+#![tactic(auto)]
+
+ghost use Rattle.std.specs.Prelude.{◌≡◌, ℕ, ◌+◌, ◌-◌, ◌<◌, ◌≤◌, ◌^◌, Bool, true, false, min, length, take, slice_get, Some};
+ghost use Rattle.std.specs.Prelude.{not, slice_index_or};
+ghost use Rattle.log_buffer.specs.Log.{IsGrowing, entries_from, is_home_side, is_about};
+ghost use Rattle.rollback.specs.Unwound.{LogEntry, Old, unwound, left, all_forgotten, is_changed};
+
+use sn_base::{BlockNo, Entries, Interval, LogEntry, Old};
+
+/// What a log is unwound into: a cache, or a home.
+///
+/// Its meaning is a map from block to what it holds (`Old::NotOwned` where it holds nothing of the block), on one of
+/// the two sides, and a fact that says which maps fit it, as by its sets and ways.
+pub trait Restore {
+    ghost use Rattle.std.specs.Prelude.{◌≡◌, ℕ, Bool};
+    ghost use Rattle.rollback.specs.Unwound.{Old, forgotten, restored, IsPart, IsBetween};
+
+    // the side whose entries it takes: the home's, or else the cache's
+    ghost home_side: { Bool };
+
+    ghost holds: { Self → ℕ → Old };
+
+    ghost fits: { Self → (ℕ → Old) → Type 0 };
+
+    /// Forgets what is held of a block that has such an entry: a cache drops the block, a home does nothing. An entry of
+    /// the other side is passed over.
+    fn forget(&mut self, block: BlockNo, old: &Old)
+        ensures held { (b : ℕ) → holds self.new b ≡ forgotten home_side (holds self.old) block old.now b }
+        ensures fits { fits self.new (holds self.new) }
+        ensures room { (map : ℕ → Old) → fits self.old map → fits self.new map };
+
+    /// Holds a block as such an entry says. An entry of the other side is passed over.
+    fn put_back(&mut self, block: BlockNo, old: &Old)
+        requires { fits self.old (restored home_side (holds self.old) block old.now) }
+        ensures held { (b : ℕ) → holds self.new b ≡ restored home_side (holds self.old) block old.now b }
+        ensures fits { fits self.new (holds self.new) }
+        ensures room { (map : ℕ → Old) → fits self.old map → fits self.new map };
+
+    // a part of a map that fits, fits
+    ghost part: { (s : Self) (part whole : ℕ → Old) → fits s whole → IsPart part whole → fits s part };
+
+    // on the way from a map that fits to one that fits, every map fits
+    ghost way: { (s : Self) (before after between : ℕ → Old) → fits s before → fits s after → IsBetween home_side before after between → fits s between };
+}
+
+/// Unwinds a log to checkpoint k: forgets every entry whose interval is at least k, and then puts back the oldest of
+/// them of each side and block. Answers how many entries have an interval of at least k, or the greatest number of its
+/// type where there are more.
+pub fn unwind<E: Entries, T: Restore>(log: &E, k: Interval, target: &mut T) -> u32
+    requires growing { IsGrowing (E.entries log.now) }
+    requires fits { T.fits target.old (unwound (E.entries log.now) T.home_side k (T.holds target.old)) }
+    ensures held { (b : ℕ) → T.holds target.new b ≡ unwound (E.entries log.now) T.home_side k (T.holds target.old) b }
+    ensures room { (map : ℕ → Old) → T.fits target.old map → T.fits target.new map }
+    ensures count { result ≡ min (length (entries_from k (E.entries log.now))) (2 ^ 32 - 1) }
+{
+    forget_all(log, k, target);
+    put_back_oldest(log, k, target);
+    count_from(log, k)
+}
+
+fn forget_all<E: Entries, T: Restore>(log: &E, k: Interval, target: &mut T)
+    ensures held { (b : ℕ) → T.holds target.new b ≡ all_forgotten (E.entries log.now) T.home_side k (T.holds target.old) b }
+    ensures fits { (i : ℕ) (d : LogEntry) → i < length (E.entries log.now) → k ≤ (slice_index_or (E.entries log.now) i d).interval → T.fits target.new (T.holds target.new) }
+    ensures room { (map : ℕ → Old) → T.fits target.old map → T.fits target.new map }
+{
+    'places: for place in 0..log.count() {
+        let entry = log.entry(place);
+        if entry.interval >= k {
+            target.forget(entry.block, &entry.old);
+        }
+    }
+}
+
+fn put_back_oldest<E: Entries, T: Restore>(log: &E, k: Interval, target: &mut T)
+    requires growing { IsGrowing (E.entries log.now) }
+    requires gone { (b : ℕ) → is_changed (E.entries log.now) T.home_side b k ≡ true → left T.home_side (T.holds target.old b) ≡ T.holds target.old b }
+    requires fits { (i : ℕ) (d : LogEntry) → i < length (E.entries log.now) → k ≤ (slice_index_or (E.entries log.now) i d).interval → T.fits target.old (T.holds target.old) }
+    requires last { T.fits target.old (unwound (E.entries log.now) T.home_side k (T.holds target.old)) }
+    ensures held { (b : ℕ) → T.holds target.new b ≡ unwound (E.entries log.now) T.home_side k (T.holds target.old) b }
+    ensures room { (map : ℕ → Old) → T.fits target.old map → T.fits target.new map }
+{
+    'places: for place in 0..log.count() {
+        let entry = log.entry(place);
+        if entry.interval >= k && is_oldest(log, k, place, entry) {
+            target.put_back(entry.block, &entry.old);
+        }
+    }
+}
+
+// Whether none of the entries before a place is of the entry's side and block and of an interval of at least k.
+fn is_oldest<E: Entries>(log: &E, k: Interval, place: usize, entry: &LogEntry) -> bool
+    requires { place ≤ length (E.entries log.now) }
+    ensures { result ≡ not (is_changed (take place (E.entries log.now)) (is_home_side entry.now.old) entry.now.block k) }
+{
+    let home_side = is_home_side(&entry.old);
+    'places: for before in 0..place {
+        let other = log.entry(before);
+        if is_about(other, home_side, entry.block) && other.interval >= k {
+            return false;
+        }
+    }
+    true
+}
+
+fn is_home_side(old: &Old) -> bool
+    ensures { result ≡ is_home_side old.now }
+{
+    match old {
+        Old::NotOwned | Old::Owned(_) => false,
+        Old::WasHome(_) | Old::WasCache(_) => true,
+    }
+}
+
+fn is_about(entry: &LogEntry, home_side: bool, block: BlockNo) -> bool
+    ensures { result ≡ is_about home_side block entry.now }
+{
+    let home_entry = is_home_side(&entry.old);
+    let same_side = if home_side { home_entry } else { !home_entry };
+    same_side && entry.block == block
+}
+
+fn count_from<E: Entries>(log: &E, k: Interval) -> u32
+    ensures { result ≡ min (length (entries_from k (E.entries log.now))) (2 ^ 32 - 1) }
+{
+    let mut count = 0u32;
+    'places: for place in 0..log.count() {
+        if log.entry(place).interval >= k {
+            count = count.saturating_add(1);
+        }
+    }
+    count
+}
