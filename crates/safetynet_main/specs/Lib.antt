@@ -2,6 +2,7 @@ pub mod Status
 pub mod Lines
 pub mod Digits
 pub mod Program
+pub mod Runnable
 pub mod Script
 pub mod Text
 pub mod Pieces

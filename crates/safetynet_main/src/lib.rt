@@ -13,6 +13,7 @@ mod line;
 mod play;
 mod program;
 mod refusal;
+mod runnable;
 mod script;
 mod state_text;
 mod status;
