@@ -11,3 +11,4 @@ pub mod Laws
 pub mod RunTrace
 pub mod RunSteps
 pub mod Run
+pub mod TestProgram

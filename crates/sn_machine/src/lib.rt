@@ -12,6 +12,8 @@
 mod hardware;
 mod held;
 mod history;
+#[cfg(test)]
+mod letter;
 mod machine;
 mod net;
 mod node;
