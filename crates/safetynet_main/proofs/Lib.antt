@@ -5,4 +5,6 @@ pub mod Programs
 pub mod Texts
 pub mod PieceLaws
 pub mod SoFar
+pub mod Shown
+pub mod Performed
 pub mod CallLaws

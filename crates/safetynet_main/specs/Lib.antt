@@ -5,5 +5,6 @@ pub mod Program
 pub mod Script
 pub mod Text
 pub mod Pieces
+pub mod Shown
 pub mod Request
 pub mod Call

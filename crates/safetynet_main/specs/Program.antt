@@ -1,5 +1,5 @@
 -- Programs: one word a line, eight lower-case hexadecimal digits each, 1 to 1,024 lines, and each word ADDI or ECALL.
-use Rattle.std.specs.Prelude.{◌≡◌, ◌<◌, ◌^◌, ℕ, ◌*◌, Bool, true, false, ◌&&◌, nat_le, if◌then◌else◌, List, [], ◌∷◌, ◌++◌, length, Option, Some, None}
+use Rattle.std.specs.Prelude.{◌≡◌, ◌<◌, ◌^◌, ℕ, ◌*◌, true, false, ◌&&◌, nat_le, if◌then◌else◌, List, [], ◌∷◌, ◌++◌, length, Option, Some, None}
 use Rattle.byteorder.specs.Endian.{little_bytes}
 use Rattle.sn_base.specs.Blocks.{ram_start}
 use Rattle.sn_base.specs.Image.{ImageData, SegmentData}
