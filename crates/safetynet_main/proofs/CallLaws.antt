@@ -1,14 +1,14 @@
 -- What follows of a call from how its files were found.
-use Rattle.std.proofs.Common.{◌≡◌, ℕ, ◌+◌, ◌-◌, ◌^◌, ◌<◌, ◌≤◌, List, length, refl, ap, sym, subst, ◌∙◌, inl, inr, arith}
-use Rattle.std.specs.Prelude.{Option, Some, None, IfSome, IsOk, Result, Ok, Err, Bool, true, false, MatchResult, MatchOption, nat_lt, if◌then◌else◌, ◌⊎◌, min, ⊤}
+use Rattle.std.proofs.Common.{◌≡◌, ℕ, ◌≤◌, List, length, refl, ap, sym, subst, ◌∙◌, inl, inr, arith}
+use Rattle.std.specs.Prelude.{Option, Some, None, IfSome, IsOk, Result, Ok, Err, Bool, true, false, MatchResult, nat_lt, if◌then◌else◌, ◌⊎◌}
 use Rattle.sn_base.specs.Image.{ImageData}
 use Rattle.sn_base.specs.declared.event.Event.{Event}
 use Rattle.sn_io.specs.Outside.{Found, File, TooLong, Missing, Rose, found_in}
 use Rattle.safetynet_main.specs.Program.{image_of}
 use Rattle.safetynet_main.specs.Script.{events_of}
-use Rattle.safetynet_main.specs.Pieces.{Ends, after, Breaks, pieces_of}
+use Rattle.safetynet_main.specs.Pieces.{Ends}
 use Rattle.safetynet_main.specs.Request.{Request}
-use Rattle.safetynet_main.specs.Call.{program_limit, script_limit, or_not_built, read_within, read_found, program_in, script_in, Fetches, with_program, with_script, Loads, due_of, Follows, Comes}
+use Rattle.safetynet_main.specs.Call.{program_limit, script_limit, or_not_built, read_found, program_in, script_in, Fetches, with_program, with_script, Loads, due_of, Follows, Comes}
 use Rattle.safetynet_main.specs.declared.call.Job.{Job}
 use Rattle.safetynet_main.specs.declared.status.Part.{Part}
 use Rattle.safetynet_main.specs.declared.status.Part.TheVariants.{Program as ProgramPart, Script as ScriptPart}

@@ -6,4 +6,6 @@ pub mod Scan
 pub mod Texts
 pub mod PieceLaws
 pub mod SoFar
+pub mod Shown
+pub mod Performed
 pub mod CallLaws

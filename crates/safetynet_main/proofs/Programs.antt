@@ -1,12 +1,12 @@
 -- A program of words that need no memory is one that needs none, and its image is one.
-use Rattle.std.proofs.Common.{◌≡◌, ℕ, zero, suc, ◌+◌, ◌-◌, ◌*◌, ◌/◌, ◌%◌, ◌^◌, ◌<◌, ◌≤◌, List, [], ◌∷◌, ◌++◌, drop, length, get_or, All, refl, ap, sym, subst, ◌∙◌, arith, rules, append_assoc, append-nil}
+use Rattle.std.proofs.Common.{◌≡◌, ℕ, zero, suc, ◌+◌, ◌-◌, ◌*◌, ◌/◌, ◌^◌, ◌<◌, ◌≤◌, List, [], ◌∷◌, ◌++◌, drop, length, get_or, All, refl, sym, subst, ◌∙◌, arith, append_assoc, append-nil}
 use Rattle.std.proofs.lemmas.Bool.Decides.{nat_tests}
 use Rattle.std.proofs.lemmas.List.{drop_more, drop_all}
-use Rattle.std.specs.Prelude.{Option, Some, None, IfSome, Bool, true, false, ◌&&◌, ◌||◌, nat_le, nat_lt, if◌then◌else◌}
+use Rattle.std.specs.Prelude.{Some, None, IfSome, Bool, true, false, if◌then◌else◌}
 use Rattle.byteorder.specs.Endian.{little_number, little_bytes}
 use Rattle.byteorder.specs.Numbers.{little_number-reads_back}
-use Rattle.sn_base.specs.Blocks.{ram_start, ram_size}
-use Rattle.sn_base.specs.Image.{ImageData, SegmentData, IsImage, IsSegment, AreApart, covers, is_executable, all_executable, byte_at, bytes_from, fetched}
+use Rattle.sn_base.specs.Blocks.{ram_start}
+use Rattle.sn_base.specs.Image.{IsImage, IsSegment, covers, is_executable, all_executable, byte_at, bytes_from}
 use Rattle.rv_core.specs.Plain.{is_plain_word, IsPlain}
 use Rattle.safetynet_main.specs.Program.{IsPlainWord, word_bytes, code_segment, image_of_words}
 

@@ -1,14 +1,16 @@
 -- What a call comes to: by the words, by what was found of the files, and by the sinks.
-use Rattle.std.specs.Prelude.{◌≡◌, ℕ, ◌≤◌, List, length, nat_lt, if◌then◌else◌, Option, Some, None, IfSome, MatchOption, Result, Ok, Err, MatchResult, ◌⊎◌, Vec}
+use Rattle.std.specs.Prelude.{◌≡◌, ℕ, ◌≤◌, ◌%◌, List, length, nat_lt, if◌then◌else◌, Option, Some, None, IfSome, MatchOption, Result, Ok, Err, MatchResult, ◌⊎◌, Vec}
 use Rattle.std.specs.declared.alloc.Global.{Global}
 use Rattle.sn_base.specs.Image.{ImageData}
 use Rattle.sn_base.specs.declared.event.Event.{Event}
 use Rattle.sn_io.specs.Outside.{Found, File, TooLong, Missing, Rose, found_in}
+use Rattle.rv_core.specs.Plain.{IsPlain}
 use Rattle.sn_machine.specs.State.{MachineData, start_of}
 use Rattle.safetynet_main.specs.Program.{image_of}
 use Rattle.safetynet_main.specs.Script.{events_of}
-use Rattle.safetynet_main.specs.Pieces.{Piece, Ends, after, Breaks, pieces_of}
-use Rattle.safetynet_main.specs.Request.{Request, ask_of}
+use Rattle.safetynet_main.specs.Pieces.{Ends, after, Breaks, pieces_of}
+use Rattle.safetynet_main.specs.Shown.{IsShown, IsShownInPart}
+use Rattle.safetynet_main.specs.Request.{Request}
 use Rattle.safetynet_main.specs.declared.call.Job.{Job}
 use Rattle.safetynet_main.specs.declared.call.Unread.{Unread}
 use Rattle.safetynet_main.specs.declared.call.Unread.TheVariants.{Missing as UnreadMissing, TooLong as UnreadTooLong, Memory as UnreadMemory}
@@ -89,8 +91,8 @@ due_of held (Some request) = with_script (program_in (found_in (held request.pro
 abbrev pub Follows : Result Job Status → Status → Ends → Ends → Type 0
 Follows (Err refusal) status old new = (status ≡ refusal) × (new ≡ old)
 Follows (Ok job) status old new =
-    ((status ≡ Done) × (new ≡ after old (pieces_of job.program 1 job.script)))
-    ⊎ ((status ≡ SinkFault) × Breaks (pieces_of job.program 1 job.script) old new)
+    ((status ≡ Done) × (new ≡ after old (pieces_of job.program 1 job.script)) × IsShown job.program job.script old new)
+    ⊎ ((status ≡ SinkFault) × Breaks (pieces_of job.program 1 job.script) old new × IsShownInPart job.program job.script old new)
 
 -- what a call comes to, over any store
 abbrev pub Comes : {S : Type 0} → (S → List ℕ → ℕ → Found → S → Type 0) → Option Request → Status → S → S → Ends → Ends → Type 0
@@ -104,3 +106,5 @@ pub record IsReady (m : MachineData) (image : ImageData) (events : ℕ) : Type 0
   pub start : m.state ≡ start_of image 1
   pub new : m.applied ≡ 0
   pub room : events ≤ m.spare
+  pub plain : IsPlain image
+  pub aligned : image.entry % 4 ≡ 0

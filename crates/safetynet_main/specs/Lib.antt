@@ -6,5 +6,6 @@ pub mod Runnable
 pub mod Script
 pub mod Text
 pub mod Pieces
+pub mod Shown
 pub mod Request
 pub mod Call

@@ -1,9 +1,7 @@
 -- Scripts of one node: one event a line, at most 1,000,000 lines.
-use Rattle.std.specs.Prelude.{◌≡◌, ℕ, true, nat_le, if◌then◌else◌, List, take, drop, length, codes, bytes_eq, Option, Some, None, option_map}
-use Rattle.sn_base.specs.Events.{event_fits}
+use Rattle.std.specs.Prelude.{ℕ, nat_le, if◌then◌else◌, List, take, drop, length, codes, bytes_eq, Option, Some, None, option_map}
 use Rattle.sn_base.specs.declared.event.Event.{Event}
 use Rattle.sn_base.specs.declared.event.Event.TheVariants.{Step, Edge, Deliver, Report, Validate, Recover}
-use Rattle.sn_machine.specs.Step.{is_scripted}
 use Rattle.safetynet_main.specs.Digits.{number_of}
 use Rattle.safetynet_main.specs.Lines.{items_of}
 
@@ -28,8 +26,3 @@ events_if_few (Some events) = if nat_le (length events) 1000000 then Some events
 -- the events of a script, where it is of the form
 unfoldable pub events_of : List ℕ → Option (List Event)
 events_of bytes = events_if_few (items_of event_of bytes)
-
--- an event that a machine of one node takes
-pub record IsTaken (event : Event) : Type 0 where
-  pub fits : event_fits 1 event ≡ true
-  pub scripted : is_scripted event ≡ true

@@ -2,7 +2,7 @@
 ghost use Rattle.std.specs.Prelude.{◌≡◌, ℕ, List, [], ◌∷◌, ◌+◌, ◌<◌, ◌≤◌, ◌++◌, ◌⊎◌, length, drop, All, Option, OnOk, OnErr};
 ghost use Rattle.sn_io.specs.Outside.{Rose, followed_by};
 ghost use Rattle.sn_machine.specs.Step.{step_of};
-ghost use Rattle.safetynet_main.specs.Script.{IsTaken};
+ghost use Rattle.sn_machine.specs.Run.{IsTaken};
 ghost use Rattle.safetynet_main.specs.Pieces.{Report, ends, after, Breaks, console_piece, flat_at, core_lines, recovered_lines, group_of, summary_of, turn_pieces, pieces_from, IsNext};
 
 use crate::line::Line;

@@ -1,5 +1,5 @@
 //! Reads programs.
-ghost use Rattle.std.specs.Prelude.{◌≡◌, ℕ, ◌+◌, ◌*◌, ◌-◌, ◌<◌, ◌≤◌, ◌^◌, ◌↔◌, true, false, length, All, IfOk, IfErr, IfSome, IsNone, OnOk, Ok, Err, Some, vec_len, [], ◌∷◌, ◌++◌};
+ghost use Rattle.std.specs.Prelude.{◌≡◌, ℕ, ◌+◌, ◌%◌, ◌*◌, ◌-◌, ◌<◌, ◌≤◌, ◌^◌, ◌↔◌, true, false, length, All, IfOk, IfErr, IfSome, IsNone, OnOk, Ok, Err, Some, vec_len, [], ◌∷◌, ◌++◌};
 ghost use Rattle.byteorder.specs.Endian.{little_bytes};
 ghost use Rattle.rv_core.specs.Plain.{is_plain_word, IsPlain};
 ghost use Rattle.safetynet_main.specs.Digits.{hex_digit_of, hex_from, word_of};
@@ -24,6 +24,7 @@ pub struct Program {
 }
 
 impl Model for Program {
+    ghost use Rattle.std.specs.Prelude.{◌≡◌, ◌%◌};
     ghost use Rattle.sn_base.specs.Image.{ImageData};
     ghost use Rattle.rv_core.specs.Plain.{IsPlain};
 
@@ -31,13 +32,14 @@ impl Model for Program {
 
     ghost view = { λ p. p.image };
 
-    ghost invariant = { λ p. IsPlain p.image };
+    ghost invariant = { λ p. IsPlain p.image × (p.image.entry % 4 ≡ 0) };
 }
 
 impl Program {
     pub fn into_image(self) -> Image
         ensures same { result ≡ self }
         ensures plain { IsPlain result }
+        ensures aligned { result.entry % 4 ≡ 0 }
     {
         self.image
     }

@@ -2,7 +2,8 @@
 ghost use Rattle.std.specs.Prelude.{◌≡◌, ℕ, ◌+◌, ◌*◌, ◌<◌, ◌≤◌, ◌^◌, length, All, IfOk, IfErr, IfSome, IsNone, ◌↔◌, true, false, OnOk, OnErr, Ok, Err, Some, vec_len, [], ◌∷◌, ◌++◌};
 ghost use Rattle.safetynet_main.specs.Digits.{is_digit, number_of, number_from, if_below};
 ghost use Rattle.safetynet_main.specs.Lines.{items_of, IsRefusedAs};
-ghost use Rattle.safetynet_main.specs.Script.{event_of, events_of, IsTaken};
+ghost use Rattle.sn_machine.specs.Run.{IsTaken};
+ghost use Rattle.safetynet_main.specs.Script.{event_of, events_of};
 
 use crate::refusal::Refusal;
 use sn_base::{Event, NodeId};
@@ -21,7 +22,7 @@ pub struct Script {
 impl Model for Script {
     ghost use Rattle.std.specs.Prelude.{List, ◌≤◌, All, vec_len};
     ghost use Rattle.sn_base.specs.declared.event.Event.{Event};
-    ghost use Rattle.safetynet_main.specs.Script.{IsTaken};
+    ghost use Rattle.sn_machine.specs.Run.{IsTaken};
 
     ghost Value = { List Event };
 

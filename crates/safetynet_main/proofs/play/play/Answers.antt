@@ -3,7 +3,7 @@ use Rattle.std.proofs.lemmas.Result.{err_from_is_err_and}
 use Rattle.sn_base.specs.declared.config.Config.{Config}
 use Rattle.sn_io.specs.Outside.{followed_by}
 use Rattle.safetynet_main.proofs.PieceLaws.{followed_by-nil}
-use Rattle.safetynet_main.proofs.SoFar.{SoFar, SoFar-start, SoFar-next, SoFar-breaks_event, SoFar-breaks_summary, SoFar-end}
+use Rattle.safetynet_main.proofs.SoFar.{SoFar-start, SoFar-next, SoFar-breaks_event, SoFar-breaks_summary, SoFar-end}
 use Rattle.safetynet_main.proofs.play.play.Goals as goal
 
 pub events-init : goal.events-init

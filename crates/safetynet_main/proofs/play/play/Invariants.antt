@@ -1,6 +1,6 @@
-use Rattle.std.proofs.Common.{◌≡◌, ◌≤◌, ◌+◌, List, ◌++◌, length, drop}
+use Rattle.std.proofs.Common.{◌≡◌, ◌≤◌, ◌+◌, length, drop}
 use Rattle.sn_io.specs.Outside.{followed_by}
-use Rattle.safetynet_main.specs.Pieces.{Piece, Ends, ends, after, pieces_from}
+use Rattle.safetynet_main.specs.Pieces.{ends, pieces_from}
 use Rattle.safetynet_main.proofs.SoFar.{SoFar}
 use Rattle.safetynet_main.proofs.play.play.Given as goal
 

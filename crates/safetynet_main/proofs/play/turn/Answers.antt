@@ -1,8 +1,6 @@
-use Rattle.std.proofs.Common.{◌∙◌, ◌≡◌, ◌+◌, length, drop}
+use Rattle.std.proofs.Common.{◌∙◌, ◌+◌}
 use Rattle.std.proofs.lemmas.Result.{err_from_is_err_and}
-use Rattle.sn_machine.specs.Step.{step_of}
-use Rattle.safetynet_main.specs.Pieces.{group_of}
-use Rattle.safetynet_main.proofs.PieceLaws.{IsTurn, fresh-is, text-is, turn-whole, turn-breaks_first, turn-breaks_second, released-turn}
+use Rattle.safetynet_main.proofs.PieceLaws.{fresh-is, text-is, turn-whole, turn-breaks_first, turn-breaks_second, released-turn}
 use Rattle.safetynet_main.proofs.play.turn.Goals as goal
 
 pub returns-in_err-put_released-clause-err : goal.returns-in_err-put_released-clause-err

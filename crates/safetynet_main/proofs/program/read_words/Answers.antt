@@ -1,4 +1,4 @@
-use Rattle.std.proofs.Common.{rules, arith, sym, ap, subst, ◌∙◌, ◌++◌, ◌∷◌, [], refl}
+use Rattle.std.proofs.Common.{rules, arith, sym, ◌∙◌}
 use Rattle.std.proofs.lemmas.List.Elements.{All-push}
 use Rattle.safetynet_main.specs.Program.{plain_word_of, IsPlainWord}
 use Rattle.safetynet_main.proofs.Lines.{reader-begins, reader-refuses, reader-next, reader-on, reader-ends, reader-ends_begun}

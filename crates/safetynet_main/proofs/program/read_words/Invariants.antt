@@ -1,4 +1,4 @@
-use Rattle.std.proofs.Common.{◌≡◌, ◌≤◌, ◌+◌, All, vec_len}
+use Rattle.std.proofs.Common.{◌≤◌, All}
 use Rattle.safetynet_main.specs.Program.{plain_word_of, IsPlainWord}
 use Rattle.safetynet_main.proofs.Lines.{IsReadSoFar}
 use Rattle.safetynet_main.proofs.program.read_words.Given as goal

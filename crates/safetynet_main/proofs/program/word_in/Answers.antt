@@ -1,5 +1,5 @@
-use Rattle.std.proofs.Common.{sym, ◌∙◌, arith, refl}
-use Rattle.safetynet_main.proofs.Hex.{hex-digit, hex-other, hex-end, small-next, small-word}
+use Rattle.std.proofs.Common.{arith}
+use Rattle.safetynet_main.proofs.Hex.{small-word}
 use Rattle.safetynet_main.proofs.program.word_in.Goals as goal
 
 pub overflow_add-word : goal.overflow_add-word

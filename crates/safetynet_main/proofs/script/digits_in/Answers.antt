@@ -1,5 +1,4 @@
-use Rattle.std.proofs.Common.{ap, sym, ◌∙◌, ◌^◌, arith, refl}
-use Rattle.safetynet_main.specs.Digits.{if_below}
+use Rattle.std.proofs.Common.{sym, ◌∙◌, ◌^◌, arith, refl}
 use Rattle.safetynet_main.proofs.Digits.{digit-step, digit-other, digit-too_large, number-ends}
 use Rattle.safetynet_main.proofs.script.digits_in.Goals as goal
 

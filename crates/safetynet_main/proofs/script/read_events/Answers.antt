@@ -1,6 +1,7 @@
-use Rattle.std.proofs.Common.{rules, arith, sym, ap, subst, ◌∙◌, ◌++◌, ◌∷◌, [], refl}
+use Rattle.std.proofs.Common.{rules, arith, sym, ◌∙◌}
 use Rattle.std.proofs.lemmas.List.Elements.{All-push}
-use Rattle.safetynet_main.specs.Script.{event_of, IsTaken}
+use Rattle.sn_machine.specs.Run.{IsTaken}
+use Rattle.safetynet_main.specs.Script.{event_of}
 use Rattle.safetynet_main.proofs.Lines.{reader-begins, reader-refuses, reader-next, reader-on, reader-ends, reader-ends_begun}
 use Rattle.safetynet_main.proofs.script.read_events.Goals as goal
 use Rattle.safetynet_main.proofs.script.read_events.Goals.{then-byte-eq10+in-Some+in_default-add, else-byte-eq10}

@@ -1,5 +1,6 @@
-use Rattle.std.proofs.Common.{◌≡◌, ◌≤◌, ◌+◌, All, vec_len}
-use Rattle.safetynet_main.specs.Script.{event_of, IsTaken}
+use Rattle.std.proofs.Common.{◌≤◌, All}
+use Rattle.sn_machine.specs.Run.{IsTaken}
+use Rattle.safetynet_main.specs.Script.{event_of}
 use Rattle.safetynet_main.proofs.Lines.{IsReadSoFar}
 use Rattle.safetynet_main.proofs.script.read_events.Given as goal
 
