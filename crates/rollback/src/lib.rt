@@ -14,6 +14,9 @@ ghost use Rattle.std.specs.Prelude.{not, slice_index_or};
 ghost use Rattle.log_buffer.specs.Log.{IsGrowing, entries_from, is_home_side, is_about};
 ghost use Rattle.rollback.specs.Unwound.{LogEntry, Old, unwound, left, all_forgotten, is_changed};
 
+#[cfg(test)]
+mod tests;
+
 use sn_base::{BlockNo, Entries, Interval, LogEntry, Old};
 
 /// What a log is unwound into: a cache, or a home.

@@ -29,20 +29,20 @@ places-preserved g c =
     let now = g.T.Restore.holds c.places.target in
     let l : c.places.place < length es = omega (arith, c.count-place-end.ensures) in
     elim c.if-entry-k.branch [
-    then-entry-k+then-is_oldest w ↦ rw w.target-is (record {
+      | then-entry-k+then-is_oldest w ↦ rw w.target-is (record {
         held = λ b. back_more es c.places.place c.args.k e s b first now (g.T.Restore.holds w.put_back.new.self) l c.entry-entry.ensures c.requires.growing w.if-entry-k.true
             (was_false _ _ w.is_oldest.ensures w.if-is_oldest.true) (c.places.invariant.held b) (w.put_back.ensures.held b);
         room = λ map h. w.put_back.ensures.room map (c.places.invariant.room map h);
-    })
-    | else-entry-k w ↦ rw w.target-is (record {
+      })
+      | else-entry-k w ↦ rw w.target-is (record {
         held = λ b. back_over es c.places.place c.args.k e s b first now l c.entry-entry.ensures
             (elim w.else-entry-k.branch [
-            else-entry-k-via-then-entry-k+else-is_oldest v ↦ λ t. was_true _ _ v.is_oldest.ensures v.if-is_oldest.false
-            | else-entry-k-via-else-entry-k v ↦ λ t. absurd (let h = v.if-entry-k.false in grind (arith, nat_tests))
+              | else-entry-k-via-then-entry-k+else-is_oldest v ↦ λ t. was_true _ _ v.is_oldest.ensures v.if-is_oldest.false
+              | else-entry-k-via-else-entry-k v ↦ λ t. absurd (let h = v.if-entry-k.false in grind (arith, nat_tests))
             ])
             (c.places.invariant.held b);
         room = c.places.invariant.room;
-    })
+      })
     ]
 
 pub returns-clause-held : goal.returns-clause-held
