@@ -21,7 +21,8 @@ usage: safetynet replay --nodes 1 PROGRAM SCRIPT
        safetynet --version
 
 PROGRAM has 1 to 1,024 lines, each one instruction word of eight lower-case
-hexadecimal digits: ADDI, or ECALL (00000073). It begins at 80000000.
+hexadecimal digits, none of them a load, a store or an atomic operation. It
+begins at 80000000.
 SCRIPT has at most 1,000,000 lines, each one event: step 0, edge 0,
 deliver I, report 0, validate or recover. Each line ends with a line feed.
 
