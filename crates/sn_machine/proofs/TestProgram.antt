@@ -3,6 +3,7 @@ use Rattle.std.proofs.Common.{◌≡◌, ℕ, zero, suc, ◌+◌, ◌-◌, ◌*�
 use Rattle.std.proofs.lemmas.Bool.Decides.{nat_tests}
 use Rattle.byteorder.specs.Endian.{little_number}
 use Rattle.sn_base.specs.Image.{SegmentData, ImageData, IsSegment, IsImage, all_executable, bytes_from, fetched}
+use Rattle.rv_decode.specs.Decoded.{decoded}
 use Rattle.rv_core.specs.Plain.{is_plain_word, IsPlain}
 
 abbrev pub letter : List SegmentData
@@ -24,7 +25,7 @@ IsPlainAt : ℕ → Type 0
 IsPlainAt address = IfSome (fetched letter address) (λ word. is_plain_word word ≡ true)
 
 plain_word : (k : ℕ) → k < 5 → IsPlainAt (2147483648 + 4 * k)
-unfolding IsPlainAt
+unfolding IsPlainAt decoded
 plain_word zero h = refl
 plain_word (suc zero) h = refl
 plain_word (suc (suc zero)) h = refl
