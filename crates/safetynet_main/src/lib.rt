@@ -21,3 +21,6 @@ mod words;
 
 pub use call::safetynet;
 pub use status::{Part, Status};
+
+#[cfg(test)]
+mod tests;
