@@ -1,0 +1,7 @@
+use Rattle.std.proofs.Common.{◌≡◌}
+use Rattle.sn_base.specs.Blocks.{ram_start}
+use Rattle.sn_base.specs.Image.{bytes_from}
+use Rattle.sn_flat.proofs.flat.first_memory.Given as goal
+
+abbrev pub invariant-bytes : goal.invariant-bytes
+invariant-bytes l = l.memory.items ≡ bytes_from l.place l.image.segments ram_start
