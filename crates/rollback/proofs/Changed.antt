@@ -1,13 +1,12 @@
 -- Which blocks a log changes, entry by entry.
-use Rattle.std.proofs.Common.{◌≡◌, ℕ, zero, suc, ◌+◌, ◌-◌, ◌^◌, ◌<◌, ◌≤◌, Bool, true, false, not, ◌&&◌, ◌||◌, cond, min, List, [], ◌∷◌, ◌++◌, Option, Some, None, length, get_or, take, drop, refl, sym, ap, ◌∙◌, subst, drop-cons, arith}
-use Rattle.std.specs.Prelude.{nat_le, nat_eq, slice_get, if◌then◌else◌, unwrap_or}
-use Rattle.std.specs.List.{filter}
+use Rattle.std.proofs.Common.{◌≡◌, ℕ, zero, suc, ◌+◌, ◌-◌, ◌^◌, ◌<◌, ◌≤◌, Bool, true, false, ◌&&◌, ◌||◌, cond, min, List, [], ◌∷◌, ◌++◌, Option, Some, None, length, get_or, take, drop, refl, sym, ap, ◌∙◌, subst, drop-cons, arith}
+use Rattle.std.specs.Prelude.{nat_le, slice_get, unwrap_or}
 use Rattle.std.specs.Option.{option_map}
 use Rattle.std.proofs.lemmas.List.{take_more, take-append-drop}
 use Rattle.std.proofs.lemmas.List.Filters.{length-filter_more}
 use Rattle.std.proofs.lemmas.Option.{get_or_from_slice_get}
 use Rattle.std.proofs.lemmas.Bool.Decides.{nat_tests}
-use Rattle.log_buffer.specs.Log.{is_home_side, is_of_side, is_about, earlier, entry_at, old_at, IsGrowing, entries_from}
+use Rattle.log_buffer.specs.Log.{is_home_side, is_about, earlier, entry_at, IsGrowing, entries_from}
 use Rattle.log_buffer.proofs.Entries.{entry_at-first, IsGrowing-drop}
 use Rattle.rollback.specs.Unwound.{LogEntry, Old, is_changed, unwound}
 

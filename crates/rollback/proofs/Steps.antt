@@ -1,10 +1,10 @@
 -- How what is held moves along the way.
-use Rattle.std.proofs.Common.{◌≡◌, ℕ, ◌+◌, ◌<◌, ◌≤◌, Bool, true, false, not, ◌&&◌, ◌||◌, cond, List, [], ◌∷◌, ◌⊎◌, inl, inr, Some, ◌≢◌, length, get_or, take, refl, sym, ap, ◌∙◌, arith}
-use Rattle.std.specs.Prelude.{nat_le, nat_eq, slice_get, if◌then◌else◌}
+use Rattle.std.proofs.Common.{◌≡◌, ℕ, ◌+◌, ◌<◌, ◌≤◌, Bool, true, false, not, ◌&&◌, ◌||◌, cond, List, ◌⊎◌, inl, inr, Some, ◌≢◌, length, get_or, take, refl, sym, ap, ◌∙◌, arith}
+use Rattle.std.specs.Prelude.{nat_le, slice_get}
 use Rattle.std.proofs.lemmas.Option.{get_or_from_slice_get}
 use Rattle.std.proofs.lemmas.Bool.Decides.{nat_tests}
-use Rattle.log_buffer.specs.Log.{is_home_side, is_of_side, is_about, IsGrowing}
-use Rattle.rollback.specs.Unwound.{LogEntry, Old, unwound, left, forgotten, restored, is_changed, all_forgotten, some_restored, IsPart, IsBetween}
+use Rattle.log_buffer.specs.Log.{is_home_side, is_about, IsGrowing}
+use Rattle.rollback.specs.Unwound.{LogEntry, Old, unwound, left, forgotten, restored, is_changed, all_forgotten, some_restored, IsBetween}
 use Rattle.rollback.proofs.Changed.{changed-more, changed-about, unwound-unchanged, unwound-changed, unwound-oldest}
 
 pub left_again : (s : Bool) (x : Old) → left s (left s x) ≡ left s x

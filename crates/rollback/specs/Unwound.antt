@@ -1,6 +1,6 @@
 -- What a recovery leaves of what is held, and what holds on the way to it. What is held is a map from block to old
 -- content, `NotOwned` where nothing is held of the block.
-use Rattle.std.specs.Prelude.{◌≡◌, ℕ, Bool, true, false, not, ◌&&◌, ◌||◌, ◌⊎◌, nat_eq, nat_le, if◌then◌else◌, List, [], ◌∷◌, unwrap_or}
+use Rattle.std.specs.Prelude.{◌≡◌, ℕ, Bool, false, ◌&&◌, ◌||◌, ◌⊎◌, nat_eq, nat_le, if◌then◌else◌, List, [], ◌∷◌, unwrap_or}
 use Rattle.log_buffer.specs.Log.{is_of_side, is_about, old_at}
 pub use Rattle.log_buffer.specs.Log.{LogEntry, Old}
 use Rattle.sn_base.specs.declared.log.Old.TheVariants.{NotOwned}

@@ -1,4 +1,4 @@
-use Rattle.std.proofs.Common.{◌≡◌, ◌<◌, length, arith}
+use Rattle.std.proofs.Common.{◌<◌, length, arith}
 use Rattle.rollback.proofs.Steps.{forget_more, forget_over, earlier_place}
 use Rattle.rollback.proofs.forget_all.Goals as goal
 use Rattle.rollback.proofs.forget_all.Goals.{then-entry-k, else-entry-k}

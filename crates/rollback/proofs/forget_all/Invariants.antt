@@ -1,4 +1,4 @@
-use Rattle.std.proofs.Common.{◌≡◌, ℕ, ◌<◌, ◌≤◌, take, length, get_or}
+use Rattle.std.proofs.Common.{◌≡◌, ℕ, ◌<◌, ◌≤◌, take, get_or}
 use Rattle.rollback.specs.Unwound.{LogEntry, Old, all_forgotten}
 use Rattle.rollback.proofs.forget_all.Given as goal
 

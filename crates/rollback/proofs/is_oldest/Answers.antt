@@ -1,7 +1,7 @@
-use Rattle.std.proofs.Common.{◌≡◌, ◌<◌, ◌&&◌, Bool, true, false, not, length, take, ap, ◌∙◌, sym, arith}
+use Rattle.std.proofs.Common.{◌≡◌, ◌<◌, ◌&&◌, Bool, false, not, length, take, ap, ◌∙◌, sym, arith}
 use Rattle.std.specs.Prelude.{nat_le}
 use Rattle.std.proofs.lemmas.Bool.Decides.{nat_tests}
-use Rattle.log_buffer.specs.Log.{is_home_side, is_about}
+use Rattle.log_buffer.specs.Log.{is_about}
 use Rattle.rollback.specs.Unwound.{is_changed}
 use Rattle.rollback.proofs.Changed.{changed-found, changed-passed}
 use Rattle.rollback.proofs.is_oldest.Goals as goal

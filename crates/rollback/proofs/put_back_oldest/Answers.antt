@@ -1,8 +1,8 @@
-use Rattle.std.proofs.Common.{◌≡◌, ℕ, ◌<◌, ◌∙◌, true, false, not, take, length, ap, sym, arith}
+use Rattle.std.proofs.Common.{◌≡◌, ℕ, ◌<◌, ◌∙◌, false, take, length, ap, arith}
 use Rattle.std.proofs.Math.Seq.{take-length}
 use Rattle.std.proofs.lemmas.Option.{get_or_from_slice_get}
 use Rattle.log_buffer.specs.Log.{is_home_side}
-use Rattle.rollback.specs.Unwound.{is_changed, unwound, restored}
+use Rattle.rollback.specs.Unwound.{is_changed, unwound}
 use Rattle.rollback.proofs.Steps.{back_more, back_over, back_between, back_last, was_false, was_true}
 use Rattle.std.proofs.lemmas.Bool.Decides.{nat_tests}
 use Rattle.rollback.proofs.put_back_oldest.Goals as goal

@@ -1,5 +1,5 @@
-use Rattle.std.proofs.Common.{◌≡◌, ℕ, ◌<◌, ◌≤◌, take, length, get_or}
-use Rattle.rollback.specs.Unwound.{LogEntry, Old, some_restored}
+use Rattle.std.proofs.Common.{◌≡◌, ℕ, take}
+use Rattle.rollback.specs.Unwound.{Old, some_restored}
 use Rattle.rollback.proofs.put_back_oldest.Given as goal
 
 abbrev pub invariant-places : goal.invariant-places

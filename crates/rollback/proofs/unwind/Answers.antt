@@ -1,5 +1,5 @@
-use Rattle.std.proofs.Common.{◌≡◌, ◌∙◌, arith}
-use Rattle.rollback.proofs.Steps.{unwound-forgotten, forgotten-gone}
+use Rattle.std.proofs.Common.{◌∙◌}
+use Rattle.rollback.proofs.Steps.{unwound-forgotten}
 use Rattle.rollback.proofs.unwind.Goals as goal
 
 pub returns-clause-held : goal.returns-clause-held

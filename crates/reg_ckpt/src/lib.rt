@@ -1,0 +1,138 @@
+//! The register checkpoints of one node.
+//!
+//! At each edge of its clock a node keeps its core, under the number of the checkpoint that begins there. The layer
+//! above sees the cores by their numbers, without gaps, from the recovery point that the node knows to its newest
+//! checkpoint: at most five. A checkpoint keeps no reservation, since a recovery clears it. Only `new` takes memory.
+//!
+//! Source: register checkpoints of SafetyNet (Sorin, Martin, Hill, Wood, ISCA 2002).
+#![tactic(auto)]
+
+ghost use Rattle.std.specs.Prelude.{◌≡◌, ◌+◌, ◌-◌, ◌<◌, ◌≤◌, ◌^◌, [], ◌∷◌, ◌++◌, length, IfOk, Some};
+ghost use Rattle.circular_buffer.specs.Buffer.{buffer};
+ghost use Rattle.reg_ckpt.specs.Kept.{Kept, IsKept, IsWithin, next, core_at, without_reservation, freed_below, dropped_above};
+
+use circular_buffer::HeapCircularBuffer;
+use rv_core::CoreState;
+use sn_base::{Interval, Memory};
+use std::alloc::Global;
+use std::marker::Model;
+
+/// The checkpoints. Contracts see the number of the oldest, and the cores from there on.
+#[derive(Drop)]
+pub struct RegCheckpoints {
+    first: Interval,
+    cores: HeapCircularBuffer<CoreState>,
+}
+
+impl Model for RegCheckpoints {
+    ghost use Rattle.std.specs.Prelude.{◌≡◌};
+    ghost use Rattle.reg_ckpt.specs.Kept.{Kept, IsWithin};
+
+    ghost Value = { Kept };
+
+    ghost view = { λ r. record { first = r.first; cores = r.cores.items } };
+
+    ghost invariant = { λ r. IsWithin (record { first = r.first; cores = r.cores.items }) × (r.cores.capacity ≡ 5) };
+}
+
+fn without_reservation(core: CoreState) -> CoreState
+    ensures { result ≡ without_reservation core }
+{
+    let mut kept = core;
+    kept.reservation = None;
+    kept
+}
+
+fn append<T: Copy>(items: &mut HeapCircularBuffer<T>, item: T)
+    requires { length items.old.items < items.old.capacity }
+    ensures { items.new ≡ buffer (items.old.items ++ item ∷ []) items.old.capacity }
+{
+    let _ = items.push_back(item);
+}
+
+impl RegCheckpoints {
+    /// Checkpoint 0 alone.
+    pub fn new(alloc: Global, first: CoreState) -> Result<RegCheckpoints, Memory>
+        ensures { IfOk result (λ r. r ≡ record { first = 0; cores = without_reservation first ∷ [] }) }
+    {
+        let mut cores = HeapCircularBuffer::with_capacity(alloc, 5)?;
+        append(&mut cores, without_reservation(first));
+        Ok(RegCheckpoints { first: 0, cores })
+    }
+
+    /// Keeps a core as the next checkpoint.
+    pub fn take(&mut self, k: Interval, core: CoreState)
+        requires number { k ≡ next self.old }
+        requires few { length self.old.cores < 5 }
+        ensures { self.new ≡ record self.old { cores = self.old.cores ++ without_reservation core ∷ [] } }
+    {
+        let _number = k;
+        append(&mut self.cores, without_reservation(core));
+    }
+
+    pub fn get(&self, k: Interval) -> &CoreState
+        requires { IsKept self.now k }
+        ensures core { core_at self.now k ≡ Some result.now }
+        ensures good { IsWithin self.now }
+    {
+        let place = (k - self.first) as usize;
+        self.cores.get(place).unwrap()
+    }
+
+    /// Drops the checkpoints below k, once no recovery goes back below checkpoint k.
+    pub fn free_below(&mut self, k: Interval)
+        requires { k < next self.old }
+        ensures { self.new ≡ freed_below self.old k }
+    {
+        if k <= self.first {
+            return;
+        }
+        let freed = (k - self.first) as usize;
+        let left = self.cores.len() - freed;
+        self.cores.truncate_front(left);
+        self.first = k;
+    }
+
+    /// Drops the checkpoints above k, which a recovery to checkpoint k undoes.
+    pub fn drop_above(&mut self, k: Interval)
+        requires { IsKept self.old k }
+        ensures { self.new ≡ dropped_above self.old k }
+    {
+        let left = (k - self.first) as usize + 1;
+        self.cores.truncate_back(left);
+    }
+}
+
+#[cfg(test)]
+mod tests {
+    use super::*;
+    use sn_base::{BlockNo, NodeId};
+    use std::test::Fail;
+
+    #[test]
+    fn checkpoints_are_kept_by_their_numbers(rt: HostRuntime) -> Result<(), Fail> {
+        let mut core = CoreState::start(NodeId::new(3).unwrap(), 0x8000_0000);
+        let mut kept = RegCheckpoints::new(rt.alloc(), core)?;
+        core.pc = 0x8000_0004;
+        core.reservation = Some(BlockNo::new(64));
+        kept.take(1, core);
+        core.pc = 0x8000_0008;
+        kept.take(2, core);
+        kept.take(3, core);
+        kept.take(4, core);
+        assert_eq!(rt; kept.get(0).pc, 0x8000_0000);
+        assert_eq!(rt;
+            (kept.get(1).pc, kept.get(1).reservation),
+            (0x8000_0004, None)
+        );
+        kept.free_below(1);
+        kept.take(5, core);
+        assert_eq!(rt; kept.get(1).pc, 0x8000_0004);
+        kept.drop_above(2);
+        assert_eq!(rt; (kept.get(2).pc, kept.get(2).x[10]), (0x8000_0008, 3));
+        kept.take(3, core);
+        kept.free_below(3);
+        assert_eq!(rt; kept.get(3).pc, 0x8000_0008);
+        Ok(())
+    }
+}
