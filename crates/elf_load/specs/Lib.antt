@@ -1,3 +1,4 @@
 pub mod Hexadecimal
 pub mod Elf
 pub mod Loading
+pub mod Writing

@@ -13,6 +13,8 @@ mod loading;
 mod program_header;
 #[cfg(test)]
 mod tests;
+mod writing;
 
 pub use fault::{Field, LoadCause, LoadFault};
 pub use loading::load;
+pub use writing::write_elf;

@@ -241,3 +241,43 @@ fn a_text_has_at_most_the_words_of_memory(rt: HostRuntime) {
         Some(LoadCause::TooManyWords)
     );
 }
+
+/// The file of an image that has at most 64 segments.
+fn written(alloc: Global, image: &Image) -> Option<Vec<u8>> {
+    if image.segments().len() > 64 {
+        return None;
+    }
+    write_elf(alloc, image).ok()
+}
+
+#[test]
+fn a_written_file_is_read_as_the_same_program(rt: HostRuntime) {
+    let alloc = rt.alloc();
+    let file = linked(alloc).expect(&rt, "memory");
+    let image = load(alloc, file.as_slice()).expect(&rt, "an image");
+    let copy = written(alloc, &image).expect(&rt, "a file");
+    let read = load(alloc, copy.as_slice()).expect(&rt, "an image");
+    assert_eq!(rt; read.entry(), image.entry());
+    for address in 0x7fff_fff0..0x8000_2000 {
+        assert_eq!(rt; read.byte(address), image.byte(address));
+        assert_eq!(rt; read.fetch(address), image.fetch(address));
+        assert_eq!(rt;
+            read.writable(address, Width::Byte),
+            image.writable(address, Width::Byte)
+        );
+    }
+}
+
+#[test]
+fn a_written_file_has_the_headers_of_the_format(rt: HostRuntime) {
+    let alloc = rt.alloc();
+    let image = load(alloc, b"00000073").expect(&rt, "an image");
+    let file = written(alloc, &image).expect(&rt, "a file");
+    let wanted = [
+        0x7f, 0x45, 0x4c, 0x46, 1, 1, 1, 0, 0, 0, 0, 0, 0, 0, 0, 0, 2, 0, 0xf3, 0, 1, 0, 0, 0, //
+        0, 0, 0, 0x80, 52, 0, 0, 0, 0, 0, 0, 0, 0, 0, 0, 0, 52, 0, 32, 0, 1, 0, 0, 0, 0, 0, 0, 0, //
+        1, 0, 0, 0, 84, 0, 0, 0, 0, 0, 0, 0x80, 0, 0, 0, 0x80, 4, 0, 0, 0, 4, 0, 0, 0, 5, 0, 0, 0, //
+        1, 0, 0, 0, 0x73, 0, 0, 0,
+    ];
+    assert_eq!(rt; file.as_slice(), wanted.as_slice());
+}

@@ -1,0 +1,6 @@
+use Rattle.std.proofs.Common.{◌≡◌, ◌++◌, take}
+use Rattle.elf_load.specs.Writing.{halves}
+use Rattle.elf_load.proofs.writing.add_halves.Given as goal
+
+abbrev pub invariant-numbers : goal.invariant-numbers
+invariant-numbers l = l.file.items ≡ l.initial.file.items ++ halves (take l.number-index l.numbers)
