@@ -200,7 +200,7 @@ fn a_refusal_says_why_and_nothing_is_written(rt: HostRuntime) -> Result<(), Fail
         ),
         (
             WORDS,
-            "00000013\n00000000\n",
+            "00000013\n0000a283\n",
             VALIDATED,
             Status::NotBuilt(Part::Program),
         ),
