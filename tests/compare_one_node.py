@@ -20,32 +20,31 @@ def addi(rd, rs1, immediate):
 
 
 def program(choose):
-    """Words that often put bytes out, sometimes end or ask for input, and sometimes call nothing."""
-    words = []
+    """Words that mostly put bytes out, sometimes end or ask for input, and sometimes call nothing."""
+    words = [addi(17, 0, 1)] if choose.random() < 0.8 else []
     for _ in range(choose.randrange(1, 24)):
         kind = choose.random()
-        if kind < 0.3:
+        if kind < 0.4:
             words.append(ECALL)
-        elif kind < 0.55:
-            words.append(addi(17, 0, choose.choice([1, 1, 1, 1, 2, 93, 7])))
-        elif kind < 0.75:
+        elif kind < 0.5:
+            words.append(addi(17, 0, choose.choice([1, 1, 1, 1, 1, 1, 2, 93, 7])))
+        elif kind < 0.8:
             words.append(addi(10, choose.choice([0, 10]), choose.randrange(-300, 300)))
         else:
-            words.append(addi(choose.randrange(32), choose.randrange(32), choose.randrange(-2048, 2048)))
+            words.append(addi(choose.choice([5, 6, 10, 10, 31, 0]), choose.randrange(32), choose.randrange(-2048, 2048)))
     return "".join(f"{word:08x}\n" for word in words)
 
 
 def script(choose):
+    """Events that often go through to a validation: what was sent is mostly delivered, and an edge mostly reported."""
     lines, sent = [], 0
     for _ in range(choose.randrange(0, 90)):
-        kind = choose.choices(["step", "edge", "deliver", "report", "validate", "recover"], [45, 10, 15, 12, 12, 4])[0]
+        kind = choose.choices(["step", "edge", "deliver", "report", "validate", "recover"], [45, 8, 20, 12, 14, 2])[0]
         if kind == "deliver":
-            kind = f"deliver {choose.randrange(0, sent + 3)}"
+            kind = f"deliver {choose.randrange(max(0, sent - 2), sent + 1) if choose.random() < 0.8 else choose.randrange(0, sent + 3)}"
         elif kind in ("step", "edge", "report"):
             sent += kind == "report"
             kind += " 0"
-        else:
-            sent += kind == "validate"
         lines.append(kind)
     return "".join(line + "\n" for line in lines)
 
