@@ -1,5 +1,5 @@
 -- The register checkpoints of a node, by their numbers.
-use Rattle.std.specs.Prelude.{◌≡◌, ℕ, ◌+◌, ◌-◌, ◌<◌, ◌≤◌, ◌^◌, List, length, take, drop, max, Option, None, slice_get}
+use Rattle.std.specs.Prelude.{ℕ, ◌+◌, ◌-◌, ◌<◌, ◌≤◌, ◌^◌, List, length, take, drop, max, Option, None, slice_get}
 pub use Rattle.rv_core.specs.declared.state.CoreState.{CoreState}
 
 -- the number of the oldest checkpoint that is kept, and the cores, one for each number from there on

@@ -106,33 +106,36 @@ impl RegCheckpoints {
 #[cfg(test)]
 mod tests {
     use super::*;
-    use sn_base::{BlockNo, NodeId};
+    use rv_core::End;
+    use sn_base::BlockNo;
     use std::test::Fail;
+
+    fn core(pc: u32) -> CoreState {
+        CoreState {
+            pc,
+            x: [3; 32],
+            reservation: Some(BlockNo::new(64)),
+            end: End::Running,
+        }
+    }
 
     #[test]
     fn checkpoints_are_kept_by_their_numbers(rt: HostRuntime) -> Result<(), Fail> {
-        let mut core = CoreState::start(NodeId::new(3).unwrap(), 0x8000_0000);
-        let mut kept = RegCheckpoints::new(rt.alloc(), core)?;
-        core.pc = 0x8000_0004;
-        core.reservation = Some(BlockNo::new(64));
-        kept.take(1, core);
-        core.pc = 0x8000_0008;
-        kept.take(2, core);
-        kept.take(3, core);
-        kept.take(4, core);
-        assert_eq!(rt; kept.get(0).pc, 0x8000_0000);
-        assert_eq!(rt;
-            (kept.get(1).pc, kept.get(1).reservation),
-            (0x8000_0004, None)
-        );
+        let mut kept = RegCheckpoints::new(rt.alloc(), core(0))?;
+        kept.take(1, core(4));
+        kept.take(2, core(8));
+        kept.take(3, core(12));
+        kept.take(4, core(16));
+        assert_eq!(rt; kept.get(0).pc, 0);
+        assert!(rt; kept.get(1).pc == 4 && kept.get(1).reservation.is_none());
         kept.free_below(1);
-        kept.take(5, core);
-        assert_eq!(rt; kept.get(1).pc, 0x8000_0004);
+        kept.take(5, core(20));
+        assert_eq!(rt; kept.get(1).pc, 4);
         kept.drop_above(2);
-        assert_eq!(rt; (kept.get(2).pc, kept.get(2).x[10]), (0x8000_0008, 3));
-        kept.take(3, core);
+        assert_eq!(rt; (kept.get(2).pc, kept.get(2).x[31]), (8, 3));
+        kept.take(3, core(24));
         kept.free_below(3);
-        assert_eq!(rt; kept.get(3).pc, 0x8000_0008);
+        assert_eq!(rt; kept.get(3).pc, 24);
         Ok(())
     }
 }
