@@ -46,7 +46,7 @@ is_field field wanted value = refuse_if (not (nat_eq value wanted)) (WrongField 
 -- the fields that say that the file is a 32-bit RISC-V executable, lowest byte first
 unfoldable pub identity : List ℕ → Step
 identity bytes = first_refusal (
-    is_field Magic 1179403647 (word_at bytes 0) ∷
+    is_field Magic 0x464c_457f (word_at bytes 0) ∷
     is_field Class 1 (byte_at bytes 4) ∷
     is_field Order 1 (byte_at bytes 5) ∷
     is_field IdentVersion 1 (byte_at bytes 6) ∷
