@@ -2,12 +2,20 @@
 use crate::{Part, Status, safetynet};
 use sn_io::{MemSink, MemStore};
 use std::alloc::Global;
+use std::process::Abort;
 use std::test::Fail;
 
 /// Puts `A` and ends with code 65.
 const PUTS_A: &str = "04100513\n00100893\n00000073\n05d00893\n00000073\n";
 
 const VALIDATED: &str = "step 0\nstep 0\nstep 0\nedge 0\nreport 0\ndeliver 1\nvalidate\n";
+
+const RECOVERED: &str = "step 0\nstep 0\nstep 0\nedge 0\nreport 0\nrecover\n";
+
+const FULL: &str = "edge 0\nedge 0\nedge 0\nedge 0\nedge 0\n";
+
+const TWICE: &str =
+    "step 0\nstep 0\nstep 0\nrecover\nrecover\nstep 0\nstep 0\nstep 0\nedge 0\nreport 0\ndeliver 1\nvalidate\n";
 
 const VALIDATED_EVENTS: &str = "\
 1 step 0: retired
@@ -99,6 +107,22 @@ core 0 8000000c running x10=00000041 x17=00000001
 
 const WORDS: &str = "safetynet replay --nodes 1 a.hex a.script";
 
+/// What a call left.
+#[derive(Drop)]
+struct Left {
+    status: Status,
+    console: Vec<u8>,
+    report: Vec<u8>,
+}
+
+/// Which calls of the store, the console and the report fail; 0 is no call.
+#[derive(Clone, Copy)]
+struct Faults {
+    store: u64,
+    console: u64,
+    report: u64,
+}
+
 fn words_in(alloc: Global, text: &str) -> Result<Vec<String>, Fail> {
     let mut words = Vec::new(alloc);
     for word in text.split_whitespace() {
@@ -107,195 +131,183 @@ fn words_in(alloc: Global, text: &str) -> Result<Vec<String>, Fail> {
     Ok(words)
 }
 
-fn store_of(alloc: Global, program: &str, script: &str) -> Result<MemStore, Fail> {
+fn call(
+    alloc: Global,
+    words: &str,
+    program: &str,
+    script: &str,
+    faults: Faults,
+) -> Result<Left, Fail> {
+    let words = words_in(alloc, words)?;
     let mut store = MemStore::new(alloc);
     store.add("a.hex", program.as_bytes())?;
     store.add("a.script", script.as_bytes())?;
-    Ok(store)
+    store.fail_call(faults.store)?;
+    let mut console = MemSink::with_room(alloc, 100)?;
+    console.fail_call(faults.console)?;
+    let mut report = MemSink::with_room(alloc, 1000)?;
+    report.fail_call(faults.report)?;
+    let status = safetynet(
+        alloc,
+        words.as_slice(),
+        &mut store,
+        &mut console,
+        &mut report,
+    );
+    Ok(Left {
+        status,
+        console: Vec::from_slice(alloc, console.bytes())?,
+        report: Vec::from_slice(alloc, report.bytes())?,
+    })
+}
+
+fn check_replay(
+    rt: &impl Abort,
+    alloc: Global,
+    script: &str,
+    output: &str,
+    report: &str,
+) -> Result<(), Fail> {
+    let none = Faults {
+        store: 0,
+        console: 0,
+        report: 0,
+    };
+    let left = call(alloc, WORDS, PUTS_A, script, none)?;
+    assert_eq!(rt; left.status, Status::Done);
+    assert_eq!(rt; left.console.as_slice(), output.as_bytes());
+    assert_eq!(rt; left.report.as_slice(), report.as_bytes());
+    Ok(())
+}
+
+fn check_refusal(
+    rt: &impl Abort,
+    alloc: Global,
+    words: &str,
+    program: &str,
+    script: &str,
+    want: Status,
+) -> Result<(), Fail> {
+    let none = Faults {
+        store: 0,
+        console: 0,
+        report: 0,
+    };
+    let left = call(alloc, words, program, script, none)?;
+    assert_eq!(rt; left.status, want, "at {words}, {program}, {script}");
+    assert!(rt; left.console.is_empty() && left.report.is_empty());
+    Ok(())
+}
+
+fn check_fault(
+    rt: &impl Abort,
+    alloc: Global,
+    faults: Faults,
+    want: Status,
+    output: &str,
+    report: &str,
+) -> Result<(), Fail> {
+    let left = call(alloc, WORDS, PUTS_A, VALIDATED, faults)?;
+    assert_eq!(rt; left.status, want);
+    assert_eq!(rt; left.console.as_slice(), output.as_bytes());
+    assert_eq!(rt; left.report.as_slice(), report.as_bytes());
+    Ok(())
 }
 
 #[test]
 fn a_replay_puts_what_was_validated_and_reports_each_event(rt: HostRuntime) -> Result<(), Fail> {
     let alloc = rt.alloc();
-    let words = words_in(alloc, WORDS)?;
-    for (script, output, lines) in [
-        (VALIDATED, "A", VALIDATED_REPORT),
-        (
-            "step 0\nstep 0\nstep 0\nedge 0\nreport 0\nrecover\n",
-            "",
-            RECOVERED_REPORT,
-        ),
-        ("", "", EMPTY_REPORT),
-        ("edge 0\nedge 0\nedge 0\nedge 0\nedge 0\n", "", FULL_REPORT),
-        (
-            "step 0\nstep 0\nstep 0\nrecover\nrecover\nstep 0\nstep 0\nstep 0\nedge 0\nreport 0\ndeliver 1\nvalidate\n",
-            "A",
-            TWICE_REPORT,
-        ),
+    check_replay(&rt, alloc, VALIDATED, "A", VALIDATED_REPORT)?;
+    check_replay(&rt, alloc, RECOVERED, "", RECOVERED_REPORT)?;
+    check_replay(&rt, alloc, "", "", EMPTY_REPORT)?;
+    check_replay(&rt, alloc, FULL, "", FULL_REPORT)?;
+    check_replay(&rt, alloc, TWICE, "A", TWICE_REPORT)?;
+    Ok(())
+}
+
+#[test]
+fn words_that_are_no_command_are_usage(rt: HostRuntime) -> Result<(), Fail> {
+    let alloc = rt.alloc();
+    for words in [
+        "safetynet",
+        "safetynet fly",
+        "safetynet replay --nodes 2 a.hex a.script",
+        "safetynet replay --nodes 1 a.hex a.script more",
     ] {
-        let mut store = store_of(alloc, PUTS_A, script)?;
-        let mut console = MemSink::with_room(alloc, 1000)?;
-        let mut report = MemSink::with_room(alloc, 10_000)?;
-        let status = safetynet(
-            alloc,
-            words.as_slice(),
-            &mut store,
-            &mut console,
-            &mut report,
-        );
-        assert_eq!(rt; status, Status::Done);
-        assert_eq!(rt; console.bytes(), output.as_bytes());
-        assert_eq!(rt; report.bytes(), lines.as_bytes());
+        check_refusal(&rt, alloc, words, PUTS_A, VALIDATED, Status::Usage)?;
     }
     Ok(())
 }
 
 #[test]
-fn a_refusal_says_why_and_nothing_is_written(rt: HostRuntime) -> Result<(), Fail> {
+fn a_file_that_is_lacking_is_a_store_fault(rt: HostRuntime) -> Result<(), Fail> {
     let alloc = rt.alloc();
-    for (text, program, script, want) in [
-        ("safetynet fly", PUTS_A, VALIDATED, Status::Usage),
-        (
-            "safetynet replay --nodes 2 a.hex a.script",
-            PUTS_A,
-            VALIDATED,
-            Status::Usage,
-        ),
-        (
-            "safetynet replay --nodes 1 a.hex a.script more",
-            PUTS_A,
-            VALIDATED,
-            Status::Usage,
-        ),
-        (
-            "safetynet replay --nodes 1 b.hex a.script",
-            PUTS_A,
-            VALIDATED,
-            Status::StoreFault,
-        ),
-        (
-            "safetynet replay --nodes 1 a.hex b.script",
-            PUTS_A,
-            VALIDATED,
-            Status::StoreFault,
-        ),
-        (WORDS, "", VALIDATED, Status::NotBuilt(Part::Program)),
-        (
+    for words in [
+        "safetynet replay --nodes 1 b.hex a.script",
+        "safetynet replay --nodes 1 a.hex b.script",
+    ] {
+        check_refusal(&rt, alloc, words, PUTS_A, VALIDATED, Status::StoreFault)?;
+    }
+    Ok(())
+}
+
+#[test]
+fn a_file_of_another_form_is_not_built(rt: HostRuntime) -> Result<(), Fail> {
+    let alloc = rt.alloc();
+    // No word, seven digits, no end of the line, an upper-case digit, a load.
+    for program in [
+        "",
+        "0410051\n",
+        "04100513",
+        "0410051A\n",
+        "00000013\n0000a283\n",
+    ] {
+        check_refusal(
+            &rt,
+            alloc,
             WORDS,
-            "0410051\n",
-            VALIDATED,
-            Status::NotBuilt(Part::Program),
-        ),
-        (
-            WORDS,
-            "04100513",
-            VALIDATED,
-            Status::NotBuilt(Part::Program),
-        ),
-        (
-            WORDS,
-            "0410051A\n",
-            VALIDATED,
-            Status::NotBuilt(Part::Program),
-        ),
-        (
-            WORDS,
-            "00000013\n0000a283\n",
-            VALIDATED,
-            Status::NotBuilt(Part::Program),
-        ),
-        (WORDS, PUTS_A, "step 1\n", Status::NotBuilt(Part::Script)),
-        (WORDS, PUTS_A, " step 0\n", Status::NotBuilt(Part::Script)),
-        (
-            WORDS,
-            PUTS_A,
-            "deliver 01\n",
-            Status::NotBuilt(Part::Script),
-        ),
-        (
-            WORDS,
-            PUTS_A,
-            "deliver 18446744073709551616\n",
-            Status::NotBuilt(Part::Script),
-        ),
-        (WORDS, PUTS_A, "validate", Status::NotBuilt(Part::Script)),
-        (
-            WORDS,
-            "0410051\n",
+            program,
             "step 1\n",
             Status::NotBuilt(Part::Program),
-        ),
+        )?;
+    }
+    // Another node, a blank, a leading zero, 2^64, no end of the line.
+    for script in [
+        "step 1\n",
+        " step 0\n",
+        "deliver 01\n",
+        "deliver 18446744073709551616\n",
+        "validate",
     ] {
-        let words = words_in(alloc, text)?;
-        let mut store = store_of(alloc, program, script)?;
-        let mut console = MemSink::with_room(alloc, 1000)?;
-        let mut report = MemSink::with_room(alloc, 10_000)?;
-        let status = safetynet(
+        check_refusal(
+            &rt,
             alloc,
-            words.as_slice(),
-            &mut store,
-            &mut console,
-            &mut report,
-        );
-        assert_eq!(rt; status, want, "at {text}");
-        assert_eq!(rt;
-            console.bytes().len() + report.bytes().len(),
-            0,
-            "at {text}"
-        );
+            WORDS,
+            PUTS_A,
+            script,
+            Status::NotBuilt(Part::Script),
+        )?;
     }
     Ok(())
 }
 
 #[test]
-fn a_store_that_fails_is_a_store_fault(rt: HostRuntime) -> Result<(), Fail> {
+fn a_call_that_fails_leaves_the_beginning_of_each_text(rt: HostRuntime) -> Result<(), Fail> {
     let alloc = rt.alloc();
-    let words = words_in(alloc, WORDS)?;
-    for call in [1u64, 2] {
-        let mut store = store_of(alloc, PUTS_A, VALIDATED)?;
-        store.fail_call(call)?;
-        let mut console = MemSink::with_room(alloc, 1000)?;
-        let mut report = MemSink::with_room(alloc, 10_000)?;
-        let status = safetynet(
-            alloc,
-            words.as_slice(),
-            &mut store,
-            &mut console,
-            &mut report,
-        );
-        assert_eq!(rt; status, Status::StoreFault);
-        assert_eq!(rt; report.bytes().len(), 0);
-    }
-    Ok(())
-}
-
-#[test]
-fn a_sink_that_fails_has_the_beginning_of_its_text(rt: HostRuntime) -> Result<(), Fail> {
-    let alloc = rt.alloc();
-    let words = words_in(alloc, WORDS)?;
-    // The console's call that fails, the report's, and the report's room; 0 is no call.
-    for (console_call, report_call, room, output, lines) in [
-        (1u64, 0u64, 10_000usize, "", VALIDATED_EVENTS),
-        (0, 1, 10_000, "", ""),
-        (0, 2, 10_000, "", "1 step 0: retired\n"),
-        (0, 7, 10_000, "A", VALIDATED_EVENTS),
-        (0, 0, 20, "", "1 step 0: retired\n"),
+    for (store, console, report, want, output, lines) in [
+        (1u64, 0u64, 0u64, Status::StoreFault, "", ""),
+        (2, 0, 0, Status::StoreFault, "", ""),
+        (0, 1, 0, Status::SinkFault, "", VALIDATED_EVENTS),
+        (0, 0, 1, Status::SinkFault, "", ""),
+        (0, 0, 2, Status::SinkFault, "", "1 step 0: retired\n"),
+        (0, 0, 7, Status::SinkFault, "A", VALIDATED_EVENTS),
     ] {
-        let mut store = store_of(alloc, PUTS_A, VALIDATED)?;
-        let mut console = MemSink::with_room(alloc, 1000)?;
-        let mut report = MemSink::with_room(alloc, room)?;
-        console.fail_call(console_call)?;
-        report.fail_call(report_call)?;
-        let status = safetynet(
-            alloc,
-            words.as_slice(),
-            &mut store,
-            &mut console,
-            &mut report,
-        );
-        assert_eq!(rt; status, Status::SinkFault);
-        assert_eq!(rt; console.bytes(), output.as_bytes());
-        assert_eq!(rt; report.bytes(), lines.as_bytes());
+        let faults = Faults {
+            store,
+            console,
+            report,
+        };
+        check_fault(&rt, alloc, faults, want, output, lines)?;
     }
     Ok(())
 }
