@@ -53,10 +53,14 @@ closed_put at = record at { cache = record at.cache { put = None } }
 
 -- how a miss completes
 
--- a block that was wanted for a write is Modified
+-- the line of a block that was wanted for a write is Modified
 abbrev pub line_when_done : LineState → Need → LineState
 line_when_done state Read = state
-line_when_done state Write = Modified
+line_when_done Absent Write = Absent
+line_when_done Shared Write = Modified
+line_when_done Owned Write = Modified
+line_when_done Modified Write = Modified
+line_when_done Exclusive Write = Modified
 
 -- the miss is complete: its home gets the interval of atomicity
 abbrev pub completed : Logged → ℕ → Miss → ℕ → CacheReply

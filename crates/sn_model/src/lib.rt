@@ -11,9 +11,11 @@
 mod cache;
 mod home;
 mod laws;
+mod look;
 mod net;
 
 pub use cache::{LineState, Need, Out};
 pub use home::{Kind, Owner};
 pub use laws::refusal_changes_nothing;
+pub use look::Look;
 pub use net::Sent;
