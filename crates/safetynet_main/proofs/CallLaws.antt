@@ -4,16 +4,19 @@ use Rattle.std.specs.Prelude.{Option, Some, None, IfSome, IsOk, Result, Ok, Err,
 use Rattle.sn_base.specs.Image.{ImageData}
 use Rattle.sn_base.specs.declared.event.Event.{Event}
 use Rattle.sn_io.specs.Outside.{Found, File, TooLong, Missing, Rose, found_in}
-use Rattle.safetynet_main.specs.Program.{image_of}
+use Rattle.elf_load.specs.declared.fault.LoadCause.{LoadCause}
+use Rattle.elf_load.specs.Loading.{image_of}
+use Rattle.safetynet_main.specs.Runnable.{is_runnable}
+use Rattle.safetynet_main.specs.Program.{program_limit, if_loaded}
 use Rattle.safetynet_main.specs.Script.{events_of}
 use Rattle.safetynet_main.specs.Pieces.{Ends}
 use Rattle.safetynet_main.specs.Request.{Request}
-use Rattle.safetynet_main.specs.Call.{program_limit, script_limit, or_not_built, read_found, program_in, script_in, Fetches, with_program, with_script, Loads, due_of, Follows, Comes}
+use Rattle.safetynet_main.specs.Call.{script_limit, or_not_built, program_in, script_in, Fetches, with_program, with_script, Loads, due_of, Follows, Comes}
 use Rattle.safetynet_main.specs.declared.call.Job.{Job}
-use Rattle.safetynet_main.specs.declared.status.Part.{Part}
-use Rattle.safetynet_main.specs.declared.status.Part.TheVariants.{Program as ProgramPart, Script as ScriptPart}
+use Rattle.safetynet_main.specs.declared.status.Part.TheVariants.{Program, Script}
+use Rattle.safetynet_main.specs.declared.status.ProgramCause.TheVariants.{TooLong as ProgramTooLong}
 use Rattle.safetynet_main.specs.declared.status.Status.{Status}
-use Rattle.safetynet_main.specs.declared.status.Status.TheVariants.{Done, Usage, StoreFault, SinkFault, Memory, NotBuilt}
+use Rattle.safetynet_main.specs.declared.status.Status.TheVariants.{Done, Usage, StoreFault, BadProgram, SinkFault, Memory, NotBuilt}
 
 if_some-at : {T : Type 0} (o : Option T) (x : T) (P : T → Type 0) → o ≡ Some x → IfSome o P → P x
 if_some-at o x P e h = subst (λ t. IfSome t P) e h
@@ -54,16 +57,37 @@ comes-sure files sure faults gave old new None held status before behind h s e =
 comes-sure files sure faults gave old new (Some request) held status before behind h s e =
     subst (λ (j : Result Job Status). Follows j status before behind) (loads-sure files sure faults gave old new request held h.0 h.1 s e) h.2
 
--- a file that is there is refused as not built, and for no other reason
-refused-within : {A : Type 0} (part : Part) (meaning : Option A) (long : Bool) (status : Status) → (if long then Err (NotBuilt part) else or_not_built part meaning) ≡ Err status → status ≡ NotBuilt part
-refused-within part meaning true status e = cc
-refused-within part None false status e = cc
-refused-within part (Some x) false status e = cc
+-- what the bytes of a file are refused as is no fault of the store, nor of the words
+abbrev IsOfBytes : Status → Type 0
+IsOfBytes status = (status ≡ StoreFault → ⊥) × (status ≡ Usage → ⊥)
 
-refused-found : {A : Type 0} (part : Part) (limit : ℕ) (meaning_of : List ℕ → Option A) (found : Found) (status : Status) → read_found part limit meaning_of found ≡ Err status → ((found ≡ Missing) × (status ≡ StoreFault)) ⊎ (status ≡ NotBuilt part)
-refused-found part limit meaning_of Missing status e = inl (refl, cc)
-refused-found part limit meaning_of TooLong status e = inr cc
-refused-found part limit meaning_of (File bytes) status e = inr (refused-within part (meaning_of bytes) (nat_lt limit (length bytes)) status e)
+refused-image : (image : ImageData) (runs : Bool) (status : Status) → (if runs then Ok image else Err (NotBuilt Program)) ≡ Err status → IsOfBytes status
+refused-image image true status e = cc
+refused-image image false status e = (λ s. cc, λ u. cc)
+
+refused-loaded : (loaded : Result ImageData LoadCause) (long : Bool) (status : Status) → (if long then Err (BadProgram ProgramTooLong) else if_loaded loaded) ≡ Err status → IsOfBytes status
+refused-loaded loaded true status e = (λ s. cc, λ u. cc)
+refused-loaded (Err cause) false status e = (λ s. cc, λ u. cc)
+refused-loaded (Ok image) false status e = refused-image image (is_runnable image) status e
+
+refused-events : (events : Option (List Event)) (long : Bool) (status : Status) → (if long then Err (NotBuilt Script) else or_not_built events) ≡ Err status → IsOfBytes status
+refused-events events true status e = (λ s. cc, λ u. cc)
+refused-events None false status e = (λ s. cc, λ u. cc)
+refused-events (Some list) false status e = cc
+
+-- a refusal of a file is a fault of the store, or its bytes'
+abbrev IsOfFile : Found → Status → Type 0
+IsOfFile found status = ((found ≡ Missing) × (status ≡ StoreFault)) ⊎ IsOfBytes status
+
+refused-program : (found : Found) (status : Status) → program_in found ≡ Err status → IsOfFile found status
+refused-program Missing status e = inl (refl, cc)
+refused-program TooLong status e = inr (λ s. cc, λ u. cc)
+refused-program (File bytes) status e = inr (refused-loaded (image_of bytes) (nat_lt program_limit (length bytes)) status e)
+
+refused-events_file : (found : Found) (status : Status) → script_in found ≡ Err status → IsOfFile found status
+refused-events_file Missing status e = inl (refl, cc)
+refused-events_file TooLong status e = inr (λ s. cc, λ u. cc)
+refused-events_file (File bytes) status e = inr (refused-events (events_of bytes) (nat_lt script_limit (length bytes)) status e)
 
 -- the status of a job that is refused is its refusal
 refused-job : (status refusal : Status) (job : Result Job Status) (before behind : Ends) → Follows job status before behind → status ≡ refusal → (refusal ≡ StoreFault) ⊎ (refusal ≡ Usage) → job ≡ Err refusal
@@ -78,24 +102,20 @@ refused-script image (Ok events) refusal e = cc
 refused-script image (Err status) refusal e = cc
 
 -- either file's store fault was a fault
-script-rose : {S : Type 0} (files : S → Option (List ℕ → Option (List ℕ))) (sure : S → Type 0) (faults : S → ℕ) (gave : S → List ℕ → Found → S → Type 0) (mid new : S) (name : List ℕ) (limit : ℕ) (found : Found) → Fetches files sure faults gave mid name limit found new → ((found ≡ Missing) × (StoreFault ≡ StoreFault)) ⊎ (StoreFault ≡ NotBuilt ScriptPart) → Rose (faults mid) (faults new)
-script-rose files sure faults gave mid new name limit found h (inl m) = h.rose m.0
-script-rose files sure faults gave mid new name limit found h (inr e) = absurd cc
-
-program-rose : {S : Type 0} (files : S → Option (List ℕ → Option (List ℕ))) (sure : S → Type 0) (faults : S → ℕ) (gave : S → List ℕ → Found → S → Type 0) (old mid : S) (name : List ℕ) (limit : ℕ) (found : Found) → Fetches files sure faults gave old name limit found mid → ((found ≡ Missing) × (StoreFault ≡ StoreFault)) ⊎ (StoreFault ≡ NotBuilt ProgramPart) → Rose (faults old) (faults mid)
-program-rose files sure faults gave old mid name limit found h (inl m) = h.rose m.0
-program-rose files sure faults gave old mid name limit found h (inr e) = absurd cc
+file-rose : {S : Type 0} (files : S → Option (List ℕ → Option (List ℕ))) (sure : S → Type 0) (faults : S → ℕ) (gave : S → List ℕ → Found → S → Type 0) (old new : S) (name : List ℕ) (limit : ℕ) (found : Found) → Fetches files sure faults gave old name limit found new → IsOfFile found StoreFault → Rose (faults old) (faults new)
+file-rose files sure faults gave old new name limit found h (inl m) = h.rose m.0
+file-rose files sure faults gave old new name limit found h (inr e) = absurd (e.0 refl)
 
 loads-rose : {S : Type 0} (files : S → Option (List ℕ → Option (List ℕ))) (sure : S → Type 0) (faults : S → ℕ) (gave : S → List ℕ → Found → S → Type 0) (old mid new : S) (request : Request) (found : Found) (program : Result ImageData Status) → program_in found ≡ program → (job : Result Job Status) → Fetches files sure faults gave old request.program program_limit found mid
     → MatchResult program (λ image. (script : Found) × Fetches files sure faults gave mid request.script script_limit script new × (job ≡ with_program image (script_in script))) (λ status. (new ≡ mid) × (job ≡ Err status))
     → job ≡ Err StoreFault → Rose (faults old) (faults new)
 loads-rose files sure faults gave old mid new request found (Ok image) is job f h e =
     Rose-before (faults old) (faults mid) (faults new) f.later
-    (script-rose files sure faults gave mid new request.script script_limit h.0 h.1 (refused-found ScriptPart script_limit events_of h.0 StoreFault (refused-script image (script_in h.0) StoreFault (sym h.2 ∙ e))))
+    (file-rose files sure faults gave mid new request.script script_limit h.0 h.1 (refused-events_file h.0 StoreFault (refused-script image (script_in h.0) StoreFault (sym h.2 ∙ e))))
 loads-rose files sure faults gave old mid new request found (Err s) is job f h e =
     let same : s ≡ StoreFault = cc (sym h.1 ∙ e) in
     subst (λ t. Rose (faults old) (faults t)) (sym h.0)
-    (program-rose files sure faults gave old mid request.program program_limit found f (refused-found ProgramPart program_limit image_of found StoreFault (is ∙ ap (λ t. Err t) same)))
+    (file-rose files sure faults gave old mid request.program program_limit found f (refused-program found StoreFault (is ∙ ap (λ t. Err t) same)))
 
 pub comes-rose : {S : Type 0} (files : S → Option (List ℕ → Option (List ℕ))) (sure : S → Type 0) (faults : S → ℕ) (gave : S → List ℕ → Found → S → Type 0) (old new : S) (ask : Option Request) (status : Status) (before behind : Ends) → Comes (Fetches files sure faults gave) ask status old new before behind → status ≡ StoreFault → Rose (faults old) (faults new)
 comes-rose files sure faults gave old new None status before behind h e = absurd cc
@@ -103,18 +123,18 @@ comes-rose files sure faults gave old new (Some request) status before behind h 
     let l = h.1 in
     loads-rose files sure faults gave old l.1 new request l.0 (program_in l.0) refl h.0 l.2 l.3 (refused-job status StoreFault h.0 before behind h.2 e (inl refl))
 
-no_usage-found : (part : Part) (found : Found) → ((found ≡ Missing) × (Usage ≡ StoreFault)) ⊎ (Usage ≡ NotBuilt part) → ⊥
-no_usage-found part found (inl m) = let e = m.1 in cc
-no_usage-found part found (inr e) = cc
+no_usage-file : (found : Found) → IsOfFile found Usage → ⊥
+no_usage-file found (inl m) = let e = m.1 in cc
+no_usage-file found (inr e) = e.1 refl
 
 no_usage : {S : Type 0} (F : List ℕ → Found → S → Type 0) (mid new : S) (found : Found) (program : Result ImageData Status) → program_in found ≡ program → (name : List ℕ) (job : Result Job Status)
     → MatchResult program (λ image. (script : Found) × F name script new × (job ≡ with_program image (script_in script))) (λ status. (new ≡ mid) × (job ≡ Err status))
     → job ≡ Err Usage → ⊥
 no_usage F mid new found (Ok image) is name job h e =
-    no_usage-found ScriptPart h.0 (refused-found ScriptPart script_limit events_of h.0 Usage (refused-script image (script_in h.0) Usage (sym h.2 ∙ e)))
+    no_usage-file h.0 (refused-events_file h.0 Usage (refused-script image (script_in h.0) Usage (sym h.2 ∙ e)))
 no_usage F mid new found (Err s) is name job h e =
     let same : s ≡ Usage = cc (sym h.1 ∙ e) in
-    no_usage-found ProgramPart found (refused-found ProgramPart program_limit image_of found Usage (is ∙ ap (λ t. Err t) same))
+    no_usage-file found (refused-program found Usage (is ∙ ap (λ t. Err t) same))
 
 pub comes-usage : {S : Type 0} (files : S → Option (List ℕ → Option (List ℕ))) (sure : S → Type 0) (faults : S → ℕ) (gave : S → List ℕ → Found → S → Type 0) (old new : S) (ask : Option Request) (status : Status) (before behind : Ends) → Comes (Fetches files sure faults gave) ask status old new before behind → status ≡ Usage → ask ≡ None
 comes-usage files sure faults gave old new None status before behind h e = refl
@@ -127,6 +147,7 @@ is_memory Memory = inl refl
 is_memory Done = inr (λ e. cc)
 is_memory Usage = inr (λ e. cc)
 is_memory StoreFault = inr (λ e. cc)
+is_memory (BadProgram cause) = inr (λ e. cc)
 is_memory (NotBuilt part) = inr (λ e. cc)
 is_memory SinkFault = inr (λ e. cc)
 

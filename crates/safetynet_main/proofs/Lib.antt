@@ -1,7 +1,5 @@
 pub mod Digits
 pub mod Lines
-pub mod Hex
-pub mod Programs
 pub mod Scan
 pub mod Texts
 pub mod PieceLaws

@@ -1,11 +1,11 @@
 -- The scan of memory's words finds every instruction.
-use Rattle.std.proofs.Common.{◌≡◌, ℕ, zero, suc, ◌+◌, ◌-◌, ◌*◌, ◌/◌, ◌%◌, ◌<◌, ◌≤◌, Bool, true, false, ◌&&◌, ◌||◌, not, nat_lt, List, [], ◌∷◌, All, Option, Some, None, IfSome, if◌then◌else◌, refl, sym, ap, ◌∙◌, subst, arith}
+use Rattle.std.proofs.Common.{◌≡◌, ℕ, zero, suc, ◌+◌, ◌-◌, ◌*◌, ◌/◌, ◌%◌, ◌<◌, ◌≤◌, Bool, true, false, ◌&&◌, ◌||◌, nat_lt, List, [], ◌∷◌, All, Option, Some, None, IfSome, refl, subst, arith}
 use Rattle.std.proofs.lemmas.Bool.Decides.{nat_tests}
 use Rattle.sn_base.specs.Blocks.{ram_start, ram_size}
 use Rattle.sn_base.specs.Image.{ImageData, SegmentData, IsSegment, IsImage, covers, is_executable, fetched}
 use Rattle.sn_base.proofs.Outside.{is_executable-outside}
 use Rattle.rv_core.specs.Plain.{is_plain_word, IsPlain}
-use Rattle.safetynet_main.specs.Runnable.{is_plain_at, first_are_plain, is_runnable, word_count}
+use Rattle.safetynet_main.specs.Runnable.{is_plain_at, first_are_plain, word_count}
 
 pub first_are_plain-more : (n : ℕ) (segments : List SegmentData) → first_are_plain n segments ≡ true → is_plain_at (fetched segments (ram_start + 4 * n)) ≡ true → first_are_plain (suc n) segments ≡ true
 unfolding first_are_plain

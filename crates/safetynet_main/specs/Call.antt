@@ -6,7 +6,7 @@ use Rattle.sn_base.specs.declared.event.Event.{Event}
 use Rattle.sn_io.specs.Outside.{Found, File, TooLong, Missing, Rose, found_in}
 use Rattle.rv_core.specs.Plain.{IsPlain}
 use Rattle.sn_machine.specs.State.{MachineData, start_of}
-use Rattle.safetynet_main.specs.Program.{image_of}
+use Rattle.safetynet_main.specs.Program.{program_limit, program_of}
 use Rattle.safetynet_main.specs.Script.{events_of}
 use Rattle.safetynet_main.specs.Pieces.{Ends, after, Breaks, pieces_of}
 use Rattle.safetynet_main.specs.Shown.{IsShown, IsShownInPart}
@@ -14,38 +14,34 @@ use Rattle.safetynet_main.specs.Request.{Request}
 use Rattle.safetynet_main.specs.declared.call.Job.{Job}
 use Rattle.safetynet_main.specs.declared.call.Unread.{Unread}
 use Rattle.safetynet_main.specs.declared.call.Unread.TheVariants.{Missing as UnreadMissing, TooLong as UnreadTooLong, Memory as UnreadMemory}
-use Rattle.safetynet_main.specs.declared.status.Part.{Part}
-use Rattle.safetynet_main.specs.declared.status.Part.TheVariants.{Program as ProgramPart, Script as ScriptPart}
+use Rattle.safetynet_main.specs.declared.status.Part.TheVariants.{Script}
+use Rattle.safetynet_main.specs.declared.status.ProgramCause.TheVariants.{TooLong as ProgramTooLong}
 use Rattle.safetynet_main.specs.declared.status.Status.{Status}
-use Rattle.safetynet_main.specs.declared.status.Status.TheVariants.{Done, Usage, StoreFault, SinkFault, NotBuilt}
+use Rattle.safetynet_main.specs.declared.status.Status.TheVariants.{Done, Usage, StoreFault, BadProgram, SinkFault, NotBuilt}
 
--- 16 MiB, and 32 MiB
-abbrev pub program_limit : ℕ
-program_limit = 16777216
-
+-- 32 MiB
 abbrev pub script_limit : ℕ
 script_limit = 33554432
 
--- what isn't of its form isn't built
-abbrev pub or_not_built : {A : Type 0} → Part → Option A → Result A Status
-or_not_built part None = Err (NotBuilt part)
-or_not_built part (Some meaning) = Ok meaning
+-- a script that isn't of the form isn't built
+abbrev pub or_not_built : Option (List Event) → Result (List Event) Status
+or_not_built None = Err (NotBuilt Script)
+or_not_built (Some events) = Ok events
 
--- a file within its limit, read
-abbrev pub read_within : {A : Type 0} → Part → ℕ → (List ℕ → Option A) → List ℕ → Result A Status
-read_within part limit meaning_of bytes = if nat_lt limit (length bytes) then Err (NotBuilt part) else or_not_built part (meaning_of bytes)
+-- the events that the bytes of a file are
+abbrev pub script_of : List ℕ → Result (List Event) Status
+script_of bytes = if nat_lt script_limit (length bytes) then Err (NotBuilt Script) else or_not_built (events_of bytes)
 
 -- what was found of a file, read
-abbrev pub read_found : {A : Type 0} → Part → ℕ → (List ℕ → Option A) → Found → Result A Status
-read_found part limit meaning_of Missing = Err StoreFault
-read_found part limit meaning_of TooLong = Err (NotBuilt part)
-read_found part limit meaning_of (File bytes) = read_within part limit meaning_of bytes
-
 abbrev pub program_in : Found → Result ImageData Status
-program_in found = read_found ProgramPart program_limit image_of found
+program_in Missing = Err StoreFault
+program_in TooLong = Err (BadProgram ProgramTooLong)
+program_in (File bytes) = program_of bytes
 
 abbrev pub script_in : Found → Result (List Event) Status
-script_in found = read_found ScriptPart script_limit events_of found
+script_in Missing = Err StoreFault
+script_in TooLong = Err (NotBuilt Script)
+script_in (File bytes) = script_of bytes
 
 -- what the bytes of a file, or why there are none, say was found
 abbrev pub found_by : Result (Vec ℕ Global) Unread → Found

@@ -1,8 +1,8 @@
 pub mod Status
 pub mod Lines
 pub mod Digits
-pub mod Program
 pub mod Runnable
+pub mod Program
 pub mod Script
 pub mod Text
 pub mod Pieces

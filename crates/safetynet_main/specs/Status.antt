@@ -1,20 +1,45 @@
 -- The numbers and words of the statuses.
-use Rattle.std.specs.Prelude.{ℕ, List, codes}
+use Rattle.std.specs.Prelude.{ℕ, List, ◌++◌, codes}
+use Rattle.elf_load.specs.declared.fault.LoadCause.{LoadCause}
+use Rattle.elf_load.specs.declared.fault.LoadCause.TheVariants.{Empty, BadHexLine, TooManyWords, Truncated, WrongField, Compressed, TooManySegments, FileLargerThanMemory, Outside, Overlap, WritableCode, BadEntry}
+use Rattle.safetynet_main.specs.declared.status.ProgramCause.{ProgramCause}
+use Rattle.safetynet_main.specs.declared.status.ProgramCause.TheVariants.{TooLong, Load}
 use Rattle.safetynet_main.specs.declared.status.Status.{Status}
-use Rattle.safetynet_main.specs.declared.status.Status.TheVariants.{Done, Usage, StoreFault, SinkFault, Memory, NotBuilt}
+use Rattle.safetynet_main.specs.declared.status.Status.TheVariants.{Done, Usage, StoreFault, BadProgram, SinkFault, Memory, NotBuilt}
 
 abbrev pub number_of : Status → ℕ
 number_of Done = 0
 number_of Usage = 1
 number_of StoreFault = 2
+number_of (BadProgram cause) = 3
 number_of SinkFault = 5
 number_of Memory = 7
 number_of (NotBuilt part) = 11
+
+-- the name of a cause, in lower case and without its fields
+abbrev pub load_name : LoadCause → List ℕ
+load_name Empty = codes "empty"
+load_name (BadHexLine line) = codes "badhexline"
+load_name TooManyWords = codes "toomanywords"
+load_name (Truncated needed length) = codes "truncated"
+load_name (WrongField field value) = codes "wrongfield"
+load_name Compressed = codes "compressed"
+load_name (TooManySegments count) = codes "toomanysegments"
+load_name (FileLargerThanMemory number) = codes "filelargerthanmemory"
+load_name (Outside number) = codes "outside"
+load_name (Overlap earlier number) = codes "overlap"
+load_name (WritableCode number) = codes "writablecode"
+load_name (BadEntry entry) = codes "badentry"
+
+abbrev pub program_name : ProgramCause → List ℕ
+program_name TooLong = codes "toolong"
+program_name (Load cause) = load_name cause
 
 abbrev pub word_of : Status → List ℕ
 word_of Done = codes "done"
 word_of Usage = codes "usage"
 word_of StoreFault = codes "store"
+word_of (BadProgram cause) = codes "program " ++ program_name cause
 word_of SinkFault = codes "sink"
 word_of Memory = codes "memory"
 word_of (NotBuilt part) = codes "notbuilt"

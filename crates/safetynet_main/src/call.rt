@@ -1,26 +1,21 @@
 //! The call: words, program, script, memory, events, in this order.
 ghost use Rattle.std.specs.Prelude.{◌≡◌, ◌≢◌, ◌↔◌, ℕ, List, [], ◌≤◌, ◌⊎◌, map, length, Option, Some, None, Ok, Err, IfSome, IsOk, string_bytes};
 ghost use Rattle.sn_io.specs.Outside.{Rose, Found};
-ghost use Rattle.safetynet_main.specs.Program.{image_of};
-ghost use Rattle.safetynet_main.specs.Script.{events_of};
 ghost use Rattle.safetynet_main.specs.Pieces.{ends};
 ghost use Rattle.safetynet_main.specs.Request.{Request, ask_of};
-ghost use Rattle.safetynet_main.specs.Call.{Fetches, Loads, Follows, Comes, read_within, program_in, script_in, due_of, found_by, IsReady};
+ghost use Rattle.safetynet_main.specs.Call.{Fetches, Loads, Follows, Comes, script_of, program_in, script_in, due_of, found_by, IsReady};
 
 use crate::line::Line;
 use crate::play::play;
-use crate::program::{Program, read_program};
+use crate::program::{PROGRAM_LIMIT, Program, read_program};
 use crate::refusal::Refusal;
 use crate::script::{Script, read_script};
-use crate::status::{Part, Status};
+use crate::status::{Part, ProgramCause, Status};
 use crate::words::read_words;
 use sn_base::Config;
 use sn_io::{Fetched, Sink, Store, StoreFault};
 use sn_machine::Machine;
 use std::alloc::Global;
-
-/// The most bytes of a program's file.
-const PROGRAM_LIMIT: usize = 16_777_216;
 
 /// The most bytes of a script's file.
 const SCRIPT_LIMIT: usize = 33_554_432;
@@ -56,21 +51,8 @@ fn fetch_file<S: Store>(
     }
 }
 
-fn judge_program(alloc: Global, bytes: &[u8]) -> Result<Program, Status>
-    ensures { result ≢ Err Status.Memory → result ≡ read_within Part.Program 16777216 image_of bytes.now }
-{
-    if bytes.len() > PROGRAM_LIMIT {
-        return Err(Status::NotBuilt(Part::Program));
-    }
-    match read_program(alloc, bytes) {
-        Ok(program) => Ok(program),
-        Err(Refusal::NotOfForm) => Err(Status::NotBuilt(Part::Program)),
-        Err(Refusal::Memory) => Err(Status::Memory),
-    }
-}
-
 fn judge_script(alloc: Global, bytes: &[u8]) -> Result<Script, Status>
-    ensures { result ≢ Err Status.Memory → result ≡ read_within Part.Script 33554432 events_of bytes.now }
+    ensures { result ≢ Err Status.Memory → result ≡ script_of bytes.now }
 {
     if bytes.len() > SCRIPT_LIMIT {
         return Err(Status::NotBuilt(Part::Script));
@@ -86,9 +68,9 @@ fn fetch_program<S: Store>(alloc: Global, store: &mut S, name: &str) -> Result<P
     ensures { result ≢ Err Status.Memory → (found : Found) × Fetches S.files S.sure S.faults S.gave store.old name.now 16777216 found store.new × (result ≡ program_in found) }
 {
     match fetch_file(alloc, store, name, PROGRAM_LIMIT) {
-        Ok(bytes) => judge_program(alloc, bytes.as_slice()),
+        Ok(bytes) => read_program(alloc, bytes.as_slice()),
         Err(Unread::Missing) => Err(Status::StoreFault),
-        Err(Unread::TooLong) => Err(Status::NotBuilt(Part::Program)),
+        Err(Unread::TooLong) => Err(Status::BadProgram(ProgramCause::TooLong)),
         Err(Unread::Memory) => Err(Status::Memory),
     }
 }

@@ -20,7 +20,7 @@ mod status;
 mod words;
 
 pub use call::safetynet;
-pub use status::{Part, Status};
+pub use status::{Part, ProgramCause, Status};
 
 #[cfg(test)]
 mod tests;

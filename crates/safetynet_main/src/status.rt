@@ -1,12 +1,23 @@
 //! How a call ends.
-ghost use Rattle.std.specs.Prelude.{◌≡◌};
-ghost use Rattle.safetynet_main.specs.Status.{number_of, word_of};
+ghost use Rattle.std.specs.Prelude.{◌≡◌, ◌++◌, codes};
+ghost use Rattle.safetynet_main.specs.Status.{number_of, load_name, program_name, word_of};
+
+use elf_load::LoadCause;
 
 /// A file that this program can't run yet.
 #[derive(Clone, Copy, PartialEq, Eq, Debug)]
 pub enum Part {
     Program,
     Script,
+}
+
+/// Why a program's file is refused.
+#[derive(Clone, Copy, PartialEq, Eq, Debug)]
+pub enum ProgramCause {
+    /// The file has more than 16 MiB.
+    TooLong,
+    /// The loader's cause.
+    Load(LoadCause),
 }
 
 /// How a call ended.
@@ -18,12 +29,44 @@ pub enum Status {
     Usage,
     /// A file is lacking, or the store failed.
     StoreFault,
+    /// The program's file is too long, or neither an ELF file nor a hexadecimal image that can be loaded.
+    BadProgram(ProgramCause),
     /// A sink failed: what was written is a prefix of the text.
     SinkFault,
     /// Memory was wanted and not given. Nothing is written.
     Memory,
-    /// The file isn't of the form that is built so far.
+    /// The program has an instruction that needs memory, or the script isn't of the form that is built so far.
     NotBuilt(Part),
+}
+
+// The word `program`, and the name of the loader's cause.
+fn load_word(cause: LoadCause) -> &'static str
+    ensures { result.now ≡ codes "program " ++ load_name cause }
+{
+    match cause {
+        LoadCause::Empty => "program empty",
+        LoadCause::BadHexLine(_) => "program badhexline",
+        LoadCause::TooManyWords => "program toomanywords",
+        LoadCause::Truncated(_, _) => "program truncated",
+        LoadCause::WrongField(_, _) => "program wrongfield",
+        LoadCause::Compressed => "program compressed",
+        LoadCause::TooManySegments(_) => "program toomanysegments",
+        LoadCause::FileLargerThanMemory(_) => "program filelargerthanmemory",
+        LoadCause::Outside(_) => "program outside",
+        LoadCause::Overlap(_, _) => "program overlap",
+        LoadCause::WritableCode(_) => "program writablecode",
+        LoadCause::BadEntry(_) => "program badentry",
+    }
+}
+
+// The same of a program's file.
+fn program_word(cause: ProgramCause) -> &'static str
+    ensures { result.now ≡ codes "program " ++ program_name cause }
+{
+    match cause {
+        ProgramCause::TooLong => "program toolong",
+        ProgramCause::Load(cause) => load_word(cause),
+    }
 }
 
 impl Status {
@@ -35,13 +78,14 @@ impl Status {
             Status::Done => 0,
             Status::Usage => 1,
             Status::StoreFault => 2,
+            Status::BadProgram(_) => 3,
             Status::SinkFault => 5,
             Status::Memory => 7,
             Status::NotBuilt(_) => 11,
         }
     }
 
-    /// The word that names it.
+    /// The word that names it; a program's cause is a second word.
     pub fn word(self) -> &'static str
         ensures { result.now ≡ word_of self }
     {
@@ -49,6 +93,7 @@ impl Status {
             Status::Done => "done",
             Status::Usage => "usage",
             Status::StoreFault => "store",
+            Status::BadProgram(cause) => program_word(cause),
             Status::SinkFault => "sink",
             Status::Memory => "memory",
             Status::NotBuilt(_) => "notbuilt",

@@ -1,5 +1,6 @@
 //! The worked runs, whose texts come from the rules and not from this program, and each way in which a call ends.
-use crate::{Part, Status, safetynet};
+use crate::{Part, ProgramCause, Status, safetynet};
+use elf_load::{LoadCause, load, write_elf};
 use sn_io::{MemSink, MemStore};
 use std::alloc::Global;
 use std::process::Abort;
@@ -123,6 +124,12 @@ struct Faults {
     report: u64,
 }
 
+const NO_FAULT: Faults = Faults {
+    store: 0,
+    console: 0,
+    report: 0,
+};
+
 fn words_in(alloc: Global, text: &str) -> Result<Vec<String>, Fail> {
     let mut words = Vec::new(alloc);
     for word in text.split_whitespace() {
@@ -134,13 +141,13 @@ fn words_in(alloc: Global, text: &str) -> Result<Vec<String>, Fail> {
 fn call(
     alloc: Global,
     words: &str,
-    program: &str,
+    program: &[u8],
     script: &str,
     faults: Faults,
 ) -> Result<Left, Fail> {
     let words = words_in(alloc, words)?;
     let mut store = MemStore::new(alloc);
-    store.add("a.hex", program.as_bytes())?;
+    store.add("a.hex", program)?;
     store.add("a.script", script.as_bytes())?;
     store.fail_call(faults.store)?;
     let mut console = MemSink::with_room(alloc, 100)?;
@@ -164,16 +171,12 @@ fn call(
 fn check_replay(
     rt: &impl Abort,
     alloc: Global,
+    program: &[u8],
     script: &str,
     output: &str,
     report: &str,
 ) -> Result<(), Fail> {
-    let none = Faults {
-        store: 0,
-        console: 0,
-        report: 0,
-    };
-    let left = call(alloc, WORDS, PUTS_A, script, none)?;
+    let left = call(alloc, WORDS, program, script, NO_FAULT)?;
     assert_eq!(rt; left.status, Status::Done);
     assert_eq!(rt; left.console.as_slice(), output.as_bytes());
     assert_eq!(rt; left.report.as_slice(), report.as_bytes());
@@ -184,17 +187,12 @@ fn check_refusal(
     rt: &impl Abort,
     alloc: Global,
     words: &str,
-    program: &str,
+    program: &[u8],
     script: &str,
     want: Status,
 ) -> Result<(), Fail> {
-    let none = Faults {
-        store: 0,
-        console: 0,
-        report: 0,
-    };
-    let left = call(alloc, words, program, script, none)?;
-    assert_eq!(rt; left.status, want, "at {words}, {program}, {script}");
+    let left = call(alloc, words, program, script, NO_FAULT)?;
+    assert_eq!(rt; left.status, want, "at {words}, {script}");
     assert!(rt; left.console.is_empty() && left.report.is_empty());
     Ok(())
 }
@@ -207,7 +205,7 @@ fn check_fault(
     output: &str,
     report: &str,
 ) -> Result<(), Fail> {
-    let left = call(alloc, WORDS, PUTS_A, VALIDATED, faults)?;
+    let left = call(alloc, WORDS, PUTS_A.as_bytes(), VALIDATED, faults)?;
     assert_eq!(rt; left.status, want);
     assert_eq!(rt; left.console.as_slice(), output.as_bytes());
     assert_eq!(rt; left.report.as_slice(), report.as_bytes());
@@ -217,11 +215,12 @@ fn check_fault(
 #[test]
 fn a_replay_puts_what_was_validated_and_reports_each_event(rt: HostRuntime) -> Result<(), Fail> {
     let alloc = rt.alloc();
-    check_replay(&rt, alloc, VALIDATED, "A", VALIDATED_REPORT)?;
-    check_replay(&rt, alloc, RECOVERED, "", RECOVERED_REPORT)?;
-    check_replay(&rt, alloc, "", "", EMPTY_REPORT)?;
-    check_replay(&rt, alloc, FULL, "", FULL_REPORT)?;
-    check_replay(&rt, alloc, TWICE, "A", TWICE_REPORT)?;
+    let program = PUTS_A.as_bytes();
+    check_replay(&rt, alloc, program, VALIDATED, "A", VALIDATED_REPORT)?;
+    check_replay(&rt, alloc, program, RECOVERED, "", RECOVERED_REPORT)?;
+    check_replay(&rt, alloc, program, "", "", EMPTY_REPORT)?;
+    check_replay(&rt, alloc, program, FULL, "", FULL_REPORT)?;
+    check_replay(&rt, alloc, program, TWICE, "A", TWICE_REPORT)?;
     Ok(())
 }
 
@@ -234,7 +233,14 @@ fn words_that_are_no_command_are_usage(rt: HostRuntime) -> Result<(), Fail> {
         "safetynet replay --nodes 2 a.hex a.script",
         "safetynet replay --nodes 1 a.hex a.script more",
     ] {
-        check_refusal(&rt, alloc, words, PUTS_A, VALIDATED, Status::Usage)?;
+        check_refusal(
+            &rt,
+            alloc,
+            words,
+            PUTS_A.as_bytes(),
+            VALIDATED,
+            Status::Usage,
+        )?;
     }
     Ok(())
 }
@@ -246,31 +252,21 @@ fn a_file_that_is_lacking_is_a_store_fault(rt: HostRuntime) -> Result<(), Fail> 
         "safetynet replay --nodes 1 b.hex a.script",
         "safetynet replay --nodes 1 a.hex b.script",
     ] {
-        check_refusal(&rt, alloc, words, PUTS_A, VALIDATED, Status::StoreFault)?;
+        check_refusal(
+            &rt,
+            alloc,
+            words,
+            PUTS_A.as_bytes(),
+            VALIDATED,
+            Status::StoreFault,
+        )?;
     }
     Ok(())
 }
 
 #[test]
-fn a_file_of_another_form_is_not_built(rt: HostRuntime) -> Result<(), Fail> {
+fn a_script_of_another_form_is_not_built(rt: HostRuntime) -> Result<(), Fail> {
     let alloc = rt.alloc();
-    // No word, seven digits, no end of the line, an upper-case digit, a load.
-    for program in [
-        "",
-        "0410051\n",
-        "04100513",
-        "0410051A\n",
-        "00000013\n0000a283\n",
-    ] {
-        check_refusal(
-            &rt,
-            alloc,
-            WORDS,
-            program,
-            "step 1\n",
-            Status::NotBuilt(Part::Program),
-        )?;
-    }
     // Another node, a blank, a leading zero, 2^64, no end of the line.
     for script in [
         "step 1\n",
@@ -283,11 +279,75 @@ fn a_file_of_another_form_is_not_built(rt: HostRuntime) -> Result<(), Fail> {
             &rt,
             alloc,
             WORDS,
-            PUTS_A,
+            PUTS_A.as_bytes(),
             script,
             Status::NotBuilt(Part::Script),
         )?;
     }
+    Ok(())
+}
+
+fn check_program(rt: &impl Abort, alloc: Global, program: &[u8], want: Status) -> Result<(), Fail> {
+    check_refusal(rt, alloc, WORDS, program, "step 1\n", want)
+}
+
+#[test]
+fn a_program_that_cant_be_loaded_is_refused_by_its_cause(rt: HostRuntime) -> Result<(), Fail> {
+    let alloc = rt.alloc();
+    for (program, cause) in [
+        ("", LoadCause::Empty),
+        ("0410051", LoadCause::BadHexLine(1)),
+        ("# no word\n", LoadCause::BadEntry(0x8000_0000)),
+        ("\u{7f}ELF", LoadCause::Truncated(52, 4)),
+    ] {
+        let want = Status::BadProgram(ProgramCause::Load(cause));
+        check_program(&rt, alloc, program.as_bytes(), want)?;
+    }
+    Ok(())
+}
+
+#[test]
+fn a_program_with_a_load_is_not_built(rt: HostRuntime) -> Result<(), Fail> {
+    let alloc = rt.alloc();
+    let program = b"00000013\n0000a283\n";
+    check_program(&rt, alloc, program, Status::NotBuilt(Part::Program))?;
+    Ok(())
+}
+
+/// The ELF file of a program.
+fn elf_of(rt: &impl Abort, alloc: Global, program: &[u8]) -> Result<Vec<u8>, Fail> {
+    let image = load(alloc, program)?;
+    assert!(rt; image.segments().len() <= 64);
+    Ok(write_elf(alloc, &image)?)
+}
+
+#[test]
+fn an_elf_file_is_run_as_its_words_are(rt: HostRuntime) -> Result<(), Fail> {
+    let alloc = rt.alloc();
+    let file = elf_of(&rt, alloc, PUTS_A.as_bytes())?;
+    check_replay(
+        &rt,
+        alloc,
+        file.as_slice(),
+        VALIDATED,
+        "A",
+        VALIDATED_REPORT,
+    )?;
+    Ok(())
+}
+
+#[test]
+fn a_cut_elf_file_is_refused(rt: HostRuntime) -> Result<(), Fail> {
+    let alloc = rt.alloc();
+    let file = elf_of(&rt, alloc, PUTS_A.as_bytes())?;
+    let cut = file.get(..103).expect(&rt, "103 of 104 bytes");
+    let cause = LoadCause::Truncated(104, 103);
+    check_program(
+        &rt,
+        alloc,
+        cut,
+        Status::BadProgram(ProgramCause::Load(cause)),
+    )?;
     Ok(())
 }
 
@@ -314,10 +374,12 @@ fn a_call_that_fails_leaves_the_beginning_of_each_text(rt: HostRuntime) -> Resul
 
 #[test]
 fn a_status_has_its_number_and_word(rt: HostRuntime) {
+    let line = ProgramCause::Load(LoadCause::BadHexLine(1));
     for (status, number, word) in [
         (Status::Done, 0u8, "done"),
         (Status::Usage, 1, "usage"),
         (Status::StoreFault, 2, "store"),
+        (Status::BadProgram(line), 3, "program badhexline"),
         (Status::SinkFault, 5, "sink"),
         (Status::Memory, 7, "memory"),
         (Status::NotBuilt(Part::Script), 11, "notbuilt"),

@@ -20,9 +20,11 @@ usage: safetynet replay --nodes 1 PROGRAM SCRIPT
        safetynet --help
        safetynet --version
 
-PROGRAM has 1 to 1,024 lines, each one instruction word of eight lower-case
-hexadecimal digits, none of them a load, a store or an atomic operation. It
-begins at 80000000.
+PROGRAM is a static ELF file for 32-bit RISC-V as a linker writes it, or a
+text with one word of eight hexadecimal digits a line, from 80000000 up, in
+which empty lines and lines that begin with # are skipped. It has at most
+16 MiB, and none of its instructions is a load, a store or an atomic
+operation.
 SCRIPT has at most 1,000,000 lines, each one event: step 0, edge 0,
 deliver I, report 0, validate or recover. Each line ends with a line feed.
 
@@ -34,9 +36,11 @@ exit status:
    0  done
    1  usage: the words aren't a command
    2  store: a file is lacking or couldn't be read
+   3  program CAUSE: the program's file is too long or can't be loaded
    5  sink: not all of the output could be written
    7  memory: there was not enough of it
-  11  notbuilt: a file isn't of the form above
+  11  notbuilt: the program has an instruction that needs memory, or the
+      script isn't of the form above
 ";
 
 /// What the words ask of the program itself, before any command is done.

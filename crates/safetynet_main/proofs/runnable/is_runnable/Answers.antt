@@ -1,4 +1,4 @@
-use Rattle.std.proofs.Common.{◌≡◌, ◌∙◌, ◌+◌, suc, true, false, ℕ, arith, refl, sym, subst}
+use Rattle.std.proofs.Common.{◌≡◌, ◌∙◌, ◌+◌, suc, true, ℕ, arith, sym, subst}
 use Rattle.safetynet_main.specs.Runnable.{first_are_plain, is_runnable, word_count}
 use Rattle.safetynet_main.proofs.Scan.{first_are_plain-none, first_are_plain-more, first_are_plain-not, runnable-plain}
 use Rattle.safetynet_main.proofs.runnable.is_runnable.Goals as goal
