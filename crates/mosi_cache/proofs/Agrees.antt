@@ -3,7 +3,7 @@ use Rattle.std.proofs.Common.{◌≡◌, ℕ, Bool, true, false, not, ◌&&◌, 
 use Rattle.std.specs.Prelude.{nat_lt, nat_le, length, if◌then◌else◌}
 use Rattle.sn_base.specs.Image.{ImageData}
 use Rattle.sn_base.specs.declared.config.Config.{Config}
-use Rattle.sn_base.specs.declared.event.Answer.TheVariants.{Waits, NeedsEvict, LogFull, NetFull, MissOpen, PutOpen}
+use Rattle.sn_base.specs.declared.event.Answer.TheVariants.{Waits, NeedsEvict, LogFull, NetFull, MissOpen}
 use Rattle.sn_msg.specs.declared.Message.{Message}
 use Rattle.sn_msg.specs.declared.Body.{Body}
 use Rattle.sn_msg.specs.declared.Body.TheVariants.{GetS, GetM, FwdGetS, FwdGetM, Inv, DataS, DataM, DataE, UpgOk, InvAck, Unblock, PutReq, PutGo, PutData, PutDone, Ready, Advance}
@@ -14,7 +14,7 @@ use Rattle.sn_model.specs.declared.cache.Need.TheVariants.{Read, Write}
 use Rattle.sn_model.specs.Caches.{Put, line_of, is_present, is_writable_state, misses_on, puts_on, frames_taken}
 use Rattle.sn_model.specs.Machine.{State, node_at, with_node, home_node}
 use Rattle.sn_model.specs.Access.{Stepped, Found, nothing_found, word_in, refused, is_full, prepared, retired, missed, reads, writes}
-use Rattle.sn_model.specs.NodeEvents.{evicted, evicts, begins_put}
+use Rattle.sn_model.specs.NodeEvents.{evicted, evicts}
 use Rattle.sn_model.specs.NetEvents.{logged_at, outcome_of, AtCache}
 use Rattle.mosi_cache.specs.declared.step.Probe1.TheVariants.{Ready as IsReady, Waits as HasToWait, Miss, NeedsEvict as HasNoFrame, LogFull as HasNoRoom}
 use Rattle.mosi_cache.specs.Rows.{row_by, MeetsRow}
@@ -68,7 +68,7 @@ write_step s retires misses false false f p e = miss_step s retires misses p e
 pub read-agrees : (image : ImageData) (config : Config) (s : State) (n address : ℕ) →
     reads image config s n address
     ≡ step_by_probe s (retired image s n (record nothing_found { seen = word_in (line_of (node_at s n).cache (block_of address)).content address })) (missed s n (block_of address) Read)
-        (probe_by (controller_at config s n) (log_at config s n) (block_of address) (node_at s n).now Read)
+    (probe_by (controller_at config s n) (log_at config s n) (block_of address) (node_at s n).now Read)
 read-agrees image config s n address =
     read_step s (retired image s n (record nothing_found { seen = word_in (line_of (node_at s n).cache (block_of address)).content address })) (missed s n (block_of address) Read)
     (puts_on (node_at s n).cache.put (block_of address)) (is_present (line_of (node_at s n).cache (block_of address)).state)
@@ -77,7 +77,7 @@ read-agrees image config s n address =
 pub write-agrees : (image : ImageData) (config : Config) (s : State) (n address : ℕ) (found : Found) →
     writes image config s n address found
     ≡ step_by_probe s (retired image (with_node s n (prepared (node_at s n) (block_of address))) n found) (missed s n (block_of address) Write)
-        (probe_by (controller_at config s n) (log_at config s n) (block_of address) (node_at s n).now Write)
+    (probe_by (controller_at config s n) (log_at config s n) (block_of address) (node_at s n).now Write)
 write-agrees image config s n address found =
     write_step s (retired image (with_node s n (prepared (node_at s n) (block_of address))) n found) (missed s n (block_of address) Write)
     (puts_on (node_at s n).cache.put (block_of address)) (is_writable_state (line_of (node_at s n).cache (block_of address)).state)

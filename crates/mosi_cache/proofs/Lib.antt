@@ -8,3 +8,4 @@ pub mod Probes
 pub mod Stores
 pub mod Least
 pub mod Agrees
+pub mod Logs

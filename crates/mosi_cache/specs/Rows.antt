@@ -1,14 +1,12 @@
 -- What a message does at the cache that it has come to: the row of its body, the row's condition, and the answer.
-use Rattle.std.specs.Prelude.{◌≡◌, ℕ, ◌+◌, ◌≤◌, ◌%◌, Bool, true, false, ◌&&◌, nat_eq, nat_lt, is_some, if◌then◌else◌, List, [], ◌∷◌, length, Option, Some, None}
+use Rattle.std.specs.Prelude.{◌≡◌, ℕ, ◌+◌, ◌≤◌, ◌%◌, Bool, false, nat_lt, if◌then◌else◌, List, [], ◌∷◌, length, Option, Some, None}
 use Rattle.sn_base.specs.declared.log.LogEntry.{LogEntry}
 use Rattle.sn_msg.specs.declared.Message.{Message}
 use Rattle.sn_msg.specs.declared.Body.{Body}
 use Rattle.sn_msg.specs.declared.Body.TheVariants.{GetS, GetM, FwdGetS, FwdGetM, Inv, DataS, DataM, DataE, UpgOk, InvAck, Unblock, PutReq, PutGo, PutData, PutDone, Ready, Advance}
 use Rattle.log_buffer.specs.Log.{LogData, logged_to}
-use Rattle.sn_model.specs.declared.cache.Need.TheVariants.{Write}
 use Rattle.sn_model.specs.declared.cache.Out.{Out}
-use Rattle.sn_model.specs.Caches.{Cache, Miss, line_of, is_present}
-use Rattle.sn_model.specs.CacheRows.{Logged, CacheReply, forward_read, forward_write, invalidate, data_shared, data_modified, upgrade_granted, acknowledge, put_go, put_done, data_exclusive, acknowledged, MayForward, MayTakeCopy, MayTakeOwnership, MayUpgrade, MayCount, MayGiveBack, MayClosePut}
+use Rattle.sn_model.specs.CacheRows.{Logged, CacheReply, forward_read, forward_write, invalidate, data_shared, data_modified, upgrade_granted, acknowledge, put_go, put_done, data_exclusive, MayForward, MayTakeCopy, MayTakeOwnership, MayUpgrade, MayCount, MayGiveBack, MayClosePut}
 use Rattle.mosi_cache.specs.declared.step.CacheStep.{CacheStep}
 use Rattle.mosi_cache.specs.declared.step.CacheStep.TheVariants.{Took, LogFull}
 use Rattle.sn_model.specs.declared.look.Look.{Look}
@@ -75,16 +73,6 @@ noted_in now tag _ = None
 abbrev pub NotesLast : List LogEntry → ℕ → Option ℕ → Type 0
 NotesLast entries block None = Unit {0}
 NotesLast entries block (Some interval) = logged_to entries false block ≤ interval + 1
-
--- how many messages an answer sends that says how many acknowledgements are due
-abbrev pub done_by_answer : Option Miss → ℕ → ℕ
-done_by_answer None due = 0
-done_by_answer (Some miss) due = if nat_eq miss.acks due then 1 else 0
-
--- how many messages an acknowledgement sends
-abbrev pub done_by_acknowledgement : Option Miss → ℕ
-done_by_acknowledgement None = 0
-done_by_acknowledgement (Some miss) = if is_some miss.fixed && nat_eq (miss.acks + 1) miss.due then 1 else 0
 
 -- the one message that a row sends, where it sends one
 abbrev pub first_of : List Out → Option Out
