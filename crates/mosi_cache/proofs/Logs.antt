@@ -1,5 +1,5 @@
 -- Where a log has nothing to say of a checkpoint, its entries are of earlier intervals.
-use Rattle.std.proofs.Common.{◌≡◌, ℕ, ◌+◌, ◌≤◌, Bool, true, false, ◌&&◌, max, List, [], ◌∷◌, Option, Some, None, not, refl, Bor, arith}
+use Rattle.std.proofs.Common.{◌≡◌, ℕ, ◌+◌, ◌≤◌, Bool, true, ◌&&◌, max, List, [], ◌∷◌, Option, Some, None, not, refl, Bor, arith}
 use Rattle.std.specs.Prelude.{nat_le, is_some, option_copied, if◌then◌else◌}
 use Rattle.std.specs.Option.{option_map}
 use Rattle.std.proofs.lemmas.Bool.Decides.{nat_tests}

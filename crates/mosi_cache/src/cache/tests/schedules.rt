@@ -103,10 +103,9 @@ fn the_interval_of_atomicity_is_the_tag(rt: HostRuntime) -> Result<(), Fail> {
     let mut cache = small_cache(rt.alloc(), here)?;
     let mut log = LogBuffer::new(rt.alloc(), 4)?;
     assert!(rt; miss(&mut cache, block(), Need::Write, 0, &log).is_some());
-    let data = Body::DataM(Block::zero(), 0);
-    let early = answer(&mut cache, &mut log, 2, 1, data);
+    let early = answer(&mut cache, &mut log, 2, 1, Body::DataM(Block::zero(), 0));
     assert!(rt; early.is_none());
-    let completes = answer(&mut cache, &mut log, 2, 2, data);
+    let completes = answer(&mut cache, &mut log, 2, 2, Body::DataM(Block::zero(), 0));
     assert!(rt; completes == sends(home, Body::Unblock(2)));
     assert!(rt; log.has(2, false, block()));
     Ok(())
