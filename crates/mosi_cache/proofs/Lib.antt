@@ -1,0 +1,11 @@
+pub mod Frames
+pub mod Counts
+pub mod Taken
+pub mod Changes
+pub mod Fits
+pub mod Settled
+pub mod Probes
+pub mod Stores
+pub mod Least
+pub mod Agrees
+pub mod Logs

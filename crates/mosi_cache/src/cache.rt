@@ -1,0 +1,166 @@
+//! The controller of a cache.
+//!
+//! What a message does stands in the rows, one function each; here is which row a message has, and when it is refused.
+ghost use Rattle.std.specs.Prelude.{◌≡◌, ℕ, ◌+◌, ◌%◌, ◌<◌, ◌≤◌, Bool, true, false, nat_eq, List, length, IfOk, Some, None};
+ghost use Rattle.sn_base.specs.Config.{config_fits};
+ghost use Rattle.sn_base.specs.declared.log.LogEntry.{LogEntry};
+ghost use Rattle.sn_model.specs.Caches.{empty_cache};
+ghost use Rattle.sn_model.specs.CacheRows.{Logged, fixed_at, acknowledged, settled};
+ghost use Rattle.mosi_cache.specs.Controller.{CacheData, logged};
+ghost use Rattle.mosi_cache.specs.Rows.{row_by, row_of, MeetsRow, NotesLast, noted_in, is_over, step_by, look_by, cache_by, log_by, IsDone};
+
+mod access;
+mod rows;
+#[cfg(test)]
+mod tests;
+
+use crate::lines::Lines;
+use crate::step::CacheStep;
+use atomicity_point::TxnTable;
+use log_buffer::LogBuffer;
+use sn_base::{Config, Interval, Memory, NodeId};
+use sn_model::{Look, Need};
+use sn_msg::{Body, Message};
+use std::alloc::Global;
+use std::marker::Model;
+
+/// The cache of a node. Contracts see the cache of the machine's definitions, with the node and the cache's sizes.
+#[derive(Drop)]
+pub struct Cache {
+    node: NodeId,
+    nodes: u8,
+    lines: Lines,
+    transactions: TxnTable,
+    need: Need,
+}
+
+impl Model for Cache {
+    ghost use Rattle.std.specs.Prelude.{◌≤◌};
+    ghost use Rattle.mosi_cache.specs.Controller.{CacheData, cache_of, FitsSets};
+
+    ghost Value = { CacheData };
+
+    ghost view = { λ c. record { node = c.node; nodes = c.nodes; sets = c.lines.sets; ways = c.lines.ways; cache = cache_of c.need c.lines c.transactions } };
+
+    ghost invariant = { λ c. (1 ≤ c.nodes) × (c.nodes ≤ 16) × FitsSets (cache_of c.need c.lines c.transactions) c.lines.sets c.lines.ways };
+}
+
+/// The interval in which a message's row notes what stood before it, where it does.
+fn noting(message: &Message, now: Interval) -> Option<Interval>
+    ensures { result ≡ noted_in now message.now.tag message.now.body }
+{
+    match message.body {
+        Body::FwdGetM(_, _) | Body::PutGo => Some(now),
+        Body::DataM(_, _) | Body::DataE(_) => Some(message.tag),
+        _ => None,
+    }
+}
+
+impl Cache {
+    /// A cache without a line, for a node of a machine of this configuration.
+    pub fn new(alloc: Global, node: NodeId, config: &Config) -> Result<Cache, Memory>
+        requires { config_fits config.now ≡ true }
+        ensures { IfOk result (λ c. c ≡ record { node = node; nodes = config.now.nodes; sets = config.now.sets; ways = config.now.ways; cache = empty_cache }) }
+    {
+        let lines = Lines::new(alloc, config.sets, config.ways)?;
+        Ok(Cache {
+            node,
+            nodes: config.nodes,
+            lines,
+            transactions: TxnTable::new(),
+            need: Need::Read,
+        })
+    }
+
+    /// What `receive` would do with the message: how many messages it would send, or that the log is full.
+    pub fn look(&self, message: &Message, now: Interval, log: &LogBuffer) -> Look
+        requires here { message.now.to ≡ self.now.node }
+        requires come { message.now.tag ≤ now }
+        requires row { MeetsRow (logged self.now log.now.entries) message.now.block message.now.body }
+        requires last { NotesLast log.now.entries message.now.block (noted_in now message.now.tag message.now.body) }
+        ensures { result ≡ look_by log.now (row_of self.now log.now now message.now) }
+    {
+        let room = log.room();
+        if let Some(interval) = noting(message, now)
+            && room == 0
+            && !log.has(interval, false, message.block)
+        {
+            return Look::LogFull;
+        }
+        Look::Sends(self.sends(message))
+    }
+
+    /// Takes a message to this node: its row is done, or, where that needs a log entry for which there is no room, nothing.
+    /// The message has come in no earlier interval than its tag, and meets the condition of its row.
+    pub fn receive(&mut self, message: &Message, now: Interval, log: &mut LogBuffer) -> CacheStep
+        requires here { message.now.to ≡ self.old.node }
+        requires come { message.now.tag ≤ now }
+        requires row { MeetsRow (logged self.old log.old.entries) message.now.block message.now.body }
+        requires last { NotesLast log.old.entries message.now.block (noted_in now message.now.tag message.now.body) }
+        ensures answer { result ≡ step_by log.old (row_of self.old log.old now message.now) }
+        ensures cache { self.new ≡ cache_by self.old log.old (row_of self.old log.old now message.now) }
+        ensures log { log.new ≡ log_by log.old (row_of self.old log.old now message.now) }
+    {
+        if self.look(message, now, log) == Look::LogFull {
+            return CacheStep::LogFull;
+        }
+        self.take(message, now, log)
+    }
+
+    /// Does the row of the message, for which the log has room.
+    fn take(&mut self, message: &Message, now: Interval, log: &mut LogBuffer) -> CacheStep
+        requires row { MeetsRow (logged self.old log.old.entries) message.now.block message.now.body }
+        requires last { NotesLast log.old.entries message.now.block (noted_in now message.now.tag message.now.body) }
+        requires room { is_over log.old (row_of self.old log.old now message.now) ≡ false }
+        ensures done { IsDone self.old self.new result (row_of self.old log.old now message.now) }
+        ensures log { log.new ≡ record log.old { entries = (row_of self.old log.old now message.now).after.log } }
+    {
+        let block = message.block;
+        match message.body {
+            Body::FwdGetS(requester) => self.forward_read(block, requester),
+            Body::FwdGetM(requester, due) => self.forward_write(block, now, requester, due, log),
+            Body::Inv(requester) => self.invalidate(block, requester),
+            Body::DataS(content) => self.data_shared(block, message.tag, content),
+            Body::DataM(content, due) => self.data_modified(block, message.tag, content, due, log),
+            Body::UpgOk(due) => self.upgrade_granted(block, message.tag, due),
+            Body::InvAck => self.acknowledge(block),
+            Body::PutGo => self.put_go(block, now, log),
+            Body::PutDone => self.put_done(block),
+            Body::DataE(content) => self.data_exclusive(block, message.tag, content, log),
+            _ => unreachable!(),
+        }
+    }
+
+    /// How many messages the row of the message sends.
+    fn sends(&self, message: &Message) -> u8
+        ensures { (entries : List LogEntry) (home now : ℕ) → result ≡ length (row_by (logged self.now entries) home message.now.block now message.now.tag message.now.body).sends }
+    {
+        match message.body {
+            Body::FwdGetS(_) | Body::FwdGetM(_, _) | Body::Inv(_) | Body::PutGo => 1,
+            Body::DataS(_) | Body::DataE(_) => self.sends_when_answered(0),
+            Body::DataM(_, due) | Body::UpgOk(due) => self.sends_when_answered(due),
+            Body::InvAck => self.sends_when_acknowledged(),
+            _ => 0,
+        }
+    }
+
+    fn sends_when_answered(&self, due: u8) -> u8
+        ensures { (at : Logged) (home tag : ℕ) → result ≡ length (settled at home (fixed_at self.now.cache.miss tag due)).sends }
+    {
+        match self.transactions.miss() {
+            Some(miss) if miss.acks_in == due => 1,
+            _ => 0,
+        }
+    }
+
+    fn sends_when_acknowledged(&self) -> u8
+        ensures { (at : Logged) (home : ℕ) → result ≡ length (settled at home (acknowledged self.now.cache.miss)).sends }
+    {
+        match self.transactions.miss() {
+            Some(miss)
+                if miss.fixed.is_some()
+                    && u16::from(miss.acks_in) + 1 == u16::from(miss.acks_due) => 1,
+            _ => 0,
+        }
+    }
+}
