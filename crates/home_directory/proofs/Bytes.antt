@@ -1,5 +1,5 @@
 -- The bytes with which a block begins.
-use Rattle.std.proofs.Common.{◌≡◌, ℕ, zero, suc, ◌+◌, ◌<◌, ◌≤◌, ◌%◌, List, [], ◌∷◌, ◌++◌, length, take, drop, refl, sym, ap, ◌∙◌, arith, add-zero, add-one, length-append, length-take, length-drop}
+use Rattle.std.proofs.Common.{◌≡◌, ℕ, zero, suc, ◌+◌, ◌<◌, List, [], ◌∷◌, ◌++◌, length, take, drop, refl, ap, ◌∙◌, arith, add-zero, add-one, length-append, length-take, length-drop}
 use Rattle.std.proofs.Math.Seq.{take-append_seam}
 use Rattle.sn_base.specs.Blocks.{stored_in}
 use Rattle.sn_base.specs.Image.{SegmentData, byte_at, bytes_from}

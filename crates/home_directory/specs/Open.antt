@@ -1,7 +1,6 @@
 -- The list of the open transactions beside the entries: the place of each in order, with the interval in which it was begun.
-use Rattle.std.specs.Prelude.{ℕ, ◌+◌, Bool, not, nat_eq, nat_lt, min, List, [], ◌∷◌, length, count_by, filter, Option, Some, None}
+use Rattle.std.specs.Prelude.{ℕ, ◌+◌, not, nat_eq, nat_lt, List, [], ◌∷◌, count_by, filter, Option, Some, None}
 use Rattle.std.specs.List.{insert}
-use Rattle.std.specs.Option.{option_map}
 use Rattle.sn_model.specs.Homes.{HomeEntry, Transaction}
 use Rattle.home_directory.specs.Home.{lesser_of}
 pub use Rattle.home_directory.specs.declared.open.Open.{Open}

@@ -1,18 +1,18 @@
 -- What a home makes of a message: the row that it takes, or a refusal that changes nothing.
-use Rattle.std.specs.Prelude.{◌≡◌, ℕ, ◌+◌, ◌≤◌, Bool, true, false, nat_eq, nat_lt, if◌then◌else◌, List, [], ◌∷◌, length, Option, Some, None, IfSome}
+use Rattle.std.specs.Prelude.{◌≡◌, ℕ, ◌+◌, ◌≤◌, Bool, true, false, nat_eq, nat_lt, if◌then◌else◌, List, ◌∷◌, length, Option, Some, None, IfSome}
 use Rattle.sn_base.specs.declared.log.LogEntry.{LogEntry}
 use Rattle.sn_msg.specs.declared.Message.{Message}
 use Rattle.sn_msg.specs.declared.Body.{Body}
-use Rattle.sn_msg.specs.declared.Body.TheVariants.{GetS, GetM, FwdGetS, FwdGetM, Inv, DataS, DataM, DataE, UpgOk, InvAck, Unblock, PutReq, PutGo, PutData, PutDone, Ready, Advance}
+use Rattle.sn_msg.specs.declared.Body.TheVariants.{GetS, GetM, Unblock, PutReq, PutData}
 use Rattle.log_buffer.specs.Log.{LogData, logged_to}
 use Rattle.sn_model.specs.declared.home.Kind.{Kind}
-use Rattle.sn_model.specs.declared.home.Kind.TheVariants.{Read, Take, Move, Upgrade, Put}
+use Rattle.sn_model.specs.declared.home.Kind.TheVariants.{Move, Put}
 use Rattle.sn_model.specs.declared.cache.Out.{Out}
 use Rattle.sn_model.specs.declared.look.Look.{Look}
 use Rattle.sn_model.specs.declared.look.Look.TheVariants.{Sends, HomeBusy as LooksBusy, LogFull as LooksFull}
 use Rattle.sn_model.specs.Homes.{HomeEntry, Holder, Itself, OfCache, Transaction, is_owner}
 use Rattle.sn_model.specs.HomeRows.{Kept, HomeReply, count_others, invalidations, unblock, put_data}
-use Rattle.sn_model.specs.NetEvents.{Outcome, Busy, AtCache, AtHome, Noted, get_shared, get_modified, put_request, unless_busy}
+use Rattle.sn_model.specs.NetEvents.{Outcome, Busy, AtHome, get_shared, get_modified, put_request, unless_busy}
 use Rattle.home_directory.specs.Home.{HomeData, entry_of, with_entry}
 use Rattle.home_directory.specs.declared.step.HomeStep.{HomeStep}
 use Rattle.home_directory.specs.declared.step.HomeStep.TheVariants.{Took, HomeBusy, LogFull}

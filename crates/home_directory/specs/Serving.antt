@@ -1,11 +1,11 @@
 -- What the functions inside a home say of a row: the tests that come before it, and that it was done.
-use Rattle.std.specs.Prelude.{◌≡◌, ℕ, ◌+◌, ◌<◌, Bool, true, false, not, ◌&&◌, nat_le, List, length, Option, Some, None, is_some}
+use Rattle.std.specs.Prelude.{◌≡◌, ℕ, ◌+◌, ◌<◌, Bool, true, false, not, ◌&&◌, nat_le, length, Option, Some, None, is_some}
 use Rattle.sn_msg.specs.declared.Body.{Body}
-use Rattle.sn_msg.specs.declared.Body.TheVariants.{GetS, GetM, FwdGetS, FwdGetM, Inv, DataS, DataM, DataE, UpgOk, InvAck, Unblock, PutReq, PutGo, PutData, PutDone, Ready, Advance}
+use Rattle.sn_msg.specs.declared.Body.TheVariants.{GetS, GetM, PutReq}
 use Rattle.log_buffer.specs.Log.{LogData, has_entry}
 use Rattle.sn_model.specs.Homes.{HomeEntry}
 use Rattle.sn_model.specs.HomeRows.{Kept, HomeReply, count_others}
-use Rattle.sn_model.specs.NetEvents.{Outcome, Busy, AtCache, AtHome, Noted}
+use Rattle.sn_model.specs.NetEvents.{Outcome, AtHome}
 use Rattle.home_directory.specs.declared.step.HomeStep.{HomeStep}
 use Rattle.home_directory.specs.Receipt.{Sent}
 

@@ -1,4 +1,4 @@
-use Rattle.std.proofs.Common.{◌≡◌, ap, ◌∙◌}
+use Rattle.std.proofs.Common.{ap, ◌∙◌}
 use Rattle.home_directory.specs.Home.{HomeData, least_open}
 use Rattle.home_directory.specs.Open.{least_in}
 use Rattle.home_directory.proofs.Opens.{least_is}

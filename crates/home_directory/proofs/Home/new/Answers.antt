@@ -1,4 +1,4 @@
-use Rattle.std.proofs.Common.{◌≡◌, length, ap, sym, ◌∙◌, arith}
+use Rattle.std.proofs.Common.{length, ap, sym, ◌∙◌, arith}
 use Rattle.home_directory.specs.Home.{places_of}
 use Rattle.home_directory.specs.Open.{opens_from}
 use Rattle.home_directory.proofs.Starts.{length_entries, nothing_open}

@@ -1,7 +1,6 @@
-use Rattle.std.proofs.Common.{◌≡◌, ◌<◌, ◌≤◌, length, ap, sym, ◌∙◌, arith, length-set}
-use Rattle.sn_model.specs.Homes.{HomeEntry}
+use Rattle.std.proofs.Common.{◌≡◌, ◌<◌, length, ap, ◌∙◌, arith, length-set}
 use Rattle.home_directory.specs.Home.{HomeData}
-use Rattle.home_directory.specs.Open.{relisted, without_place, opens_from}
+use Rattle.home_directory.specs.Open.{relisted}
 use Rattle.home_directory.proofs.Opens.{short_is, relisted_is}
 use Rattle.home_directory.proofs.Home.receive.Goals as goal
 

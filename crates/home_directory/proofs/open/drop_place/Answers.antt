@@ -1,6 +1,5 @@
-use Rattle.std.proofs.Common.{◌≡◌, rules}
+use Rattle.std.proofs.Common.{rules}
 use Rattle.std.proofs.lemmas.Fn.{filter_same}
-use Rattle.home_directory.specs.Open.{without_place}
 use Rattle.home_directory.proofs.open.drop_place.Goals as goal
 
 pub returns-clause-items : goal.returns-clause-items

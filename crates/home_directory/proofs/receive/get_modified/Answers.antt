@@ -1,15 +1,8 @@
-use Rattle.std.proofs.Common.{◌≡◌, ◌+◌, ◌<◌, true, false, Some, None, List, refl, ap, sym, ◌∙◌, arith, rules}
-use Rattle.std.specs.Prelude.{nat_eq, IfSome}
+use Rattle.std.proofs.Common.{◌≡◌, true, false, Some, arith}
+use Rattle.std.specs.Prelude.{nat_eq}
 use Rattle.std.proofs.lemmas.Bool.Decides.{nat_tests}
-use Rattle.sn_base.specs.declared.log.LogEntry.{LogEntry}
-use Rattle.sn_model.specs.declared.home.Owner.{Owner}
-use Rattle.sn_model.specs.declared.home.Owner.TheVariants.{Cache}
-use Rattle.sn_model.specs.Homes.{HomeEntry, Itself, OfCache, is_owner}
-use Rattle.sn_model.specs.HomeRows.{count_others}
 use Rattle.home_directory.specs.Home.{cache_of}
-use Rattle.home_directory.specs.Receipt.{kept, noting, outcome_at, look_of, left_by}
-use Rattle.home_directory.specs.Serving.{lacks_room, waits, HasRoom}
-use Rattle.sn_model.specs.declared.look.Look.TheVariants.{Sends}
+use Rattle.home_directory.specs.Receipt.{kept}
 use Rattle.home_directory.proofs.Verdicts.{cache_owns, did_upgrade, did_move}
 use Rattle.home_directory.proofs.receive.get_modified.Goals as goal
 

@@ -1,14 +1,6 @@
-use Rattle.std.proofs.Common.{◌≡◌, ◌+◌, ◌<◌, true, false, Some, None, List, refl, ap, sym, ◌∙◌, arith, rules}
-use Rattle.std.specs.Prelude.{nat_eq, IfSome}
-use Rattle.std.proofs.lemmas.Bool.Decides.{nat_tests}
-use Rattle.sn_base.specs.declared.log.LogEntry.{LogEntry}
-use Rattle.sn_model.specs.declared.home.Owner.{Owner}
-use Rattle.sn_model.specs.declared.home.Owner.TheVariants.{Cache}
-use Rattle.sn_model.specs.Homes.{HomeEntry, Itself, OfCache, is_owner}
-use Rattle.sn_model.specs.HomeRows.{count_others}
-use Rattle.home_directory.specs.Home.{cache_of}
-use Rattle.home_directory.specs.Receipt.{kept, noting, outcome_at, look_of, left_by}
-use Rattle.home_directory.specs.Serving.{lacks_room, waits, HasRoom}
+use Rattle.std.proofs.Common.{◌≡◌, false, refl, ap, sym, ◌∙◌}
+use Rattle.home_directory.specs.Receipt.{kept, noting, look_of}
+use Rattle.home_directory.specs.Serving.{lacks_room, waits}
 use Rattle.sn_model.specs.declared.look.Look.TheVariants.{Sends}
 use Rattle.home_directory.proofs.Verdicts.{judged_is, sends_are}
 use Rattle.home_directory.proofs.receive.look.Goals as goal

@@ -1,4 +1,4 @@
-use Rattle.std.proofs.Common.{◌≡◌, true, false, sym, ◌∙◌}
+use Rattle.std.proofs.Common.{sym, ◌∙◌}
 use Rattle.home_directory.specs.Receipt.{kept}
 use Rattle.home_directory.proofs.Verdicts.{did_put, did_stale}
 use Rattle.home_directory.proofs.receive.put_request.Goals as goal

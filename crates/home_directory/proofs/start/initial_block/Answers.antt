@@ -1,4 +1,4 @@
-use Rattle.std.proofs.Common.{◌≡◌, ℕ, ◌+◌, ◌*◌, ◌%◌, ◌<◌, List, [], ◌∷◌, ◌++◌, ap, sym, ◌∙◌, arith}
+use Rattle.std.proofs.Common.{◌≡◌, ◌+◌, ◌*◌, ◌%◌, ◌<◌, [], ◌∷◌, ◌++◌, ap, sym, ◌∙◌, arith}
 use Rattle.sn_base.specs.Blocks.{stored_in}
 use Rattle.sn_base.specs.Image.{byte_at, bytes_from}
 use Rattle.home_directory.proofs.Bytes.{bytes_more, stored_more, whole_stored}
