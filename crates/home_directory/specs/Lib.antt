@@ -1,0 +1,4 @@
+pub mod Home
+pub mod Receipt
+pub mod Serving
+pub mod Open

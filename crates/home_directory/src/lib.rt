@@ -1,0 +1,149 @@
+//! The home of one node: the directory of the blocks whose home it is, and what it does with each message about them.
+//!
+//! For each block the home keeps who owns it, its content in memory, which nodes share it, and the transaction that is
+//! open on it; while one is open, further requests wait. The table of the protocol has a row for each message; each row is
+//! one function here, in the table's order, and does what the definition of that row says, the note in the node's log
+//! included. The layer above knows a home as the list of its entries and each call by these definitions. A home never looks
+//! at caches or the network, never changes anything when it refuses, and takes memory only when it is made.
+//!
+//! Source: directory MOSI protocols (Sorin, Hill, Wood, "A Primer on Memory Consistency and Cache Coherence"), and
+//! SafetyNet (Sorin, Martin, Hill, Wood, ISCA 2002).
+#![tactic(auto)]
+
+ghost use Rattle.std.specs.Prelude.{◌≡◌, ◌/◌, ◌%◌, ◌<◌, ◌≤◌, length, IfOk};
+ghost use Rattle.sn_base.specs.Image.{ImageData};
+ghost use Rattle.log_buffer.specs.Log.{logged_to};
+ghost use Rattle.sn_model.specs.Homes.{Itself};
+ghost use Rattle.sn_model.specs.Machine.{initial_block};
+ghost use Rattle.home_directory.specs.Home.{HomeData, IsHome, entry_of, with_entry, first_of, owner_of, least_open};
+ghost use Rattle.home_directory.specs.Receipt.{HasRowAt, NotesLast, received, Tells, look_of};
+
+mod entry;
+mod laws;
+mod open;
+mod receive;
+mod rows;
+mod start;
+mod step;
+#[cfg(test)]
+mod tests;
+
+use entry::Entry;
+pub use laws::outcome_is_the_machines;
+use log_buffer::LogBuffer;
+use open::Open;
+use sn_base::{Block, BlockNo, Image, Interval, Memory, NodeId};
+pub use sn_model::{Look, Out, Owner};
+use sn_msg::Message;
+use std::alloc::Global;
+use std::marker::Model;
+pub use step::HomeStep;
+
+/// The home of a node. Contracts see the node, the number of nodes, and the entries of its blocks in order. The open
+/// transactions stand in a list too, which has room for one of each block.
+#[derive(Drop)]
+pub struct Home {
+    node: NodeId,
+    nodes: u8,
+    entries: Vec<Entry>,
+    opens: Vec<Open>,
+}
+
+impl Model for Home {
+    ghost use Rattle.std.specs.Prelude.{◌≡◌, ◌≤◌, length, vec_capacity};
+    ghost use Rattle.home_directory.specs.Home.{HomeData, IsHome};
+    ghost use Rattle.home_directory.specs.Open.{opens_from};
+
+    ghost Value = { HomeData };
+
+    ghost view = { λ h. record { node = h.node; nodes = h.nodes; entries = h.entries.items } };
+
+    ghost invariant = { λ h. IsHome (record { node = h.node; nodes = h.nodes; entries = h.entries.items }) × (h.opens.items ≡ opens_from 0 h.entries.items) × (length h.entries.items ≤ vec_capacity h.opens) };
+}
+
+impl Home {
+    /// The home of a node of so many, at the start: it owns its blocks, with the bytes that the program gives them. It
+    /// takes memory for an entry of each of its blocks and for the list of open transactions.
+    pub fn new(alloc: Global, node: NodeId, nodes: u8, image: &Image) -> Result<Home, Memory>
+        requires inside { node < nodes }
+        requires few { nodes ≤ 16 }
+        ensures { IfOk result (λ h. h ≡ first_of image.now node nodes) }
+    {
+        let entries = start::first_entries(alloc, node, nodes, image)?;
+        let opens = Vec::with_capacity(alloc, entries.len())?;
+        Ok(Home {
+            node,
+            nodes,
+            entries,
+            opens,
+        })
+    }
+
+    fn place(&self, block: BlockNo) -> usize
+        requires { block % self.now.nodes ≡ self.now.node }
+        ensures place { result ≡ block / self.now.nodes }
+        ensures inside { result < length self.now.entries }
+    {
+        usize::from(block.number() / u16::from(self.nodes))
+    }
+
+    /// Does the message's row, or refuses it and changes nothing: `HomeBusy` exactly where it is a request and a transaction
+    /// is open on its block, and else `LogFull` exactly where its row adds a note and the log has no room. A message that
+    /// has no row doesn't arrive: the layer above keeps that of all that is delivered.
+    pub fn receive(&mut self, message: &Message, now: Interval, log: &mut LogBuffer) -> HomeStep
+        requires mine { message.now.to ≡ self.old.node }
+        requires here { message.now.block % self.old.nodes ≡ self.old.node }
+        requires due { message.now.tag ≤ now }
+        requires row { HasRowAt self.old message.now }
+        requires latest { NotesLast self.old log.old now message.now }
+        ensures home { self.new ≡ (received self.old log.old now message.now).home }
+        ensures log { log.new ≡ (received self.old log.old now message.now).log }
+        ensures step { Tells result (received self.old log.old now message.now).verdict }
+    {
+        let place = self.place(message.block);
+        let entry = &mut self.entries[place];
+        let step = receive::receive(entry, message, now, log);
+        let begun = entry.begun();
+        open::relist(&mut self.opens, place, begun);
+        step
+    }
+
+    /// What `receive` would do with the message now: the same refusal, or how many messages it would send.
+    pub fn look(&self, message: &Message, now: Interval, log: &LogBuffer) -> Look
+        requires mine { message.now.to ≡ self.now.node }
+        requires here { message.now.block % self.now.nodes ≡ self.now.node }
+        requires due { message.now.tag ≤ now }
+        requires row { HasRowAt self.now message.now }
+        requires latest { NotesLast self.now log.now now message.now }
+        ensures { result ≡ look_of (received self.now log.now now message.now).verdict }
+    {
+        let place = self.place(message.block);
+        receive::look(&self.entries[place], message, now, log)
+    }
+
+    /// Who owns a block of this home.
+    pub fn owner(&self, block: BlockNo) -> Owner
+        requires { block % self.now.nodes ≡ self.now.node }
+        ensures { result ≡ owner_of (entry_of self.now block).holder }
+    {
+        let place = self.place(block);
+        self.entries[place].owner
+    }
+
+    /// The content of a block that the home itself owns.
+    pub fn content(&self, block: BlockNo) -> &Block
+        requires here { block % self.now.nodes ≡ self.now.node }
+        requires owned { owner_of (entry_of self.now block).holder ≡ Owner.Home }
+        ensures { (entry_of self.now block).holder ≡ Itself result.now }
+    {
+        let place = self.place(block);
+        &self.entries[place].memory
+    }
+
+    /// The least interval in which one of the open transactions was begun. None where none is open.
+    pub fn least_open(&self) -> Option<Interval>
+        ensures { result ≡ least_open self.now.entries }
+    {
+        open::least(self.opens.as_slice())
+    }
+}

@@ -1,0 +1,72 @@
+//! The entries of a home at the start: it owns its blocks, with the bytes that the program gives them.
+ghost use Rattle.std.specs.Prelude.{◌≡◌, ◌+◌, ◌*◌, ◌<◌, ◌≤◌, IfOk};
+ghost use Rattle.sn_model.specs.Machine.{first_home, initial_block};
+ghost use Rattle.home_directory.specs.Home.{places_of, entries_below};
+
+use crate::entry::Entry;
+use sn_base::{Block, BlockNo, Image, Memory, NodeId, NodeSet, Width};
+use sn_model::Owner;
+use std::alloc::Global;
+
+/// The bytes that a program gives a block.
+fn initial_block(image: &Image, block: BlockNo) -> Block
+    ensures { result ≡ initial_block image.now block }
+{
+    let start = 0x8000_0000 + 64 * u32::from(block.number());
+    let mut content = Block::zero();
+    'bytes: for place in 0..64u32 {
+        let byte = image.byte(start + place);
+        content.store(place as usize, Width::Byte, u32::from(byte));
+    }
+    content
+}
+
+fn first_entry(image: &Image, block: BlockNo) -> Entry
+    ensures { result ≡ first_home image.now block }
+{
+    Entry {
+        owner: Owner::Home,
+        memory: initial_block(image, block),
+        sharers: NodeSet::empty(),
+        transaction: None,
+    }
+}
+
+/// How many blocks have their home at a node of so many.
+fn count_places(node: NodeId, nodes: u8) -> u32
+    requires inside { node < nodes }
+    ensures count { result ≡ places_of node nodes }
+    ensures small { result ≤ 65536 }
+{
+    (65535 - u32::from(node.number())) / u32::from(nodes) + 1
+}
+
+/// The block of a place.
+fn block_of(node: NodeId, nodes: u8, place: u32) -> BlockNo
+    requires inside { node < nodes }
+    requires few { nodes ≤ 16 }
+    requires here { place < places_of node nodes }
+    ensures { result ≡ node + nodes * place }
+{
+    let number = u32::from(node.number()) + u32::from(nodes) * place;
+    BlockNo::new(number as u16)
+}
+
+pub fn first_entries(
+    alloc: Global,
+    node: NodeId,
+    nodes: u8,
+    image: &Image,
+) -> Result<Vec<Entry>, Memory>
+    requires inside { node < nodes }
+    requires few { nodes ≤ 16 }
+    ensures { IfOk result (λ entries. entries.items ≡ entries_below (places_of node nodes) image.now node nodes) }
+{
+    let places = count_places(node, nodes);
+    let mut entries = Vec::with_capacity(alloc, places as usize)?;
+    'places: for place in 0..places {
+        let entry = first_entry(image, block_of(node, nodes, place));
+        entries.push(entry)?;
+    }
+    Ok(entries)
+}
