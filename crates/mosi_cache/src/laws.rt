@@ -4,7 +4,6 @@ ghost use Rattle.sn_base.specs.Image.{ImageData};
 ghost use Rattle.sn_base.specs.declared.block.Write.{Write};
 ghost use Rattle.sn_base.specs.declared.config.Config.{Config};
 ghost use Rattle.sn_msg.specs.declared.Message.{Message};
-ghost use Rattle.sn_msg.specs.declared.Body.{Body};
 ghost use Rattle.rv_core.specs.Core.{block_of};
 ghost use Rattle.sn_model.specs.declared.cache.Need.{Need};
 ghost use Rattle.sn_model.specs.Caches.{line_of, Miss, Put};

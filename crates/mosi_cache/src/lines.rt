@@ -2,8 +2,8 @@
 //!
 //! The frames that have a line are a plain list, in no order. The layer above sees the line of each block, and how many
 //! frames of a set the lines take. A line never finds its set full: who adds one asks before.
-ghost use Rattle.std.specs.Prelude.{◌≡◌, ℕ, ◌+◌, ◌*◌, ◌<◌, ◌≤◌, ◌%◌, ◌&&◌, Bool, true, false, nat_eq, nat_le, position, filter, length, slice_set, IfOk, IfSome, IsNone, not, Some};
-ghost use Rattle.sn_model.specs.Caches.{Line, no_line, empty_lines, is_present, block_count, frames_taken};
+ghost use Rattle.std.specs.Prelude.{◌≡◌, ℕ, ◌*◌, ◌<◌, ◌%◌, ◌&&◌, true, false, nat_eq, nat_le, position, filter, length, slice_set, IfOk, IfSome, IsNone, not, Some};
+ghost use Rattle.sn_model.specs.Caches.{no_line, empty_lines, is_present, block_count, frames_taken};
 ghost use Rattle.mosi_cache.specs.Frames.{LinesData, HasRoom, closed, line_at, line_of_frame, completed, is_of, is_spared, may_leave, leaves, lesser_of, least_in};
 
 use sn_base::{Block, BlockNo, Memory};

@@ -1,14 +1,12 @@
 //! What the core asks of the cache: an access, an eviction, and what is open.
-ghost use Rattle.std.specs.Prelude.{◌≡◌, ℕ, ◌+◌, ◌-◌, ◌*◌, ◌/◌, ◌%◌, ◌<◌, ◌≤◌, Bool, true, false, nat_lt, nat_le, length, if◌then◌else◌, List, IfSome, IsNone};
+ghost use Rattle.std.specs.Prelude.{◌≡◌, ℕ, ◌+◌, ◌-◌, ◌*◌, ◌/◌, ◌%◌, ◌<◌, ◌≤◌, true, false, nat_lt, nat_le, length, if◌then◌else◌, IfSome, IsNone};
 ghost use Rattle.std.specs.Option.{option_map};
 ghost use Rattle.sn_base.specs.Blocks.{ram_start, ram_size, bytes_of};
-ghost use Rattle.sn_base.specs.declared.log.LogEntry.{LogEntry};
 ghost use Rattle.log_buffer.specs.Log.{LogData, logged_to};
 ghost use Rattle.rv_core.specs.Core.{block_of};
 ghost use Rattle.sn_model.specs.Caches.{line_of, without_line, is_present, is_owned, is_writable_state, misses_on, puts_on, frames_taken, block_count};
 ghost use Rattle.sn_model.specs.CacheRows.{send};
 ghost use Rattle.sn_model.specs.Access.{word_in, request_for};
-ghost use Rattle.mosi_cache.specs.Controller.{CacheData};
 ghost use Rattle.mosi_cache.specs.Probe.{log_with, probe_by, probe_miss, with_miss, stored, evict_by, with_put, may_go, least_open_of};
 
 use super::Cache;

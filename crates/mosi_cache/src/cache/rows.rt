@@ -1,17 +1,17 @@
 //! The rows of the cache's table, in its order: what each message does at the node that it has come to.
-ghost use Rattle.std.specs.Prelude.{◌≡◌, ℕ, ◌+◌, ◌%◌, ◌<◌, ◌≤◌, Bool, true, false, List, [], length, IfSome, Some};
+ghost use Rattle.std.specs.Prelude.{◌≡◌, ◌+◌, ◌%◌, ◌<◌, ◌≤◌, false, List, [], length, IfSome, Some};
 ghost use Rattle.sn_base.specs.declared.log.LogEntry.{LogEntry};
-ghost use Rattle.log_buffer.specs.Log.{LogData, logged_to, has_entry, noted};
+ghost use Rattle.log_buffer.specs.Log.{logged_to, has_entry, noted};
 ghost use Rattle.sn_model.specs.Caches.{line_of};
 ghost use Rattle.sn_model.specs.CacheRows.{forward_read, forward_write, invalidate, data_shared, data_modified, upgrade_granted, acknowledge, put_go, put_done, data_exclusive, settled, MayForward, MayTakeCopy, MayTakeOwnership, MayUpgrade, MayCount, MayGiveBack, MayClosePut};
-ghost use Rattle.mosi_cache.specs.Controller.{CacheData, logged};
+ghost use Rattle.mosi_cache.specs.Controller.{logged};
 ghost use Rattle.mosi_cache.specs.Rows.{IsDone};
 
 use super::Cache;
 use crate::step::CacheStep;
 use log_buffer::LogBuffer;
 use sn_base::{Block, BlockNo, Interval, NodeId, Old};
-use sn_model::{LineState, Need, Out};
+use sn_model::{LineState, Out};
 use sn_msg::Body;
 
 fn taken(to: NodeId, body: Body, lost: Option<BlockNo>) -> CacheStep
@@ -161,7 +161,7 @@ impl Cache {
     }
 
     /// Completes the miss on the block where it is fixed and all acknowledgements due are in: its home gets the interval of
-    /// atomicity, the line is Modified where it was wanted for a write, and the miss is closed.
+    /// atomicity, the line, if any, is Modified where it was wanted for a write, and the miss is closed.
     fn settle(&mut self, block: BlockNo) -> CacheStep
         requires { IfSome self.old.cache.miss (λ m. m.block ≡ block) }
         ensures { (entries : List LogEntry) → IsDone self.old self.new result (settled (logged self.old entries) (block % self.old.nodes) self.old.cache.miss) }

@@ -4,7 +4,7 @@ ghost use Rattle.std.specs.Prelude.{◌≡◌, ◌+◌, ◌≤◌, true, false, 
 ghost use Rattle.sn_base.specs.declared.log.LogEntry.{LogEntry};
 ghost use Rattle.log_buffer.specs.Log.{logged_to};
 ghost use Rattle.sn_model.specs.CacheRows.{AwaitsAnswer, MayCount};
-ghost use Rattle.sn_model.specs.Caches.{is_owned, is_writable_state, puts_on};
+ghost use Rattle.sn_model.specs.Caches.{is_owned, puts_on};
 ghost use Rattle.mosi_cache.specs.Controller.{logged};
 ghost use Rattle.mosi_cache.specs.Rows.{MeetsRow, NotesLast, noted_in};
 
