@@ -289,12 +289,13 @@ fn note_transfer(log: &mut LogBuffer, block: BlockNo) {
 }
 
 #[test]
-fn a_full_log_is_freed_by_a_new_recovery_point(rt: HostRuntime) -> Result<(), Fail> {
+fn a_full_log_takes_no_new_note_until_it_is_freed(rt: HostRuntime) -> Result<(), Fail> {
     let zero = node(&rt, 0);
     let mut at = start(&rt, rt.alloc(), 1)?;
     note_transfer(&mut at.log, BlockNo::new(64));
     note_transfer(&mut at.log, BlockNo::new(65));
     assert_eq!(rt; at.log.room(), 0);
+    plays(&rt, &mut at, &[takes(&rt, zero)]);
     let mut taken = takes(&rt, zero);
     taken.message.block = BlockNo::new(66);
     taken.message.tag = 1;
