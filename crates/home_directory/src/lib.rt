@@ -11,11 +11,8 @@
 #![tactic(auto)]
 
 ghost use Rattle.std.specs.Prelude.{◌≡◌, ◌/◌, ◌%◌, ◌<◌, ◌≤◌, length, IfOk};
-ghost use Rattle.sn_base.specs.Image.{ImageData};
-ghost use Rattle.log_buffer.specs.Log.{logged_to};
 ghost use Rattle.sn_model.specs.Homes.{Itself};
-ghost use Rattle.sn_model.specs.Machine.{initial_block};
-ghost use Rattle.home_directory.specs.Home.{HomeData, IsHome, entry_of, with_entry, first_of, owner_of, least_open};
+ghost use Rattle.home_directory.specs.Home.{HomeData, IsHome, entry_of, first_of, owner_of, least_open};
 ghost use Rattle.home_directory.specs.Receipt.{HasRowAt, NotesLast, received, Tells, look_of};
 
 mod entry;

@@ -1,5 +1,5 @@
 //! The list of the open transactions, so that the least interval of them is found without a walk over all blocks.
-ghost use Rattle.std.specs.Prelude.{◌≡◌, ◌<◌, ◌≤◌, length, nat_lt, count_by, vec_capacity, Some, None, IfSome};
+ghost use Rattle.std.specs.Prelude.{◌≡◌, ◌<◌, ◌≤◌, length, nat_lt, count_by, vec_capacity, Some, None};
 ghost use Rattle.home_directory.specs.Open.{relisted, without_place, least_in};
 
 use sn_base::Interval;

@@ -1,7 +1,7 @@
 //! What a message comes to at the entry of its block: its row, or a refusal that changes nothing.
-ghost use Rattle.std.specs.Prelude.{◌≡◌, ◌+◌, ◌<◌, ◌≤◌, List, Bool, true, false, length, Some, None, IfSome};
+ghost use Rattle.std.specs.Prelude.{◌≡◌, ◌+◌, ◌<◌, List, true, false, Some, None, IfSome};
 ghost use Rattle.sn_base.specs.declared.log.LogEntry.{LogEntry};
-ghost use Rattle.log_buffer.specs.Log.{IsLog, logged_to};
+ghost use Rattle.log_buffer.specs.Log.{IsLog};
 ghost use Rattle.sn_model.specs.HomeRows.{count_others};
 ghost use Rattle.sn_model.specs.NetEvents.{get_shared, get_modified, put_request};
 ghost use Rattle.home_directory.specs.Receipt.{kept, HasRow, IsNotOlder, noted_by_read, noted_by_write, noted_by_unblock, unless_open, noting, outcome_at, verdict_of, left_by, Tells, look_of};

@@ -1,5 +1,5 @@
 //! The rows of a home, in the order of its table: one function each. `r` is the message's sender.
-ghost use Rattle.std.specs.Prelude.{◌≡◌, ◌+◌, ◌<◌, ◌≤◌, List, true, false, length, Some, None, IfSome};
+ghost use Rattle.std.specs.Prelude.{◌≡◌, ◌+◌, ◌<◌, ◌≤◌, List, true, Some, None, IfSome};
 ghost use Rattle.sn_base.specs.declared.log.LogEntry.{LogEntry};
 ghost use Rattle.log_buffer.specs.Log.{logged_to};
 ghost use Rattle.sn_model.specs.Homes.{HomeEntry, OfCache};

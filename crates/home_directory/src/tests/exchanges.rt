@@ -1,5 +1,5 @@
 //! Exchanges about blocks of node 0's home: the home's part of runs of the whole machine, with each message's answer.
-ghost use Rattle.std.specs.Prelude.{◌≡◌, ◌≤◌, ℕ, Option, true};
+ghost use Rattle.std.specs.Prelude.{◌≡◌, ◌≤◌, Option, true};
 ghost use Rattle.log_buffer.specs.Log.{logged_to};
 
 use super::{Answer, busy, has_row, log_full, node, sends, silent};
