@@ -1,0 +1,15 @@
+pub mod View
+pub mod Flights
+pub mod Steps
+pub mod Sends
+pub mod CacheSeen
+pub mod HomeSeen
+pub mod HomeEvents
+pub mod NodeSeen
+pub mod Coherent
+pub mod Holders
+pub mod Start
+pub mod Runs
+pub mod CacheEvents
+pub mod Reported
+pub mod Met
