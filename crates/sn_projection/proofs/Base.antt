@@ -44,11 +44,6 @@ pub below-without : (fs : List Flight) (id n : ℕ) → Below fs n → Below (fi
 below-without [] id n l = tt
 below-without (f ∷ fs) id n l = below_step f fs id n l.0 (below-without fs id n l.1)
 
--- a message that is posted is seen under its number, unless it is lost at once
-post_kept : (routes : Switches) (net : Net) (m : Sent) (b i : ℕ) → m.id ≡ net.next_id → Below net.flights net.next_id → is_lost routes net m ≡ false →
-    net_seen b (post routes net m).flights i ≡ cond ((i == net.next_id) && is_seen b m) (message_seen m m.body) (net_seen b net.flights i)
-post_kept routes net m b i e l k = grind (arith, nat_tests, seen-push)
-
 pub seen-post : (routes : Switches) (net : Net) (m : Sent) (b i : ℕ) → m.id ≡ net.next_id → Below net.flights net.next_id →
     net_seen b (post routes net m).flights i ≡ cond ((i == net.next_id) && (is_seen b m && not (is_lost routes net m))) (message_seen m m.body) (net_seen b net.flights i)
 seen-post routes net m b i e l = grind (arith, nat_tests, seen-push)

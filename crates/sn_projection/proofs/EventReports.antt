@@ -22,7 +22,6 @@ use Rattle.sn_coherence.proofs.Same.{same_block}
 use Rattle.sn_coherence.proofs.Whole.{at, equal, unequal, moves, stays, no_others}
 use Rattle.sn_coherence.proofs.Reports.{forward_read_reports, forward_write_reports, invalidate_reports, data_shared_reports, data_modified_open_reports, data_modified_complete_reports, upgrade_granted_open_reports, upgrade_granted_complete_reports, acknowledge_open_reports, acknowledge_complete_reports, put_go_reports, put_done_reports, data_exclusive_reports, read_at_home_reports, read_at_owner_reports, take_reports, move_ownership_reports, upgrade_reports, unblock_move_reports, unblock_other_reports, put_begins_reports, put_is_stale_reports, put_data_reports, grant_exclusive_reports, deliver_advance_reports, lose_reports, begin_read_miss_reports, begin_write_miss_reports, begin_put_reports, begin_miss_elsewhere_reports, end_miss_elsewhere_reports, begin_put_elsewhere_reports, end_put_elsewhere_reports, numbers_elsewhere_reports, store_reports, store_conditional_reports, evict_shared_reports, edge_reports, report_reports, validate_reports, load_reports, load_reserved_reports, store_conditional_undone_reports, deliver_ready_reports}
 use Rattle.sn_projection.specs.View.{Beside, block_of, miss_seen, put_seen, put_issued, kind_open, begun_of}
-use Rattle.sn_projection.specs.Steps.{losing}
 use Rattle.sn_projection.specs.Coherent.{IsFinished}
 use Rattle.sn_projection.specs.Reported.{reports_of, IsQuiet}
 use Rattle.sn_projection.proofs.Base.{read_set}
@@ -122,14 +121,6 @@ start_reports home v x e = record {
   reported = λ n. grind (arith, nat_tests, e n);
   message = λ i f. grind (arith, nat_tests);
 }
-
--- Losses.
-lost_reports : (b : Block) (r : Records) (i : ℕ) → Reports b r → Reports (lose b i) r
-lost_reports b r i p = grind (arith, nat_tests)
-
-pub losing_reports : (b : Block) (r : Records) (ids : List ℕ) → Reports b r → Reports (losing b ids) r
-losing_reports b r [] p = p
-losing_reports b r (i ∷ ids) p = losing_reports (lose b i) r ids (lost_reports b r i p)
 
 -- Blocks that are the same at each place.
 pub same_reports : (a b : Block) (r : Records) → IsSame a b → Reports b r → Reports a r

@@ -1,18 +1,12 @@
 -- A message that is found by its number is in flight.
-use Rattle.std.proofs.Common.{◌≡◌, ◌∙◌, ℕ, ◌+◌, ◌<◌, Bool, true, false, ◌||◌, ◌&&◌, ◌≢◌, true≢false, cond, List, [], ◌∷◌, length, refl, ap, sym, subst, arith, if◌then◌else◌, nat_eq, Some}
+use Rattle.std.proofs.Common.{◌≡◌, ◌∙◌, ℕ, ◌<◌, Bool, true, false, ◌||◌, List, [], ◌∷◌, length, refl, ap, subst, arith, if◌then◌else◌, nat_eq, Some}
 use Rattle.std.specs.Prelude.{unwrap_or}
 use Rattle.std.proofs.lemmas.Bool.Decides.{nat_tests}
-use Rattle.sn_msg.specs.declared.Message.{Message as Sent}
-use Rattle.sn_msg.specs.declared.Body.{Body}
 use Rattle.sn_model.specs.Caches.{block_count}
 use Rattle.sn_model.specs.Machine.{State, Flight}
 use Rattle.sn_model.specs.Net.{flight_of}
-use Rattle.sn_coherence.specs.Block as block
-use Rattle.sn_coherence.specs.Block.{gone, with_number}
 use Rattle.sn_projection.specs.View.{net_seen, is_seen, is_for_all, message_seen}
 use Rattle.sn_projection.specs.Steps.{Below, Within, named, IsShaped, IsInFlight}
-use Rattle.sn_projection.specs.Flights.{Rising}
-use Rattle.sn_projection.proofs.NetEvents.{seen-from}
 
 -- what is found is seen under its number, by each block that sees it
 found_step : (g f : Flight) (fs : List Flight) (id b : ℕ) → (if nat_eq g.message.id id then Some g else flight_of fs id) ≡ Some f → is_seen b f.message ≡ true →
@@ -67,34 +61,3 @@ pub found-for_all : (s : State) (id : ℕ) (f : Flight) (b : ℕ) → IsShaped s
 found-for_all s id f b h e all =
     let i = is_found s.net.flights id f s.net.next_id (length s.nodes) e h.below h.within in
     ap (net_seen b s.net.flights) i.number ∙ found-seen s.net.flights id f b e (for_all (is_for_all f.message.body) (nat_eq f.message.block b) all)
-
--- in a net whose numbers rise, what one block sees that is for all is seen by all
-abbrev says_all : block.Body → Bool
-says_all block.Ready = true
-says_all block.Advance = true
-says_all _ = false
-
-says_all-seen : (m : Sent) (body : Body) → says_all (message_seen m body).body ≡ is_for_all body
-says_all-seen m body = grind arith
-
-all_both : (one : Bool) (seen other x y : Bool) (c d a e : block.Message) → (one ≡ true → seen ≡ true → c ≡ a → other ≡ true) → (one && seen) ≡ x → (one && other) ≡ y → cond x c d ≡ a → (one ≡ true → d ≢ a) → (d ≡ a → e ≡ a) → cond y c e ≡ a
-all_both one seen other x y c d a e g p q i n h = grind arith
-
-all_step : (f : Flight) (fs : List Flight) (b o i : ℕ) (body : Body) (m : Sent) → is_for_all body ≡ true → net_seen b (f ∷ fs) i ≡ message_seen m body → (i < f.message.id + 1 → net_seen b fs i ≡ gone) →
-    (net_seen b fs i ≡ message_seen m body → net_seen o fs i ≡ message_seen m body) → net_seen o (f ∷ fs) i ≡ message_seen m body
-all_step f fs b o i body m all e g h =
-    all_both (nat_eq f.message.id i) (is_seen b f.message) (is_seen o f.message) (nat_eq f.message.id i && is_seen b f.message) (nat_eq f.message.id i && is_seen o f.message)
-    (message_seen f.message f.message.body) (net_seen b fs i) (message_seen m body) (net_seen o fs i) (λ q p c. for_all (is_for_all f.message.body) (nat_eq f.message.block o) (same c)) refl refl e (λ q p. no_gone (sym (g (here q)) ∙ p)) h
-  where
-    here : nat_eq f.message.id i ≡ true → i < f.message.id + 1
-    here q = grind (arith, nat_tests)
-
-    same : message_seen f.message f.message.body ≡ message_seen m body → is_for_all f.message.body ≡ true
-    same c = sym (says_all-seen f.message f.message.body) ∙ (ap (λ (x : block.Message). says_all x.body) c ∙ (says_all-seen m body ∙ all))
-
-    no_gone : gone ≡ message_seen m body → ⊥
-    no_gone c = true≢false (sym (ap (λ (x : block.Message). says_all x.body) c ∙ (says_all-seen m body ∙ all)))
-
-pub seen-by_all : (fs : List Flight) (b o i : ℕ) (body : Body) (m : Sent) → Rising fs → is_for_all body ≡ true → net_seen b fs i ≡ message_seen m body → net_seen o fs i ≡ message_seen m body
-seen-by_all [] b o i body m r all e = e
-seen-by_all (f ∷ fs) b o i body m r all e = all_step f fs b o i body m all e (λ q. seen-from fs (f.message.id + 1) b i r.0 q) (λ q. seen-by_all fs b o i body m r.1 all q)

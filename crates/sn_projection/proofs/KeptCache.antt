@@ -1,17 +1,16 @@
 -- A delivery whose message comes to a cache keeps the sentences of every block.
-use Rattle.std.proofs.Common.{true≢false, ◌≡◌, ℕ, ◌+◌, ◌<◌, ◌≤◌, Bool, true, false, not, List, length, refl, sym, arith, if◌then◌else◌, length-set}
-use Rattle.std.proofs.lemmas.Bool.Decides.{nat_tests}
-use Rattle.std.specs.Prelude.{Some, nat_lt}
+use Rattle.std.proofs.Common.{true≢false, ◌≡◌, ℕ, ◌+◌, ◌<◌, ◌≤◌, Bool, true, false, List, length, refl, sym, if◌then◌else◌, length-set}
+use Rattle.std.specs.Prelude.{nat_lt}
 use Rattle.sn_base.specs.declared.config.Config.{Config}
-use Rattle.sn_base.specs.declared.event.Answer.TheVariants.{LogFull, NetFull, NotArrived, Held}
+use Rattle.sn_base.specs.declared.event.Answer.TheVariants.{LogFull, NetFull}
 use Rattle.sn_msg.specs.declared.Message.{Message}
 use Rattle.sn_msg.specs.declared.Body.{Body}
 use Rattle.sn_msg.specs.declared.Body.TheVariants.{GetS, GetM, FwdGetS, FwdGetM, Inv, DataS, DataM, DataE, UpgOk, InvAck, Unblock, PutReq, PutGo, PutData, PutDone, Ready, Advance}
 use Rattle.sn_model.specs.CacheRows.{CacheReply}
-use Rattle.sn_model.specs.Machine.{State, Flight, node_at}
-use Rattle.sn_model.specs.Net.{net_limit, flight_of, is_there}
+use Rattle.sn_model.specs.Machine.{State, node_at}
+use Rattle.sn_model.specs.Net.{net_limit}
 use Rattle.sn_model.specs.Access.{Stepped, refused}
-use Rattle.sn_model.specs.NetEvents.{AtCache, node_after, outcome_of, delivers, delivers_flight}
+use Rattle.sn_model.specs.NetEvents.{AtCache, node_after, outcome_of, delivers}
 use Rattle.sn_coherence.specs.Block as block
 use Rattle.sn_coherence.specs.Events.{Event, after}
 use Rattle.sn_coherence.specs.Kept.{Kept}
@@ -19,7 +18,6 @@ use Rattle.sn_projection.specs.View.{Beside, block_of}
 use Rattle.sn_projection.specs.Steps.{IsInFlight, after_cache, beside_with, losing, lost_at_once, named}
 use Rattle.sn_projection.specs.Coherent.{IsKept, Keeps}
 use Rattle.sn_projection.specs.CacheEvents.{comes_to_cache, IsCacheEvent}
-use Rattle.sn_projection.proofs.InFlight.{IsFound, is_found, in_flight}
 use Rattle.sn_projection.proofs.NetShape.{after_cache-shaped}
 use Rattle.sn_projection.proofs.CacheOutcomes.{forward_read-event, forward_write-event, invalidate-event, data_shared-event, data_modified-event, data_exclusive-event, upgrade_granted-event, acknowledge-event, put_go-event, put_done-event}
 use Rattle.sn_projection.proofs.KeptCommon.{both, event_keeps, kept_of_own}
@@ -75,25 +73,3 @@ module _ (s : State) (t : Beside) (m : Message) (kept : IsKept s t) (flight : Is
     cache_delivery_keeps names (PutData content) is cache = absurd (true≢false (sym cache))
     cache_delivery_keeps names (Ready k) is cache = absurd (true≢false (sym cache))
     cache_delivery_keeps names (Advance k) is cache = absurd (true≢false (sym cache))
-
--- a message that is found by its number and comes to a cache
-module _ (config : Config) (s : State) (t : Beside) (id : ℕ) (f : Flight) (kept : IsKept s t) (found : flight_of s.net.flights id ≡ Some f) (cache : comes_to_cache f.message.body ≡ true) where
-  -- where its receiver's interval has reached its tag
-  pub cache_outcome_keeps : f.message.tag ≤ (node_at s f.message.to).now → Keeps (delivers config s f.message (outcome_of s f.message f.message.body)).state
-  cache_outcome_keeps reached = cache_delivery_keeps s t f.message kept (in_flight s id f kept.shape found) reached config there.names f.message.body refl cache
-    where
-      there : IsFound f id s.net.next_id (length s.nodes)
-      there = is_found s.net.flights id f s.net.next_id (length s.nodes) found kept.shape.below kept.shape.within
-
-  -- whether it is there and whether it is held or not
-  arrived_keeps : (arrived held : Bool) → nat_lt (node_at s f.message.to).now f.message.tag ≡ held →
-      Keeps (if not arrived then refused s NotArrived else if held then refused s Held else delivers config s f.message (outcome_of s f.message f.message.body)).state
-  arrived_keeps false held h = (t, kept)
-  arrived_keeps true true h = (t, kept)
-  arrived_keeps true false h = cache_outcome_keeps reached
-    where
-      reached : f.message.tag ≤ (node_at s f.message.to).now
-      reached = grind (arith, nat_tests)
-
-  pub cache_flight_keeps : Keeps (delivers_flight config s (Some f)).state
-  cache_flight_keeps = arrived_keeps (is_there f) (nat_lt (node_at s f.message.to).now f.message.tag) refl

@@ -1,9 +1,8 @@
 -- A delivery whose message comes to a home keeps the sentences of every block.
-use Rattle.std.proofs.Common.{true≢false, ◌≡◌, ◌∙◌, ℕ, ◌+◌, ◌<◌, ◌≤◌, Bool, true, false, not, List, length, refl, sym, subst, arith, if◌then◌else◌, nat_eq, length-set}
-use Rattle.std.proofs.lemmas.Bool.Decides.{nat_tests}
+use Rattle.std.proofs.Common.{true≢false, ◌≡◌, ◌∙◌, ℕ, ◌+◌, ◌<◌, ◌≤◌, Bool, true, false, List, length, refl, sym, subst, arith, if◌then◌else◌, nat_eq, length-set}
 use Rattle.std.specs.Prelude.{Option, Some, None, nat_lt, slice_index_or, slice_set}
 use Rattle.sn_base.specs.declared.config.Config.{Config}
-use Rattle.sn_base.specs.declared.event.Answer.TheVariants.{LogFull, NetFull, NotArrived, Held}
+use Rattle.sn_base.specs.declared.event.Answer.TheVariants.{LogFull, NetFull}
 use Rattle.sn_msg.specs.declared.Message.{Message}
 use Rattle.sn_msg.specs.declared.Body.{Body}
 use Rattle.sn_msg.specs.declared.Body.TheVariants.{GetS, GetM, FwdGetS, FwdGetM, Inv, DataS, DataM, DataE, UpgOk, InvAck, Unblock, PutReq, PutGo, PutData, PutDone, Ready, Advance}
@@ -11,10 +10,10 @@ use Rattle.sn_model.specs.declared.home.Kind.{Kind}
 use Rattle.sn_model.specs.declared.home.Kind.TheVariants as kind
 use Rattle.sn_model.specs.Homes.{Holder, Itself, OfCache, Transaction, is_owner}
 use Rattle.sn_model.specs.HomeRows as row
-use Rattle.sn_model.specs.Machine.{State, Flight, node_at, home_of}
-use Rattle.sn_model.specs.Net.{net_limit, flight_of, is_there}
+use Rattle.sn_model.specs.Machine.{State, node_at, home_of}
+use Rattle.sn_model.specs.Net.{net_limit}
 use Rattle.sn_model.specs.Access.{Stepped, refused}
-use Rattle.sn_model.specs.NetEvents.{AtHome, unless_busy, kept_at, get_shared, get_modified, put_request, outcome_of, delivers, delivers_flight}
+use Rattle.sn_model.specs.NetEvents.{AtHome, unless_busy, kept_at, get_shared, get_modified, put_request, outcome_of, delivers}
 use Rattle.sn_coherence.specs.Block as block
 use Rattle.sn_coherence.specs.Events.{Allows, after}
 use Rattle.sn_coherence.specs.Kept.{Kept}
@@ -25,7 +24,6 @@ use Rattle.sn_projection.specs.HomeSeen.{IsHomeRow}
 use Rattle.sn_projection.specs.Coherent.{IsKept, Keeps}
 use Rattle.sn_projection.specs.HomeEvents.{other_count, home_event}
 use Rattle.sn_projection.proofs.Base.{read_set}
-use Rattle.sn_projection.proofs.InFlight.{in_flight}
 use Rattle.sn_projection.proofs.NetShape.{invalidations-within, after_home-shaped}
 use Rattle.sn_projection.proofs.HomeOutcomes.{home-outcome, home-elsewhere}
 use Rattle.sn_coherence.specs.Events.{GrantExclusive, ReadAtHome, Upgrades, MovesOwnership, PutBegins, PutIsStale}
@@ -223,17 +221,3 @@ module _ (s : State) (t : Beside) (m : Message) (kept : IsKept s t) (flight : Is
     home_delivery_keeps PutDone is home = absurd (true≢false (sym home))
     home_delivery_keeps (Ready k) is home = absurd (true≢false (sym home))
     home_delivery_keeps (Advance k) is home = absurd (true≢false (sym home))
-
--- a message that is found by its number and comes to a home: whether it is there and whether it is held or not
-module _ (config : Config) (s : State) (t : Beside) (id : ℕ) (f : Flight) (kept : IsKept s t) (found : flight_of s.net.flights id ≡ Some f) (home : block.is_to_home (message_seen f.message f.message.body).body ≡ true) where
-  arrived_keeps : (there held : Bool) → nat_lt (node_at s f.message.to).now f.message.tag ≡ held →
-      Keeps (if not there then refused s NotArrived else if held then refused s Held else delivers config s f.message (outcome_of s f.message f.message.body)).state
-  arrived_keeps false held h = (t, kept)
-  arrived_keeps true true h = (t, kept)
-  arrived_keeps true false h = home_delivery_keeps s t f.message kept (in_flight s id f kept.shape found) reached config f.message.body refl home
-    where
-      reached : f.message.tag ≤ (node_at s f.message.to).now
-      reached = grind (arith, nat_tests)
-
-  pub home_flight_keeps : Keeps (delivers_flight config s (Some f)).state
-  home_flight_keeps = arrived_keeps (is_there f) (nat_lt (node_at s f.message.to).now f.message.tag) refl

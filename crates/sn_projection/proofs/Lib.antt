@@ -4,7 +4,6 @@ mod Rising
 mod NetShape
 mod NetEvents
 mod InFlight
-mod NetDeliveries
 mod CacheSeen
 mod CacheSends
 mod CacheRows

@@ -1,18 +1,16 @@
 -- The events of messages and switches that are no row, and a validation, as each block sees them.
-use Rattle.std.proofs.Common.{◌≡◌, ◌∙◌, ℕ, suc, ◌+◌, ◌-◌, ◌<◌, ◌≤◌, Bool, true, false, not, ◌&&◌, cond, max, List, [], ◌∷◌, length, refl, ap, sym, subst, arith, ◌==◌, if◌then◌else◌, nat_eq, filter, map, length-set, Option, Some, None}
-use Rattle.std.specs.Prelude.{nat_lt, nat_le, ◌%◌, slice_set}
+use Rattle.std.proofs.Common.{◌≡◌, ◌∙◌, ℕ, suc, ◌+◌, ◌-◌, ◌<◌, ◌≤◌, Bool, true, false, not, ◌&&◌, cond, max, List, [], ◌∷◌, length, refl, ap, sym, subst, arith, ◌==◌, if◌then◌else◌, nat_eq, filter, map, length-set}
+use Rattle.std.specs.Prelude.{nat_lt, nat_le, ◌%◌}
 use Rattle.std.proofs.lemmas.Bool.Decides.{nat_tests}
 use Rattle.sn_msg.specs.declared.Message.{Message as Sent}
-use Rattle.sn_base.specs.declared.event.Answer.TheVariants.{Validated, LostInDead, Hopped, Killed, AlreadyDead}
+use Rattle.sn_base.specs.declared.event.Answer.TheVariants.{Validated}
 use Rattle.log_buffer.specs.Log.{LogEntry, Old, entries_from, logged_to}
-use Rattle.route_plan.specs.Distances.{is_dead}
-use Rattle.route_plan.specs.Routes.{next_of}
 use Rattle.sn_model.specs.Caches.{Cache, line_of, is_owned}
 use Rattle.sn_model.specs.Machine.{State, Node, Flight, Net, node_at, with_node, home_of, home_node, first_node}
 use Rattle.sn_model.specs.declared.cache.Out.{Out}
-use Rattle.sn_model.specs.Net.{posted, sent_by, routes_of, flight_of, without_flight, placed, moved}
-use Rattle.sn_model.specs.Access.{sending, refused, answered}
-use Rattle.sn_model.specs.NetEvents.{with_net, noted_ready, learned, hops_to, hops, hopped, loses, lost, killed}
+use Rattle.sn_model.specs.Net.{posted, sent_by, routes_of, without_flight, placed, moved}
+use Rattle.sn_model.specs.Access.{sending}
+use Rattle.sn_model.specs.NetEvents.{with_net, noted_ready, learned}
 use Rattle.sn_model.specs.MachineEvents.{advances, committed_next}
 use Rattle.sn_coherence.specs.Block.{Block, Message, Advance, gone, with_number, freed, newest_freed, set, set_row, taken, tells_all}
 use Rattle.sn_coherence.specs.OtherEvents.{lose, deliver_ready, deliver_advance, validate}
@@ -22,7 +20,7 @@ use Rattle.sn_coherence.proofs.Log.{free_law}
 use Rattle.sn_projection.specs.View.{Beside, block_of, net_seen, line_seen, miss_seen, put_seen, put_issued, content_held, home_log, is_itself, owner_of, content_of}
 use Rattle.sn_projection.specs.Steps.{Below, losing, lost_at_once}
 use Rattle.sn_projection.specs.Sends.{sent_at, is_among}
-use Rattle.sn_projection.specs.Flights.{From, Rising, standing, hop_to_loses, hop_loses, loss_loses, kill_loses}
+use Rattle.sn_projection.specs.Flights.{From, Rising, standing}
 use Rattle.sn_projection.proofs.Base.{read_set, seen-without}
 use Rattle.sn_projection.proofs.NetSends.{lost_same, seen-posted, seen-fresh, next-posted}
 
@@ -117,40 +115,6 @@ kill-seen s t o switch dead r =
     lost_same _ (block_of s t o) (standing switch s.net.flights)
     (with_same_net s t o (record s.net { dead = dead; flights = filter (λ f. not (nat_eq f.place switch)) s.net.flights }) (λ i. cond (is_among (standing switch s.net.flights) i) gone (net_seen o s.net.flights i))
     (λ i. seen-killed switch s.net.flights o i r) refl)
-
--- the events as a whole: each block loses what the event loses
-pub lost-seen : (s : State) (t : Beside) (o id : ℕ) → IsSame (block_of (lost s id).state t o) (losing (block_of s t o) (loss_loses (flight_of s.net.flights id)))
-lost-seen s t o id = of (flight_of s.net.flights id)
-  where
-    of : (found : Option Flight) → IsSame (block_of (loses s found).state t o) (losing (block_of s t o) (loss_loses found))
-    of None = same_self s t o
-    of (Some f) = lose-seen s t o f.message.id
-
-pub hopped-seen : (s : State) (t : Beside) (o id : ℕ) → IsSame (block_of (hopped s id).state t o) (losing (block_of s t o) (hop_loses s (flight_of s.net.flights id)))
-hopped-seen s t o id = of (flight_of s.net.flights id)
-  where
-    into : (f : Flight) (next : ℕ) (dead : Bool) → IsSame
-        (block_of (if dead then answered (with_net s (without_flight s.net f.message.id)) LostInDead else answered (with_net s (moved s.net f.message.id next)) Hopped).state t o)
-        (losing (block_of s t o) (if dead then f.message.id ∷ [] else []))
-    into f next true = lose-seen s t o f.message.id
-    into f next false = move-seen s t o f.message.id next
-
-    to : (f : Flight) (next : Option ℕ) → IsSame (block_of (hops_to s f next).state t o) (losing (block_of s t o) (hop_to_loses s f next))
-    to f None = same_self s t o
-    to f (Some next) = into f next (is_dead s.net.dead next)
-
-    of : (found : Option Flight) → IsSame (block_of (hops s found).state t o) (losing (block_of s t o) (hop_loses s found))
-    of None = same_self s t o
-    of (Some f) = to f (next_of (routes_of s) f.message.to f.place)
-
-pub killed-seen : (s : State) (t : Beside) (o switch : ℕ) → Rising s.net.flights → IsSame (block_of (killed s switch).state t o) (losing (block_of s t o) (kill_loses s switch))
-killed-seen s t o switch r = of (is_dead s.net.dead switch)
-  where
-    of : (dead : Bool) → IsSame
-        (block_of (if dead then refused s AlreadyDead else answered (with_net s (record s.net { dead = slice_set s.net.dead switch true; flights = filter (λ f. not (nat_eq f.place switch)) s.net.flights })) Killed).state t o)
-        (losing (block_of s t o) (if dead then [] else standing switch s.net.flights))
-    of true = same_self s t o
-    of false = kill-seen s t o switch (slice_set s.net.dead switch true) r
 
 -- Ready at the controller
 pub ready-seen : (s : State) (t : Beside) (o id n k : ℕ) → IsSame (block_of (with_net (noted_ready s n k) (without_flight s.net id)) t o) (deliver_ready (block_of s t o) id)

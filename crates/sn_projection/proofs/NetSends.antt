@@ -9,18 +9,18 @@ use Rattle.route_plan.specs.Distances.{Switches}
 use Rattle.sn_model.specs.Machine.{Flight, Net}
 use Rattle.sn_model.specs.declared.cache.Out.{Out}
 use Rattle.sn_model.specs.Net.{post, posted, sent_by, is_lost, entry_of, message_of, without_flight}
-use Rattle.sn_model.specs.HomeRows.{invalidations, count_others, others as other_marks}
+use Rattle.sn_model.specs.HomeRows.{invalidations}
 use Rattle.sn_coherence.specs.Block.{Inv as SeenInv}
-use Rattle.sn_coherence.specs.Block.{Block, Message, gone, forward, invalidates, replaced, others}
+use Rattle.sn_coherence.specs.Block.{Block, Message, gone, forward, invalidates}
 use Rattle.sn_coherence.specs.Events.{Lists}
 use Rattle.sn_coherence.specs.Kept.{count}
 use Rattle.sn_coherence.specs.OtherEvents.{lose}
 use Rattle.sn_coherence.specs.Same.{IsSame}
 use Rattle.sn_coherence.proofs.Counts.{no_count}
-use Rattle.sn_projection.specs.View.{net_seen, is_seen, is_for_all, message_seen}
+use Rattle.sn_projection.specs.View.{net_seen, is_seen, message_seen}
 use Rattle.sn_projection.specs.Steps.{Below, lost_at_once, losing}
 use Rattle.sn_projection.specs.Sends.{numbered, sent_at, is_among, targets, NoneForAll}
-use Rattle.sn_projection.proofs.Base.{read_set, seen-without, seen-post, below-without}
+use Rattle.sn_projection.proofs.Base.{seen-without, seen-post, below-without}
 
 -- a number from the next one on is of no message
 fresh_step : (f : Flight) (fs : List Flight) (n b i : ℕ) → f.message.id < n → n ≤ i → net_seen b fs i ≡ gone → net_seen b (f ∷ fs) i ≡ gone
@@ -287,60 +287,11 @@ seen-invalidates routes net id from tag block first marks r i b row msg l next h
         ≡ invalidates b id msg (λ k. slice_index_or (targets 0 marks) k 0) (count_by (λ mark. mark) marks) i
     same = rw next (rw (nets i) (rw now (rw home (rw sender (rw first_is refl)))))
 
--- another block sees none of them, unless they are for all
-pub posted_unseen : (routes : Switches) (net : Net) (from tag block : ℕ) (outs : List Out) (b i : ℕ) → Below net.flights net.next_id → nat_eq block b ≡ false → NoneForAll outs →
-    net_seen b (posted routes net from tag block outs).flights i ≡ net_seen b net.flights i
-posted_unseen routes net from tag block [] b i l n none = refl
-posted_unseen routes net from tag block (out ∷ outs) b i l n none =
-    posted_unseen routes (post routes net (message_of net from tag block out)) from tag block outs b i (below-post routes net (message_of net from tag block out) refl l) n none.1
-    ∙ (seen-post routes net (message_of net from tag block out) b i refl l ∙ unseen (is_for_all out.body) none.0 (nat_eq block b) n)
-  where
-    unseen : (all : Bool) → all ≡ false → (same : Bool) → same ≡ false →
-        cond ((i == net.next_id) && ((all || same) && not (is_lost routes net (message_of net from tag block out)))) (message_seen (message_of net from tag block out) out.body) (net_seen b net.flights i) ≡ net_seen b net.flights i
-    unseen all e same g = grind arith
-
 pub none-invalidations : (at : ℕ) (marks : List Bool) (r : ℕ) → NoneForAll (invalidations at marks r)
 none-invalidations at [] r = tt
 none-invalidations at (true ∷ marks) r = (refl, none-invalidations (at + 1) marks r)
 none-invalidations at (false ∷ marks) r = none-invalidations (at + 1) marks r
 
-pub seen-elsewhere : (routes : Switches) (net : Net) (id from tag block : ℕ) (outs : List Out) (b i : ℕ) → Below net.flights net.next_id → nat_eq block b ≡ false → NoneForAll outs →
-    net_seen b (posted routes (without_flight net id) from tag block outs).flights i ≡ cond (i == id) gone (net_seen b net.flights i)
-seen-elsewhere routes net id from tag block outs b i l n none =
-    posted_unseen routes (without_flight net id) from tag block outs b i (below-without net.flights id net.next_id l) n none ∙ seen-without net.flights id b i
-
--- one message in answer to one, seen by its block
-replaced_step : (seen : Bool) (i id next : ℕ) (old msg : Message) → seen ≡ true → cond ((i == next) && seen) msg (cond (i == id) gone old) ≡ cond (i == next) msg (cond (i == id) gone old)
-replaced_step seen i id next old msg e = grind arith
-
-pub seen-replaced : (routes : Switches) (net : Net) (id from tag block : ℕ) (out : Out) (i : ℕ) (b row : Block) (msg : Message) → Below net.flights net.next_id →
-    b.next ≡ net.next_id → ((j : ℕ) → b.net j ≡ net_seen block net.flights j) → message_seen (numbered net.next_id from tag block out) out.body ≡ msg →
-    row.net i ≡ replaced b id msg i →
-    net_seen block (posted routes (without_flight net id) from tag block (out ∷ [])).flights i
-    ≡ (losing row (lost_at_once (sent_by routes (without_flight net id) from tag block (out ∷ [])))).net i
-seen-replaced routes net id from tag block out i b row msg l next nets is row_is =
-    seen-sends routes net id from tag block (out ∷ []) block i l
-    ∙ (ap (cond (is_among ids i) gone) (replaced_step (is_seen block (numbered net.next_id from tag block out)) i id net.next_id (net_seen block net.flights i) (message_seen (numbered net.next_id from tag block out) out.body) (seen_own _ block)
-    ∙ (same ∙ sym row_is)) ∙ sym (losing-net row ids i))
-  where
-    ids : List ℕ
-    ids = lost_at_once (sent_by routes (without_flight net id) from tag block (out ∷ []))
-
-    same : cond (i == net.next_id) (message_seen (numbered net.next_id from tag block out) out.body) (cond (i == id) gone (net_seen block net.flights i)) ≡ replaced b id msg i
-    same = rw next (rw (nets i) (rw is refl))
-
 -- a block is the same as one that loses messages, where it is the same as that one without them
 pub lost_same : (a c : Block) (ids : List ℕ) → IsSame a (record c { net = λ i. cond (is_among ids i) gone (c.net i) }) → IsSame a (losing c ids)
 lost_same a c ids h = subst (IsSame a) (sym (losing_as c ids)) h
-
--- the sharers without one
-pub others-past : (sharers : List Bool) (r n : ℕ) → r < length sharers → slice_index_or sharers n false ≡ false → slice_index_or (other_marks sharers r) n false ≡ false
-others-past sharers r n l h = read_set sharers r n false false l ∙ without (n == r) (get_or sharers n false) h
-  where
-    without : (t x : Bool) → x ≡ false → cond t false x ≡ false
-    without t x e = grind arith
-
--- so the targets of a row of the home are the sharers beside its requester, where none is marked that isn't there
-pub listed_others : (N : ℕ) (sharers : List Bool) (r : ℕ) → r < length sharers → ((n : ℕ) → N ≤ n → slice_index_or sharers n false ≡ false) →
-    Lists N (others (λ n. slice_index_or sharers n false) r) (λ k. slice_index_or (targets 0 (other_marks sharers r)) k 0) (count_others sharers r)
-listed_others N sharers r l h = listed N (others (λ n. slice_index_or sharers n false) r) (other_marks sharers r) (λ n. sym (read_set sharers r n false false l)) (λ n q. others-past sharers r n l (h n q))

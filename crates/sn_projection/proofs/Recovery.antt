@@ -48,9 +48,6 @@ entry_sided (e ∷ es) side b k = sided_step side b k e (entry_at es side b k) (
 abbrev old_of : Option LogEntry → Option Old
 old_of e = option_map (λ e. e.old) e
 
-of_side_now : (side : Bool) (e : LogEntry) (o : Old) → e.old ≡ o → is_of_side side e.old ≡ true → is_of_side side o ≡ true
-of_side_now side e o p h = subst (λ x. is_of_side side x ≡ true) p h
-
 state_restored : (o : Old) (line : Line) → is_of_side false o ≡ true → line_seen (restored_line (held_by (Some o) line)).state ≡ cond (was_owned o) block.Modified block.NoLine
 state_restored old.NotOwned line h = refl
 state_restored (old.Owned content) line h = refl

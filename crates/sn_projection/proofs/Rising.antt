@@ -1,19 +1,12 @@
 -- The numbers in flight stay in order, whatever the network does.
-use Rattle.std.proofs.Common.{◌≡◌, ℕ, ◌+◌, ◌≤◌, Bool, true, false, List, [], ◌∷◌, ◌++◌, refl, sym, subst, arith, if◌then◌else◌, filter, map}
+use Rattle.std.proofs.Common.{◌≡◌, ℕ, ◌+◌, ◌≤◌, Bool, true, false, List, [], ◌∷◌, ◌++◌, sym, subst, arith, if◌then◌else◌, filter, map}
 use Rattle.std.proofs.lemmas.Bool.Decides.{nat_tests}
 use Rattle.sn_msg.specs.declared.Message.{Message as Sent}
 use Rattle.route_plan.specs.Distances.{Switches}
 use Rattle.sn_model.specs.Machine.{Flight, Net}
-use Rattle.sn_model.specs.declared.cache.Out.{Out}
-use Rattle.sn_model.specs.Net.{post, posted, is_lost, entry_of, message_of, placed}
+use Rattle.sn_model.specs.Net.{post, is_lost, entry_of, placed}
 use Rattle.sn_projection.specs.Flights.{From, Rising}
 use Rattle.sn_projection.specs.Steps.{Below}
-use Rattle.sn_projection.proofs.NetSends.{below-post}
-
--- the numbers rise
-from-weaker : (fs : List Flight) (n m : ℕ) → From fs n → m ≤ n → From fs m
-from-weaker [] n m l q = tt
-from-weaker (f ∷ fs) n m l q = (omega arith, from-weaker fs n m l.1 q)
 
 from_one : (pass : Bool) (f : Flight) (fs : List Flight) (n : ℕ) → n ≤ f.message.id → From fs n → From (if pass then f ∷ fs else fs) n
 from_one true f fs n l h = (l, h)
@@ -57,8 +50,3 @@ rising_either false fs gs r q = q
 pub rising-post : (routes : Switches) (net : Net) (m : Sent) → m.id ≡ net.next_id → Below net.flights net.next_id → Rising net.flights → Rising (post routes net m).flights
 rising-post routes net m e l r =
     rising_either (is_lost routes net m) net.flights (net.flights ++ record { message = m; place = entry_of routes m } ∷ []) r (rising-push net.flights (record { message = m; place = entry_of routes m }) r (rw e l))
-
-pub rising-posted : (routes : Switches) (net : Net) (from tag block : ℕ) (outs : List Out) → Below net.flights net.next_id → Rising net.flights → Rising (posted routes net from tag block outs).flights
-rising-posted routes net from tag block [] l r = r
-rising-posted routes net from tag block (out ∷ outs) l r =
-    rising-posted routes (post routes net (message_of net from tag block out)) from tag block outs (below-post routes net (message_of net from tag block out) refl l) (rising-post routes net (message_of net from tag block out) refl l r)
