@@ -17,16 +17,24 @@ use Rattle.sn_model.specs.declared.cache.Need.{Need}
 use Rattle.sn_model.specs.declared.cache.Need.TheVariants.{Read, Write as ToWrite}
 use Rattle.sn_model.specs.declared.cache.Out.{Out}
 use Rattle.sn_model.specs.Caches.{line_of}
-use Rattle.sn_model.specs.Machine.{State, Flight, node_at}
-use Rattle.sn_model.specs.Access.{Stepped, Found, nothing_found, refused, stepped, step_wanting, takes_input, reads, writes, misses}
-use Rattle.sn_model.specs.NodeEvents.{evicts, begins_put}
-use Rattle.sn_model.specs.NetEvents.{Outcome, Busy, AtCache, AtHome, Noted, hops, hops_to, delivers, delivers_flight, outcome_of, fits_in, loses}
-use Rattle.sn_model.specs.MachineEvents.{validates, recovers}
+use Rattle.sn_model.specs.Fabric.{Fabric, Flight, Moved, node_at, refused}
+use Rattle.sn_model.specs.Access.{accessed, misses}
+use Rattle.sn_model.specs.NodeEvents.{evicts, evicted, begins_put, edged, reported}
+use Rattle.sn_model.specs.NetEvents.{Outcome, Busy, AtCache, AtHome, Noted, hops, delivers, delivers_flight, outcome_of, fits_in, loses, killed}
+use Rattle.sn_model.specs.PointEvents.{advanced, recovers}
+use Rattle.sn_model.specs.Machine.{State, processor_at}
+use Rattle.sn_model.specs.Instructions.{Stepped, refused as declined, stepped, step_wanting, takes_input, accessing, carried}
+use Rattle.sn_model.specs.MachineEvents.{validates, hearing}
 use Rattle.sn_model.specs.Step.{step_of}
 use Rattle.sn_model.specs.Net.{flight_of}
 use Rattle.sn_model.specs.Refusals.{is_refusal}
 
--- what an event comes to leaves the state where its answer is a refusal
+-- what an event of the fabric comes to leaves the fabric, and tells nothing, where its answer is a refusal
+pub record Stays (s : Fabric) (x : Moved) : Type 0 where
+  pub unchanged : is_refusal x.answer ≡ true → x.fabric ≡ s
+  pub untold : is_refusal x.answer ≡ true → x.told ≡ None
+
+-- what an event of the machine comes to leaves the state where its answer is a refusal
 pub record Leaves (s : State) (x : Stepped) : Type 0 where
   pub unchanged : is_refusal x.answer ≡ true → x.state ≡ s
 
@@ -34,91 +42,116 @@ differs : (b : Bool) → b ≡ false → b ≡ true → ⊥
 differs true f t = cc
 differs false f t = cc
 
+moves : (s : Fabric) (x : Moved) → is_refusal x.answer ≡ false → Stays s x
+moves s x a = record { unchanged = λ r. absurd (differs (is_refusal x.answer) a r); untold = λ r. absurd (differs (is_refusal x.answer) a r) }
+
+same : (s : Fabric) (answer : Answer) → Stays s (refused s answer)
+same s answer = record { unchanged = λ r. refl; untold = λ r. refl }
+
+stays-misses : (config : Config) (s : Fabric) (n block : ℕ) (need : Need) → Stays s (misses config s n block need)
+stays-misses config s n block need = record { unchanged = λ r. grind (arith); untold = λ r. grind (arith) }
+
+stays-accessed : (config : Config) (s : Fabric) (n block : ℕ) (need : Need) → Stays s (accessed config s n block need)
+stays-accessed config s n block need = record { unchanged = λ r. grind (arith, (stays-misses config s n block need).unchanged); untold = λ r. grind (arith, (stays-misses config s n block need).untold) }
+
+stays-begins_put : (s : Fabric) (n block : ℕ) → Stays s (begins_put s n block)
+stays-begins_put s n block = record { unchanged = λ r. grind (arith); untold = λ r. grind (arith) }
+
+stays-evicts : (s : Fabric) (n block : ℕ) (state : LineState) → Stays s (evicts s n block state)
+stays-evicts s n block Absent = same s _
+stays-evicts s n block Shared = moves s _ refl
+stays-evicts s n block Owned = stays-begins_put s n block
+stays-evicts s n block Modified = stays-begins_put s n block
+stays-evicts s n block Exclusive = stays-begins_put s n block
+
+stays-evicted : (s : Fabric) (n block : ℕ) → Stays s (evicted s n block)
+stays-evicted s n block = record { unchanged = λ r. grind (arith, (stays-evicts s n block (line_of (node_at s n).cache block).state).unchanged); untold = λ r. grind (arith, (stays-evicts s n block (line_of (node_at s n).cache block).state).untold) }
+
+stays-edged : (s : Fabric) (n : ℕ) → Stays s (edged s n)
+stays-edged s n = record { unchanged = λ r. grind (arith); untold = λ r. grind (arith) }
+
+stays-reported : (s : Fabric) (n : ℕ) → Stays s (reported s n)
+stays-reported s n = record { unchanged = λ r. grind (arith); untold = λ r. grind (arith) }
+
+stays-hops : (s : Fabric) (f : Option Flight) → Stays s (hops s f)
+stays-hops s None = same s _
+stays-hops s (Some f) = record { unchanged = λ r. grind (arith); untold = λ r. grind (arith) }
+
+stays-loses : (s : Fabric) (f : Option Flight) → Stays s (loses s f)
+stays-loses s None = same s _
+stays-loses s (Some f) = moves s _ refl
+
+stays-killed : (s : Fabric) (switch : ℕ) → Stays s (killed s switch)
+stays-killed s switch = record { unchanged = λ r. grind (arith); untold = λ r. grind (arith) }
+
+stays-fits_in : (config : Config) (s : Fabric) (log : List LogEntry) (sends : List Out) (done : Moved) → Stays s done → Stays s (fits_in config s log sends done)
+stays-fits_in config s log sends done l = record { unchanged = λ r. grind (arith, (l).unchanged); untold = λ r. grind (arith, (l).untold) }
+
+stays-delivers : (config : Config) (s : Fabric) (m : Message) (outcome : Outcome) → Stays s (delivers config s m outcome)
+stays-delivers config s m Busy = same s _
+stays-delivers config s m (AtCache reply) = stays-fits_in config s _ _ _ (moves s _ refl)
+stays-delivers config s m (AtHome reply) = stays-fits_in config s _ _ _ (moves s _ refl)
+stays-delivers config s m (Noted fabric told) = moves s _ refl
+
+stays-flight : (config : Config) (s : Fabric) (f : Option Flight) → Stays s (delivers_flight config s f)
+stays-flight config s None = same s _
+stays-flight config s (Some f) = record { unchanged = λ r. grind (arith, (stays-delivers config s f.message (outcome_of s f.message f.message.body)).unchanged); untold = λ r. grind (arith, (stays-delivers config s f.message (outcome_of s f.message f.message.body)).untold) }
+
+stays-advanced : (s : Fabric) (k : ℕ) → Stays s (advanced s k)
+stays-advanced s k = record { unchanged = λ r. grind (arith); untold = λ r. grind (arith) }
+
+stays-recovers : (s : Fabric) (k : ℕ) (pair : Option (ℕ × ℕ)) → Stays s (recovers s k pair)
+stays-recovers s k (Some pair) = same s _
+stays-recovers s k None = moves s _ refl
+
+-- the machine
+
 accepted : (s : State) (x : Stepped) → is_refusal x.answer ≡ false → Leaves s x
 accepted s x a = record { unchanged = λ r. absurd (differs (is_refusal x.answer) a r) }
 
-same : (s : State) (answer : Answer) → Leaves s (refused s answer)
-same s answer = record { unchanged = λ r. refl }
+declines : (s : State) (answer : Answer) → Leaves s (declined s answer)
+declines s answer = record { unchanged = λ r. refl }
 
-leaves-misses : (config : Config) (s : State) (n block : ℕ) (need : Need) → Leaves s (misses config s n block need)
-leaves-misses config s n block need = record { unchanged = λ r. grind arith }
+leaves-carried : (s : State) (moved : Moved) → Stays s.fabric moved → Leaves s (carried s moved)
+leaves-carried s moved l = record { unchanged = λ r. grind (arith, l.unchanged) }
 
-leaves-reads : (image : ImageData) (config : Config) (s : State) (n address : ℕ) → Leaves s (reads image config s n address)
-leaves-reads image config s n address = record { unchanged = λ r. grind (arith, (leaves-misses config s n (block_of address) Read).unchanged) }
-
-leaves-writes : (image : ImageData) (config : Config) (s : State) (n address : ℕ) (found : Found) → Leaves s (writes image config s n address found)
-leaves-writes image config s n address found = record { unchanged = λ r. grind (arith, (leaves-misses config s n (block_of address) ToWrite).unchanged) }
+leaves-accessing : (image : ImageData) (config : Config) (s : State) (n address : ℕ) (need : Need) → Leaves s (accessing image config s n address need)
+leaves-accessing image config s n address need = record { unchanged = λ r. grind (arith, (leaves-carried s _ (stays-accessed config s.fabric n (block_of address) need)).unchanged) }
 
 leaves-takes_input : (image : ImageData) (s : State) (n : ℕ) (byte : Option ℕ) → Leaves s (takes_input image s n byte)
-leaves-takes_input image s n None = same s _
+leaves-takes_input image s n None = declines s _
 leaves-takes_input image s n (Some byte) = accepted s _ refl
 
 leaves-wanting : (image : ImageData) (config : Config) (s : State) (n : ℕ) (want : Want) → Leaves s (step_wanting image config s n want)
 leaves-wanting image config s n Nothing = accepted s _ refl
-leaves-wanting image config s n (Load address) = leaves-reads image config s n address
-leaves-wanting image config s n (Store address) = leaves-writes image config s n address _
-leaves-wanting image config s n (Amo address) = leaves-writes image config s n address _
-leaves-wanting image config s n (Lr address) = leaves-reads image config s n address
-leaves-wanting image config s n (Sc address) = record { unchanged = λ r. grind (arith, (leaves-writes image config s n address (record nothing_found { sc_done = true })).unchanged) }
+leaves-wanting image config s n (Load address) = leaves-accessing image config s n address Read
+leaves-wanting image config s n (Store address) = leaves-accessing image config s n address ToWrite
+leaves-wanting image config s n (Amo address) = leaves-accessing image config s n address ToWrite
+leaves-wanting image config s n (Lr address) = leaves-accessing image config s n address Read
+leaves-wanting image config s n (Sc address) = record { unchanged = λ r. grind (arith, (leaves-accessing image config s n address ToWrite).unchanged) }
 leaves-wanting image config s n TakesByte = leaves-takes_input image s n _
 
 leaves-stepped : (image : ImageData) (config : Config) (s : State) (n : ℕ) → Leaves s (stepped image config s n)
-leaves-stepped image config s n = record { unchanged = λ r. grind (arith, (leaves-wanting image config s n (want_of image (node_at s n).core)).unchanged) }
+leaves-stepped image config s n = record { unchanged = λ r. grind (arith, (leaves-wanting image config s n (want_of image (processor_at s n).core)).unchanged) }
 
-leaves-begins_put : (s : State) (n block : ℕ) → Leaves s (begins_put s n block)
-leaves-begins_put s n block = record { unchanged = λ r. grind arith }
-
-leaves-evicts : (s : State) (n block : ℕ) (state : LineState) → Leaves s (evicts s n block state)
-leaves-evicts s n block Absent = same s _
-leaves-evicts s n block Shared = accepted s _ refl
-leaves-evicts s n block Owned = leaves-begins_put s n block
-leaves-evicts s n block Modified = leaves-begins_put s n block
-leaves-evicts s n block Exclusive = leaves-begins_put s n block
-
-leaves-hops_to : (s : State) (f : Flight) (next : Option ℕ) → Leaves s (hops_to s f next)
-leaves-hops_to s f None = same s _
-leaves-hops_to s f (Some next) = record { unchanged = λ r. grind arith }
-
-leaves-hops : (s : State) (f : Option Flight) → Leaves s (hops s f)
-leaves-hops s None = same s _
-leaves-hops s (Some f) = leaves-hops_to s f _
-
-leaves-loses : (s : State) (f : Option Flight) → Leaves s (loses s f)
-leaves-loses s None = same s _
-leaves-loses s (Some f) = accepted s _ refl
-
-leaves-fits_in : (config : Config) (s : State) (log : List LogEntry) (sends : List Out) (done : Stepped) → Leaves s done → Leaves s (fits_in config s log sends done)
-leaves-fits_in config s log sends done l = record { unchanged = λ r. grind (arith, l.unchanged) }
-
-leaves-delivers : (config : Config) (s : State) (m : Message) (outcome : Outcome) → Leaves s (delivers config s m outcome)
-leaves-delivers config s m Busy = same s _
-leaves-delivers config s m (AtCache reply) = leaves-fits_in config s _ _ _ (accepted s _ refl)
-leaves-delivers config s m (AtHome reply) = leaves-fits_in config s _ _ _ (accepted s _ refl)
-leaves-delivers config s m (Noted state) = accepted s _ refl
-
-leaves-flight : (config : Config) (s : State) (f : Option Flight) → Leaves s (delivers_flight config s f)
-leaves-flight config s None = same s _
-leaves-flight config s (Some f) = record { unchanged = λ r. grind (arith, (leaves-delivers config s f.message (outcome_of s f.message f.message.body)).unchanged) }
+leaves-hearing : (s : State) (moved : Moved) → Stays s.fabric moved → Leaves s (hearing s moved)
+leaves-hearing s moved l = record { unchanged = λ r. grind (arith, l.unchanged, l.untold) }
 
 leaves-validates : (s : State) (unready : Option ℕ) → Leaves s (validates s unready)
-leaves-validates s (Some node) = same s _
+leaves-validates s (Some node) = declines s _
 leaves-validates s None = record { unchanged = λ r. grind arith }
-
-leaves-recovers : (s : State) (pair : Option (ℕ × ℕ)) → Leaves s (recovers s pair)
-leaves-recovers s (Some pair) = same s _
-leaves-recovers s None = accepted s _ refl
 
 -- an event whose answer is a refusal leaves the machine as it was
 pub refusal-changes_nothing : (image : ImageData) (config : Config) (s : State) (event : Event) → Leaves s (step_of image config s event)
 unfolding step_of
 refusal-changes_nothing image config s (Step n) = leaves-stepped image config s n
-refusal-changes_nothing image config s (Evict n block) = record { unchanged = λ r. grind (arith, (leaves-evicts s n block (line_of (node_at s n).cache block).state).unchanged) }
+refusal-changes_nothing image config s (Evict n block) = leaves-hearing s _ (stays-evicted s.fabric n block)
 refusal-changes_nothing image config s (Edge n) = record { unchanged = λ r. grind arith }
-refusal-changes_nothing image config s (Hop id) = leaves-hops s (flight_of s.net.flights id)
-refusal-changes_nothing image config s (Deliver id) = leaves-flight config s (flight_of s.net.flights id)
-refusal-changes_nothing image config s (Lose id) = leaves-loses s (flight_of s.net.flights id)
-refusal-changes_nothing image config s (Kill switch) = record { unchanged = λ r. grind arith }
-refusal-changes_nothing image config s (Report n) = record { unchanged = λ r. grind arith }
+refusal-changes_nothing image config s (Hop id) = leaves-carried s _ (stays-hops s.fabric (flight_of s.fabric.net.flights id))
+refusal-changes_nothing image config s (Deliver id) = leaves-hearing s _ (stays-flight config s.fabric (flight_of s.fabric.net.flights id))
+refusal-changes_nothing image config s (Lose id) = leaves-carried s _ (stays-loses s.fabric (flight_of s.fabric.net.flights id))
+refusal-changes_nothing image config s (Kill switch) = leaves-carried s _ (stays-killed s.fabric switch)
+refusal-changes_nothing image config s (Report n) = leaves-carried s _ (stays-reported s.fabric n)
 refusal-changes_nothing image config s Validate = leaves-validates s _
-refusal-changes_nothing image config s Recover = leaves-recovers s _
+refusal-changes_nothing image config s Recover = record { unchanged = λ r. grind arith }
 refusal-changes_nothing image config s (Input n byte) = accepted s _ refl

@@ -1,111 +1,120 @@
--- The events of the whole machine: a validation and a recovery.
-use Rattle.std.specs.Prelude.{ℕ, ◌+◌, true, false, not, nat_eq, nat_le, if◌then◌else◌, List, [], ◌∷◌, ◌++◌, map, filter, length, position, sum_by, Option, Some, None}
-use Rattle.sn_base.specs.declared.event.Answer.TheVariants.{NetFull, Validated, NotReady, Recovered, CutOff}
-use Rattle.sn_base.specs.declared.log.LogEntry.{LogEntry}
-use Rattle.sn_msg.specs.declared.Body.TheVariants.{Advance}
-use Rattle.log_buffer.specs.Log.{old_at, entries_from}
-use Rattle.route_plan.specs.Distances.{Switches}
-use Rattle.route_plan.specs.Routes.{first_cut_off}
-use Rattle.sn_model.specs.declared.cache.LineState.TheVariants.{Modified}
-use Rattle.sn_model.specs.declared.cache.Out.{Out}
-use Rattle.sn_model.specs.Caches.{Cache, Line, no_line}
-use Rattle.sn_model.specs.Homes.{HomeEntry, no_sharers}
-use Rattle.sn_model.specs.CacheRows.{send}
-use Rattle.sn_model.specs.Machine.{State, Node, Net, HeldByte, node_at, home_node}
-use Rattle.sn_model.specs.Access.{Stepped, refused, answered, sending, is_full, records_of}
-use Rattle.sn_model.specs.Cuts.{held_by, named_by, checkpoint_of}
+-- The events of the machine beside an instruction: each is an event of the fabric, and what the rest makes of its answer.
+use Rattle.std.specs.Prelude.{ℕ, ◌+◌, ◌-◌, Bool, true, false, not, nat_eq, nat_le, max, if◌then◌else◌, List, [], ◌∷◌, ◌++◌, map, filter, drop, get_or, position, slice_index, slice_set, Option, Some, None}
+use Rattle.sn_base.specs.declared.event.Answer.{Answer}
+use Rattle.sn_base.specs.declared.event.Answer.TheVariants.{Edged, Validated, NotReady, Recovered, Given}
+use Rattle.rv_core.specs.declared.state.CoreState.{CoreState}
+use Rattle.rv_core.specs.Core.{bare, is_reserved}
+use Rattle.sn_model.specs.declared.net.Told.{Told}
+use Rattle.sn_model.specs.declared.net.Told.TheVariants.{LostCopy, Ready, Advance}
+use Rattle.sn_model.specs.Fabric.{Fabric, Moved, node_at}
+use Rattle.sn_model.specs.PointEvents.{advanced}
+use Rattle.sn_model.specs.Machine.{State, Processor, HeldByte, processor_at, with_processor}
+use Rattle.sn_model.specs.Instructions.{Stepped, refused, answered, carried, records_of}
+
+-- what the rest makes of what it hears
+
+-- the core without a reservation on this block
+abbrev pub unreserved : CoreState → ℕ → CoreState
+unreserved core block = if is_reserved core.reservation block then bare core else core
+
+-- the core keeps no reservation on a block whose copy was lost
+abbrev pub without_reservation : Processor → ℕ → Processor
+without_reservation processor block = record processor { core = unreserved processor.core block }
+
+-- the register checkpoints below a recovery point of which the node hears are freed; `known` is what it knew
+abbrev pub freed : Processor → ℕ → ℕ → Processor
+freed processor known k = record processor { checkpoints = drop (k - known) processor.checkpoints }
+
+-- the reported number of a node is the greatest that its reports said
+abbrev pub heard : State → Option Told → State
+heard s None = s
+heard s (Some (LostCopy n block)) = with_processor s n (without_reservation (processor_at s n) block)
+heard s (Some (Ready n k)) = record s { reported = slice_set s.reported n (max (slice_index s.reported n) k) }
+heard s (Some (Advance n k)) = with_processor s n (freed (processor_at s n) (node_at s.fabric n).known k)
+
+-- an event of the fabric of which the rest hears: an eviction or a delivery
+abbrev pub hearing : State → Moved → Stepped
+hearing s moved = carried (heard s moved.told) moved
+
+-- an event of the fabric with which the rest changes, where it was done
+abbrev pub with_rest : State → Bool → State → Moved → Stepped
+with_rest s done changed moved = carried (if done then changed else s) moved
+
+-- edge n: a checkpoint of the core's registers is taken
+
+abbrev pub is_edged : Answer → Bool
+is_edged (Edged k) = true
+is_edged _ = false
+
+abbrev pub with_checkpoint : Processor → Processor
+with_checkpoint processor = record processor { core = bare processor.core; checkpoints = processor.checkpoints ++ bare processor.core ∷ [] }
+
+abbrev pub edges : State → ℕ → Moved → Stepped
+edges s n moved = with_rest s (is_edged moved.answer) (with_processor s n (with_checkpoint (processor_at s n))) moved
 
 -- validate
 
 -- the first node whose reported number isn't above the point
 abbrev pub unready_node : State → Option ℕ
-unready_node s = position (λ k. nat_le k s.point) s.reported
-
--- Advance to each node in order
-abbrev pub advances : ℕ → ℕ → List Node → List Out
-advances k to [] = []
-advances k to (node ∷ nodes) = send to (Advance k) ∷ advances k (to + 1) nodes
+unready_node s = position (λ k. nat_le k s.fabric.point) s.reported
 
 abbrev pub bytes_of : List HeldByte → List ℕ
 bytes_of held = map (λ b. b.byte) held
 
--- the point rises by one: the interval that it leaves behind is committed, in order of retirement
+-- the interval that the point leaves behind is committed, in order of retirement
 abbrev pub committed_next : State → State
 committed_next s = record s {
-  point = s.point + 1;
-  pending = filter (λ r. not (nat_eq r.interval s.point)) s.pending;
-  committed = s.committed ++ records_of (filter (λ r. nat_eq r.interval s.point) s.pending);
-  held = filter (λ b. not (nat_eq b.interval s.point)) s.held;
-  released = s.released ++ bytes_of (filter (λ b. nat_eq b.interval s.point) s.held);
+  pending = filter (λ r. not (nat_eq r.interval s.fabric.point)) s.pending;
+  committed = s.committed ++ records_of (filter (λ r. nat_eq r.interval s.fabric.point) s.pending);
+  held = filter (λ b. not (nat_eq b.interval s.fabric.point)) s.held;
+  released = s.released ++ bytes_of (filter (λ b. nat_eq b.interval s.fabric.point) s.held);
 }
+
+abbrev pub is_validated : Answer → Bool
+is_validated (Validated k) = true
+is_validated _ = false
+
+abbrev pub commits : State → Moved → Stepped
+commits s moved = with_rest s (is_validated moved.answer) (committed_next s) moved
 
 abbrev pub validates : State → Option ℕ → Stepped
 validates s (Some node) = refused s (NotReady node)
-validates s None =
-    if is_full s (length s.nodes) then refused s NetFull
-    else sending (committed_next s) 0 0 (advances (s.point + 1) 0 s.nodes) (Validated (s.point + 1))
+validates s None = commits s (advanced s.fabric (s.fabric.point + 1))
 
 abbrev pub validated : State → Stepped
 validated s = validates s (unready_node s)
 
 -- recover
 
-abbrev pub restored_line : Option (List ℕ) → Line
-restored_line None = no_line
-restored_line (Some content) = record { state = Modified; content = content }
+-- the core as register checkpoint k keeps it
+abbrev pub checkpoint_of : Processor → ℕ → ℕ → CoreState
+checkpoint_of processor known k = get_or processor.checkpoints (k - known) processor.core
 
--- the lines of a cache at cut k, from a block on: what it owned then, each in Modified
-abbrev pub restored_lines : List LogEntry → ℕ → ℕ → List Line → List Line
-restored_lines log k block [] = []
-restored_lines log k block (line ∷ lines) = restored_line (held_by (old_at log false block k) line) ∷ restored_lines log k (block + 1) lines
+abbrev pub restored_processor : Processor → ℕ → ℕ → Processor
+restored_processor processor known k = record processor { core = checkpoint_of processor known k; checkpoints = checkpoint_of processor known k ∷ [] }
 
-abbrev pub restored_cache : List LogEntry → ℕ → Cache → Cache
-restored_cache log k cache = record { lines = restored_lines log k 0 cache.lines; miss = None; put = None }
+-- the processors at checkpoint k, from a node on
+abbrev pub restored_processors : Fabric → ℕ → ℕ → List Processor → List Processor
+restored_processors fabric k n [] = []
+restored_processors fabric k n (processor ∷ processors) = restored_processor processor (node_at fabric n).known k ∷ restored_processors fabric k (n + 1) processors
 
-abbrev pub restored_node : ℕ → Node → Node
-restored_node k node = record node {
-  core = checkpoint_of node k;
-  now = k;
-  known = k;
-  cache = restored_cache node.log k node.cache;
-  log = [];
-  checkpoints = checkpoint_of node k ∷ [];
-}
-
-abbrev pub log_of_home : State → ℕ → List LogEntry
-log_of_home s block = (node_at s (home_node s block)).log
-
--- the home entries at cut k, from a block on: whom each named then, without sharers and transactions
-abbrev pub restored_homes : State → ℕ → ℕ → List HomeEntry → List HomeEntry
-restored_homes s k block [] = []
-restored_homes s k block (entry ∷ homes) =
-    record { holder = named_by (old_at (log_of_home s block) true block k) entry.holder; sharers = no_sharers; transaction = None }
-    ∷ restored_homes s k (block + 1) homes
-
--- no message is in flight, and routes are made anew
-abbrev pub restored_net : Net → Net
-restored_net net = record net { flights = []; planned = net.dead }
-
-unfoldable pub restored : State → State
-restored s = record s {
-  nodes = map (restored_node s.point) s.nodes;
-  homes = restored_homes s s.point 0 s.homes;
-  net = restored_net s.net;
-  reported = map (λ k. s.point) s.reported;
+-- what wasn't committed is dropped
+unfoldable pub restored_rest : State → State
+restored_rest s = record s {
+  processors = restored_processors s.fabric s.fabric.point 0 s.processors;
+  reported = map (λ k. s.fabric.point) s.reported;
   pending = [];
   held = [];
 }
 
--- how many log entries are undone: those at or above the point, in all logs
-abbrev pub undone : State → ℕ
-undone s = sum_by (λ node. length (entries_from s.point node.log)) s.nodes
+abbrev pub is_recovered : Answer → Bool
+is_recovered (Recovered undo) = true
+is_recovered _ = false
 
-abbrev pub living_switches : State → Switches
-living_switches s = record { nodes = length s.nodes; dead = s.net.dead }
+abbrev pub restores : State → Moved → Stepped
+restores s moved = with_rest s (is_recovered moved.answer) (restored_rest s) moved
 
-abbrev pub recovers : State → Option (ℕ × ℕ) → Stepped
-recovers s (Some pair) = refused s (CutOff pair.0 pair.1)
-recovers s None = answered (restored s) (Recovered (record { to = s.point; undone = undone s; dropped = length s.net.flights }))
+-- input n v: the byte is given, for good
 
-abbrev pub recovered : State → Stepped
-recovered s = recovers s (first_cut_off (living_switches s))
+abbrev pub given : State → ℕ → ℕ → Stepped
+given s n byte = answered (with_processor s n (record (processor_at s n) { given = (processor_at s n).given ++ byte ∷ [] })) Given

@@ -1,19 +1,20 @@
 -- What the network does with messages: it sends, carries and loses them.
-use Rattle.std.specs.Prelude.{ℕ, ◌+◌, Bool, not, nat_eq, if◌then◌else◌, List, [], ◌∷◌, ◌++◌, length, filter, find, map, Option}
+use Rattle.std.specs.Prelude.{ℕ, ◌+◌, Bool, not, nat_eq, nat_lt, if◌then◌else◌, List, [], ◌∷◌, ◌++◌, length, filter, find, map, Option, Some, None}
+use Rattle.sn_base.specs.declared.event.Answer.{Answer}
 use Rattle.sn_msg.specs.declared.Message.{Message}
 use Rattle.route_plan.specs.Grid.{node_of}
 use Rattle.route_plan.specs.Distances.{Switches, is_dead}
-use Rattle.route_plan.specs.Routes.{enter_of}
+use Rattle.route_plan.specs.Routes.{enter_of, next_of}
 use Rattle.sn_model.specs.declared.cache.Out.{Out}
 use Rattle.sn_model.specs.declared.net.Sent.{Sent}
-use Rattle.sn_model.specs.Machine.{State, Net, Flight}
+use Rattle.sn_model.specs.Fabric.{Fabric, Net, Flight, Moved, node_at}
 
 -- how many messages may be in flight
 abbrev pub net_limit : ℕ
 net_limit = 1024
 
 -- the switches as they were when the routes were made
-abbrev pub routes_of : State → Switches
+abbrev pub routes_of : Fabric → Switches
 routes_of s = record { nodes = length s.nodes; dead = s.net.planned }
 
 -- a message from a node, in its interval, about a block
@@ -58,6 +59,14 @@ without_flight net id = record net { flights = filter (λ f. not (nat_eq f.messa
 abbrev pub is_there : Flight → Bool
 is_there f = nat_eq (node_of f.place) f.message.to
 
+-- the switch that it goes on to; its own where there is none nearer
+abbrev pub or_own : Option ℕ → ℕ → ℕ
+or_own None own = own
+or_own (Some next) own = next
+
+abbrev pub next_switch : Switches → Flight → ℕ
+next_switch routes f = or_own (next_of routes f.message.to f.place) f.place
+
 -- a message in another switch, where it has the number
 abbrev pub placed : ℕ → ℕ → Flight → Flight
 placed id place f = if nat_eq f.message.id id then record f { place = place } else f
@@ -65,3 +74,16 @@ placed id place f = if nat_eq f.message.id id then record f { place = place } el
 -- the message of a number in another switch
 abbrev pub moved : Net → ℕ → ℕ → Net
 moved net id place = record net { flights = map (placed id place) net.flights }
+
+-- an event by which a node sends messages about a block, in its interval
+abbrev pub sending : Fabric → ℕ → ℕ → List Out → Answer → Moved
+sending s from block outs answer = record {
+  fabric = record s { net = posted (routes_of s) s.net from (node_at s from).now block outs };
+  answer = answer;
+  sent = sent_by (routes_of s) s.net from (node_at s from).now block outs;
+  told = None;
+}
+
+-- whether so many more messages would be too many
+abbrev pub is_full : Fabric → ℕ → Bool
+is_full s more = nat_lt net_limit (length s.net.flights + more)

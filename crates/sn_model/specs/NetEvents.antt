@@ -1,5 +1,6 @@
 -- The events of messages and switches: a hop, a delivery, a loss, a switch that dies.
-use Rattle.std.specs.Prelude.{ℕ, ◌+◌, ◌-◌, true, not, nat_eq, nat_lt, max, if◌then◌else◌, List, length, drop, filter, slice_index, slice_set, Option, Some, None}
+use Rattle.std.specs.Prelude.{ℕ, ◌+◌, true, not, nat_eq, nat_lt, max, if◌then◌else◌, List, length, filter, slice_set, Option, Some, None}
+use Rattle.std.specs.Option.{option_map}
 use Rattle.sn_base.specs.declared.config.Config.{Config}
 use Rattle.sn_base.specs.declared.event.Answer.TheVariants.{LogFull, NetFull, Hopped, LostInDead, Arrived, NotArrived, NoMessage, Delivered, Held, HomeBusy, Lost, Killed, AlreadyDead}
 use Rattle.sn_base.specs.declared.log.LogEntry.{LogEntry}
@@ -8,46 +9,41 @@ use Rattle.sn_msg.specs.declared.Body.{Body}
 use Rattle.sn_msg.specs.declared.Body.TheVariants.{GetS, GetM, FwdGetS, FwdGetM, Inv, DataS, DataM, DataE, UpgOk, InvAck, Unblock, PutReq, PutGo, PutData, PutDone, Ready, Advance}
 use Rattle.log_buffer.specs.Log.{entries_from}
 use Rattle.route_plan.specs.Distances.{is_dead}
-use Rattle.route_plan.specs.Routes.{next_of}
 use Rattle.sn_model.specs.declared.cache.Out.{Out}
+use Rattle.sn_model.specs.declared.net.Told.{Told}
+use Rattle.sn_model.specs.declared.net.Told.TheVariants as told
 use Rattle.sn_model.specs.Homes.{Holder, Itself, OfCache, Transaction, is_owner}
 use Rattle.sn_model.specs.CacheRows.{Logged, CacheReply, forward_read, forward_write, invalidate, data_shared, data_modified, upgrade_granted, acknowledge, put_go, put_done, data_exclusive}
 use Rattle.sn_model.specs.HomeRows.{Kept, HomeReply, count_others, read_at_home, read_at_owner, take, move_ownership, upgrade, unblock, put_begins, put_is_stale, put_data, grant_exclusive}
-use Rattle.sn_model.specs.Machine.{State, Node, Net, Flight, node_at, with_node, home_of, with_home, home_node}
-use Rattle.sn_model.specs.Net.{net_limit, routes_of, flight_of, without_flight, moved, is_there}
-use Rattle.sn_model.specs.Access.{Stepped, refused, answered, sending}
-use Rattle.sn_model.specs.NodeEvents.{unreserved}
-
-abbrev pub with_net : State → Net → State
-with_net s net = record s { net = net }
+use Rattle.sn_model.specs.Fabric.{Fabric, Node, Flight, Moved, node_at, with_node, home_of, with_home, home_node, with_net, refused, answered}
+use Rattle.sn_model.specs.Net.{net_limit, routes_of, flight_of, without_flight, moved, is_there, next_switch, sending}
 
 -- hop i
 
-abbrev pub hops_to : State → Flight → Option ℕ → Stepped
-hops_to s f None = refused s Arrived
-hops_to s f (Some next) =
+abbrev pub hops_to : Fabric → Flight → ℕ → Moved
+hops_to s f next =
     if is_dead s.net.dead next then answered (with_net s (without_flight s.net f.message.id)) LostInDead
     else answered (with_net s (moved s.net f.message.id next)) Hopped
 
-abbrev pub hops : State → Option Flight → Stepped
+abbrev pub hops : Fabric → Option Flight → Moved
 hops s None = refused s NoMessage
-hops s (Some f) = hops_to s f (next_of (routes_of s) f.message.to f.place)
+hops s (Some f) = if is_there f then refused s Arrived else hops_to s f (next_switch (routes_of s) f)
 
-abbrev pub hopped : State → ℕ → Stepped
+abbrev pub hopped : Fabric → ℕ → Moved
 hopped s id = hops s (flight_of s.net.flights id)
 
 -- lose i
 
-abbrev pub loses : State → Option Flight → Stepped
+abbrev pub loses : Fabric → Option Flight → Moved
 loses s None = refused s NoMessage
 loses s (Some f) = answered (with_net s (without_flight s.net f.message.id)) Lost
 
-abbrev pub lost : State → ℕ → Stepped
+abbrev pub lost : Fabric → ℕ → Moved
 lost s id = loses s (flight_of s.net.flights id)
 
 -- kill s
 
-abbrev pub killed : State → ℕ → Stepped
+abbrev pub killed : Fabric → ℕ → Moved
 killed s switch =
     if is_dead s.net.dead switch then refused s AlreadyDead
     else answered (with_net s (record s.net { dead = slice_set s.net.dead switch true; flights = filter (λ f. not (nat_eq f.place switch)) s.net.flights })) Killed
@@ -55,17 +51,17 @@ killed s switch =
 -- deliver i
 
 -- what a delivery comes to where it isn't refused: nothing, for the home is busy; what a row leaves at a cache or at a home;
--- or a state in which the service controller or the node knows more
+-- or what the layer above has to hear, and what the node knows then
 pub data Outcome : Type 0 where
   Busy : Outcome
   AtCache : (reply : CacheReply) → Outcome
   AtHome : (reply : HomeReply) → Outcome
-  Noted : (state : State) → Outcome
+  Noted : (fabric : Fabric) (told : Told) → Outcome
 
-abbrev pub logged_at : State → ℕ → Logged
+abbrev pub logged_at : Fabric → ℕ → Logged
 logged_at s n = record { cache = (node_at s n).cache; log = (node_at s n).log }
 
-abbrev pub kept_at : State → ℕ → ℕ → Kept
+abbrev pub kept_at : Fabric → ℕ → ℕ → Kept
 kept_at s n block = record { entry = home_of s block; log = (node_at s n).log }
 
 -- the home's row for a GetS
@@ -87,19 +83,11 @@ abbrev pub unless_busy : Option Transaction → HomeReply → Outcome
 unless_busy None reply = AtHome reply
 unless_busy (Some transaction) reply = Busy
 
--- the reported number of a node is the greatest that its reports said
-abbrev pub noted_ready : State → ℕ → ℕ → State
-noted_ready s n k = record s { reported = slice_set s.reported n (max (slice_index s.reported n) k) }
-
--- a node that knows of a recovery point frees the log entries and the register checkpoints below it
+-- a node that hears of a recovery point frees its log entries below it
 abbrev pub learned : Node → ℕ → Node
-learned node k = record node {
-  known = max node.known k;
-  log = entries_from k node.log;
-  checkpoints = drop (max node.known k - node.known) node.checkpoints;
-}
+learned node k = record node { known = max node.known k; log = entries_from k node.log }
 
-abbrev pub outcome_of : State → Message → Body → Outcome
+abbrev pub outcome_of : Fabric → Message → Body → Outcome
 outcome_of s m GetS = unless_busy (home_of s m.block).transaction (get_shared (kept_at s m.to m.block) m.block (node_at s m.to).now m.from (home_of s m.block).holder)
 outcome_of s m GetM = unless_busy (home_of s m.block).transaction (get_modified (kept_at s m.to m.block) m.block (node_at s m.to).now m.from (home_of s m.block).holder)
 outcome_of s m (FwdGetS r) = AtCache (forward_read (logged_at s m.to) m.block r)
@@ -115,41 +103,40 @@ outcome_of s m PutReq = unless_busy (home_of s m.block).transaction (put_request
 outcome_of s m PutGo = AtCache (put_go (logged_at s m.to) (home_node s m.block) m.block (node_at s m.to).now)
 outcome_of s m (PutData content) = AtHome (put_data (kept_at s m.to m.block) m.block m.tag m.from content)
 outcome_of s m PutDone = AtCache (put_done (logged_at s m.to))
-outcome_of s m (Ready k) = Noted (noted_ready s m.from k)
-outcome_of s m (Advance k) = Noted (with_node s m.to (learned (node_at s m.to) k))
-
--- the core keeps no reservation on a block whose copy was lost
-abbrev pub core_without : Node → Option ℕ → Node
-core_without node None = node
-core_without node (Some block) = record node { core = unreserved node.core block }
+outcome_of s m (Ready k) = Noted s (told.Ready m.from k)
+outcome_of s m (Advance k) = Noted (with_node s m.to (learned (node_at s m.to) k)) (told.Advance m.to k)
 
 abbrev pub node_after : Node → CacheReply → Node
-node_after node reply = record (core_without node reply.lost) { cache = reply.after.cache; log = reply.after.log }
+node_after node reply = record node { cache = reply.after.cache; log = reply.after.log }
 
-abbrev pub home_after : State → ℕ → ℕ → HomeReply → State
+abbrev pub home_after : Fabric → ℕ → ℕ → HomeReply → Fabric
 home_after s n block reply = with_node (with_home s block reply.after.entry) n (record (node_at s n) { log = reply.after.log })
 
 -- the row is done unless the log lacks the room for its entry, or the network for what it sends
-abbrev pub fits_in : Config → State → List LogEntry → List Out → Stepped → Stepped
+abbrev pub fits_in : Config → Fabric → List LogEntry → List Out → Moved → Moved
 fits_in config s log sends done =
     if nat_lt config.log (length log) then refused s LogFull
     else if nat_lt (net_limit + 1) (length s.net.flights + length sends) then refused s NetFull
     else done
 
-abbrev pub delivers : Config → State → Message → Outcome → Stepped
+-- the copy that a row of a cache lost
+abbrev pub copy_lost : ℕ → CacheReply → Option Told
+copy_lost n reply = option_map (λ (block : ℕ). told.LostCopy n block) reply.lost
+
+abbrev pub delivers : Config → Fabric → Message → Outcome → Moved
 delivers config s m Busy = refused s HomeBusy
 delivers config s m (AtCache reply) = fits_in config s reply.after.log reply.sends
-    (sending (with_net (with_node s m.to (node_after (node_at s m.to) reply)) (without_flight s.net m.id)) m.to m.block reply.sends Delivered)
+    (record (sending (with_net (with_node s m.to (node_after (node_at s m.to) reply)) (without_flight s.net m.id)) m.to m.block reply.sends Delivered) { told = copy_lost m.to reply })
 delivers config s m (AtHome reply) = fits_in config s reply.after.log reply.sends
     (sending (with_net (home_after s m.to m.block reply) (without_flight s.net m.id)) m.to m.block reply.sends Delivered)
-delivers config s m (Noted state) = answered (with_net state (without_flight s.net m.id)) Delivered
+delivers config s m (Noted fabric told) = record (answered (with_net fabric (without_flight s.net m.id)) Delivered) { told = Some told }
 
-abbrev pub delivers_flight : Config → State → Option Flight → Stepped
+abbrev pub delivers_flight : Config → Fabric → Option Flight → Moved
 delivers_flight config s None = refused s NoMessage
 delivers_flight config s (Some f) =
     if not (is_there f) then refused s NotArrived
     else if nat_lt (node_at s f.message.to).now f.message.tag then refused s Held
     else delivers config s f.message (outcome_of s f.message f.message.body)
 
-abbrev pub delivered : Config → State → ℕ → Stepped
+abbrev pub delivered : Config → Fabric → ℕ → Moved
 delivered config s id = delivers_flight config s (flight_of s.net.flights id)

@@ -1,26 +1,25 @@
--- The other events of one node: an eviction, a clock edge, a report, a byte of input.
-use Rattle.std.specs.Prelude.{ℕ, ◌+◌, ◌-◌, ◌%◌, Bool, true, false, nat_eq, min, if◌then◌else◌, List, [], ◌∷◌, ◌++◌, length, Option, Some, None}
-use Rattle.sn_base.specs.declared.event.Answer.TheVariants.{NetFull, Evicted, PutBegun, NotCached, PutOpen, MissOpen, Edged, CheckpointsFull, Reported, Given}
+-- The other events of one node: an eviction, a clock edge, a report.
+use Rattle.std.specs.Prelude.{ℕ, ◌+◌, ◌-◌, ◌%◌, Bool, true, false, nat_eq, min, if◌then◌else◌, List, [], ◌∷◌, length, Option, Some, None}
+use Rattle.sn_base.specs.declared.event.Answer.TheVariants.{NetFull, Evicted, PutBegun, NotCached, PutOpen, MissOpen, Edged, CheckpointsFull, Reported}
 use Rattle.sn_msg.specs.declared.Body.TheVariants.{PutReq, Ready}
-use Rattle.rv_core.specs.declared.state.CoreState.{CoreState}
-use Rattle.rv_core.specs.Core.{bare, is_reserved}
 use Rattle.sn_model.specs.declared.cache.LineState.{LineState}
 use Rattle.sn_model.specs.declared.cache.LineState.TheVariants.{Absent, Shared, Owned, Modified, Exclusive}
+use Rattle.sn_model.specs.declared.net.Told.TheVariants.{LostCopy}
 use Rattle.sn_model.specs.Caches.{Miss, Put, line_of, without_line, misses_on}
 use Rattle.sn_model.specs.Homes.{HomeEntry, Transaction}
 use Rattle.sn_model.specs.CacheRows.{send}
-use Rattle.sn_model.specs.Machine.{State, Node, node_at, with_node, home_node}
-use Rattle.sn_model.specs.Access.{Stepped, refused, answered, sending, is_full}
+use Rattle.sn_model.specs.Fabric.{Fabric, Node, Moved, node_at, with_node, home_node, refused, answered}
+use Rattle.sn_model.specs.Net.{sending, is_full}
 
 -- evict n b
 
--- the core without a reservation on this block
-abbrev pub unreserved : CoreState → ℕ → CoreState
-unreserved core block = if is_reserved core.reservation block then bare core else core
-
--- the node without its copy, and without its core's reservation on it
+-- the node without its copy
 abbrev pub without_copy : Node → ℕ → Node
-without_copy node block = record node { core = unreserved node.core block; cache = without_line node.cache block }
+without_copy node block = record node { cache = without_line node.cache block }
+
+-- a Shared copy is dropped at once
+abbrev pub drops_copy : Fabric → ℕ → ℕ → Moved
+drops_copy s n block = record (answered (with_node s n (without_copy (node_at s n) block)) Evicted) { told = Some (LostCopy n block) }
 
 abbrev pub has_put : Option Put → Bool
 has_put None = false
@@ -30,38 +29,34 @@ abbrev pub with_put : Node → ℕ → Node
 with_put node block = record node { cache = record node.cache { put = Some (record { block = block; issued = node.now }) } }
 
 -- the owner asks the home first
-abbrev pub begins_put : State → ℕ → ℕ → Stepped
+abbrev pub begins_put : Fabric → ℕ → ℕ → Moved
 begins_put s n block =
     if has_put (node_at s n).cache.put then refused s PutOpen
     else if is_full s 1 then refused s NetFull
     else sending (with_node s n (with_put (node_at s n) block)) n block (send (home_node s block) PutReq ∷ []) PutBegun
 
-abbrev pub evicts : State → ℕ → ℕ → LineState → Stepped
+abbrev pub evicts : Fabric → ℕ → ℕ → LineState → Moved
 evicts s n block Absent = refused s NotCached
-evicts s n block Shared = answered (with_node s n (without_copy (node_at s n) block)) Evicted
+evicts s n block Shared = drops_copy s n block
 evicts s n block Owned = begins_put s n block
 evicts s n block Modified = begins_put s n block
 evicts s n block Exclusive = begins_put s n block
 
-abbrev pub evicted : State → ℕ → ℕ → Stepped
+abbrev pub evicted : Fabric → ℕ → ℕ → Moved
 evicted s n block =
     if misses_on (node_at s n).cache.miss block then refused s MissOpen
     else evicts s n block (line_of (node_at s n).cache block).state
 
--- edge n: the next interval begins, with a checkpoint of the core's registers
+-- edge n: the next interval begins
 
 -- how many checkpoints a node may have above the recovery point that it knows
 abbrev pub checkpoint_limit : ℕ
 checkpoint_limit = 4
 
 abbrev pub after_edge : Node → Node
-after_edge node = record node {
-  core = bare node.core;
-  now = node.now + 1;
-  checkpoints = node.checkpoints ++ bare node.core ∷ [];
-}
+after_edge node = record node { now = node.now + 1 }
 
-abbrev pub edged : State → ℕ → Stepped
+abbrev pub edged : Fabric → ℕ → Moved
 edged s n =
     if nat_eq ((node_at s n).now - (node_at s n).known) checkpoint_limit then refused s CheckpointsFull
     else answered (with_node s n (after_edge (node_at s n))) (Edged ((node_at s n).now + 1))
@@ -87,15 +82,10 @@ put_issued_by now None = now
 put_issued_by now (Some put) = min now put.issued
 
 -- the least of the node's interval, of its open miss and put, and of its home's open transactions
-unfoldable pub ready_of : State → ℕ → ℕ
+unfoldable pub ready_of : Fabric → ℕ → ℕ
 ready_of s n = put_issued_by (issued_by (least_begun (node_at s n).now (length s.nodes) n 0 s.homes) (node_at s n).cache.miss) (node_at s n).cache.put
 
-abbrev pub reported : State → ℕ → Stepped
+abbrev pub reported : Fabric → ℕ → Moved
 reported s n =
     if is_full s 1 then refused s NetFull
     else sending s n 0 (send 0 (Ready (ready_of s n)) ∷ []) (Reported (ready_of s n))
-
--- input n v: the byte is given, for good
-
-abbrev pub given : State → ℕ → ℕ → Stepped
-given s n byte = answered (with_node s n (record (node_at s n) { given = (node_at s n).given ++ byte ∷ [] })) Given

@@ -5,23 +5,24 @@ use Rattle.sn_base.specs.declared.config.Config.{Config}
 use Rattle.sn_base.specs.declared.event.Event.{Event}
 use Rattle.sn_base.specs.declared.event.Event.TheVariants.{Step, Evict, Edge, Hop, Deliver, Lose, Kill, Report, Validate, Recover, Input}
 use Rattle.sn_model.specs.Machine.{State}
-use Rattle.sn_model.specs.Access.{Stepped, stepped}
-use Rattle.sn_model.specs.NodeEvents.{evicted, edged, reported, given}
+use Rattle.sn_model.specs.Instructions.{Stepped, stepped, carried}
+use Rattle.sn_model.specs.NodeEvents.{evicted, edged, reported}
 use Rattle.sn_model.specs.NetEvents.{hopped, delivered, lost, killed}
-use Rattle.sn_model.specs.MachineEvents.{validated, recovered}
+use Rattle.sn_model.specs.PointEvents.{recovered}
+use Rattle.sn_model.specs.MachineEvents.{hearing, edges, validated, restores, given}
 
 -- the next state, the answer and the messages sent: a function, since the scheme leaves no choice to the machine
 unfoldable pub step_of : ImageData → Config → State → Event → Stepped
 step_of image config s (Step n) = stepped image config s n
-step_of image config s (Evict n block) = evicted s n block
-step_of image config s (Edge n) = edged s n
-step_of image config s (Hop id) = hopped s id
-step_of image config s (Deliver id) = delivered config s id
-step_of image config s (Lose id) = lost s id
-step_of image config s (Kill switch) = killed s switch
-step_of image config s (Report n) = reported s n
+step_of image config s (Evict n block) = hearing s (evicted s.fabric n block)
+step_of image config s (Edge n) = edges s n (edged s.fabric n)
+step_of image config s (Hop id) = carried s (hopped s.fabric id)
+step_of image config s (Deliver id) = hearing s (delivered config s.fabric id)
+step_of image config s (Lose id) = carried s (lost s.fabric id)
+step_of image config s (Kill switch) = carried s (killed s.fabric switch)
+step_of image config s (Report n) = carried s (reported s.fabric n)
 step_of image config s Validate = validated s
-step_of image config s Recover = recovered s
+step_of image config s Recover = restores s (recovered s.fabric s.fabric.point)
 step_of image config s (Input n byte) = given s n byte
 
 -- the state after the events, in order
