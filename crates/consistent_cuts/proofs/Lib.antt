@@ -1,3 +1,4 @@
 pub mod Traced
 pub mod Made
 pub mod Clocks
+pub mod Outlines
