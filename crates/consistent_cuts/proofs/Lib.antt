@@ -2,3 +2,5 @@ pub mod Traced
 pub mod Made
 pub mod Clocks
 pub mod Outlines
+pub mod Hearings
+pub mod Hears
