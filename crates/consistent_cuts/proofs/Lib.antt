@@ -4,3 +4,4 @@ pub mod Clocks
 pub mod Outlines
 pub mod Hearings
 pub mod Hears
+pub mod Turns
