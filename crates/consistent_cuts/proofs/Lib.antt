@@ -5,3 +5,4 @@ pub mod Outlines
 pub mod Hearings
 pub mod Hears
 pub mod Turns
+pub mod Points
