@@ -1,3 +1,5 @@
 mod Told
 mod Finds
 mod Retires
+mod Places
+mod RetiredOutline
