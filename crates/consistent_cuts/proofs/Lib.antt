@@ -1,5 +1,8 @@
-mod Told
-mod Finds
-mod Retires
-mod Places
-mod RetiredOutline
+pub mod Traced
+pub mod Made
+pub mod Clocks
+pub mod Told
+pub mod Finds
+pub mod Retires
+pub mod Places
+pub mod RetiredOutline

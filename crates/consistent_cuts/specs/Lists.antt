@@ -1,5 +1,5 @@
 -- What the machine's lists of pending, committed, held and released are, by the retirements along the run.
-use Rattle.std.specs.Prelude.{◌≡◌, ℕ, nat_le, List, [], ◌∷◌, ◌++◌, map, filter, filter_map}
+use Rattle.std.specs.Prelude.{◌≡◌, ℕ, nat_le, List, map, filter, filter_map, flat_map}
 use Rattle.rv_core.specs.declared.step.Record.{Record}
 use Rattle.sn_base.specs.Image.{ImageData}
 use Rattle.sn_model.specs.Machine.{State, Retirement, HeldByte}
@@ -15,16 +15,15 @@ not_validated point trace = filter (λ e. nat_le point e.interval) trace
 abbrev pub retirement_of : Retired → Retirement
 retirement_of e = record { interval = e.interval; did = e.did }
 
--- the bytes that they put out, each held for its interval
-abbrev pub held_of : List Retired → List HeldByte
-held_of [] = []
-held_of (e ∷ trace) = held_in e.interval e.out ++ held_of trace
+-- the byte that an instruction put out, held for its interval
+abbrev pub held_of : Retired → List HeldByte
+held_of e = held_in e.interval e.out
 
 -- the machine's four lists are those of the retirements along its run
 pub record IsTraced (s : State) (trace : List Retired) : Type 0 where
   pub pending : s.pending ≡ map retirement_of (not_validated s.fabric.point trace)
   pub committed : s.committed ≡ committed_trace trace s.fabric.point
-  pub held : s.held ≡ held_of (not_validated s.fabric.point trace)
+  pub held : s.held ≡ flat_map held_of (not_validated s.fabric.point trace)
   pub released : s.released ≡ committed_output trace s.fabric.point
 
 -- the sorted list is that of the retirements: each interval has their records, and puts out their bytes

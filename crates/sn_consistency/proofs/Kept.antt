@@ -18,7 +18,7 @@ use Rattle.sn_consistency.proofs.Sorted.{all_apart, retire_low, retire_high, ret
 
 module _ (image : ImageData) where
   -- who is placed stays so while intervals rise, and writes and accesses grow
-  AllPlaced-more : (t l t' l' : ℕ → ℕ) (a a' : ℕ → ℕ → ℕ) (x : ℕ) → ((n : ℕ) → x ≤ t n → x ≤ t' n) →
+  pub AllPlaced-more : (t l t' l' : ℕ → ℕ) (a a' : ℕ → ℕ → ℕ) (x : ℕ) → ((n : ℕ) → x ≤ t n → x ≤ t' n) →
       ((b : ℕ) → x < l b → x < l' b) → ((b n : ℕ) → x < a b n → x < a' b n) → (ys : List Entry) →
       AllPlaced image t l a x ys → AllPlaced image t' l' a' x ys
   AllPlaced-more t l t' l' a a' x p q r [] s = tt

@@ -13,3 +13,4 @@ pub mod Filters
 pub mod Places
 pub mod Start
 pub mod Kept
+pub mod Others

@@ -20,7 +20,10 @@ pub use committed::{
     committed_part_grows, committed_part_is_execution, committed_part_stays, output_is_released,
     reads_are_taken, recovery_leaves_execution, retirements_by_interval,
 };
-pub use machine::{each_event_keeps, point_is_last_state, same_at_each_place_keeps};
+pub use machine::{
+    each_event_keeps, freed_checkpoints_count_for_nothing, others_may_go_on, point_is_last_state,
+    same_at_each_place_keeps,
+};
 pub use projections::{
     execution_is_good_projections, execution_is_good_skipping, first_refused_is_least_failing,
 };

@@ -3,6 +3,7 @@
 //! content, the contents at the cuts, and bounds for the intervals of its writes and of each node's accesses.
 ghost use Rattle.std.specs.Prelude.{◌≡◌, ℕ, suc, ◌≤◌, Bool, true, List, [], ◌++◌};
 ghost use Rattle.sn_base.specs.Image.{ImageData};
+ghost use Rattle.rv_core.specs.declared.state.CoreState.{CoreState};
 ghost use Rattle.rv_core.specs.Core.{bare};
 ghost use Rattle.rv_core.specs.Flat.{FlatState, core_at};
 ghost use Rattle.rv_core.specs.Execution.{Executes, state_after, in_of};
@@ -11,7 +12,7 @@ ghost use Rattle.sn_consistency.specs.Entries.{Entry, Places};
 ghost use Rattle.sn_consistency.specs.Sorted.{at_cut};
 ghost use Rattle.sn_consistency.specs.Shows.{Shows};
 ghost use Rattle.sn_consistency.specs.Committed.{committed, Begins};
-ghost use Rattle.sn_consistency.specs.Kept.{Outline, Keeps, Retires, IsSameOutline, retired, begun, edged, lost_to, learned, given_to, validated, recovered};
+ghost use Rattle.sn_consistency.specs.Kept.{Outline, Keeps, Retires, IsSameOutline, retired, begun, edged, lost_to, learned, given_to, validated, recovered, others_reach};
 
 /// A program's start keeps it, and so does each event: a retirement that may be, an edge, the loss of reservations, the
 /// news of a point that isn't above the machine's, a byte of input, a validation where no node's interval is below the
@@ -59,4 +60,18 @@ pub fn point_is_last_state()
 pub fn same_at_each_place_keeps()
     ensures { (image : ImageData) (nodes : ℕ) (F : Places) (m p : Outline) → IsSameOutline m p →
         Keeps image nodes F m → Keeps image nodes F p }
+{}
+
+/// Register checkpoints count from the point that their node knows up to its interval: what stands elsewhere is nobody's.
+pub fn freed_checkpoints_count_for_nothing()
+    ensures { (image : ImageData) (nodes : ℕ) (F : Places) (m : Outline) → Keeps image nodes F m →
+        (checkpoint : ℕ → ℕ → CoreState) →
+        ((n k : ℕ) → m.known n ≤ k → k ≤ m.interval n → checkpoint n k ≡ m.checkpoint n k) →
+        Keeps image nodes F (record m { checkpoint = checkpoint }) }
+{}
+
+/// A number that is no node's retires nothing, so it may be said to have reached any interval.
+pub fn others_may_go_on()
+    ensures { (image : ImageData) (nodes : ℕ) (F : Places) (m : Outline) → Keeps image nodes F m → (k : ℕ) →
+        Keeps image nodes F (others_reach nodes F m k) }
 {}
