@@ -1,6 +1,7 @@
 -- The outline of the machine after a retirement is the outline of the machine before it, retired.
-use Rattle.std.proofs.Common.{◌≡◌, ◌≢◌, ℕ, suc, ◌+◌, ◌-◌, ◌<◌, ◌≤◌, max, Bool, true, false, ◌&&◌, ◌||◌, cond, ◌==◌, List, [], ◌∷◌, ◌++◌, length, drop, get_or, option_to_list, if◌then◌else◌, nat_eq, nat_lt, refl, sym, ap, ◌∙◌, arith, length-set}
+use Rattle.std.proofs.Common.{◌≡◌, ◌≢◌, ℕ, suc, ◌+◌, ◌-◌, ◌<◌, ◌≤◌, max, Bool, true, false, ◌&&◌, ◌||◌, cond, ◌==◌, List, [], ◌∷◌, ◌++◌, length, drop, get_or, option_to_list, if◌then◌else◌, nat_eq, nat_lt, refl, sym, ap, ◌∙◌, arith, subst, length-set}
 use Rattle.std.proofs.lemmas.Bool.Decides.{nat_tests}
+use Rattle.std.proofs.lemmas.List.{get_or_default}
 use Rattle.sn_base.specs.Image.{ImageData}
 use Rattle.rv_core.specs.declared.state.CoreState.{CoreState}
 use Rattle.rv_core.specs.Core.{bare, block_of, is_reserved}
@@ -15,12 +16,14 @@ use Rattle.sn_consistency.specs.Entries.{Entry, Places, own, put, wrote, touches
 use Rattle.sn_consistency.specs.Sorted.{retire}
 use Rattle.sn_consistency.specs.Kept.{Outline, IsSameOutline, Keeps, retired}
 use Rattle.sn_consistency.proofs.StepLaws.{kind_bare, block_bare, after_bare, written_bare, next_held}
+use Rattle.sn_consistency.proofs.Kept.{retired_keeps, same_keeps}
+use Rattle.sn_consistency.proofs.Others.{exchanged_keeps}
 use Rattle.consistent_cuts.specs.Outlined.{outline_of, interval_of, IsRestShaped, Agrees}
 use Rattle.consistent_cuts.specs.Accesses.{entry_of, line_at, write_of, content_left, records_after, MayRetire}
 use Rattle.consistent_cuts.proofs.Told.{Tells, tells}
 use Rattle.consistent_cuts.proofs.Finds.{wanted, kind_is, block_is}
-use Rattle.consistent_cuts.proofs.Retires.{interval_is, written, touched, written_there}
-use Rattle.consistent_cuts.proofs.Places.{same_interval, same_known, same_point, same_length, drop_after, after, next_processor, at_each_processor}
+use Rattle.consistent_cuts.proofs.Retires.{interval_is, written, written_there, retires}
+use Rattle.consistent_cuts.proofs.Places.{same_interval, same_known, same_now, same_point, same_length, drop_after, after, next_processor, at_each_processor}
 
 -- a block's content, where the one is what the other is there
 settle : (is : Bool) (b k : ℕ) (v : Content) (g : ℕ → Content) (old : Content) → (is ≡ true → v ≡ g k) →
@@ -118,4 +121,45 @@ module _ (image : ImageData) (s : State) (r : ℕ → Records) (list : ℕ → L
     value = value_is;
     last_write = last_write_is;
     last_access = last_access_is;
+  }
+
+  -- the register checkpoints that count are those of before
+
+  own_checkpoints : (j : ℕ) → (node_at s.fabric n).known ≤ j → j ≤ (node_at s.fabric n).now →
+      checkpoint_of (next_processor image s n) (node_at s.fabric n).known j ≡ checkpoint_of (processor_at s n) (node_at s.fabric n).known j
+  own_checkpoints j low high =
+      get_or_default (processor_at s n).checkpoints (j - (node_at s.fabric n).known) (next_processor image s n).core (processor_at s n).core (omega (arith, shape.checkpoints n may.node))
+
+  checkpoints_are : (m j : ℕ) → (node_at s.fabric m).known ≤ j → j ≤ interval_of s.fabric m → checkpoint_after m j ≡ before.checkpoint m j
+  checkpoints_are m j low high =
+      ap (λ k. checkpoint_of (processor_at (after image s n) m) k j) (same_known s.fabric n m (write_of image s n) may.node)
+      ∙ at_each_processor image s n (λ m p. (node_at s.fabric m).known ≤ j → j ≤ interval_of s.fabric m → checkpoint_of p (node_at s.fabric m).known j ≡ checkpoint_of (processor_at s m) (node_at s.fabric m).known j)
+          there (λ low high. own_checkpoints j low (subst (λ i. j ≤ i) (interval_is s n may.node) high)) (λ m o low high. refl) m low high
+
+  -- the sorted list is kept
+  pub sorted_keeps : (F : Places) → Keeps image (length s.fabric.nodes) F before →
+      Keeps image (length (after image s n).fabric.nodes) F (outline_of (after image s n) (records_after image s r n) list_after)
+  sorted_keeps F keeps =
+      subst (λ N. Keeps image N F (outline_of (after image s n) (records_after image s r n) list_after)) (sym (same_length s.fabric n (write_of image s n)))
+      (same_keeps image (length s.fabric.nodes) F _ (outline_of (after image s n) (records_after image s r n) list_after) same_outline
+      (exchanged_keeps image (length s.fabric.nodes) F (retired image before e) (retired_keeps image (length s.fabric.nodes) F before keeps e (retires image s r n shape agrees may list)) checkpoint_after checkpoints_are))
+
+  -- and the rest with the records
+
+  reserved_agrees : (b m : ℕ) → b < block_count → m < length s.fabric.nodes → (records_after image s r n b).reserved m ≡ is_reserved (processor_at (after image s n) m).core.reservation b
+  reserved_agrees b m low l = told.reserved b m ∙ rw (agrees.reserved b m low l) (rw (← kind_is image s n, ← block_is image s n) (reserved_is m b))
+
+  pub agrees_after : Agrees (after image s n) (records_after image s r n)
+  agrees_after = record {
+    reserved = λ b m low l. reserved_agrees b m low (rw (← same_length s.fabric n (write_of image s n)) l);
+    reported = λ b m low l. told.reported b m ∙ agrees.reported b m low (rw (← same_length s.fabric n (write_of image s n)) l);
+  }
+
+  pub shape_after : IsRestShaped (after image s n)
+  shape_after = record {
+    processors = length-set s.processors n (next_processor image s n) ∙ shape.processors ∙ sym (same_length s.fabric n (write_of image s n));
+    reported = shape.reported ∙ sym (same_length s.fabric n (write_of image s n));
+    checkpoints = λ m l. rw (same_known s.fabric n m (write_of image s n) may.node, same_now s.fabric n m (write_of image s n) may.node)
+        (at_each_processor image s n (λ m p. m < length s.fabric.nodes → (node_at s.fabric m).known + length p.checkpoints ≡ (node_at s.fabric m).now + 1) there (shape.checkpoints n) (λ m o. shape.checkpoints m) m
+        (rw (← same_length s.fabric n (write_of image s n)) l));
   }
