@@ -6,3 +6,4 @@ pub mod Finds
 pub mod Retires
 pub mod Places
 pub mod RetiredOutline
+pub mod SteppedCases

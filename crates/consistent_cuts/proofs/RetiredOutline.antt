@@ -20,7 +20,7 @@ use Rattle.sn_consistency.proofs.Kept.{retired_keeps, same_keeps}
 use Rattle.sn_consistency.proofs.Others.{exchanged_keeps}
 use Rattle.consistent_cuts.specs.Outlined.{outline_of, interval_of, IsRestShaped, Agrees}
 use Rattle.consistent_cuts.specs.Accesses.{entry_of, line_at, write_of, content_left, records_after, MayRetire}
-use Rattle.consistent_cuts.proofs.Told.{Tells, tells}
+use Rattle.consistent_cuts.proofs.Told.{IsToldBy, told_by}
 use Rattle.consistent_cuts.proofs.Finds.{wanted, kind_is, block_is}
 use Rattle.consistent_cuts.proofs.Retires.{interval_is, written, written_there, retires}
 use Rattle.consistent_cuts.proofs.Places.{same_interval, same_known, same_now, same_point, same_length, drop_after, after, next_processor, at_each_processor}
@@ -50,8 +50,8 @@ module _ (image : ImageData) (s : State) (r : ℕ → Records) (list : ℕ → L
   abbrev at : ℕ
   at = block_of (address_of (wanted image s n))
 
-  told : Tells r n (node_at s.fabric n).now (content_left image s n) (wanted image s n) (found_at image s n).sc_done
-  told = tells r n (node_at s.fabric n).now (content_left image s n) (wanted image s n) (found_at image s n).sc_done
+  told : IsToldBy r n (node_at s.fabric n).now (content_left image s n) (wanted image s n) (found_at image s n).sc_done
+  told = told_by r n (node_at s.fabric n).now (content_left image s n) (wanted image s n) (found_at image s n).sc_done
 
   there : n < length s.processors
   there = omega (arith, shape.processors, may.node)

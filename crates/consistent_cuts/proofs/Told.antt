@@ -19,16 +19,16 @@ pub record IsTold (lr sc touched written : Bool) (k n now : ℕ) (v : Content) (
   pub reported : (b m : ℕ) → (p b).reported m ≡ (r b).reported m
 
 module _ (r : ℕ → Records) (n now : ℕ) (v : ℕ → Content) where
-  abbrev pub Tells : Want → Bool → Type 0
-  Tells w done = IsTold (is_lr (kind_of w)) (is_sc (kind_of w)) (reads (kind_of w) || writes (kind_of w) done) (writes (kind_of w) done) (block_of (address_of w)) n now (v (block_of (address_of w))) r (records_wanting w done r n now v)
+  abbrev pub IsToldBy : Want → Bool → Type 0
+  IsToldBy w done = IsTold (is_lr (kind_of w)) (is_sc (kind_of w)) (reads (kind_of w) || writes (kind_of w) done) (writes (kind_of w) done) (block_of (address_of w)) n now (v (block_of (address_of w))) r (records_wanting w done r n now v)
 
-  pub tells : (w : Want) (done : Bool) → Tells w done
+  pub told_by : (w : Want) (done : Bool) → IsToldBy w done
   unfolding kind_of address_of
-  tells Nothing done = record { value = λ b. refl; below = λ b j. refl; last_write = λ b. refl; last_access = λ b m. refl; reserved = λ b m. grind (arith, nat_tests); reported = λ b m. refl }
-  tells Input done = record { value = λ b. refl; below = λ b j. refl; last_write = λ b. refl; last_access = λ b m. refl; reserved = λ b m. grind (arith, nat_tests); reported = λ b m. refl }
-  tells (Load a) done = record { value = λ b. grind (arith, nat_tests); below = λ b j. grind (arith, nat_tests); last_write = λ b. grind (arith, nat_tests); last_access = λ b m. grind (arith, nat_tests); reserved = λ b m. grind (arith, nat_tests); reported = λ b m. grind (arith, nat_tests) }
-  tells (Store a) done = record { value = λ b. grind (arith, nat_tests); below = λ b j. grind (arith, nat_tests); last_write = λ b. grind (arith, nat_tests); last_access = λ b m. grind (arith, nat_tests); reserved = λ b m. grind (arith, nat_tests); reported = λ b m. grind (arith, nat_tests) }
-  tells (Amo a) done = record { value = λ b. grind (arith, nat_tests); below = λ b j. grind (arith, nat_tests); last_write = λ b. grind (arith, nat_tests); last_access = λ b m. grind (arith, nat_tests); reserved = λ b m. grind (arith, nat_tests); reported = λ b m. grind (arith, nat_tests) }
-  tells (Lr a) done = record { value = λ b. grind (arith, nat_tests); below = λ b j. grind (arith, nat_tests); last_write = λ b. grind (arith, nat_tests); last_access = λ b m. grind (arith, nat_tests); reserved = λ b m. grind (arith, nat_tests); reported = λ b m. grind (arith, nat_tests) }
-  tells (Sc a) true = record { value = λ b. grind (arith, nat_tests); below = λ b j. grind (arith, nat_tests); last_write = λ b. grind (arith, nat_tests); last_access = λ b m. grind (arith, nat_tests); reserved = λ b m. grind (arith, nat_tests); reported = λ b m. grind (arith, nat_tests) }
-  tells (Sc a) false = record { value = λ b. refl; below = λ b j. refl; last_write = λ b. refl; last_access = λ b m. refl; reserved = λ b m. grind (arith, nat_tests); reported = λ b m. refl }
+  told_by Nothing done = record { value = λ b. refl; below = λ b j. refl; last_write = λ b. refl; last_access = λ b m. refl; reserved = λ b m. grind (arith, nat_tests); reported = λ b m. refl }
+  told_by Input done = record { value = λ b. refl; below = λ b j. refl; last_write = λ b. refl; last_access = λ b m. refl; reserved = λ b m. grind (arith, nat_tests); reported = λ b m. refl }
+  told_by (Load a) done = record { value = λ b. grind (arith, nat_tests); below = λ b j. grind (arith, nat_tests); last_write = λ b. grind (arith, nat_tests); last_access = λ b m. grind (arith, nat_tests); reserved = λ b m. grind (arith, nat_tests); reported = λ b m. grind (arith, nat_tests) }
+  told_by (Store a) done = record { value = λ b. grind (arith, nat_tests); below = λ b j. grind (arith, nat_tests); last_write = λ b. grind (arith, nat_tests); last_access = λ b m. grind (arith, nat_tests); reserved = λ b m. grind (arith, nat_tests); reported = λ b m. grind (arith, nat_tests) }
+  told_by (Amo a) done = record { value = λ b. grind (arith, nat_tests); below = λ b j. grind (arith, nat_tests); last_write = λ b. grind (arith, nat_tests); last_access = λ b m. grind (arith, nat_tests); reserved = λ b m. grind (arith, nat_tests); reported = λ b m. grind (arith, nat_tests) }
+  told_by (Lr a) done = record { value = λ b. grind (arith, nat_tests); below = λ b j. grind (arith, nat_tests); last_write = λ b. grind (arith, nat_tests); last_access = λ b m. grind (arith, nat_tests); reserved = λ b m. grind (arith, nat_tests); reported = λ b m. grind (arith, nat_tests) }
+  told_by (Sc a) true = record { value = λ b. grind (arith, nat_tests); below = λ b j. grind (arith, nat_tests); last_write = λ b. grind (arith, nat_tests); last_access = λ b m. grind (arith, nat_tests); reserved = λ b m. grind (arith, nat_tests); reported = λ b m. grind (arith, nat_tests) }
+  told_by (Sc a) false = record { value = λ b. refl; below = λ b j. refl; last_write = λ b. refl; last_access = λ b m. refl; reserved = λ b m. grind (arith, nat_tests); reported = λ b m. refl }

@@ -6,7 +6,11 @@ use Rattle.rv_core.specs.declared.step.Want.{Want}
 use Rattle.rv_core.specs.declared.step.Want.TheVariants.{Nothing, Load, Store, Amo, Lr, Sc, Input}
 use Rattle.rv_core.specs.Core.{bare, block_of, is_running}
 use Rattle.rv_core.specs.Step.{want_of}
-use Rattle.sn_model.specs.Caches.{Line, block_count, line_of, is_present, is_writable_state}
+use Rattle.sn_base.specs.declared.config.Config.{Config}
+use Rattle.sn_model.specs.declared.cache.Need.{Need}
+use Rattle.sn_model.specs.declared.cache.Need.TheVariants.{Read, Write as ToWrite}
+use Rattle.sn_model.specs.Access.{has_miss, serves, lacks_room}
+use Rattle.sn_model.specs.Caches.{Line, block_count, line_of, is_present, is_writable_state, puts_on}
 use Rattle.sn_model.specs.Fabric.{Fabric, node_at}
 use Rattle.sn_model.specs.Instructions.{found_at, next_with, record_with, taken_by}
 use Rattle.sn_model.specs.Machine.{State, processor_at}
@@ -31,8 +35,8 @@ abbrev pub content_left : ImageData → State → ℕ → ℕ → Content
 content_left image s n b = write_block (write_of image s n) (line_at s.fabric n b).content
 
 -- the records with those of one block changed
-abbrev pub at : ℕ → Records → (ℕ → Records) → ℕ → Records
-at b changed r o = if nat_eq o b then changed else r o
+abbrev pub at_block : ℕ → Records → (ℕ → Records) → ℕ → Records
+at_block b changed r o = if nat_eq o b then changed else r o
 
 -- the records without node n's reservations
 abbrev pub unreserved_at : (ℕ → Records) → ℕ → ℕ → Records
@@ -42,11 +46,11 @@ unreserved_at r n o = unreserves (r o) n
 -- store-conditional is
 abbrev pub records_wanting : Want → Bool → (ℕ → Records) → ℕ → ℕ → (ℕ → Content) → ℕ → Records
 records_wanting Nothing done r n now v = r
-records_wanting (Load a) done r n now v = at (block_of a) (loads (r (block_of a)) n now) r
-records_wanting (Store a) done r n now v = at (block_of a) (stores (r (block_of a)) n now (v (block_of a))) r
-records_wanting (Amo a) done r n now v = at (block_of a) (stores (r (block_of a)) n now (v (block_of a))) r
-records_wanting (Lr a) done r n now v = at (block_of a) (loads_reserved (r (block_of a)) n now) (unreserved_at r n)
-records_wanting (Sc a) true r n now v = at (block_of a) (stores_conditional (r (block_of a)) n now (v (block_of a))) (unreserved_at r n)
+records_wanting (Load a) done r n now v = at_block (block_of a) (loads (r (block_of a)) n now) r
+records_wanting (Store a) done r n now v = at_block (block_of a) (stores (r (block_of a)) n now (v (block_of a))) r
+records_wanting (Amo a) done r n now v = at_block (block_of a) (stores (r (block_of a)) n now (v (block_of a))) r
+records_wanting (Lr a) done r n now v = at_block (block_of a) (loads_reserved (r (block_of a)) n now) (unreserved_at r n)
+records_wanting (Sc a) true r n now v = at_block (block_of a) (stores_conditional (r (block_of a)) n now (v (block_of a))) (unreserved_at r n)
 records_wanting (Sc a) false r n now v = unreserved_at r n
 records_wanting Input done r n now v = r
 
@@ -85,3 +89,35 @@ pub record MayRetire (image : ImageData) (s : State) (r : ℕ → Records) (n : 
   pub node : n < length s.fabric.nodes
   pub running : is_running (processor_at s n).core.end ≡ true
   pub served : IsServed (want_of image (processor_at s n).core) (found_at image s n).sc_done s r n
+
+-- what the machine alone says of it
+
+-- node n can use its line of block b: it has no miss open, and no put of the block
+pub record CanUse (s : Fabric) (n b : ℕ) : Type 0 where
+  pub node : n < length s.nodes
+  pub block : b < block_count
+  pub no_miss : has_miss (node_at s n).cache.miss ≡ false
+  pub no_put : puts_on (node_at s n).cache.put b ≡ false
+
+-- that line serves what is needed of it, and the log has room for what that notes
+pub record CanServe (config : Config) (s : Fabric) (n b : ℕ) (need : Need) : Type 0 where
+  pub line : CanUse s n b
+  pub serving : serves need (line_at s n b).state ≡ true
+  pub room : lacks_room config (node_at s n) b need ≡ false
+
+abbrev pub CanServeWant : Want → Bool → Config → State → ℕ → Type 0
+CanServeWant Nothing done config s n = ⊤
+CanServeWant (Load a) done config s n = CanServe config s.fabric n (block_of a) Read
+CanServeWant (Store a) done config s n = CanServe config s.fabric n (block_of a) ToWrite
+CanServeWant (Amo a) done config s n = CanServe config s.fabric n (block_of a) ToWrite
+CanServeWant (Lr a) done config s n = CanServe config s.fabric n (block_of a) Read
+CanServeWant (Sc a) true config s n = CanServe config s.fabric n (block_of a) ToWrite
+CanServeWant (Sc a) false config s n = ⊤
+CanServeWant Input done config s n = taken_by s n < length (processor_at s n).given
+
+-- where a step of node n is a retirement
+pub record CanRetire (image : ImageData) (config : Config) (s : State) (n : ℕ) : Type 0 where
+  pub node : n < length s.fabric.nodes
+  pub running : is_running (processor_at s n).core.end ≡ true
+  pub no_miss : has_miss (node_at s.fabric n).cache.miss ≡ false
+  pub served : CanServeWant (want_of image (processor_at s n).core) (found_at image s n).sc_done config s n
