@@ -7,3 +7,6 @@ pub mod Retires
 pub mod Places
 pub mod RetiredOutline
 pub mod SteppedCases
+pub mod Granted
+pub mod FabricAfter
+pub mod EntryMade

@@ -1,0 +1,69 @@
+-- The fabric after a retirement, with the records of each block then.
+use Rattle.std.proofs.Common.{◌≡◌, ℕ, ◌+◌, ◌<◌, ◌≤◌, Bool, true, false, length, Option, Some, None, refl, sym, ap, ◌∙◌, subst}
+use Rattle.sn_base.specs.Image.{ImageData}
+use Rattle.sn_base.specs.declared.block.Write.{Write}
+use Rattle.sn_base.specs.declared.config.Config.{Config}
+use Rattle.rv_core.specs.declared.step.Want.{Want}
+use Rattle.rv_core.specs.declared.step.Want.TheVariants.{Nothing, Load, Store, Amo, Lr, Sc, Input}
+use Rattle.rv_core.specs.Core.{block_of, is_reserved}
+use Rattle.rv_core.specs.Step.{want_of}
+use Rattle.rv_core.specs.Wanted.{WriteFits, writes_memory, wanted_address}
+use Rattle.rv_core.proofs.CoreLaws.{write_fits}
+use Rattle.sn_model.specs.Access.{stored}
+use Rattle.sn_model.specs.Fabric.{Fabric, node_at}
+use Rattle.sn_model.specs.Machine.{State, processor_at}
+use Rattle.sn_model.specs.Instructions.{found_at, found_by, written_by, retired}
+use Rattle.sn_coherence.specs.Records.{Records}
+use Rattle.sn_consistency.specs.Words.{write_block}
+use Rattle.consistent_cuts.specs.Outlined.{Agrees}
+use Rattle.consistent_cuts.specs.Accesses.{line_at, write_of, CanUse, CanServe, CanServeWant, CanRetire, records_wanting, records_after}
+use Rattle.consistent_cuts.specs.Fabrics.{AccessesKeep}
+
+-- what is not wanted isn't written
+unwritten : (w : Want) (done : Bool) (write : Option Write) → writes_memory w done ≡ false → WriteFits w done write → write ≡ None
+unwritten w done None e fits = refl
+unwritten w done (Some write) e fits = absurd (let h = fits.0 in cc)
+
+module _ (KeepsRecords : Fabric → (ℕ → Records) → Type 0) (keep : AccessesKeep KeepsRecords) (config : Config) (s : State) (r : ℕ → Records) (n : ℕ)
+    (kept : KeepsRecords s.fabric r) (l : n < length s.fabric.nodes) where
+  -- the fabric with what is written, and the records with the content that the line has then
+  abbrev Kept : Want → Bool → Option Write → Type 0
+  Kept w done write = KeepsRecords (written_by s.fabric n write) (records_wanting w done r n (node_at s.fabric n).now (λ b. write_block write (line_at s.fabric n b).content))
+
+  -- what doesn't write
+  same : (w : Want) (done : Bool) (write : Option Write) → writes_memory w done ≡ false → WriteFits w done write → Kept w done None → Kept w done write
+  same w done write e fits h = subst (Kept w done) (sym (unwritten w done write e fits)) h
+
+  -- what does
+  kept_store : (a : ℕ) (done : Bool) (write : Option Write) → WriteFits (Store a) done write → CanServeWant (Store a) done config s n → Kept (Store a) done write
+  kept_store a done None fits can = absurd (let h = fits in cc)
+  kept_store a done (Some w) fits can = keep.store s.fabric r kept n (block_of a) w can.line can.serving (ap block_of fits.1)
+
+  kept_amo : (a : ℕ) (done : Bool) (write : Option Write) → WriteFits (Amo a) done write → CanServeWant (Amo a) done config s n → Kept (Amo a) done write
+  kept_amo a done None fits can = absurd (let h = fits in cc)
+  kept_amo a done (Some w) fits can = keep.store s.fabric r kept n (block_of a) w can.line can.serving (ap block_of fits.1)
+
+  kept_conditional : (a : ℕ) (write : Option Write) → WriteFits (Sc a) true write → CanServeWant (Sc a) true config s n → (r (block_of a)).reserved n ≡ true → Kept (Sc a) true write
+  kept_conditional a None fits can reserved = absurd (let h = fits in cc)
+  kept_conditional a (Some w) fits can reserved = keep.store_conditional s.fabric r kept n (block_of a) w can.line can.serving (ap block_of fits.1) reserved
+
+  kept_want : (w : Want) (done : Bool) (write : Option Write) → WriteFits w done write → CanServeWant w done config s n →
+      ((a : ℕ) → w ≡ Sc a → done ≡ true → CanUse s.fabric n (block_of a) → (r (block_of a)).reserved n ≡ true) → Kept w done write
+  kept_want Nothing done write fits can reserved = same Nothing done write refl fits kept
+  kept_want Input done write fits can reserved = same Input done write refl fits kept
+  kept_want (Load a) done write fits can reserved = same (Load a) done write refl fits (keep.load s.fabric r kept n (block_of a) can.line can.serving)
+  kept_want (Lr a) done write fits can reserved = same (Lr a) done write refl fits (keep.load_reserved s.fabric r kept n (block_of a) can.line can.serving)
+  kept_want (Store a) done write fits can reserved = kept_store a done write fits can
+  kept_want (Amo a) done write fits can reserved = kept_amo a done write fits can
+  kept_want (Sc a) true write fits can reserved = kept_conditional a write fits can (reserved a refl refl can.line)
+  kept_want (Sc a) false write fits can reserved = same (Sc a) false write refl fits (keep.undone s.fabric r kept n l)
+
+  -- a store-conditional that is done has its block reserved, by the machine and so by the records
+  done_reserved : (agrees : Agrees s r) (w : Want) (done : Bool) → (found_by s n w).sc_done ≡ done → (a : ℕ) → w ≡ Sc a → done ≡ true → CanUse s.fabric n (block_of a) → (r (block_of a)).reserved n ≡ true
+  done_reserved agrees w done is a e q can = agrees.reserved (block_of a) n can.block can.node ∙ sym (ap (λ w. (found_by s n w).sc_done) e) ∙ is ∙ q
+
+  pub fabric_keeps : (image : ImageData) → Agrees s r → CanRetire image config s n → KeepsRecords (retired image s n).state.fabric (records_after image s r n)
+  fabric_keeps image agrees can =
+      kept_want (want_of image (processor_at s n).core) (found_at image s n).sc_done (write_of image s n)
+      (write_fits image (processor_at s n).core (found_at image s n).seen (found_at image s n).sc_done (found_at image s n).read) can.served
+      (done_reserved agrees (want_of image (processor_at s n).core) (found_at image s n).sc_done refl)
