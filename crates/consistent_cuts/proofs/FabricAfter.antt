@@ -9,6 +9,7 @@ use Rattle.rv_core.specs.Core.{block_of, is_reserved}
 use Rattle.rv_core.specs.Step.{want_of}
 use Rattle.rv_core.specs.Wanted.{WriteFits, writes_memory, wanted_address}
 use Rattle.rv_core.proofs.CoreLaws.{write_fits}
+use Rattle.sn_model.specs.declared.cache.Need.TheVariants as need
 use Rattle.sn_model.specs.Access.{stored}
 use Rattle.sn_model.specs.Fabric.{Fabric, node_at}
 use Rattle.sn_model.specs.Machine.{State, processor_at}
@@ -16,7 +17,9 @@ use Rattle.sn_model.specs.Instructions.{found_at, found_by, written_by, retired}
 use Rattle.sn_coherence.specs.Records.{Records}
 use Rattle.sn_consistency.specs.Words.{write_block}
 use Rattle.consistent_cuts.specs.Outlined.{Agrees}
-use Rattle.consistent_cuts.specs.Accesses.{line_at, write_of, CanUse, CanServe, CanServeWant, CanRetire, records_wanting, records_after}
+use Rattle.consistent_cuts.specs.Accesses.{line_at, write_of, CanServe, CanServeWant, CanRetire, records_wanting, records_after}
+use Rattle.fabric_coherence.specs.Events.{CanUse, CanWrite}
+use Rattle.fabric_coherence.specs.Recorded.{KeepsRecords}
 use Rattle.consistent_cuts.specs.Fabrics.{AccessesKeep}
 
 -- what is not wanted isn't written
@@ -24,7 +27,7 @@ unwritten : (w : Want) (done : Bool) (write : Option Write) → writes_memory w 
 unwritten w done None e fits = refl
 unwritten w done (Some write) e fits = absurd (let h = fits.0 in cc)
 
-module _ (KeepsRecords : Fabric → (ℕ → Records) → Type 0) (keep : AccessesKeep KeepsRecords) (config : Config) (s : State) (r : ℕ → Records) (n : ℕ)
+module _ (keep : AccessesKeep) (config : Config) (s : State) (r : ℕ → Records) (n : ℕ)
     (kept : KeepsRecords s.fabric r) (l : n < length s.fabric.nodes) where
   -- the fabric with what is written, and the records with the content that the line has then
   abbrev Kept : Want → Bool → Option Write → Type 0
@@ -35,28 +38,31 @@ module _ (KeepsRecords : Fabric → (ℕ → Records) → Type 0) (keep : Access
   same w done write e fits h = subst (Kept w done) (sym (unwritten w done write e fits)) h
 
   -- what does
-  kept_store : (a : ℕ) (done : Bool) (write : Option Write) → WriteFits (Store a) done write → CanServeWant (Store a) done config s n → Kept (Store a) done write
-  kept_store a done None fits can = absurd (let h = fits in cc)
-  kept_store a done (Some w) fits can = keep.store s.fabric r kept n (block_of a) w can.line can.serving (ap block_of fits.1)
 
-  kept_amo : (a : ℕ) (done : Bool) (write : Option Write) → WriteFits (Amo a) done write → CanServeWant (Amo a) done config s n → Kept (Amo a) done write
-  kept_amo a done None fits can = absurd (let h = fits in cc)
-  kept_amo a done (Some w) fits can = keep.store s.fabric r kept n (block_of a) w can.line can.serving (ap block_of fits.1)
+  can_write : (a : ℕ) (w : Write) → w.address ≡ a → CanServe config s.fabric n (block_of a) need.Write → CanWrite s.fabric n w
+  can_write a w e can = record { line = subst (λ b. CanUse s.fabric n (block_of b)) (sym e) can.line; writable = rw e can.serving }
 
-  kept_conditional : (a : ℕ) (write : Option Write) → WriteFits (Sc a) true write → CanServeWant (Sc a) true config s n → (r (block_of a)).reserved n ≡ true → Kept (Sc a) true write
-  kept_conditional a None fits can reserved = absurd (let h = fits in cc)
-  kept_conditional a (Some w) fits can reserved = keep.store_conditional s.fabric r kept n (block_of a) w can.line can.serving (ap block_of fits.1) reserved
+  kept_store : (a : ℕ) (w : Write) → w.address ≡ a → CanServe config s.fabric n (block_of a) need.Write → Kept (Store a) true (Some w)
+  kept_store a w e can = subst (λ b. Kept (Store b) true (Some w)) e (keep.store s.fabric r n w kept (can_write a w e can))
+
+  kept_conditional : (a : ℕ) (w : Write) → w.address ≡ a → CanServe config s.fabric n (block_of a) need.Write → (r (block_of a)).reserved n ≡ true → Kept (Sc a) true (Some w)
+  kept_conditional a w e can reserved = subst (λ b. Kept (Sc b) true (Some w)) e (keep.store_conditional s.fabric r n w kept (can_write a w e can) (rw e reserved))
+
+  -- a write is there
+  there : (w : Want) (write : Option Write) → writes_memory w true ≡ true → WriteFits w true write → ((x : Write) → write ≡ Some x → x.address ≡ wanted_address w → Kept w true (Some x)) → Kept w true write
+  there w None e fits f = absurd (let h = fits in cc)
+  there w (Some x) e fits f = f x refl fits.1
 
   kept_want : (w : Want) (done : Bool) (write : Option Write) → WriteFits w done write → CanServeWant w done config s n →
       ((a : ℕ) → w ≡ Sc a → done ≡ true → CanUse s.fabric n (block_of a) → (r (block_of a)).reserved n ≡ true) → Kept w done write
   kept_want Nothing done write fits can reserved = same Nothing done write refl fits kept
   kept_want Input done write fits can reserved = same Input done write refl fits kept
-  kept_want (Load a) done write fits can reserved = same (Load a) done write refl fits (keep.load s.fabric r kept n (block_of a) can.line can.serving)
-  kept_want (Lr a) done write fits can reserved = same (Lr a) done write refl fits (keep.load_reserved s.fabric r kept n (block_of a) can.line can.serving)
-  kept_want (Store a) done write fits can reserved = kept_store a done write fits can
-  kept_want (Amo a) done write fits can reserved = kept_amo a done write fits can
-  kept_want (Sc a) true write fits can reserved = kept_conditional a write fits can (reserved a refl refl can.line)
-  kept_want (Sc a) false write fits can reserved = same (Sc a) false write refl fits (keep.undone s.fabric r kept n l)
+  kept_want (Load a) done write fits can reserved = same (Load a) done write refl fits (keep.load s.fabric r n (block_of a) kept can.line can.serving)
+  kept_want (Lr a) done write fits can reserved = same (Lr a) done write refl fits (keep.load_reserved s.fabric r n (block_of a) kept can.line can.serving)
+  kept_want (Store a) done write fits can reserved = there (Store a) write refl fits (λ x i at. kept_store a x at can)
+  kept_want (Amo a) done write fits can reserved = there (Amo a) write refl fits (λ x i at. kept_store a x at can)
+  kept_want (Sc a) true write fits can reserved = there (Sc a) write refl fits (λ x i at. kept_conditional a x at can (reserved a refl refl can.line))
+  kept_want (Sc a) false write fits can reserved = same (Sc a) false write refl fits (keep.undone s.fabric r n kept l)
 
   -- a store-conditional that is done has its block reserved, by the machine and so by the records
   done_reserved : (agrees : Agrees s r) (w : Want) (done : Bool) → (found_by s n w).sc_done ≡ done → (a : ℕ) → w ≡ Sc a → done ≡ true → CanUse s.fabric n (block_of a) → (r (block_of a)).reserved n ≡ true

@@ -17,7 +17,7 @@ use Rattle.sn_model.specs.Machine.{State, processor_at}
 use Rattle.sn_model.specs.Instructions.{found_at}
 use Rattle.sn_coherence.specs.Records.{Records}
 use Rattle.consistent_cuts.specs.Accesses.{line_at, CanServe, CanServeWant, CanRetire, IsRead, IsWritten, IsServed, MayRetire}
-use Rattle.consistent_cuts.specs.Fabrics.{Grants}
+use Rattle.fabric_coherence.specs.Told.{Tells}
 
 -- a line that may be written is there
 pub writable_present : (state : LineState) → is_writable_state state ≡ true → is_present state ≡ true
@@ -31,13 +31,13 @@ none_on : (miss : Option Miss) (b : ℕ) → has_miss miss ≡ false → misses_
 none_on None b e = refl
 none_on (Some miss) b e = cc
 
-module _ (config : Config) (s : State) (r : ℕ → Records) (n : ℕ) (grants : (b : ℕ) → b < block_count → Grants s.fabric b (r b)) where
+module _ (config : Config) (s : State) (r : ℕ → Records) (n : ℕ) (tells : (b : ℕ) → b < block_count → Tells s.fabric b (r b)) where
   present_read : (b : ℕ) → b < block_count → n < length s.fabric.nodes → is_present (line_at s.fabric n b).state ≡ true → IsRead s.fabric r n b
   present_read b low l there = record {
     below = low;
     present = there;
-    content = (grants b low).copies n l there;
-    newest = (grants b low).newest n l there;
+    content = (tells b low).copies n l there;
+    newest = ((tells b low).read n l there).1;
   }
 
   served_read : (b : ℕ) → CanServe config s.fabric n b need.Read → IsRead s.fabric r n b
@@ -47,8 +47,8 @@ module _ (config : Config) (s : State) (r : ℕ → Records) (n : ℕ) (grants :
   served_write b can = record {
     read = present_read b can.line.block can.line.node (writable_present (line_at s.fabric n b).state can.serving);
     writable = can.serving;
-    alone = (grants b can.line.block).write n can.line can.serving;
-    unreserved = λ m l other. (grants b can.line.block).alone n m can.line.node can.serving (none_on (node_at s.fabric n).cache.miss b can.line.no_miss) other;
+    alone = (tells b can.line.block).write n can.line can.serving;
+    unreserved = λ m l other. (tells b can.line.block).alone n m can.line.node can.serving (none_on (node_at s.fabric n).cache.miss b can.line.no_miss) other;
   }
 
   served_want : (w : Want) (done : Bool) → CanServeWant w done config s n → IsServed w done s r n

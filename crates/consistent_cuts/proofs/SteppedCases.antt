@@ -22,7 +22,7 @@ use Rattle.sn_model.specs.Net.{is_full}
 use Rattle.sn_model.specs.Machine.{State, processor_at}
 use Rattle.sn_model.specs.Instructions.{Stepped, found_at, found_by, refused, carried, retired, stepped, step_wanting, accessing, after_access, is_retired, takes_input, next_byte, taken_by}
 use Rattle.sn_model.specs.Trace.{Entry, traced}
-use Rattle.consistent_cuts.specs.Accesses.{line_at, CanUse, CanServe, CanServeWant, CanRetire}
+use Rattle.consistent_cuts.specs.Accesses.{line_at, CanServe, CanServeWant, CanRetire}
 
 -- a choice by a test
 by_test : {A : Type 0} (P : A → Type 0) (test : Bool) (a b : A) → (test ≡ true → P a) → (test ≡ false → P b) → P (if test then a else b)

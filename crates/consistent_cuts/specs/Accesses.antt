@@ -15,6 +15,8 @@ use Rattle.sn_model.specs.Fabric.{Fabric, node_at}
 use Rattle.sn_model.specs.Instructions.{found_at, next_with, record_with, taken_by}
 use Rattle.sn_model.specs.Machine.{State, processor_at}
 use Rattle.sn_coherence.specs.Records.{Records, loads, loads_reserved, stores, stores_conditional, unreserves}
+use Rattle.fabric_coherence.specs.Events.{CanUse}
+use Rattle.fabric_coherence.specs.Recorded.{at_block}
 use Rattle.sn_consistency.specs.Words.{Content, write_block}
 use Rattle.sn_consistency.specs.Entries.{Entry}
 
@@ -33,10 +35,6 @@ write_of image s n = (next_with image (processor_at s n) (found_at image s n)).e
 -- what it makes of a block: what its line has, with what is written
 abbrev pub content_left : ImageData → State → ℕ → ℕ → Content
 content_left image s n b = write_block (write_of image s n) (line_at s.fabric n b).content
-
--- the records with those of one block changed
-abbrev pub at_block : ℕ → Records → (ℕ → Records) → ℕ → Records
-at_block b changed r o = if nat_eq o b then changed else r o
 
 -- the records without node n's reservations
 abbrev pub unreserved_at : (ℕ → Records) → ℕ → ℕ → Records
@@ -92,14 +90,7 @@ pub record MayRetire (image : ImageData) (s : State) (r : ℕ → Records) (n : 
 
 -- what the machine alone says of it
 
--- node n can use its line of block b: it has no miss open, and no put of the block
-pub record CanUse (s : Fabric) (n b : ℕ) : Type 0 where
-  pub node : n < length s.nodes
-  pub block : b < block_count
-  pub no_miss : has_miss (node_at s n).cache.miss ≡ false
-  pub no_put : puts_on (node_at s n).cache.put b ≡ false
-
--- that line serves what is needed of it, and the log has room for what that notes
+-- node n can use its line of block b, that line serves what is needed of it, and the log has room for what that notes
 pub record CanServe (config : Config) (s : Fabric) (n b : ℕ) (need : Need) : Type 0 where
   pub line : CanUse s n b
   pub serving : serves need (line_at s n b).state ≡ true
