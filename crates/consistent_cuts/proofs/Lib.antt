@@ -10,3 +10,4 @@ pub mod SteppedCases
 pub mod Granted
 pub mod FabricAfter
 pub mod EntryMade
+pub mod Retirement

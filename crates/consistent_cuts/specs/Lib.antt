@@ -1,4 +1,5 @@
 pub mod Outlined
 pub mod Lists
+pub mod Joined
 pub mod Accesses
 pub mod Fabrics
