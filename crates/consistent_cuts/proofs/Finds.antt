@@ -83,6 +83,17 @@ module _ (s : State) (r : ℕ → Records) (n : ℕ) where
   takes_by (Sc a) done h = refl
   takes_by Input done h = rw (next_is h) (head_of (drop (taken_by s n) (processor_at s n).given) (drop (suc (taken_by s n)) (processor_at s n).given) (slice_index (processor_at s n).given (taken_by s n)) (drop-cons (processor_at s n).given (taken_by s n) 0 h))
 
+  -- it takes no more than was given
+  pub taken_within : (w : Want) (done : Bool) → IsServed w done s r n → taken_by s n ≤ length (processor_at s n).given →
+      taken_by s n + length (option_to_list (found_by s n w).read) ≤ length (processor_at s n).given
+  taken_within Nothing done h l = omega arith
+  taken_within (Load a) done h l = omega arith
+  taken_within (Store a) done h l = omega arith
+  taken_within (Amo a) done h l = omega arith
+  taken_within (Lr a) done h l = omega arith
+  taken_within (Sc a) done h l = omega arith
+  taken_within Input done h l = rw (next_is h) (omega arith)
+
   pub read_by : (w : Want) (done : Bool) → IsServed w done s r n → (reads (kind_of w) || writes (kind_of w) done) ≡ true → IsRead s.fabric r n (block_of (address_of w))
   unfolding kind_of address_of
   read_by Nothing done h e = cc

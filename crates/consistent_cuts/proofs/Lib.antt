@@ -11,3 +11,6 @@ pub mod Granted
 pub mod FabricAfter
 pub mod EntryMade
 pub mod Retirement
+pub mod Outlines
+pub mod Hearings
+pub mod Hears

@@ -21,9 +21,9 @@ use Rattle.sn_consistency.proofs.Others.{exchanged_keeps}
 use Rattle.consistent_cuts.specs.Outlined.{outline_of, interval_of, IsRestShaped, Agrees}
 use Rattle.consistent_cuts.specs.Accesses.{entry_of, line_at, write_of, content_left, records_after, MayRetire}
 use Rattle.consistent_cuts.proofs.Told.{IsToldBy, told_by}
-use Rattle.consistent_cuts.proofs.Finds.{wanted, kind_is, block_is}
+use Rattle.consistent_cuts.proofs.Finds.{taken_within, wanted, kind_is, block_is}
 use Rattle.consistent_cuts.proofs.Retires.{interval_is, written, written_there, retires}
-use Rattle.consistent_cuts.proofs.Places.{same_interval, same_known, same_now, same_point, same_length, drop_after, after, next_processor, at_each_processor}
+use Rattle.consistent_cuts.proofs.Places.{same_interval, same_known, same_now, same_point, same_length, taken_after, drop_after, after, next_processor, at_each_processor}
 
 -- a block's content, where the one is what the other is there
 settle : (is : Bool) (b k : ℕ) (v : Content) (g : ℕ → Content) (old : Content) → (is ≡ true → v ≡ g k) →
@@ -155,6 +155,17 @@ module _ (image : ImageData) (s : State) (r : ℕ → Records) (list : ℕ → L
     reported = λ b m low l. told.reported b m ∙ agrees.reported b m low (rw (← same_length s.fabric n (write_of image s n)) l);
   }
 
+  taken_here : (m : ℕ) → m < length s.fabric.nodes → (same : Bool) → nat_eq n m ≡ same →
+      taken_by s m + length (if same then option_to_list (found_at image s n).read else []) ≤ length (processor_at s m).given
+  taken_here m l true e =
+      let i : m ≡ n = grind (arith, nat_tests) in
+      subst (λ k. taken_by s k + length (option_to_list (found_at image s n).read) ≤ length (processor_at s k).given) (sym i)
+      (taken_within s r n (wanted image s n) (found_at image s n).sc_done may.served (shape.taken n may.node))
+  taken_here m l false e = omega (arith, shape.taken m l)
+
+  taken_is : (m : ℕ) → m < length s.fabric.nodes → taken_by (after image s n) m ≤ length (processor_at (after image s n) m).given
+  taken_is m l = rw (taken_after image s n m, ← given_is m) (taken_here m l (nat_eq n m) refl)
+
   pub shape_after : IsRestShaped (after image s n)
   shape_after = record {
     processors = length-set s.processors n (next_processor image s n) ∙ shape.processors ∙ sym (same_length s.fabric n (write_of image s n));
@@ -162,4 +173,5 @@ module _ (image : ImageData) (s : State) (r : ℕ → Records) (list : ℕ → L
     checkpoints = λ m l. rw (same_known s.fabric n m (write_of image s n) may.node, same_now s.fabric n m (write_of image s n) may.node)
         (at_each_processor image s n (λ m p. m < length s.fabric.nodes → (node_at s.fabric m).known + length p.checkpoints ≡ (node_at s.fabric m).now + 1) there (shape.checkpoints n) (λ m o. shape.checkpoints m) m
         (rw (← same_length s.fabric n (write_of image s n)) l));
+    taken = λ m l. taken_is m (rw (← same_length s.fabric n (write_of image s n)) l);
   }

@@ -38,12 +38,13 @@ outline_of s r list = record {
 abbrev pub start_places : ImageData → ℕ → Places
 start_places image nodes = places_of (flat_start image nodes)
 
--- the rest of the machine has a processor and a reported number for each node, and each processor a register checkpoint for
--- each interval from the point that its node knows on
+-- the rest of the machine has a processor and a reported number for each node, each processor a register checkpoint for
+-- each interval from the point that its node knows on, and no node has taken more than it was given
 pub record IsRestShaped (s : State) : Type 0 where
   pub processors : length s.processors ≡ length s.fabric.nodes
   pub reported : length s.reported ≡ length s.fabric.nodes
   pub checkpoints : (n : ℕ) → n < length s.fabric.nodes → (node_at s.fabric n).known + length (processor_at s n).checkpoints ≡ (node_at s.fabric n).now + 1
+  pub taken : (n : ℕ) → n < length s.fabric.nodes → taken_by s n ≤ length (processor_at s n).given
 
 -- the records of each block say of the rest what it has: each core's reservation, and each node's reported number
 pub record Agrees (s : State) (r : ℕ → Records) : Type 0 where

@@ -145,10 +145,11 @@ recovered m waiting = record m {
   last_access = λ b n. min (m.last_access b n) m.point;
 }
 
--- the numbers that are no node's go on to an interval, each with the core that it had at the start
+-- the numbers that are no node's go on to an interval and know of no point, each with the core that it had at the start
 abbrev pub others_reach : ℕ → Places → Outline → ℕ → Outline
 others_reach N F m k = record m {
   interval = λ n. if nat_lt n N then m.interval n else max (m.interval n) k;
+  known = λ n. if nat_lt n N then m.known n else 0;
   checkpoint = λ n j. if nat_lt n N then m.checkpoint n j else F.core n;
 }
 
