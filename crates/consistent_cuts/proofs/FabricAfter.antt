@@ -1,26 +1,40 @@
 -- The fabric after a retirement, with the records of each block then.
-use Rattle.std.proofs.Common.{◌≡◌, ℕ, ◌+◌, ◌<◌, ◌≤◌, Bool, true, false, length, Option, Some, None, refl, sym, ap, ◌∙◌, subst}
+use Rattle.std.proofs.Common.{◌≡◌, ℕ, ◌<◌, Bool, true, false, length, Option, Some, None, refl, sym, ap, ◌∙◌, subst}
 use Rattle.sn_base.specs.Image.{ImageData}
 use Rattle.sn_base.specs.declared.block.Write.{Write}
 use Rattle.sn_base.specs.declared.config.Config.{Config}
 use Rattle.rv_core.specs.declared.step.Want.{Want}
 use Rattle.rv_core.specs.declared.step.Want.TheVariants.{Nothing, Load, Store, Amo, Lr, Sc, Input}
-use Rattle.rv_core.specs.Core.{block_of, is_reserved}
+use Rattle.rv_core.specs.Core.{block_of}
 use Rattle.rv_core.specs.Step.{want_of}
 use Rattle.rv_core.specs.Wanted.{WriteFits, writes_memory, wanted_address}
 use Rattle.rv_core.proofs.CoreLaws.{write_fits}
 use Rattle.sn_model.specs.declared.cache.Need.TheVariants as need
-use Rattle.sn_model.specs.Access.{stored}
+use Rattle.sn_model.specs.Access.{stored, written_in}
+use Rattle.sn_model.specs.Caches.{line_of, is_present}
 use Rattle.sn_model.specs.Fabric.{Fabric, node_at}
 use Rattle.sn_model.specs.Machine.{State, processor_at}
 use Rattle.sn_model.specs.Instructions.{found_at, found_by, written_by, retired}
-use Rattle.sn_coherence.specs.Records.{Records}
+use Rattle.sn_coherence.specs.Records.{Records, loads, loads_reserved, stores, stores_conditional, unreserves}
 use Rattle.sn_consistency.specs.Words.{write_block}
 use Rattle.consistent_cuts.specs.Outlined.{Agrees}
 use Rattle.consistent_cuts.specs.Accesses.{line_at, write_of, CanServe, CanServeWant, CanRetire, records_wanting, records_after}
 use Rattle.fabric_coherence.specs.Events.{CanUse, CanWrite}
-use Rattle.fabric_coherence.specs.Recorded.{KeepsRecords}
-use Rattle.consistent_cuts.specs.Fabrics.{AccessesKeep}
+use Rattle.fabric_coherence.specs.Recorded.{KeepsRecords, at_block}
+
+-- what the fabric's half says of the accesses that are done, in its own words
+pub record AccessesKeep : Type 0 where
+  pub load : (s : Fabric) (r : ℕ → Records) (n b : ℕ) → KeepsRecords s r → CanUse s n b → is_present (line_of (node_at s n).cache b).state ≡ true
+      → KeepsRecords s (at_block b (loads (r b) n (node_at s n).now) r)
+  pub load_reserved : (s : Fabric) (r : ℕ → Records) (n b : ℕ) → KeepsRecords s r → CanUse s n b → is_present (line_of (node_at s n).cache b).state ≡ true
+      → KeepsRecords s (at_block b (loads_reserved (r b) n (node_at s n).now) (λ o. unreserves (r o) n))
+  pub store : (s : Fabric) (r : ℕ → Records) (n : ℕ) (w : Write) → KeepsRecords s r → CanWrite s n w
+      → KeepsRecords (stored s n w) (at_block (block_of w.address)
+      (stores (r (block_of w.address)) n (node_at s n).now (written_in (line_of (node_at s n).cache (block_of w.address)).content w)) r)
+  pub store_conditional : (s : Fabric) (r : ℕ → Records) (n : ℕ) (w : Write) → KeepsRecords s r → CanWrite s n w → (r (block_of w.address)).reserved n ≡ true
+      → KeepsRecords (stored s n w) (at_block (block_of w.address)
+      (stores_conditional (r (block_of w.address)) n (node_at s n).now (written_in (line_of (node_at s n).cache (block_of w.address)).content w)) (λ o. unreserves (r o) n))
+  pub undone : (s : Fabric) (r : ℕ → Records) (n : ℕ) → KeepsRecords s r → n < length s.nodes → KeepsRecords s (λ o. unreserves (r o) n)
 
 -- what is not wanted isn't written
 unwritten : (w : Want) (done : Bool) (write : Option Write) → writes_memory w done ≡ false → WriteFits w done write → write ≡ None

@@ -1,26 +1,18 @@
 -- A node's next instruction, by what it wants: what it finds, and that it may retire in the sorted list.
-use Rattle.std.proofs.Common.{◌≡◌, ◌≢◌, ℕ, suc, ◌+◌, ◌-◌, ◌*◌, ◌/◌, ◌%◌, ◌<◌, ◌≤◌, Bool, true, false, not, ◌&&◌, ◌||◌, if◌then◌else◌, nat_eq, nat_lt, max, ◌==◌, List, [], ◌∷◌, ◌++◌, length, drop, Option, Some, None, is_some, option_to_list, slice_index, slice_index_or, refl, sym, ap, ◌∙◌, ◌⊎◌, inl, inr, arith, drop-cons}
+use Rattle.std.proofs.Common.{◌≡◌, ℕ, suc, ◌+◌, ◌-◌, ◌*◌, ◌/◌, ◌%◌, ◌<◌, ◌≤◌, Bool, true, false, ◌||◌, List, [], ◌∷◌, ◌++◌, length, drop, Option, Some, is_some, option_to_list, slice_index, refl, ap, arith, drop-cons}
 use Rattle.std.proofs.lemmas.Bool.Decides.{nat_tests}
-use Rattle.std.proofs.lemmas.Bool.{cases_lt}
-use Rattle.std.proofs.lemmas.List.{get_or_past}
 use Rattle.sn_base.specs.Blocks.{ram_start}
 use Rattle.sn_base.specs.Image.{ImageData}
 use Rattle.rv_core.specs.declared.step.Want.{Want}
 use Rattle.rv_core.specs.declared.step.Want.TheVariants.{Nothing, Load, Store, Amo, Lr, Sc, Input}
-use Rattle.rv_core.specs.Core.{bare, block_of, is_reserved, is_running}
+use Rattle.rv_core.specs.Core.{block_of, is_reserved}
 use Rattle.rv_core.specs.Step.{want_of}
 use Rattle.rv_core.proofs.CoreLaws.{want_bare}
-use Rattle.sn_model.specs.Caches.{block_count}
-use Rattle.sn_model.specs.Fabric.{node_at}
-use Rattle.sn_model.specs.Machine.{State, Processor, processor_at, first_processor}
-use Rattle.sn_model.specs.Instructions.{found_at, found_by, next_with, record_with, taken_by, next_byte}
+use Rattle.sn_model.specs.Machine.{State, processor_at}
+use Rattle.sn_model.specs.Instructions.{found_by, taken_by, next_byte}
 use Rattle.sn_coherence.specs.Records.{Records}
-use Rattle.sn_consistency.specs.Words.{Content, kind, block, place, kind_of, address_of, reads, writes, is_lr, is_sc, takes, block_word}
-use Rattle.sn_consistency.specs.Entries.{Entry, Fits, wrote, touches}
-use Rattle.sn_consistency.specs.Kept.{Outline, Retires}
-use Rattle.sn_consistency.proofs.StepLaws.{kind_bare, block_bare, place_bare}
-use Rattle.consistent_cuts.specs.Outlined.{outline_of, interval_of, IsRestShaped, Agrees}
-use Rattle.consistent_cuts.specs.Accesses.{entry_of, line_at, IsRead, IsWritten, IsServed, MayRetire}
+use Rattle.sn_consistency.specs.Words.{kind, block, place, kind_of, address_of, reads, writes, is_sc, takes, block_word}
+use Rattle.consistent_cuts.specs.Accesses.{entry_of, line_at, IsRead, IsWritten, IsServed}
 
 -- by what is wanted
 

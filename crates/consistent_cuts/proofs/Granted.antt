@@ -1,5 +1,5 @@
 -- A step that is a retirement may retire: its line has what the records of its block say.
-use Rattle.std.proofs.Common.{◌≡◌, ℕ, ◌+◌, ◌<◌, ◌≤◌, Bool, true, false, length, Option, Some, None, refl, sym, ap, ◌∙◌, arith}
+use Rattle.std.proofs.Common.{◌≡◌, ℕ, ◌<◌, Bool, true, false, length, Option, Some, None, refl}
 use Rattle.sn_base.specs.Image.{ImageData}
 use Rattle.sn_base.specs.declared.config.Config.{Config}
 use Rattle.rv_core.specs.declared.step.Want.{Want}
@@ -8,7 +8,6 @@ use Rattle.rv_core.specs.Core.{block_of}
 use Rattle.rv_core.specs.Step.{want_of}
 use Rattle.sn_model.specs.declared.cache.LineState.{LineState}
 use Rattle.sn_model.specs.declared.cache.LineState.TheVariants as line
-use Rattle.sn_model.specs.declared.cache.Need.{Need}
 use Rattle.sn_model.specs.declared.cache.Need.TheVariants as need
 use Rattle.sn_model.specs.Access.{has_miss}
 use Rattle.sn_model.specs.Caches.{Miss, block_count, is_present, is_writable_state, misses_on}

@@ -1,16 +1,15 @@
 -- The machine after a retirement, at each node.
-use Rattle.std.proofs.Common.{◌≡◌, ◌≢◌, ℕ, suc, ◌+◌, ◌-◌, ◌<◌, ◌≤◌, Bool, true, false, List, [], ◌∷◌, ◌++◌, map, length, drop, get_or, set, Option, Some, None, option_to_list, if◌then◌else◌, nat_eq, nat_lt, refl, sym, ap, ◌∙◌, ◌⊎◌, inl, inr, arith, subst, length-set, length-append, append_assoc, drop-drop, get_or-set_same, get_or-set_other}
+use Rattle.std.proofs.Common.{◌≡◌, ◌≢◌, ℕ, ◌+◌, ◌<◌, Bool, true, false, List, [], ◌∷◌, ◌++◌, length, drop, get_or, set, Option, Some, None, option_to_list, if◌then◌else◌, nat_eq, refl, sym, ap, ◌∙◌, ◌⊎◌, inl, inr, arith, subst, length-set, length-append, append_assoc, drop-drop, get_or-set_same, get_or-set_other}
 use Rattle.std.proofs.lemmas.Bool.Decides.{nat_tests}
 use Rattle.std.proofs.lemmas.Bool.{cases_eq}
 use Rattle.sn_base.specs.Image.{ImageData}
 use Rattle.sn_base.specs.declared.block.Write.{Write}
-use Rattle.rv_core.specs.declared.step.Record.{Record}
 use Rattle.rv_core.specs.Execution.{in_of}
 use Rattle.sn_model.specs.Fabric.{Fabric, Node, node_at, first_node}
 use Rattle.sn_model.specs.Machine.{State, Processor, Retirement, processor_at, first_processor}
 use Rattle.sn_model.specs.Access.{with_write}
 use Rattle.sn_model.specs.Instructions.{found_at, next_with, record_with, records_of, written_by, retired, taken_by}
-use Rattle.consistent_cuts.specs.Outlined.{interval_of, IsRestShaped}
+use Rattle.consistent_cuts.specs.Outlined.{interval_of}
 
 -- the fabric's nodes keep their number, their intervals and the points that they know
 

@@ -1,25 +1,25 @@
 -- The outline of the machine after a retirement is the outline of the machine before it, retired.
-use Rattle.std.proofs.Common.{◌≡◌, ◌≢◌, ℕ, suc, ◌+◌, ◌-◌, ◌<◌, ◌≤◌, max, Bool, true, false, ◌&&◌, ◌||◌, cond, ◌==◌, List, [], ◌∷◌, ◌++◌, length, drop, get_or, option_to_list, if◌then◌else◌, nat_eq, nat_lt, refl, sym, ap, ◌∙◌, arith, subst, length-set}
+use Rattle.std.proofs.Common.{◌≡◌, ℕ, ◌+◌, ◌-◌, ◌<◌, ◌≤◌, Bool, true, false, ◌&&◌, ◌==◌, List, [], length, drop, option_to_list, if◌then◌else◌, nat_eq, nat_lt, refl, sym, ap, ◌∙◌, arith, subst, length-set}
 use Rattle.std.proofs.lemmas.Bool.Decides.{nat_tests}
 use Rattle.std.proofs.lemmas.List.{get_or_default}
 use Rattle.sn_base.specs.Image.{ImageData}
 use Rattle.rv_core.specs.declared.state.CoreState.{CoreState}
 use Rattle.rv_core.specs.Core.{bare, block_of, is_reserved}
 use Rattle.sn_model.specs.Fabric.{node_at}
-use Rattle.sn_model.specs.Machine.{State, Processor, processor_at}
+use Rattle.sn_model.specs.Machine.{State, processor_at}
 use Rattle.sn_model.specs.MachineEvents.{checkpoint_of}
 use Rattle.sn_model.specs.Caches.{block_count}
-use Rattle.sn_model.specs.Instructions.{found_at, next_with, taken_by, record_with}
+use Rattle.sn_model.specs.Instructions.{found_at, taken_by}
 use Rattle.sn_coherence.specs.Records.{Records}
-use Rattle.sn_consistency.specs.Words.{Content, kind, block, next, content_after, kind_of, address_of, reads, writes, is_lr, is_sc, write_block}
-use Rattle.sn_consistency.specs.Entries.{Entry, Places, own, put, wrote, touches, writes_to}
+use Rattle.sn_consistency.specs.Words.{Content, next, content_after, kind_of, address_of, writes, write_block}
+use Rattle.sn_consistency.specs.Entries.{Entry, Places, own}
 use Rattle.sn_consistency.specs.Sorted.{retire}
 use Rattle.sn_consistency.specs.Kept.{Outline, IsSameOutline, Keeps, retired}
 use Rattle.sn_consistency.proofs.StepLaws.{kind_bare, block_bare, after_bare, written_bare, next_held}
 use Rattle.sn_consistency.proofs.Kept.{retired_keeps, same_keeps}
 use Rattle.sn_consistency.proofs.Others.{exchanged_keeps}
 use Rattle.consistent_cuts.specs.Outlined.{outline_of, interval_of, IsRestShaped, Agrees}
-use Rattle.consistent_cuts.specs.Accesses.{entry_of, line_at, write_of, content_left, records_after, MayRetire}
+use Rattle.consistent_cuts.specs.Accesses.{entry_of, write_of, content_left, records_after, MayRetire}
 use Rattle.consistent_cuts.proofs.Told.{IsToldBy, told_by}
 use Rattle.consistent_cuts.proofs.Finds.{taken_within, wanted, kind_is, block_is}
 use Rattle.consistent_cuts.proofs.Retires.{interval_is, written, written_there, retires}
@@ -134,7 +134,7 @@ module _ (image : ImageData) (s : State) (r : ℕ → Records) (list : ℕ → L
   checkpoints_are m j low high =
       ap (λ k. checkpoint_of (processor_at (after image s n) m) k j) (same_known s.fabric n m (write_of image s n) may.node)
       ∙ at_each_processor image s n (λ m p. (node_at s.fabric m).known ≤ j → j ≤ interval_of s.fabric m → checkpoint_of p (node_at s.fabric m).known j ≡ checkpoint_of (processor_at s m) (node_at s.fabric m).known j)
-          there (λ low high. own_checkpoints j low (subst (λ i. j ≤ i) (interval_is s n may.node) high)) (λ m o low high. refl) m low high
+      there (λ low high. own_checkpoints j low (subst (λ i. j ≤ i) (interval_is s n may.node) high)) (λ m o low high. refl) m low high
 
   -- the sorted list is kept
   pub sorted_keeps : (F : Places) → Keeps image (length s.fabric.nodes) F before →

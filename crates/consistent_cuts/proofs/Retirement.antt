@@ -1,14 +1,14 @@
 -- A retirement keeps what is joined, and so does a step, whatever it comes to.
-use Rattle.std.proofs.Common.{◌≡◌, ℕ, ◌<◌, ◌≤◌, List, [], ◌∷◌, ◌++◌, length, refl, sym, ◌∙◌, subst, arith}
+use Rattle.std.proofs.Common.{ℕ, ◌<◌, ◌≤◌, List, [], ◌∷◌, ◌++◌, length, refl, sym, subst}
 use Rattle.sn_base.specs.Image.{ImageData}
 use Rattle.sn_base.specs.declared.config.Config.{Config}
 use Rattle.sn_base.specs.declared.event.Event.TheVariants.{Step}
 use Rattle.sn_model.specs.declared.cache.Need.{Need}
 use Rattle.sn_model.specs.Access.{accessed}
 use Rattle.sn_model.specs.Caches.{block_count}
-use Rattle.sn_model.specs.Fabric.{Fabric, node_at}
+use Rattle.sn_model.specs.Fabric.{node_at}
 use Rattle.sn_model.specs.Machine.{State}
-use Rattle.sn_model.specs.Instructions.{Stepped, stepped, retired}
+use Rattle.sn_model.specs.Instructions.{Stepped, stepped}
 use Rattle.sn_model.specs.Trace.{Entry as Retired, entry_at, traced}
 use Rattle.sn_coherence.specs.Records.{Records}
 use Rattle.sn_consistency.specs.Entries.{Entry}
@@ -17,16 +17,15 @@ use Rattle.fabric_coherence.specs.Told.{Tells}
 use Rattle.consistent_cuts.specs.Outlined.{outline_of, interval_of, start_places}
 use Rattle.consistent_cuts.specs.Joined.{IsJoined, Joins}
 use Rattle.consistent_cuts.specs.Accesses.{entry_of, write_of, records_after, MayRetire, CanRetire}
-use Rattle.consistent_cuts.specs.Fabrics.{AccessesKeep}
 use Rattle.consistent_cuts.proofs.Traced.{traced_retired}
 use Rattle.consistent_cuts.proofs.Made.{made_retired}
 use Rattle.consistent_cuts.proofs.Retires.{interval_is}
 use Rattle.consistent_cuts.proofs.Places.{after, same_length, same_point}
 use Rattle.consistent_cuts.proofs.RetiredOutline.{list_after, sorted_keeps, agrees_after, shape_after}
 use Rattle.consistent_cuts.proofs.Granted.{may_retire}
-use Rattle.consistent_cuts.proofs.FabricAfter.{fabric_keeps}
+use Rattle.consistent_cuts.proofs.FabricAfter.{AccessesKeep, fabric_keeps}
 use Rattle.consistent_cuts.proofs.EntryMade.{same_record, same_out}
-use Rattle.consistent_cuts.proofs.SteppedCases.{LeavesTrace, stepped_cases}
+use Rattle.consistent_cuts.proofs.SteppedCases.{stepped_cases}
 
 module _ (keep : AccessesKeep) (image : ImageData) (config : Config) (s : State) (n : ℕ) (r : ℕ → Records) (list : ℕ → List Entry) (trace : List Retired) (joined : IsJoined image s r list trace)
     (tells : (b : ℕ) → b < block_count → Tells s.fabric b (r b)) where

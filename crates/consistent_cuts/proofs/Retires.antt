@@ -1,12 +1,11 @@
 -- A node's next instruction may retire in the sorted list, where its line serves it.
-use Rattle.std.proofs.Common.{◌≡◌, ◌≢◌, ℕ, suc, ◌+◌, ◌-◌, ◌*◌, ◌/◌, ◌%◌, ◌<◌, ◌≤◌, Bool, true, false, ◌||◌, List, length, refl, sym, ap, ◌∙◌, ◌⊎◌, inl, inr, arith, subst, nat_lt}
+use Rattle.std.proofs.Common.{◌≡◌, ◌≢◌, ℕ, ◌-◌, ◌*◌, ◌/◌, ◌%◌, ◌<◌, ◌≤◌, Bool, true, false, ◌||◌, List, length, refl, sym, ap, ◌∙◌, ◌⊎◌, inl, inr, arith}
 use Rattle.std.proofs.lemmas.Bool.Decides.{nat_tests}
 use Rattle.std.proofs.lemmas.Bool.{cases_lt}
 use Rattle.std.proofs.lemmas.List.{get_or_past}
 use Rattle.sn_base.specs.Blocks.{ram_start}
 use Rattle.sn_base.specs.Image.{ImageData}
-use Rattle.rv_core.specs.Core.{bare, block_of, is_reserved}
-use Rattle.rv_core.specs.declared.step.Want.{Want}
+use Rattle.rv_core.specs.Core.{block_of, is_reserved}
 use Rattle.sn_model.specs.Fabric.{node_at}
 use Rattle.sn_model.specs.Machine.{State, processor_at, first_processor}
 use Rattle.sn_model.specs.Instructions.{found_at}
@@ -15,7 +14,7 @@ use Rattle.sn_consistency.specs.Words.{kind, block, place, kind_of, address_of, 
 use Rattle.sn_consistency.specs.Entries.{Entry, Fits, wrote, touches}
 use Rattle.sn_consistency.specs.Kept.{Retires}
 use Rattle.consistent_cuts.specs.Outlined.{outline_of, interval_of, IsRestShaped, Agrees}
-use Rattle.consistent_cuts.specs.Accesses.{entry_of, line_at, IsRead, IsWritten, MayRetire}
+use Rattle.consistent_cuts.specs.Accesses.{entry_of, IsRead, IsWritten, MayRetire}
 use Rattle.consistent_cuts.proofs.Finds.{unseen_by, done_sc_by, done_by, byte_by, takes_by, read_by, written_by, word_by, wanted, kind_is, block_is, place_is}
 
 -- a node's interval

@@ -1,11 +1,11 @@
 -- What a step of a node comes to: a retirement, an access of the fabric alone, or nothing.
-use Rattle.std.proofs.Common.{◌≡◌, ℕ, ◌+◌, ◌<◌, ◌≤◌, Bool, true, false, not, ◌&&◌, nat_lt, nat_le, if◌then◌else◌, List, length, Option, Some, None, refl, sym, ap, ◌∙◌, subst, arith}
+use Rattle.std.proofs.Common.{◌≡◌, ℕ, ◌<◌, Bool, true, false, not, ◌&&◌, nat_lt, nat_le, if◌then◌else◌, List, length, Option, Some, None, refl, sym, subst, arith}
 use Rattle.std.proofs.lemmas.Bool.Decides.{nat_tests}
 use Rattle.sn_base.specs.Image.{ImageData}
 use Rattle.sn_base.specs.declared.config.Config.{Config}
 use Rattle.sn_base.specs.declared.event.Event.TheVariants.{Step}
 use Rattle.sn_base.specs.declared.event.Answer.{Answer}
-use Rattle.sn_base.specs.declared.event.Answer.TheVariants.{Retired, Missed, Waits, NeedsEvict, LogFull, NetFull, Ended, NoInput}
+use Rattle.sn_base.specs.declared.event.Answer.TheVariants.{Retired, Waits, NeedsEvict, LogFull, NetFull, Ended, NoInput}
 use Rattle.rv_core.specs.declared.step.Want.{Want}
 use Rattle.rv_core.specs.declared.step.Want.TheVariants as want
 use Rattle.rv_core.specs.Core.{block_of, is_reserved, is_running}
@@ -14,13 +14,13 @@ use Rattle.rv_core.specs.Wanted.{IsAddress, IsInside}
 use Rattle.rv_core.proofs.CoreLaws.{want_inside}
 use Rattle.sn_model.specs.declared.cache.Need.{Need}
 use Rattle.sn_model.specs.declared.cache.Need.TheVariants as need
-use Rattle.sn_model.specs.Access.{accessed, accesses, misses, missed, has_miss, serves, lacks_room}
+use Rattle.sn_model.specs.Access.{accessed, missed, has_miss, serves, lacks_room}
 use Rattle.sn_model.specs.Caches.{block_count, line_of, is_present, puts_on, frames_taken}
 use Rattle.sn_model.specs.Fabric.{Fabric, Moved, node_at}
 use Rattle.sn_model.specs.Fabric as fabric
 use Rattle.sn_model.specs.Net.{is_full}
 use Rattle.sn_model.specs.Machine.{State, processor_at}
-use Rattle.sn_model.specs.Instructions.{Stepped, found_at, found_by, refused, carried, retired, stepped, step_wanting, accessing, after_access, is_retired, takes_input, next_byte, taken_by}
+use Rattle.sn_model.specs.Instructions.{Stepped, found_by, refused, carried, retired, stepped, step_wanting, accessing, is_retired, takes_input, next_byte, taken_by}
 use Rattle.sn_model.specs.Trace.{Entry, traced}
 use Rattle.consistent_cuts.specs.Accesses.{line_at, CanServe, CanServeWant, CanRetire}
 

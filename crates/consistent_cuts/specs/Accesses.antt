@@ -1,5 +1,5 @@
 -- What a retirement does to the records of each block, and what it needs of the line that serves it.
-use Rattle.std.specs.Prelude.{◌≡◌, ◌≢◌, ℕ, ◌+◌, ◌<◌, ◌≤◌, Bool, true, false, nat_eq, if◌then◌else◌, length, Option, ⊤}
+use Rattle.std.specs.Prelude.{◌≡◌, ◌≢◌, ℕ, ◌+◌, ◌<◌, ◌≤◌, Bool, true, false, length, Option, ⊤}
 use Rattle.sn_base.specs.Image.{ImageData}
 use Rattle.sn_base.specs.declared.block.Write.{Write}
 use Rattle.rv_core.specs.declared.step.Want.{Want}
@@ -10,7 +10,7 @@ use Rattle.sn_base.specs.declared.config.Config.{Config}
 use Rattle.sn_model.specs.declared.cache.Need.{Need}
 use Rattle.sn_model.specs.declared.cache.Need.TheVariants.{Read, Write as ToWrite}
 use Rattle.sn_model.specs.Access.{has_miss, serves, lacks_room}
-use Rattle.sn_model.specs.Caches.{Line, block_count, line_of, is_present, is_writable_state, puts_on}
+use Rattle.sn_model.specs.Caches.{Line, block_count, line_of, is_present, is_writable_state}
 use Rattle.sn_model.specs.Fabric.{Fabric, node_at}
 use Rattle.sn_model.specs.Instructions.{found_at, next_with, record_with, taken_by}
 use Rattle.sn_model.specs.Machine.{State, processor_at}
@@ -88,14 +88,13 @@ pub record MayRetire (image : ImageData) (s : State) (r : ℕ → Records) (n : 
   pub running : is_running (processor_at s n).core.end ≡ true
   pub served : IsServed (want_of image (processor_at s n).core) (found_at image s n).sc_done s r n
 
--- what the machine alone says of it
-
--- node n can use its line of block b, that line serves what is needed of it, and the log has room for what that notes
+-- by the machine alone: node n can use its line of block b, that line serves what is needed of it, and the log has room for what that notes
 pub record CanServe (config : Config) (s : Fabric) (n b : ℕ) (need : Need) : Type 0 where
   pub line : CanUse s n b
   pub serving : serves need (line_at s n b).state ≡ true
   pub room : lacks_room config (node_at s n) b need ≡ false
 
+-- what an instruction of node n wants is served; what wants no line is, an input where a byte is left
 abbrev pub CanServeWant : Want → Bool → Config → State → ℕ → Type 0
 CanServeWant Nothing done config s n = ⊤
 CanServeWant (Load a) done config s n = CanServe config s.fabric n (block_of a) Read

@@ -2,4 +2,3 @@ pub mod Outlined
 pub mod Lists
 pub mod Joined
 pub mod Accesses
-pub mod Fabrics
