@@ -14,3 +14,4 @@ pub mod Retirement
 pub mod Outlines
 pub mod Hearings
 pub mod Hears
+pub mod Turns
