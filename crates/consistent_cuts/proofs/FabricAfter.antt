@@ -11,8 +11,9 @@ use Rattle.rv_core.specs.Wanted.{WriteFits, writes_memory, wanted_address}
 use Rattle.rv_core.proofs.CoreLaws.{write_fits}
 use Rattle.sn_model.specs.declared.cache.Need.TheVariants as need
 use Rattle.sn_model.specs.Access.{stored, written_in}
-use Rattle.sn_model.specs.Caches.{line_of, is_present}
+use Rattle.sn_model.specs.Caches.{block_count, line_of, is_present}
 use Rattle.sn_model.specs.Fabric.{Fabric, node_at}
+use Rattle.sn_model.specs.FabricEvents.{FabricEvent, moved_by}
 use Rattle.sn_model.specs.Machine.{State, processor_at}
 use Rattle.sn_model.specs.Instructions.{found_at, found_by, written_by, retired}
 use Rattle.sn_coherence.specs.Records.{Records, loads, loads_reserved, stores, stores_conditional, unreserves}
@@ -20,10 +21,15 @@ use Rattle.sn_consistency.specs.Words.{write_block}
 use Rattle.consistent_cuts.specs.Outlined.{Agrees}
 use Rattle.consistent_cuts.specs.Accesses.{line_at, write_of, CanServe, CanServeWant, CanRetire, records_wanting, records_after}
 use Rattle.fabric_coherence.specs.Events.{CanUse, CanWrite}
-use Rattle.fabric_coherence.specs.Recorded.{KeepsRecords, at_block}
+use Rattle.fabric_coherence.specs.Recorded.{KeepsRecords, MayBeRecorded, recorded_by, at_block}
+use Rattle.fabric_coherence.specs.Told.{Tells}
 
--- what the fabric's half says of the accesses that are done, in its own words
-pub record AccessesKeep : Type 0 where
+-- what the fabric's half says of the records, in its own words: what they tell, and that they are kept by each event and by
+-- each access that is done
+pub record FabricHalf : Type 0 where
+  pub tell : (s : Fabric) (r : ℕ → Records) → KeepsRecords s r → (b : ℕ) → b < block_count → Tells s b (r b)
+  pub event : (config : Config) (s : Fabric) (r : ℕ → Records) (event : FabricEvent) → KeepsRecords s r → MayBeRecorded s r event
+      → KeepsRecords (moved_by config s event).fabric (recorded_by s r event (moved_by config s event))
   pub load : (s : Fabric) (r : ℕ → Records) (n b : ℕ) → KeepsRecords s r → CanUse s n b → is_present (line_of (node_at s n).cache b).state ≡ true
       → KeepsRecords s (at_block b (loads (r b) n (node_at s n).now) r)
   pub load_reserved : (s : Fabric) (r : ℕ → Records) (n b : ℕ) → KeepsRecords s r → CanUse s n b → is_present (line_of (node_at s n).cache b).state ≡ true
@@ -41,7 +47,7 @@ unwritten : (w : Want) (done : Bool) (write : Option Write) → writes_memory w 
 unwritten w done None e fits = refl
 unwritten w done (Some write) e fits = absurd (let h = fits.0 in cc)
 
-module _ (keep : AccessesKeep) (config : Config) (s : State) (r : ℕ → Records) (n : ℕ)
+module _ (keep : FabricHalf) (config : Config) (s : State) (r : ℕ → Records) (n : ℕ)
     (kept : KeepsRecords s.fabric r) (l : n < length s.fabric.nodes) where
   -- the fabric with what is written, and the records with the content that the line has then
   abbrev Kept : Want → Bool → Option Write → Type 0
