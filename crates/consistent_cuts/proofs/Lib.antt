@@ -1,6 +1,16 @@
 pub mod Traced
 pub mod Made
 pub mod Clocks
+pub mod Told
+pub mod Finds
+pub mod Retires
+pub mod Places
+pub mod RetiredOutline
+pub mod SteppedCases
+pub mod Granted
+pub mod FabricAfter
+pub mod EntryMade
+pub mod Retirement
 pub mod Outlines
 pub mod Hearings
 pub mod Hears

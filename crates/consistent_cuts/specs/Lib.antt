@@ -1,3 +1,4 @@
 pub mod Outlined
 pub mod Lists
 pub mod Joined
+pub mod Accesses
