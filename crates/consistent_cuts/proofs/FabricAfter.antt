@@ -47,6 +47,7 @@ pub record FabricHalf : Type 0 where
   -- the start; that a validation comes where nothing is unfinished; and what a message in flight is
   pub start : (image : ImageData) (nodes : ℕ) → 1 ≤ nodes → nodes ≤ 16 → KeepsRecords (first_fabric image nodes) (λ b. no_records (initial_block image b))
   pub finished : (s : Fabric) (r : ℕ → Records) → KeepsRecords s r → ((b n : ℕ) → b < block_count → n < length s.nodes → s.point < (r b).reported n) → IsFinished s (s.point + 1)
+  pub nodes : (config : Config) (s : Fabric) (event : FabricEvent) → length (moved_by config s event).fabric.nodes ≡ length s.nodes
   pub flight : (s : Fabric) (id : ℕ) (f : Flight) → IsShaped s → flight_of s.net.flights id ≡ Some f → IsInFlight s f.message
 
 -- what is not wanted isn't written
