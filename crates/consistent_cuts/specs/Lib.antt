@@ -3,3 +3,4 @@ pub mod Lists
 pub mod Joined
 pub mod Accesses
 pub mod Runs
+pub mod Headline
