@@ -15,3 +15,4 @@ pub mod Outlines
 pub mod Hearings
 pub mod Hears
 pub mod Turns
+pub mod Points
