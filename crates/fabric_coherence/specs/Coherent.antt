@@ -1,0 +1,22 @@
+-- The coherence theorem's sentences of every block of the fabric.
+use Rattle.std.specs.Prelude.{◌≡◌, ℕ, ◌<◌, ◌≤◌, false, length}
+use Rattle.sn_model.specs.Caches.{block_count}
+use Rattle.sn_model.specs.Cuts.{is_unfinished}
+use Rattle.sn_model.specs.Fabric.{Fabric, node_at}
+use Rattle.sn_coherence.specs.Kept.{Kept}
+use Rattle.fabric_coherence.specs.View.{Beside, block_of}
+use Rattle.fabric_coherence.specs.Steps.{IsShaped}
+
+-- the fabric's lists have their shape, and of each block all sentences hold, with this beside the fabric
+pub record IsKept (s : Fabric) (t : Beside) : Type 0 where
+  pub shape : IsShaped s
+  pub blocks : (b : ℕ) → b < block_count → Kept (length s.nodes) (block_of s t b)
+
+-- the same with something beside it
+abbrev pub Keeps : Fabric → Type 0
+Keeps s = (t : Beside) × IsKept s t
+
+-- each node has reached k, and nothing that was begun in an interval below k is unfinished
+pub record IsFinished (s : Fabric) (k : ℕ) : Type 0 where
+  pub now : (n : ℕ) → n < length s.nodes → k ≤ (node_at s n).now
+  pub none : is_unfinished s k ≡ false

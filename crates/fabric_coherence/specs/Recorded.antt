@@ -1,0 +1,45 @@
+-- The records of accesses of every block, and what each event of the fabric makes of them.
+use Rattle.std.specs.Prelude.{◌≡◌, ℕ, ◌+◌, ◌<◌, nat_eq, if◌then◌else◌, length, Option, Some, None}
+use Rattle.sn_model.specs.declared.net.Told.{Told}
+use Rattle.sn_model.specs.declared.net.Told.TheVariants.{LostCopy, Ready, Advance}
+use Rattle.sn_model.specs.Caches.{block_count}
+use Rattle.sn_model.specs.Fabric.{Fabric, Moved}
+use Rattle.sn_model.specs.MachineEvents.{is_edged, is_recovered}
+use Rattle.sn_model.specs.FabricEvents.{FabricEvent, Write, Edge, Advance as Advances, Recover}
+use Rattle.sn_coherence.specs.KeptRecords.{KeptRecords}
+use Rattle.sn_coherence.specs.Records.{Records, unreserves, hears, rolls_back}
+use Rattle.fabric_coherence.specs.View.{Beside, block_of}
+use Rattle.fabric_coherence.specs.Coherent.{IsKept}
+use Rattle.fabric_coherence.specs.Events.{MayBe}
+
+-- all sentences hold of each block, and those on its records of each block's records, with something beside the fabric
+abbrev pub KeepsRecords : Fabric → (ℕ → Records) → Type 0
+KeepsRecords s r = (t : Beside) × IsKept s t × ((b : ℕ) → b < block_count → KeptRecords (block_of s t b) (r b))
+
+-- what becomes of the records of block b by what an event tells: a lost copy loses its reservation, a report is heard
+abbrev pub heard_by : Option Told → ℕ → Records → Records
+heard_by None b x = x
+heard_by (Some (LostCopy n block)) b x = if nat_eq b block then unreserves x n else x
+heard_by (Some (Ready n k)) b x = hears x n k
+heard_by (Some (Advance n k)) b x = x
+
+-- a clock edge that is done ends the reservation of its node; a recovery leaves the records below its checkpoint
+abbrev pub noted_by : Fabric → FabricEvent → Moved → ℕ → Records → Records
+noted_by s (Edge n) moved b x = if is_edged moved.answer then unreserves x n else x
+noted_by s (Recover k) moved b x = if is_recovered moved.answer then rolls_back x (length s.nodes) k else x
+noted_by s _ moved b x = heard_by moved.told b x
+
+-- the records after an event that came to this
+abbrev pub recorded_by : Fabric → (ℕ → Records) → FabricEvent → Moved → ℕ → Records
+recorded_by s r event moved b = noted_by s event moved b (r b)
+
+-- when an event can happen beside these records: a write is the end of an access, of which more is said than of an event;
+-- the point rises where every node has reported more
+abbrev pub MayBeRecorded : Fabric → (ℕ → Records) → FabricEvent → Type 0
+MayBeRecorded s r (Write n w) = ⊥
+MayBeRecorded s r (Advances k) = (k ≡ s.point + 1) × ((b n : ℕ) → b < block_count → n < length s.nodes → s.point < (r b).reported n)
+MayBeRecorded s r event = MayBe s event
+
+-- these records, with others of block b
+abbrev pub at_block : ℕ → Records → (ℕ → Records) → ℕ → Records
+at_block b x r o = if nat_eq o b then x else r o
