@@ -105,14 +105,6 @@ chosen f true x y = refl
 chosen f false x y = refl
 
 -- a node after a row
-core_now : (node : Node) (lost : Option ℕ) → (core_without node lost).now ≡ node.now
-core_now node None = refl
-core_now node (Some block) = refl
-
-core_known : (node : Node) (lost : Option ℕ) → (core_without node lost).known ≡ node.known
-core_known node None = refl
-core_known node (Some block) = refl
-
 module _ (s : Fabric) (t : Beside) (m : Message) (reply : CacheReply) (o : ℕ) (line : Line) (to : m.to < length s.nodes) where
   abbrev after : Node
   after = node_after (node_at s m.to) reply
@@ -120,24 +112,24 @@ module _ (s : Fabric) (t : Beside) (m : Message) (reply : CacheReply) (o : ℕ) 
   abbrev nodes_after : List Node
   nodes_after = slice_set s.nodes m.to after
 
-  through : {A : Type 0} (f : Node → A) (n : ℕ) → f (slice_index_or nodes_after n (first_node)) ≡ set (λ k. f (node_at s k)) m.to (f after) n
-  through f n = ap f (read_set s.nodes m.to n after (first_node) to) ∙ chosen f (n == m.to) after (node_at s n)
+  through : {A : Type 0} (f : Node → A) (n : ℕ) → f (slice_index_or nodes_after n first_node) ≡ set (λ k. f (node_at s k)) m.to (f after) n
+  through f n = ap f (read_set s.nodes m.to n after first_node to) ∙ chosen f (n == m.to) after (node_at s n)
 
-  kept : {A : Type 0} (f : Node → A) (n : ℕ) → f after ≡ f (node_at s m.to) → f (slice_index_or nodes_after n (first_node)) ≡ f (node_at s n)
+  kept : {A : Type 0} (f : Node → A) (n : ℕ) → f after ≡ f (node_at s m.to) → f (slice_index_or nodes_after n first_node) ≡ f (node_at s n)
   kept f n e = through f n ∙ set_kept (λ k. f (node_at s k)) m.to (f after) n e
 
   as_many : length nodes_after ≡ length s.nodes
   as_many = length-set s.nodes m.to after
 
-  kept_at_home : {A : Type 0} (f : Node → A) → f after ≡ f (node_at s m.to) → f (slice_index_or nodes_after (o % length nodes_after) (first_node)) ≡ f (node_at s (o % length s.nodes))
-  kept_at_home f e = ap (λ k. f (slice_index_or nodes_after (o % k) (first_node))) as_many ∙ kept f (o % length s.nodes) e
+  kept_at_home : {A : Type 0} (f : Node → A) → f after ≡ f (node_at s m.to) → f (slice_index_or nodes_after (o % length nodes_after) first_node) ≡ f (node_at s (o % length s.nodes))
+  kept_at_home f e = ap (λ k. f (slice_index_or nodes_after (o % k) first_node)) as_many ∙ kept f (o % length s.nodes) e
 
   pub row_seen : line_of reply.after.cache o ≡ line → KeepsHomeSide (node_at s m.to).log reply.after.log o → IsSame (block_of (after_cache s m reply).fabric t o) (cache_seen s t m reply line o)
   row_seen e k = record {
     point = refl;
     home = ap (λ n. o % n) as_many;
-    now = λ n. kept (λ x. x.now) n (core_now (node_at s m.to) reply.lost);
-    known = λ n. kept (λ x. x.known) n (core_known (node_at s m.to) reply.lost);
+    now = λ n. kept (λ x. x.now) n refl;
+    known = λ n. kept (λ x. x.known) n refl;
     line = λ n. through (λ x. line_seen (line_of x.cache o).state) n ∙ ap (λ l. set (block_of s t o).line m.to (line_seen l.state) n) e;
     content = λ n. through (λ x. (line_of x.cache o).content) n ∙ ap (λ l. set (block_of s t o).content m.to l.content n) e;
     miss = through (λ x. miss_seen o x.cache.miss);
@@ -204,8 +196,8 @@ module _ (s : Fabric) (t : Beside) (m : Message) (reply : CacheReply) (o : ℕ) 
       r = row_seen e k
 
   -- the interval under which the row sends
-  pub sent_under : (slice_index_or nodes_after m.to (first_node)).now ≡ (node_at s m.to).now
-  sent_under = kept (λ x. x.now) m.to (core_now (node_at s m.to) reply.lost)
+  pub sent_under : (slice_index_or nodes_after m.to first_node).now ≡ (node_at s m.to).now
+  sent_under = kept (λ x. x.now) m.to refl
 
 -- logs
 

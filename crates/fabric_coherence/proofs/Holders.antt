@@ -59,10 +59,10 @@ named_told None holder side = (refl, refl)
 named_told (Some e) holder side = old_named e.old holder (sided e.old side)
 
 module _ (s : Fabric) (t : Beside) (b : ℕ) where
-  holds_is : (n k : ℕ) → is_some (holds_at s n b k) ≡ (block_of s t b).holds n k
+  pub holds_is : (n k : ℕ) → is_some (holds_at s n b k) ≡ (block_of s t b).holds n k
   holds_is n k = held_told (entry_at (node_at s n).log false b k) (line_of (node_at s n).cache b)
 
-  names_home : (k : ℕ) → is_itself (names_at s b k) ≡ (block_of s t b).named_home k
+  pub names_home : (k : ℕ) → is_itself (names_at s b k) ≡ (block_of s t b).named_home k
   names_home k = (named_told (entry_at (node_at s (home_node s b)).log true b k) (home_of s b).holder (entry_sided (node_at s (home_node s b)).log true b k)).0
 
   names_owner : (k : ℕ) → owner_of (names_at s b k) ≡ (block_of s t b).named k
@@ -87,13 +87,13 @@ module _ (s : Fabric) (t : Beside) (b : ℕ) where
           let held = one.holds (sym (names_home k) ∙ h) in
           subst (λ m. (m < length s.nodes) × (is_some (holds_at s m b k) ≡ true)) (sym (names_owner k) ∙ e) (held.0, holds_is ((block_of s t b).named k) k ∙ held.1)
 
-  writable_seen : (x : LineState) → is_writable_state x ≡ true → block.is_writable (line_seen x) ≡ true
+  pub writable_seen : (x : LineState) → is_writable_state x ≡ true → block.is_writable (line_seen x) ≡ true
   writable_seen x h = grind (arith, h)
 
   absent_seen : (x : LineState) → line_seen x ≡ block.NoLine → x ≡ state.Absent
   absent_seen x h = grind (arith, h)
 
-  misses_seen : (x : Option Miss) → misses_on x b ≡ false → block.is_here (miss_seen b x).want ≡ false
+  pub misses_seen : (x : Option Miss) → misses_on x b ≡ false → block.is_here (miss_seen b x).want ≡ false
   misses_seen None h = refl
   misses_seen (Some x) h = grind (arith, nat_tests)
 

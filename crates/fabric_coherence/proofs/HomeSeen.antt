@@ -106,7 +106,7 @@ set_row_there f k o v n h = grind (arith, nat_tests)
 
 module _ (s : Fabric) (m : Message) (reply : HomeReply) (shape : IsShaped s) (to : m.to < length s.nodes) (low : m.block < block_count) where
   pub node_seen : (n : ℕ) → node_at (after_home s m reply).fabric n ≡ record (node_at s n) { log = cond (n == m.to) reply.after.log (node_at s n).log }
-  node_seen n = read_set s.nodes m.to n (record (node_at s m.to) { log = reply.after.log }) (first_node) to ∙ noted_node s m.to n reply.after.log
+  node_seen n = read_set s.nodes m.to n (record (node_at s m.to) { log = reply.after.log }) first_node to ∙ noted_node s m.to n reply.after.log
 
   pub entry_seen : (b : ℕ) → home_of (after_home s m reply).fabric b ≡ cond (b == m.block) reply.after.entry (home_of s b)
   entry_seen b = read_set s.homes m.block b reply.after.entry no_entry (subst (λ x. m.block < x) (sym shape.homes) low)

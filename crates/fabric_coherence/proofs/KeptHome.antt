@@ -1,8 +1,8 @@
--- A delivery whose message comes to a home keeps the sentences of every block.
+-- A delivery whose message comes to a home leads every block on.
 use Rattle.std.proofs.Common.{true≢false, ◌≡◌, ◌∙◌, ℕ, ◌+◌, ◌<◌, ◌≤◌, Bool, true, false, List, length, refl, sym, subst, arith, if◌then◌else◌, nat_eq, length-set}
 use Rattle.std.specs.Prelude.{Option, Some, None, nat_lt, slice_index_or, slice_set}
 use Rattle.sn_base.specs.declared.config.Config.{Config}
-use Rattle.sn_base.specs.declared.event.Answer.TheVariants.{LogFull, NetFull}
+use Rattle.sn_base.specs.declared.event.Answer.TheVariants.{LogFull, NetFull, HomeBusy}
 use Rattle.sn_msg.specs.declared.Message.{Message}
 use Rattle.sn_msg.specs.declared.Body.{Body}
 use Rattle.sn_msg.specs.declared.Body.TheVariants.{GetS, GetM, FwdGetS, FwdGetM, Inv, DataS, DataM, DataE, UpgOk, InvAck, Unblock, PutReq, PutGo, PutData, PutDone, Ready, Advance}
@@ -20,7 +20,7 @@ use Rattle.fabric_coherence.specs.View.{Beside, block_of, message_seen, is_itsel
 use Rattle.fabric_coherence.specs.Steps.{IsShaped, IsInFlight, after_home, beside_with, losing, lost_at_once, elsewhere}
 use Rattle.fabric_coherence.specs.Sends.{OutsWithin}
 use Rattle.fabric_coherence.specs.HomeSeen.{IsHomeRow}
-use Rattle.fabric_coherence.specs.Coherent.{IsKept, Keeps}
+use Rattle.fabric_coherence.specs.Coherent.{IsKept}
 use Rattle.fabric_coherence.specs.HomeEvents.{other_count, home_event}
 use Rattle.fabric_coherence.proofs.Base.{read_set}
 use Rattle.fabric_coherence.proofs.NetShape.{invalidations-within, after_home-shaped}
@@ -28,8 +28,8 @@ use Rattle.fabric_coherence.proofs.HomeOutcomes.{home-outcome, home-elsewhere}
 use Rattle.sn_coherence.specs.Events.{GrantExclusive, ReadAtHome, Upgrades, MovesOwnership, PutBegins, PutIsStale}
 use Rattle.fabric_coherence.specs.HomeEvents.{read_event, write_event, put_event, other_count}
 use Rattle.fabric_coherence.specs.HomeSeen.{other_targets}
-use Rattle.fabric_coherence.specs.Reported.{IsQuiet}
-use Rattle.fabric_coherence.proofs.KeptCommon.{both, elsewhere_keeps, event_keeps, kept_of_own}
+use Rattle.fabric_coherence.specs.Leads.{Moves}
+use Rattle.fabric_coherence.proofs.KeptCommon.{IsQuiet, quiet_losing, elsewhere_leads, goes_own, as_it_is}
 
 reply_is : (a b : row.HomeReply) → AtHome a ≡ AtHome b → a ≡ b
 reply_is a b h = cc
@@ -114,8 +114,7 @@ module _ (s : Fabric) (t : Beside) (m : Message) (shape : IsShaped s) (flight : 
   home-fits (Ready k) reply h = absurd (cc)
   home-fits (Advance k) reply h = absurd (cc)
 
--- a message that is in flight, and whose receiver's interval has reached its tag
--- a message that is served at its home is no report and no recovery
+-- a message that is served at its home changes no records
 read-quiet : (s : Fabric) (m : Message) (holder : Holder) → IsQuiet (read_event s m holder)
 read-quiet s m (Itself content) = either (nat_eq (other_count s m) 0)
   where
@@ -158,17 +157,18 @@ home-quiet s m PutDone = tt
 home-quiet s m (Ready k) = tt
 home-quiet s m (Advance k) = tt
 
+-- a message that is in flight, and whose receiver's interval has reached its tag
 module _ (s : Fabric) (t : Beside) (m : Message) (kept : IsKept s t) (flight : IsInFlight s m) (reached : m.tag ≤ (node_at s m.to).now) where
   of_block : Kept (length s.nodes) (block_of s t m.block)
   of_block = kept.blocks m.block flight.block
 
   -- what a row of the home leaves
-  pub row_keeps : (x : Body) (reply : row.HomeReply) → m.body ≡ x → outcome_of s m x ≡ AtHome reply → Keeps (after_home s m reply).fabric
-  row_keeps x reply is h = (
+  row_moves : (x : Body) (reply : row.HomeReply) → m.body ≡ x → outcome_of s m x ≡ AtHome reply → Moves s t (after_home s m reply)
+  row_moves x reply is h = (
     beside_with t m.block own,
-    kept_of_own s (after_home s m reply).fabric (beside_with t m.block own) (length-set s.nodes m.to (record (node_at s m.to) { log = reply.after.log })) shaped m.block (losing own lost) others
-        does.0 (event_keeps (length s.nodes) (block_of s t m.block) (home_event s m x) lost (both kept m.block flight.block) does.1 (home-quiet s m x))
-        (λ o l other. home-elsewhere s t m kept.shape flight of_block reached own o other x reply is h) (λ o l other. elsewhere_keeps (length s.nodes) (block_of s t o) m.id (length reply.sends) (both kept o l)) kept.listed refl,
+    goes_own s t (λ o r. r) (after_home s m reply).fabric (beside_with t m.block own) (length-set s.nodes m.to (record (node_at s m.to) { log = reply.after.log })) shaped m.block (losing own lost) others
+        does.0 (quiet_losing (length s.nodes) (block_of s t m.block) (home_event s m x) lost does.1 (home-quiet s m x))
+        (λ o l other. home-elsewhere s t m kept.shape flight of_block reached own o other x reply is h) (λ o l other. elsewhere_leads (length s.nodes) (block_of s t o) m.id (length reply.sends)),
   )
     where
       own : block.Block
@@ -187,36 +187,36 @@ module _ (s : Fabric) (t : Beside) (m : Message) (kept : IsKept s t) (flight : I
       does = home-outcome s t m kept.shape flight of_block reached x reply is h
 
   -- nothing, where the log or the net lacks the room
-  room_keeps : (full_log full_net : Bool) (done : Moved) → Keeps done.state → Keeps (if full_log then refused s LogFull else if full_net then refused s NetFull else done).fabric
-  room_keeps true full_net done k = (t, kept)
-  room_keeps false true done k = (t, kept)
-  room_keeps false false done k = k
+  room_moves : (full_log full_net : Bool) (done : Moved) → Moves s t done → Moves s t (if full_log then refused s LogFull else if full_net then refused s NetFull else done)
+  room_moves true full_net done k = as_it_is s t LogFull kept.shape
+  room_moves false true done k = as_it_is s t NetFull kept.shape
+  room_moves false false done k = k
 
   module _ (config : Config) where
-    reply_keeps : (x : Body) (reply : row.HomeReply) → m.body ≡ x → outcome_of s m x ≡ AtHome reply → Keeps (delivers config s m (AtHome reply)).fabric
-    reply_keeps x reply is h = room_keeps (nat_lt config.log (length reply.after.log)) (nat_lt (net_limit + 1) (length s.net.flights + length reply.sends)) (after_home s m reply) (row_keeps x reply is h)
+    reply_moves : (x : Body) (reply : row.HomeReply) → m.body ≡ x → outcome_of s m x ≡ AtHome reply → Moves s t (delivers config s m (AtHome reply))
+    reply_moves x reply is h = room_moves (nat_lt config.log (length reply.after.log)) (nat_lt (net_limit + 1) (length s.net.flights + length reply.sends)) (after_home s m reply) (row_moves x reply is h)
 
     -- a request, which waits where a transaction is open
-    request_keeps : (x : Body) (reply : row.HomeReply) (open_one : Option Transaction) → m.body ≡ x → outcome_of s m x ≡ unless_busy open_one reply → Keeps (delivers config s m (unless_busy open_one reply)).fabric
-    request_keeps x reply None is h = reply_keeps x reply is h
-    request_keeps x reply (Some transaction) is h = (t, kept)
+    request_moves : (x : Body) (reply : row.HomeReply) (open_one : Option Transaction) → m.body ≡ x → outcome_of s m x ≡ unless_busy open_one reply → Moves s t (delivers config s m (unless_busy open_one reply))
+    request_moves x reply None is h = reply_moves x reply is h
+    request_moves x reply (Some transaction) is h = as_it_is s t HomeBusy kept.shape
 
     -- a delivery to the home
-    pub home_delivery_keeps : (x : Body) → m.body ≡ x → block.is_to_home (message_seen m x).body ≡ true → Keeps (delivers config s m (outcome_of s m x)).fabric
-    home_delivery_keeps GetS is home = request_keeps GetS (get_shared (kept_at s m.to m.block) m.block (node_at s m.to).now m.from (home_of s m.block).holder) (home_of s m.block).transaction is refl
-    home_delivery_keeps GetM is home = request_keeps GetM (get_modified (kept_at s m.to m.block) m.block (node_at s m.to).now m.from (home_of s m.block).holder) (home_of s m.block).transaction is refl
-    home_delivery_keeps PutReq is home = request_keeps PutReq (put_request (kept_at s m.to m.block) (node_at s m.to).now m.from) (home_of s m.block).transaction is refl
-    home_delivery_keeps (Unblock fixed) is home = reply_keeps (Unblock fixed) (row.unblock (kept_at s m.to m.block) m.block fixed (home_of s m.block).transaction) is refl
-    home_delivery_keeps (PutData content) is home = reply_keeps (PutData content) (row.put_data (kept_at s m.to m.block) m.block m.tag m.from content) is refl
-    home_delivery_keeps (FwdGetS r) is home = absurd (true≢false (sym home))
-    home_delivery_keeps (FwdGetM r due) is home = absurd (true≢false (sym home))
-    home_delivery_keeps (Inv r) is home = absurd (true≢false (sym home))
-    home_delivery_keeps (DataS content) is home = absurd (true≢false (sym home))
-    home_delivery_keeps (DataM content due) is home = absurd (true≢false (sym home))
-    home_delivery_keeps (DataE content) is home = absurd (true≢false (sym home))
-    home_delivery_keeps (UpgOk due) is home = absurd (true≢false (sym home))
-    home_delivery_keeps InvAck is home = absurd (true≢false (sym home))
-    home_delivery_keeps PutGo is home = absurd (true≢false (sym home))
-    home_delivery_keeps PutDone is home = absurd (true≢false (sym home))
-    home_delivery_keeps (Ready k) is home = absurd (true≢false (sym home))
-    home_delivery_keeps (Advance k) is home = absurd (true≢false (sym home))
+    pub home_delivery_moves : (x : Body) → m.body ≡ x → block.is_to_home (message_seen m x).body ≡ true → Moves s t (delivers config s m (outcome_of s m x))
+    home_delivery_moves GetS is home = request_moves GetS (get_shared (kept_at s m.to m.block) m.block (node_at s m.to).now m.from (home_of s m.block).holder) (home_of s m.block).transaction is refl
+    home_delivery_moves GetM is home = request_moves GetM (get_modified (kept_at s m.to m.block) m.block (node_at s m.to).now m.from (home_of s m.block).holder) (home_of s m.block).transaction is refl
+    home_delivery_moves PutReq is home = request_moves PutReq (put_request (kept_at s m.to m.block) (node_at s m.to).now m.from) (home_of s m.block).transaction is refl
+    home_delivery_moves (Unblock fixed) is home = reply_moves (Unblock fixed) (row.unblock (kept_at s m.to m.block) m.block fixed (home_of s m.block).transaction) is refl
+    home_delivery_moves (PutData content) is home = reply_moves (PutData content) (row.put_data (kept_at s m.to m.block) m.block m.tag m.from content) is refl
+    home_delivery_moves (FwdGetS r) is home = absurd (true≢false (sym home))
+    home_delivery_moves (FwdGetM r due) is home = absurd (true≢false (sym home))
+    home_delivery_moves (Inv r) is home = absurd (true≢false (sym home))
+    home_delivery_moves (DataS content) is home = absurd (true≢false (sym home))
+    home_delivery_moves (DataM content due) is home = absurd (true≢false (sym home))
+    home_delivery_moves (DataE content) is home = absurd (true≢false (sym home))
+    home_delivery_moves (UpgOk due) is home = absurd (true≢false (sym home))
+    home_delivery_moves InvAck is home = absurd (true≢false (sym home))
+    home_delivery_moves PutGo is home = absurd (true≢false (sym home))
+    home_delivery_moves PutDone is home = absurd (true≢false (sym home))
+    home_delivery_moves (Ready k) is home = absurd (true≢false (sym home))
+    home_delivery_moves (Advance k) is home = absurd (true≢false (sym home))

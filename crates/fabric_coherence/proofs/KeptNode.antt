@@ -1,36 +1,20 @@
--- What an event of one node leaves of the shape of the machine, and what its tests say of a block.
+-- What an event of one node leaves of the shape of the fabric, and what its tests say of a block.
 use Rattle.std.proofs.Common.{Option, Some, None, ◌≡◌, ◌≢◌, ◌∙◌, ℕ, ◌<◌, Bool, true, false, [], ◌∷◌, length, refl, arith, length-set, if◌then◌else◌, nat_lt}
 use Rattle.std.proofs.lemmas.Bool.Decides.{nat_tests}
-use Rattle.sn_base.specs.Image.{ImageData}
-use Rattle.sn_base.specs.declared.block.Write.{Write}
 use Rattle.sn_base.specs.declared.event.Answer.{Answer}
 use Rattle.sn_model.specs.declared.cache.Out.{Out}
 use Rattle.sn_model.specs.declared.cache.LineState.{LineState}
 use Rattle.sn_model.specs.Caches.{Cache, Miss, Put, block_count, is_present, is_owned, is_writable_state, misses_on, puts_on}
-use Rattle.sn_model.specs.Access.{retired, written_to, has_miss}
+use Rattle.sn_model.specs.Access.{has_miss}
 use Rattle.sn_model.specs.Fabric.{Fabric, Node, node_at, with_node, Moved}
 use Rattle.sn_model.specs.Net.{posted, routes_of, sending}
 use Rattle.sn_model.specs.NodeEvents.{has_put}
 use Rattle.sn_coherence.specs.Block.{NoLine, Nothing, NoPut, Here, is_owned as owns, is_writable, is_here}
 use Rattle.fabric_coherence.specs.View.{line_seen, miss_seen, put_seen}
 use Rattle.fabric_coherence.specs.Steps.{IsShaped, named}
-use Rattle.fabric_coherence.specs.Coherent.{Keeps}
 use Rattle.fabric_coherence.proofs.NetShape.{with_node-shaped, with_net-shaped, posted-shaped, net-shaped}
 
--- a test of the machine
-
-pub by_test : (test : Bool) (a b : Moved) → (test ≡ true → Keeps a.state) → (test ≡ false → Keeps b.state) → Keeps (if test then a else b).fabric
-by_test true a b first second = first refl
-by_test false a b first second = second refl
-
-pub below_of : (n m : ℕ) → nat_lt n m ≡ true → n < m
-below_of n m e = grind (arith, nat_tests)
-
 -- the shape
-
-pub length_written : (cache : Cache) (w : Option Write) → length (written_to cache w).lines ≡ length cache.lines
-length_written cache None = refl
-length_written cache (Some w) = length-set cache.lines _ _
 
 module _ (s : Fabric) (n : ℕ) (h : IsShaped s) (l : n < length s.nodes) where
   -- a node is replaced by one of as many lines, and it sends a message
@@ -44,12 +28,6 @@ module _ (s : Fabric) (n : ℕ) (h : IsShaped s) (l : n < length s.nodes) where
 
       count : length after.nodes ≡ length s.nodes
       count = length-set s.nodes n v
-
-  -- an instruction retires
-  pub retired-shaped : (image : ImageData) (found : Found) → IsShaped (retired image s n found).fabric
-  retired-shaped image found =
-      let w = with_node-shaped s n (node_with (node_at s n) (next_with image (node_at s n) found)) h l (length_written (node_at s n).cache (next_with image (node_at s n) found).effect.write ∙ h.lines n l) in
-      record { some = w.some; few = w.few; lines = w.lines; homes = w.homes; sharers = w.sharers; below = w.below; within = w.within; rising = w.rising }
 
 -- what the tests say
 
@@ -71,6 +49,9 @@ no_put_seen b (Some put) e = grind arith
 
 pub absent_seen : (line : LineState) → is_present line ≡ false → line_seen line ≡ NoLine
 absent_seen line e = grind arith
+
+pub present_seen : (line : LineState) → is_present line ≡ true → line_seen line ≢ NoLine
+present_seen line e = λ q. grind arith
 
 pub not_writable_seen : (line : LineState) → is_writable_state line ≡ false → is_writable (line_seen line) ≡ false
 not_writable_seen line e = grind arith

@@ -1,9 +1,8 @@
--- A report keeps the sentences of every block: its number is at most the ready number that each block tells.
+-- A report leads every block on: its number is at most the ready number that each block tells.
 use Rattle.std.proofs.Common.{◌≡◌, ◌≢◌, ℕ, zero, suc, ◌+◌, ◌%◌, ◌<◌, ◌≤◌, Bool, true, false, List, [], ◌∷◌, length, refl, sym, subst, arith, rules, if◌then◌else◌, nat_eq, Option, Some, None}
 use Rattle.std.specs.Prelude.{slice_index_or}
 use Rattle.std.proofs.lemmas.Bool.Decides.{nat_tests}
 use Rattle.sn_base.specs.declared.event.Answer.TheVariants.{NetFull, Reported}
-use Rattle.sn_base.specs.declared.event.Event.TheVariants as event
 use Rattle.sn_msg.specs.declared.Body.TheVariants.{Ready}
 use Rattle.sn_model.specs.Caches.{Miss, Put, block_count}
 use Rattle.sn_model.specs.CacheRows.{send}
@@ -16,11 +15,11 @@ use Rattle.sn_coherence.specs.OtherEvents.{report}
 use Rattle.sn_coherence.specs.Events.{IsReady, Report}
 use Rattle.fabric_coherence.specs.View.{Beside, block_of, miss_seen, put_seen, put_issued, kind_open, begun_of}
 use Rattle.fabric_coherence.specs.Steps.{IsShaped, losing, lost_at_once}
-use Rattle.fabric_coherence.specs.Coherent.{IsKept, Keeps, IsOfMachine}
+use Rattle.fabric_coherence.specs.Coherent.{IsKept}
+use Rattle.fabric_coherence.specs.Leads.{Goes, Moves}
 use Rattle.fabric_coherence.proofs.NetShape.{with_net-shaped, posted-shaped, net-shaped}
 use Rattle.fabric_coherence.proofs.NodeOther.{report-seen}
-use Rattle.fabric_coherence.proofs.KeptCommon.{both, event_keeps, kept_as_it_is, kept_of_each}
-use Rattle.fabric_coherence.proofs.KeptOwn.{keeps_if, is_there}
+use Rattle.fabric_coherence.proofs.KeptCommon.{quiet_losing, goes_each, as_it_is, by_test}
 
 -- each least is at most what it was made of
 
@@ -125,16 +124,16 @@ module _ (s : Fabric) (t : Beside) (kept : IsKept s t) (n : ℕ) where
   first_block = search rules
 
   module _ (l : n < length s.nodes) where
-    report-shaped : IsShaped sends.state
+    report-shaped : IsShaped sends.fabric
     report-shaped = with_net-shaped s sends.fabric.net kept.shape
         (posted-shaped (routes_of s) s.net n (node_at s n).now 0 (send 0 (Ready (ready_of s n)) ∷ []) (length s.nodes) l first_block ((kept.shape.some, kept.shape.some), tt) (net-shaped s kept.shape))
 
-    report-kept : IsKept sends.state t
-    report-kept = kept_of_each s sends.state t refl report-shaped
+    report_goes : Goes s t (λ b r. r) sends.fabric t
+    report_goes = goes_each s t (λ b r. r) sends.fabric t refl report-shaped
         (λ b. losing (report (block_of s t b) n (ready_of s n)) (lost_at_once sends.sent))
         (λ b w. report-seen s t n b (ready_of s n) kept.shape)
-        (λ b w. event_keeps (length s.nodes) (block_of s t b) (Report n (ready_of s n)) (lost_at_once sends.sent) (both kept b w) (l, report-ready b w) tt) kept.listed refl
+        (λ b w. quiet_losing (length s.nodes) (block_of s t b) (Report n (ready_of s n)) (lost_at_once sends.sent) (l, report-ready b w) tt)
 
-  -- a report
-  pub reported-keeps : IsOfMachine s (event.Report n) → Keeps (reported s n).fabric
-  reported-keeps of = keeps_if (is_full s 1) (refused s NetFull) sends (λ e. kept_as_it_is s t kept) (λ e. (t, report-kept (is_there n (length s.nodes) of.nodes)))
+    -- a report
+    pub reported_moves : Moves s t (reported s n)
+    reported_moves = by_test s t (is_full s 1) (refused s NetFull) sends (λ e. as_it_is s t NetFull kept.shape) (λ e. (t, report_goes))

@@ -1,4 +1,4 @@
--- At the start the machine has its shape, and each block has all its sentences.
+-- At the start the fabric has its shape, and each block has all its sentences.
 use Rattle.std.proofs.Common.{◌≡◌, ◌⊎◌, inl, inr, ◌∙◌, ℕ, zero, suc, ◌+◌, ◌%◌, ◌<◌, ◌≤◌, true, false, List, [], ◌∷◌, ◌++◌, length, refl, ap, sym, subst, arith, length-append}
 use Rattle.std.specs.Prelude.{slice_index_or, replicate}
 use Rattle.std.proofs.lemmas.Bool.{cases_lt}
@@ -13,30 +13,19 @@ use Rattle.sn_coherence.specs.Same.{IsSame}
 use Rattle.sn_coherence.specs.Block as block
 use Rattle.sn_coherence.specs.Log.{was_owned, old_content, was_home, old_cache, told_at}
 use Rattle.sn_coherence.proofs.Ends.{start_kept}
-use Rattle.sn_coherence.proofs.Same.{same_kept}
+use Rattle.sn_coherence.proofs.EndsRecords.{start_recorded}
+use Rattle.sn_coherence.proofs.Same.{same_kept, same_kept_records}
+use Rattle.sn_coherence.specs.KeptRecords.{KeptRecords}
+use Rattle.sn_coherence.specs.Records.{no_records}
 use Rattle.fabric_coherence.specs.View.{block_of, line_seen, content_held, miss_seen, put_seen, put_issued, is_itself, owner_of, content_of, kind_open, requester_of, begun_of}
 use Rattle.fabric_coherence.specs.Steps.{IsShaped}
 use Rattle.fabric_coherence.specs.Coherent.{IsKept}
 use Rattle.fabric_coherence.specs.Start.{first_beside}
-use Rattle.fabric_coherence.specs.Reported.{reports_of}
-use Rattle.fabric_coherence.proofs.EventReports.{same_reports, start_reports}
 use Rattle.fabric_coherence.proofs.Recovery.{no_line_at, replicated}
 
--- what holds of each element and of what stands past the end, with one more at the end
-pushed : {A : Type 0} (P : A → Type 0) (xs : List A) (x d : A) (m : ℕ) → ((k : ℕ) → P (slice_index_or xs k d)) → P x → P d → P (slice_index_or (xs ++ x ∷ []) m d)
-pushed P [] x d zero h p q = p
-pushed P [] x d (suc m) h p q = q
-pushed P (y ∷ ys) x d zero h p q = h zero
-pushed P (y ∷ ys) x d (suc m) h p q = pushed P ys x d m (λ k. h (suc k)) p q
-
 -- each node at the start
-first_at : (P : Node → Type 0) (nodes entry m : ℕ) → ((k e : ℕ) → P (first_node k e)) → P (slice_index_or (first_nodes nodes entry) m (first_node))
-first_at P zero entry m h = h 0 0
-first_at P (suc n) entry m h = pushed P (first_nodes n entry) (first_node n entry) (first_node) m (λ k. first_at P n entry k h) (h n entry) (h 0 0)
-
-length-first_nodes : (nodes entry : ℕ) → length (first_nodes nodes entry) ≡ nodes
-length-first_nodes zero entry = refl
-length-first_nodes (suc n) entry = length-append (first_nodes n entry) (first_node n entry ∷ []) ∙ (ap (λ k. k + 1) (length-first_nodes n entry) ∙ omega arith)
+first_at : (P : Node → Type 0) (nodes m : ℕ) → P first_node → P (slice_index_or (replicate nodes first_node) m first_node)
+first_at P nodes m h = subst P (sym (replicated nodes m first_node)) h
 
 -- each home at the start
 length-homes_below : (k : ℕ) (image : ImageData) → length (homes_below k image) ≡ k
@@ -67,42 +56,37 @@ length-empty_lines = length-replicate block_count no_line
 low : (b n : ℕ) → 1 ≤ n → b % n < n
 low b n l = omega arith
 
-none_reported : (count n d : ℕ) → slice_index_or (replicate count d) n d ≡ d
-none_reported zero n d = refl
-none_reported (suc count) zero d = refl
-none_reported (suc count) (suc n) d = none_reported count n d
-
 module _ (image : ImageData) (nodes : ℕ) (some : 1 ≤ nodes) (few : nodes ≤ 16) where
   abbrev s : Fabric
   s = first_fabric image nodes
 
   as_many : length s.nodes ≡ nodes
-  as_many = length-first_nodes nodes image.entry
+  as_many = length-replicate nodes first_node
 
-  each : (P : Node → Type 0) (m : ℕ) → ((k e : ℕ) → P (first_node k e)) → P (node_at s m)
-  each P m h = first_at P nodes image.entry m h
+  each : (P : Node → Type 0) (m : ℕ) → P first_node → P (node_at s m)
+  each P m h = first_at P nodes m h
 
   module _ (b : ℕ) (within : b < block_count) where
     entry_is : home_of s b ≡ first_home image b
     entry_is = first_homes_at image b within
 
     line_is : (m : ℕ) → line_of (node_at s m).cache b ≡ no_line
-    line_is m = each (λ x. line_of x.cache b ≡ no_line) m (λ k e. no_line_at b)
+    line_is m = each (λ x. line_of x.cache b ≡ no_line) m (no_line_at b)
 
     unlogged : (m : ℕ) → (node_at s m).log ≡ []
-    unlogged m = each (λ x. x.log ≡ []) m (λ k e. refl)
+    unlogged m = each (λ x. x.log ≡ []) m refl
 
     start-seen : IsSame (block_of s first_beside b) (start (home_node s b) (initial_block image b))
     start-seen = record {
       point = refl;
       home = refl;
-      now = λ m. each (λ x. x.now ≡ 0) m (λ k e. refl);
-      known = λ m. each (λ x. x.known ≡ 0) m (λ k e. refl);
+      now = λ m. each (λ x. x.now ≡ 0) m refl;
+      known = λ m. each (λ x. x.known ≡ 0) m refl;
       line = λ m. ap (λ (x : Line). line_seen x.state) (line_is m);
       content = λ m. ap (λ (x : Line). x.content) (line_is m);
-      miss = λ m. each (λ x. miss_seen b x.cache.miss ≡ block.no_miss) m (λ k e. refl);
-      putting = λ m. each (λ x. put_seen b x.cache.put ≡ block.NoPut) m (λ k e. refl);
-      put_issued = λ m. each (λ x. put_issued x.cache.put ≡ 0) m (λ k e. refl);
+      miss = λ m. each (λ x. miss_seen b x.cache.miss ≡ block.no_miss) m refl;
+      putting = λ m. each (λ x. put_seen b x.cache.put ≡ block.NoPut) m refl;
+      put_issued = λ m. each (λ x. put_issued x.cache.put ≡ 0) m refl;
       at_home = ap (λ (e : HomeEntry). is_itself e.holder) entry_is;
       owner = ap (λ (e : HomeEntry). owner_of e.holder) entry_is;
       home_content = ap (λ (e : HomeEntry). content_of e.holder) entry_is;
@@ -112,8 +96,8 @@ module _ (image : ImageData) (nodes : ℕ) (some : 1 ≤ nodes) (few : nodes ≤
       begun = ap (λ (e : HomeEntry). begun_of e.transaction) entry_is;
       net = λ i. refl;
       next = refl;
-      holds = λ m j. each (λ x. told_at was_owned x.log false b (is_owned (line_of x.cache b).state) j ≡ false) m (λ k e. ap (λ (x : Line). is_owned x.state) (no_line_at b));
-      held = λ m j. each (λ x. told_at old_content x.log false b (content_held (line_of x.cache b)) j ≡ []) m (λ k e. ap content_held (no_line_at b));
+      holds = λ m j. each (λ x. told_at was_owned x.log false b (is_owned (line_of x.cache b).state) j ≡ false) m (ap (λ (x : Line). is_owned x.state) (no_line_at b));
+      held = λ m j. each (λ x. told_at old_content x.log false b (content_held (line_of x.cache b)) j ≡ []) m (ap content_held (no_line_at b));
       last = λ m. ap (λ l. logged_to l false b) (unlogged m);
       named_home = λ j. ap (λ l. told_at was_home l true b (is_itself (home_of s b).holder) j) (unlogged (home_node s b)) ∙ ap (λ (e : HomeEntry). is_itself e.holder) entry_is;
       named = λ j. ap (λ l. told_at old_cache l true b (owner_of (home_of s b).holder) j) (unlogged (home_node s b)) ∙ ap (λ (e : HomeEntry). owner_of e.holder) entry_is;
@@ -129,7 +113,7 @@ module _ (image : ImageData) (nodes : ℕ) (some : 1 ≤ nodes) (few : nodes ≤
   start-shaped = record {
     some = subst (λ k. 1 ≤ k) (sym as_many) some;
     few = subst (λ k. k ≤ 16) (sym as_many) few;
-    lines = λ m l. each (λ x. length x.cache.lines ≡ block_count) m (λ k e. length-empty_lines);
+    lines = λ m l. each (λ x. length x.cache.lines ≡ block_count) m length-empty_lines;
     homes = length-first_homes image;
     sharers = λ b l. ap (λ (e : HomeEntry). length e.sharers) (entry_is b l) ∙ length-replicate 16 false;
     below = tt;
@@ -138,10 +122,12 @@ module _ (image : ImageData) (nodes : ℕ) (some : 1 ≤ nodes) (few : nodes ≤
   }
 
   -- the start has all of it, with nothing beside it
-  pub start-kept : IsKept (first_fabric image nodes) first_beside
+  pub start-kept : IsKept s first_beside
   start-kept = record {
     shape = start-shaped;
     blocks = λ b l. same_kept (length s.nodes) _ (start (home_node s b) (initial_block image b)) (start-seen b l) (start_kept (length s.nodes) (home_node s b) (initial_block image b) (low b (length s.nodes) start-shaped.some));
-    listed = length-replicate nodes 0 ∙ sym as_many;
-    reports = λ b l. same_reports _ (start (home_node s b) (initial_block image b)) (reports_of s) (start-seen b l) (start_reports (home_node s b) (initial_block image b) (reports_of s) (λ n. none_reported nodes n 0));
   }
+
+  -- and nothing is recorded
+  pub start-recorded : (b : ℕ) → b < block_count → KeptRecords (block_of s first_beside b) (no_records (initial_block image b))
+  start-recorded b l = same_kept_records (block_of s first_beside b) (start (home_node s b) (initial_block image b)) (no_records (initial_block image b)) (start-seen b l) (start_recorded (home_node s b) (initial_block image b))

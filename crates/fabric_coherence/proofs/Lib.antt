@@ -20,13 +20,14 @@ mod NodeAccess
 mod NodeOther
 mod Recovery
 mod Holders
-mod EventReports
 mod KeptCommon
 mod KeptNet
 mod KeptHome
 mod KeptNode
 mod KeptEvict
-mod KeptStep
+mod KeptAccess
+mod Retirements
+mod Finished
 mod KeptOwn
 mod KeptReport
 mod KeptStart
@@ -34,3 +35,6 @@ mod CacheOutcomes
 mod KeptCache
 mod KeptEvents
 mod RowsMet
+mod NodesStay
+mod Told
+mod Reports

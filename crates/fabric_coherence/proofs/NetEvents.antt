@@ -116,8 +116,8 @@ kill-seen s t o switch dead r =
     (λ i. seen-killed switch s.net.flights o i r) refl)
 
 -- Ready at the controller
-pub ready-seen : (s : Fabric) (t : Beside) (o id n k : ℕ) → IsSame (block_of (with_net (noted_ready s n k) (without_flight s.net id)) t o) (deliver_ready (block_of s t o) id)
-ready-seen s t o id n k = with_same_net (noted_ready s n k) t o (without_flight s.net id) (set (net_seen o s.net.flights) id gone) (seen-without s.net.flights id o) refl
+pub ready-seen : (s : Fabric) (t : Beside) (o id : ℕ) → IsSame (block_of (with_net s (without_flight s.net id)) t o) (deliver_ready (block_of s t o) id)
+ready-seen s t o id = with_same_net s t o (without_flight s.net id) (set (net_seen o s.net.flights) id gone) (seen-without s.net.flights id o) refl
 
 -- Advance at a node
 
@@ -139,7 +139,7 @@ advanced_by b i m =
 module _ (s : Fabric) (n : ℕ) (node : Node) (l : n < length s.nodes) where
   -- what is read at a node after one is replaced
   read_at : (A : Type 0) (says : Node → A) (m : ℕ) → says (node_at (with_node s n node) m) ≡ cond (m == n) (says node) (says (node_at s m))
-  read_at A says m = ap says (read_set s.nodes n m node (first_node) l) ∙ either (m == n)
+  read_at A says m = ap says (read_set s.nodes n m node first_node l) ∙ either (m == n)
     where
       either : (t : Bool) → says (cond t node (node_at s m)) ≡ cond t (says node) (says (node_at s m))
       either true = refl
@@ -272,9 +272,9 @@ module _ (s : Fabric) (t : Beside) (o : ℕ) (below : Below s.net.flights s.net.
       ∙ ap (cond (is_among tells_lost i) gone) (sent_at-advances o (node_at s 0).now 0 (s.point + 1) 0 s.net.next_id s.nodes i (net_seen o s.net.flights i)
       ∙ tells_same i s.net.next_id (length s.nodes) (node_at s 0).now (s.point + 1) (net_seen o s.net.flights i) (λ q. seen-fresh s.net.flights s.net.next_id o i below q))
 
-  pub validate-seen : IsSame (block_of (sending (committed_next s) 0 0 tells (Validated (s.point + 1))).fabric t o)
-      (losing (validate (length s.nodes) (block_of s t o)) (lost_at_once (sending (committed_next s) 0 0 tells (Validated (s.point + 1))).sent))
+  pub validate-seen : IsSame (block_of (sending (record s { point = s.point + 1 }) 0 0 tells (Validated (s.point + 1))).fabric t o)
+      (losing (validate (length s.nodes) (block_of s t o)) (lost_at_once (sending (record s { point = s.point + 1 }) 0 0 tells (Validated (s.point + 1))).sent))
   validate-seen =
       lost_same _ (validate (length s.nodes) (block_of s t o)) tells_lost
-      (with_net-seen (committed_next s) t o (posted (routes_of s) s.net 0 (node_at s 0).now 0 tells) (λ i. cond (is_among tells_lost i) gone (tells_all (block_of s t o) (length s.nodes) (s.point + 1) i))
+      (with_net-seen (record s { point = s.point + 1 }) t o (posted (routes_of s) s.net 0 (node_at s 0).now 0 tells) (λ i. cond (is_among tells_lost i) gone (tells_all (block_of s t o) (length s.nodes) (s.point + 1) i))
       (s.net.next_id + length s.nodes) tells_net (next-posted (routes_of s) s.net 0 (node_at s 0).now 0 tells ∙ ap (λ n. s.net.next_id + n) (length-advances (s.point + 1) 0 s.nodes)))

@@ -132,7 +132,7 @@ with_node-shaped s n node h l e = record {
 }
   where
     lines : (m : ℕ) → m < length s.nodes → length (node_at (with_node s n node) m).cache.lines ≡ block_count
-    lines m q = rw (read_set s.nodes n m node (first_node) l) (node_or (m == n) node (node_at s m) e (h.lines m q))
+    lines m q = rw (read_set s.nodes n m node first_node l) (node_or (m == n) node (node_at s m) e (h.lines m q))
 
 -- each event that is no row keeps the shape
 module _ (s : Fabric) (h : IsShaped s) where
@@ -145,19 +145,16 @@ module _ (s : Fabric) (h : IsShaped s) where
   pub kill-kept : (switch : ℕ) (dead : List Bool) → IsShaped (with_net s (record s.net { dead = dead; flights = filter (λ f. not (nat_eq f.place switch)) s.net.flights }))
   kill-kept switch dead = with_net-shaped s (record s.net { dead = dead; flights = filter (λ f. not (nat_eq f.place switch)) s.net.flights }) h (killed-shaped s.net switch (length s.nodes) dead (net-shaped s h))
 
-  pub ready-kept : (id n k : ℕ) → IsShaped (with_net (noted_ready s n k) (without_flight s.net id))
-  ready-kept id n k = let w = without-kept id in record { some = w.some; few = w.few; lines = w.lines; homes = w.homes; sharers = w.sharers; below = w.below; within = w.within; rising = w.rising }
-
   pub advance-kept : (id n k : ℕ) → n < length s.nodes → IsShaped (with_net (with_node s n (learned (node_at s n) k)) (without_flight s.net id))
   advance-kept id n k l =
       let after = with_node-shaped s n (learned (node_at s n) k) h l (h.lines n l) in
       with_net-shaped (with_node s n (learned (node_at s n) k)) (without_flight s.net id) after (without-shaped s.net id (length (with_node s n (learned (node_at s n) k)).nodes) (net-shaped (with_node s n (learned (node_at s n) k)) after))
 
-  pub validate-kept : IsShaped (sending (committed_next s) 0 0 (advances (s.point + 1) 0 s.nodes) (Validated (s.point + 1))).fabric
-  validate-kept = with_net-shaped (committed_next s) (posted (routes_of s) s.net 0 (node_at s 0).now 0 (advances (s.point + 1) 0 s.nodes)) (committed-kept)
+  pub validate-kept : IsShaped (sending (record s { point = s.point + 1 }) 0 0 (advances (s.point + 1) 0 s.nodes) (Validated (s.point + 1))).fabric
+  validate-kept = with_net-shaped (record s { point = s.point + 1 }) (posted (routes_of s) s.net 0 (node_at s 0).now 0 (advances (s.point + 1) 0 s.nodes)) (committed-kept)
       (posted-shaped (routes_of s) s.net 0 (node_at s 0).now 0 (advances (s.point + 1) 0 s.nodes) (length s.nodes) h.some first_block (advances-within (s.point + 1) 0 s.nodes (length s.nodes) (omega arith) h.some) (net-shaped s h))
     where
-      committed-kept : IsShaped (committed_next s)
+      committed-kept : IsShaped (record s { point = s.point + 1 })
       committed-kept = record { some = h.some; few = h.few; lines = h.lines; homes = h.homes; sharers = h.sharers; below = h.below; within = h.within; rising = h.rising }
 
       first_block : 0 < block_count

@@ -1,5 +1,5 @@
--- What a block sees of the other events of one node: a clock edge, a report, a byte of input, an eviction.
-use Rattle.std.proofs.Common.{get_or-set_same, get_or-set_other, ◌≡◌, ◌≢◌, ℕ, ◌+◌, ◌<◌, [], ◌∷◌, ◌++◌, length, refl, arith}
+-- What a block sees of the other events of one node: a clock edge, a report, an eviction.
+use Rattle.std.proofs.Common.{get_or-set_same, get_or-set_other, ◌≡◌, ◌≢◌, ℕ, ◌+◌, ◌<◌, [], ◌∷◌, length, refl, arith}
 use Rattle.std.proofs.lemmas.Bool.Decides.{nat_tests}
 use Rattle.std.proofs.lemmas.List.{set_past, get_or_past}
 use Rattle.sn_model.specs.declared.cache.LineState.TheVariants.{Shared}
@@ -22,7 +22,7 @@ use Rattle.fabric_coherence.proofs.NodeSeen.{same_then, node_changed, log_same, 
 pub edge-seen : (s : Fabric) (t : Beside) (n b : ℕ) → n < length s.nodes →
     IsSame (block_of (answered (with_node s n (after_edge (node_at s n))) (Edged ((node_at s n).now + 1))).fabric (beside_edged s t n) b) (edge (block_of s t b) n)
 edge-seen s t n b l = same_then _ (carried_by (changed (block_of s (beside_edged s t n) b) b n (after_edge (node_at s n))) b s.net) _
-    (node_changed s (beside_edged s t n) n b (after_edge (node_at s n)) s.net s.pending s.held l (log_same b (after_edge (node_at s n)) (node_at s n) refl))
+    (node_changed s (beside_edged s t n) n b (after_edge (node_at s n)) s.net l (log_same b (after_edge (node_at s n)) (node_at s n) refl))
     (grind (arith, nat_tests))
 
 -- a report
@@ -31,13 +31,6 @@ pub report-seen : (s : Fabric) (t : Beside) (n b k : ℕ) → IsShaped s →
     IsSame (block_of (sending s n 0 (send 0 (Ready k) ∷ []) (Reported k)).fabric t b) (losing (report (block_of s t b) n k) (lost_at_once (sending s n 0 (send 0 (Ready k) ∷ []) (Reported k)).sent))
 report-seen s t n b k shape = lost_same _ (report (block_of s t b) n k) (is_lost (routes_of s) s.net (sends s n 0 (send 0 (Ready k)))) s.net.next_id
     (grind (arith, nat_tests, own_post (routes_of s) s.net (sends s n 0 (send 0 (Ready k))) b, shape.below))
-
--- a byte of input
-
-pub given-seen : (s : Fabric) (t : Beside) (n b byte : ℕ) → n < length s.nodes → IsSame (block_of (given s n byte).fabric t b) (block_of s t b)
-given-seen s t n b byte l = same_then _ (carried_by (changed (block_of s t b) b n (record (node_at s n) { given = (node_at s n).given ++ byte ∷ [] })) b s.net) _
-    (node_changed s t n b (record (node_at s n) { given = (node_at s n).given ++ byte ∷ [] }) s.net s.pending s.held l (log_same b (record (node_at s n) { given = (node_at s n).given ++ byte ∷ [] }) (node_at s n) refl))
-    (grind (arith, nat_tests))
 
 -- a put begins
 
@@ -65,11 +58,11 @@ line_other cache b o n = grind (arith, get_or-set_other)
 pub drop-seen : (s : Fabric) (t : Beside) (n b : ℕ) → n < length s.nodes → (line_of (node_at s n).cache b).state ≡ Shared →
     IsSame (block_of (answered (with_node s n (without_copy (node_at s n) b)) Evicted).fabric t b) (evict_shared (block_of s t b) n)
 drop-seen s t n b l shared = same_then _ (carried_by (changed (block_of s t b) b n (without_copy (node_at s n) b)) b s.net) _
-    (node_changed s t n b (without_copy (node_at s n) b) s.net s.pending s.held l (log_same b (without_copy (node_at s n) b) (node_at s n) refl))
+    (node_changed s t n b (without_copy (node_at s n) b) s.net l (log_same b (without_copy (node_at s n) b) (node_at s n) refl))
     (grind (arith, nat_tests, line_dropped (node_at s n).cache b))
 
 pub other_drop-seen : (s : Fabric) (t : Beside) (n b about : ℕ) → n < length s.nodes → b ≢ about →
     IsSame (block_of (answered (with_node s n (without_copy (node_at s n) about)) Evicted).fabric t b) (block_of s t b)
 other_drop-seen s t n b about l apart = same_then _ (carried_by (changed (block_of s t b) b n (without_copy (node_at s n) about)) b s.net) _
-    (node_changed s t n b (without_copy (node_at s n) about) s.net s.pending s.held l (log_same b (without_copy (node_at s n) about) (node_at s n) refl))
+    (node_changed s t n b (without_copy (node_at s n) about) s.net l (log_same b (without_copy (node_at s n) about) (node_at s n) refl))
     (grind (arith, nat_tests, line_other (node_at s n).cache about b apart))

@@ -65,7 +65,7 @@ pub set_with : {A : Type 0} (f : ℕ → A) (n m : ℕ) (v w : A) → v ≡ w �
 set_with f n m v w e = ap (λ x. set f n x m) e
 
 pub replaced_at : {B : Type 0} (f : Node → B) (s : Fabric) (n m : ℕ) (v : Node) → n < length s.nodes → f (node_at (with_node s n v) m) ≡ cond (m == n) (f v) (f (node_at s m))
-replaced_at f s n m v l = ap f (read_set s.nodes n m v (first_node) l) ∙ chosen f (m == n) v (node_at s m)
+replaced_at f s n m v l = ap f (read_set s.nodes n m v first_node l) ∙ chosen f (m == n) v (node_at s m)
 
 pub home_still : (s : Fabric) (n b : ℕ) (v : Node) → home_node (with_node s n v) b ≡ home_node s b
 home_still s n b v = ap (λ k. b % k) (length-set s.nodes n v)
@@ -74,9 +74,9 @@ pub same_at_home : {B : Type 0} (f : Node → B) (s : Fabric) (n b : ℕ) (v : N
     f (node_at (with_node s n v) (home_node (with_node s n v) b)) ≡ f (node_at s (home_node s b))
 same_at_home f s n b v l e = ap (λ h. f (node_at (with_node s n v) h)) (home_still s n b v) ∙ (replaced_at f s n (home_node s b) v l ∙ set_self (λ m. f (node_at s m)) n (home_node s b) (f v) e)
 
-pub node_changed : (s : Fabric) (t : Beside) (n b : ℕ) (v : Node) (net : Net) (pending : List Retirement) (held : List HeldByte) → n < length s.nodes → IsSameAtHome b v (node_at s n) →
-    IsSame (block_of (record (with_node s n v) { net = net; pending = pending; held = held }) t b) (carried_by (changed (block_of s t b) b n v) b net)
-node_changed s t n b v net pending held l h = record {
+pub node_changed : (s : Fabric) (t : Beside) (n b : ℕ) (v : Node) (net : Net) → n < length s.nodes → IsSameAtHome b v (node_at s n) →
+    IsSame (block_of (record (with_node s n v) { net = net }) t b) (carried_by (changed (block_of s t b) b n v) b net)
+node_changed s t n b v net l h = record {
   point = refl;
   home = home_still s n b v;
   now = λ m. replaced_at (λ x. x.now) s n m v l;
@@ -171,7 +171,7 @@ module _ (s : Fabric) (t : Beside) (n b about : ℕ) (v : Node) (out : Out) (ans
       (sym (tag_is s n v l now))
       (lost_same _ c (is_lost (routes_with s n v) s.net (sends s n about out)) s.net.next_id
       (same_then _ (carried_by (changed (block_of s t b) b n v) b (post (routes_with s n v) s.net (sends s n about out))) _
-      (node_changed s t n b v (post (routes_with s n v) s.net (sends s n about out)) s.pending s.held l home) h))
+      (node_changed s t n b v (post (routes_with s n v) s.net (sends s n about out)) l home) h))
 
 pub own_block : (b : ℕ) → nat_eq b b ≡ true
 own_block b = grind (arith, nat_tests)

@@ -166,14 +166,14 @@ below_or m n = by_test (nat_lt m n) refl
     by_test true e = inl (grind (arith, nat_tests))
     by_test false e = inr (grind (arith, nat_tests))
 
-pub each_node : (P : ℕ → Node → Node → Type 0) (s : Fabric) → ((m : ℕ) → m < length s.nodes → P m (node_at s m) (restored_node s.point (node_at s m))) → ((m : ℕ) → length s.nodes ≤ m → P m (first_node) (first_node)) →
-    (m : ℕ) → P m (node_at s m) (slice_index_or (map (restored_node s.point) s.nodes) m (first_node))
+pub each_node : (P : ℕ → Node → Node → Type 0) (s : Fabric) → ((m : ℕ) → m < length s.nodes → P m (node_at s m) (restored_node s.point (node_at s m))) → ((m : ℕ) → length s.nodes ≤ m → P m first_node first_node) →
+    (m : ℕ) → P m (node_at s m) (slice_index_or (map (restored_node s.point) s.nodes) m first_node)
 each_node P s f g m = at (below_or m (length s.nodes))
   where
-    at : (m < length s.nodes) ⊎ (length s.nodes ≤ m) → P m (node_at s m) (slice_index_or (map (restored_node s.point) s.nodes) m (first_node))
-    at (inl l) = subst (P m (node_at s m)) (sym (get_or-map (restored_node s.point) s.nodes m (first_node) (first_node) l)) (f m l)
-    at (inr l) = subst (P m (node_at s m)) (sym (get_or_past (map (restored_node s.point) s.nodes) m (first_node) (rw length-map l)))
-        (subst (λ x. P m x (first_node)) (sym (get_or_past s.nodes m (first_node) l)) (g m l))
+    at : (m < length s.nodes) ⊎ (length s.nodes ≤ m) → P m (node_at s m) (slice_index_or (map (restored_node s.point) s.nodes) m first_node)
+    at (inl l) = subst (P m (node_at s m)) (sym (get_or-map (restored_node s.point) s.nodes m first_node first_node l)) (f m l)
+    at (inr l) = subst (P m (node_at s m)) (sym (get_or_past (map (restored_node s.point) s.nodes) m first_node (rw length-map l)))
+        (subst (λ x. P m x first_node) (sym (get_or_past s.nodes m first_node l)) (g m l))
 
 -- a list of one value
 pub replicated : {A : Type 0} (n i : ℕ) (x : A) → get_or (replicate n x) i x ≡ x
@@ -197,7 +197,7 @@ restored_home_at s k b l = let e : 0 + b ≡ b = omega arith in homes_at s k 0 s
 
 module _ (s : Fabric) (t : Beside) (b : ℕ) (shape : IsShaped s) (within : b < block_count) where
   abbrev new_node : ℕ → Node
-  new_node m = slice_index_or (map (restored_node s.point) s.nodes) m (first_node)
+  new_node m = slice_index_or (map (restored_node s.point) s.nodes) m first_node
 
   abbrev new_home : HomeEntry
   new_home = slice_index_or (restored_homes s s.point 0 s.homes) b no_entry
@@ -248,7 +248,7 @@ module _ (s : Fabric) (t : Beside) (b : ℕ) (shape : IsShaped s) (within : b < 
   place = b % length (map (restored_node s.point) s.nodes)
 
   -- a recovery is that of each block
-  pub recovery-seen : IsSame (block_of (restored s) (beside_restored t) b) (recover (length s.nodes) (block_of s t b))
+  pub recovery-seen : IsSame (block_of (restored s s.point) (beside_restored t) b) (recover (length s.nodes) (block_of s t b))
   unfolding restored
   recovery-seen = record {
     point = refl;
