@@ -16,3 +16,4 @@ pub mod Hearings
 pub mod Hears
 pub mod Turns
 pub mod Points
+pub mod Half

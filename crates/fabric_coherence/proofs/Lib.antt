@@ -26,15 +26,15 @@ mod KeptHome
 mod KeptNode
 mod KeptEvict
 mod KeptAccess
-mod Retirements
-mod Finished
+pub mod Retirements
+pub mod Finished
 mod KeptOwn
 mod KeptReport
-mod KeptStart
+pub mod KeptStart
 mod CacheOutcomes
 mod KeptCache
-mod KeptEvents
+pub mod KeptEvents
 mod RowsMet
-mod NodesStay
-mod Told
-mod Reports
+pub mod NodesStay
+pub mod Told
+pub mod Reports
