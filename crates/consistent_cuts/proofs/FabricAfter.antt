@@ -1,5 +1,5 @@
 -- The fabric after a retirement, with the records of each block then.
-use Rattle.std.proofs.Common.{◌≡◌, ℕ, ◌<◌, Bool, true, false, length, Option, Some, None, refl, sym, ap, ◌∙◌, subst}
+use Rattle.std.proofs.Common.{◌≡◌, ℕ, ◌+◌, ◌<◌, ◌≤◌, Bool, true, false, length, Option, Some, None, refl, sym, ap, ◌∙◌, subst}
 use Rattle.sn_base.specs.Image.{ImageData}
 use Rattle.sn_base.specs.declared.block.Write.{Write}
 use Rattle.sn_base.specs.declared.config.Config.{Config}
@@ -12,17 +12,20 @@ use Rattle.rv_core.proofs.CoreLaws.{write_fits}
 use Rattle.sn_model.specs.declared.cache.Need.TheVariants as need
 use Rattle.sn_model.specs.Access.{stored, written_in}
 use Rattle.sn_model.specs.Caches.{block_count, line_of, is_present}
-use Rattle.sn_model.specs.Fabric.{Fabric, node_at}
+use Rattle.sn_model.specs.Fabric.{Fabric, Flight, node_at, first_fabric, initial_block}
+use Rattle.sn_model.specs.Net.{flight_of}
 use Rattle.sn_model.specs.FabricEvents.{FabricEvent, moved_by}
 use Rattle.sn_model.specs.Machine.{State, processor_at}
 use Rattle.sn_model.specs.Instructions.{found_at, found_by, written_by, retired}
-use Rattle.sn_coherence.specs.Records.{Records, loads, loads_reserved, stores, stores_conditional, unreserves}
+use Rattle.sn_coherence.specs.Records.{Records, no_records, loads, loads_reserved, stores, stores_conditional, unreserves}
 use Rattle.sn_consistency.specs.Words.{write_block}
 use Rattle.consistent_cuts.specs.Outlined.{Agrees}
 use Rattle.consistent_cuts.specs.Accesses.{line_at, write_of, CanServe, CanServeWant, CanRetire, records_wanting, records_after}
 use Rattle.fabric_coherence.specs.Events.{CanUse, CanWrite}
 use Rattle.fabric_coherence.specs.Recorded.{KeepsRecords, MayBeRecorded, recorded_by, at_block}
 use Rattle.fabric_coherence.specs.Told.{Tells}
+use Rattle.fabric_coherence.specs.Coherent.{IsFinished}
+use Rattle.fabric_coherence.specs.Steps.{IsShaped, IsInFlight}
 
 -- what the fabric's half says of the records, in its own words: what they tell, and that they are kept by each event and by
 -- each access that is done
@@ -41,6 +44,10 @@ pub record FabricHalf : Type 0 where
       → KeepsRecords (stored s n w) (at_block (block_of w.address)
       (stores_conditional (r (block_of w.address)) n (node_at s n).now (written_in (line_of (node_at s n).cache (block_of w.address)).content w)) (λ o. unreserves (r o) n))
   pub undone : (s : Fabric) (r : ℕ → Records) (n : ℕ) → KeepsRecords s r → n < length s.nodes → KeepsRecords s (λ o. unreserves (r o) n)
+  -- the start; that a validation comes where nothing is unfinished; and what a message in flight is
+  pub start : (image : ImageData) (nodes : ℕ) → 1 ≤ nodes → nodes ≤ 16 → KeepsRecords (first_fabric image nodes) (λ b. no_records (initial_block image b))
+  pub finished : (s : Fabric) (r : ℕ → Records) → KeepsRecords s r → ((b n : ℕ) → b < block_count → n < length s.nodes → s.point < (r b).reported n) → IsFinished s (s.point + 1)
+  pub flight : (s : Fabric) (id : ℕ) (f : Flight) → IsShaped s → flight_of s.net.flights id ≡ Some f → IsInFlight s f.message
 
 -- what is not wanted isn't written
 unwritten : (w : Want) (done : Bool) (write : Option Write) → writes_memory w done ≡ false → WriteFits w done write → write ≡ None

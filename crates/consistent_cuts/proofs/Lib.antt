@@ -17,3 +17,4 @@ pub mod Hears
 pub mod Turns
 pub mod Points
 pub mod Half
+pub mod EachEvent

@@ -2,3 +2,4 @@ pub mod Outlined
 pub mod Lists
 pub mod Joined
 pub mod Accesses
+pub mod Runs

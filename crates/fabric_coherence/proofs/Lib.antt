@@ -3,7 +3,7 @@ mod NetSends
 mod Rising
 mod NetShape
 mod NetEvents
-mod InFlight
+pub mod InFlight
 mod CacheSeen
 mod CacheSends
 mod CacheRows
