@@ -16,5 +16,6 @@ pub mod Hearings
 pub mod Hears
 pub mod Turns
 pub mod Points
+pub mod Half
 pub mod EachEvent
 pub mod Start

@@ -9,7 +9,7 @@ use Rattle.sn_model.specs.Caches.{block_count}
 use Rattle.sn_model.specs.Fabric.{node_at}
 use Rattle.sn_model.specs.FabricEvents.{Access, moved_by}
 use Rattle.sn_model.specs.Machine.{State}
-use Rattle.sn_model.specs.Instructions.{Stepped, stepped}
+use Rattle.sn_model.specs.Instructions.{stepped}
 use Rattle.sn_model.specs.Trace.{Entry as Retired, entry_at, traced}
 use Rattle.sn_coherence.specs.Records.{Records}
 use Rattle.sn_consistency.specs.Entries.{Entry}
@@ -54,7 +54,8 @@ module _ (half : FabricHalf) (image : ImageData) (config : Config) (s : State) (
   access_joins : n < length s.fabric.nodes → (block : ℕ) (access : Need) → block < block_count → Joins image (record s { fabric = (accessed config s.fabric n block access).fabric }) trace
   unfolding moved_by
   access_joins l block access low = (
-    r, list,
+    r,
+    list,
     hearing_joins image s r list trace joined (accessed config s.fabric n block access).fabric None (same_accessed config s.fabric n block access).clocks
         (subst (λ told. KeepsRecords (accessed config s.fabric n block access).fabric (λ b. heard_by told b (r b))) (same_accessed config s.fabric n block access).told
         (half.event config s.fabric r (Access n block access) joined.fabric (l, low))),

@@ -1,0 +1,40 @@
+mod Base
+mod NetSends
+mod Rising
+mod NetShape
+mod NetEvents
+pub mod InFlight
+mod CacheSeen
+mod CacheSends
+mod CacheRows
+mod CacheMisses
+mod CacheApart
+mod CacheElsewhere
+mod CacheConditions
+mod HomeSeen
+mod HomeRows
+mod HomeElsewhere
+mod HomeOutcomes
+mod NodeSeen
+mod NodeAccess
+mod NodeOther
+mod Recovery
+mod Holders
+mod KeptCommon
+mod KeptNet
+mod KeptHome
+mod KeptNode
+mod KeptEvict
+mod KeptAccess
+pub mod Retirements
+pub mod Finished
+mod KeptOwn
+mod KeptReport
+pub mod KeptStart
+mod CacheOutcomes
+mod KeptCache
+pub mod KeptEvents
+mod RowsMet
+pub mod NodesStay
+pub mod Told
+pub mod Reports

@@ -2,7 +2,7 @@
 use Rattle.std.proofs.Common.{◌≡◌, ℕ, zero, suc, ◌+◌, ◌*◌, List, [], ◌∷◌, ◌++◌, length, None, refl, ap, ◌∙◌, add-one, length-append}
 use Rattle.sn_base.specs.Image.{ImageData}
 use Rattle.sn_model.specs.Homes.{HomeEntry}
-use Rattle.sn_model.specs.Machine.{first_home}
+use Rattle.sn_model.specs.Fabric.{first_home}
 use Rattle.home_directory.specs.Home.{entries_below}
 use Rattle.home_directory.specs.Open.{with_open, opens_from}
 

@@ -36,7 +36,7 @@ abbrev pub does : Outcome → Verdict
 does Busy = Waits
 does (AtHome reply) = Does reply
 does (AtCache reply) = Waits
-does (Noted state) = Waits
+does (Noted fabric told) = Waits
 
 shared_step : (b : Bool) (log : LogData) (block now : ℕ) (x y : HomeReply) → length log.entries ≤ log.limit →
     nat_lt log.limit (length x.after.log) ≡ lacks_room log (Some now) block → nat_lt log.limit (length y.after.log) ≡ false →
@@ -164,7 +164,7 @@ pub tells_done : (before after : Kept) (step : HomeStep) (outcome : Outcome) →
 tells_done before after step Busy d = absurd d
 tells_done before after step (AtHome reply) d = (d.left, d.sent)
 tells_done before after step (AtCache reply) d = absurd d
-tells_done before after step (Noted state) d = absurd d
+tells_done before after step (Noted fabric told) d = absurd d
 
 -- who owns, by what the entry's owner and memory say
 

@@ -4,7 +4,7 @@ use Rattle.sn_base.specs.Image.{ImageData}
 use Rattle.sn_model.specs.declared.home.Owner.{Owner}
 use Rattle.sn_model.specs.declared.home.Owner.TheVariants.{Home, Cache}
 use Rattle.sn_model.specs.Homes.{HomeEntry, Holder, Itself, OfCache, Transaction}
-use Rattle.sn_model.specs.Machine.{first_home, no_entry}
+use Rattle.sn_model.specs.Fabric.{first_home, no_entry}
 
 -- the node, how many nodes there are, and the entries: at place p that of block node + nodes * p
 pub record HomeData : Type 0 where

@@ -1,6 +1,6 @@
 //! The entries of a home at the start: it owns its blocks, with the bytes that the program gives them.
 ghost use Rattle.std.specs.Prelude.{◌≡◌, ◌+◌, ◌*◌, ◌<◌, ◌≤◌, IfOk};
-ghost use Rattle.sn_model.specs.Machine.{first_home, initial_block};
+ghost use Rattle.sn_model.specs.Fabric.{first_home, initial_block};
 ghost use Rattle.home_directory.specs.Home.{places_of, entries_below};
 
 use crate::entry::Entry;

@@ -1,27 +1,27 @@
 -- What a controller says and does is what the definitions of the machine say of the event.
 use Rattle.std.proofs.Common.{◌≡◌, ℕ, Bool, true, false, not, ◌&&◌, Option, Some, None, refl}
 use Rattle.std.specs.Prelude.{nat_lt, nat_le, length, if◌then◌else◌}
-use Rattle.sn_base.specs.Image.{ImageData}
 use Rattle.sn_base.specs.declared.config.Config.{Config}
-use Rattle.sn_base.specs.declared.event.Answer.TheVariants.{Waits, NeedsEvict, LogFull, NetFull, MissOpen}
+use Rattle.sn_base.specs.declared.event.Answer.TheVariants.{Retired, Waits, NeedsEvict, LogFull, NetFull, MissOpen}
 use Rattle.sn_msg.specs.declared.Message.{Message}
 use Rattle.sn_msg.specs.declared.Body.{Body}
 use Rattle.sn_msg.specs.declared.Body.TheVariants.{GetS, GetM, FwdGetS, FwdGetM, Inv, DataS, DataM, DataE, UpgOk, InvAck, Unblock, PutReq, PutGo, PutData, PutDone, Ready, Advance}
-use Rattle.rv_core.specs.Core.{block_of}
 use Rattle.sn_model.specs.declared.cache.LineState.{LineState}
 use Rattle.sn_model.specs.declared.cache.LineState.TheVariants.{Absent, Shared, Owned, Modified, Exclusive}
+use Rattle.sn_model.specs.declared.cache.Need.{Need}
 use Rattle.sn_model.specs.declared.cache.Need.TheVariants.{Read, Write}
 use Rattle.sn_model.specs.Caches.{Put, line_of, is_present, is_writable_state, misses_on, puts_on, frames_taken}
-use Rattle.sn_model.specs.Machine.{State, node_at, with_node, home_node}
-use Rattle.sn_model.specs.Access.{Stepped, Found, nothing_found, word_in, refused, is_full, prepared, retired, missed, reads, writes}
+use Rattle.sn_model.specs.Fabric.{Fabric, Moved, node_at, home_node, refused, answered}
+use Rattle.sn_model.specs.Net.{is_full}
+use Rattle.sn_model.specs.Access.{prepared, missed, accesses}
 use Rattle.sn_model.specs.NodeEvents.{evicted, evicts}
 use Rattle.sn_model.specs.NetEvents.{logged_at, outcome_of, AtCache}
 use Rattle.mosi_cache.specs.declared.step.Probe1.TheVariants.{Ready as IsReady, Waits as HasToWait, Miss, NeedsEvict as HasNoFrame, LogFull as HasNoRoom}
 use Rattle.mosi_cache.specs.Rows.{row_by, MeetsRow}
 use Rattle.mosi_cache.specs.Probe.{probe_by, evict_by, evict_line}
-use Rattle.mosi_cache.specs.Machine.{controller_at, log_at, step_by_probe, evicted_by}
+use Rattle.mosi_cache.specs.Machine.{controller_at, log_at, access_by_probe, evicted_by}
 
-pub row-agrees : (s : State) (m : Message) (body : Body) → MeetsRow (logged_at s m.to) m.block body →
+pub row-agrees : (s : Fabric) (m : Message) (body : Body) → MeetsRow (logged_at s m.to) m.block body →
     outcome_of s m body ≡ AtCache (row_by (logged_at s m.to) (home_node s m.block) m.block (node_at s m.to).now m.tag body)
 row-agrees s m (FwdGetS requester) r = refl
 row-agrees s m (FwdGetM requester due) r = refl
@@ -41,50 +41,41 @@ row-agrees s m (PutData content) r = absurd r
 row-agrees s m (Ready point) r = absurd r
 row-agrees s m (Advance point) r = absurd r
 
--- by the tests of a step, in their order
+-- by the tests of an access, in their order
 
-miss_step : (s : State) (retires misses : Stepped) (p e : Bool) →
-    (if not p && e then refused s NeedsEvict else if is_full s 1 then refused s NetFull else misses) ≡ step_by_probe s retires misses (if not p && e then HasNoFrame else Miss)
-miss_step s retires misses true e = refl
-miss_step s retires misses false true = refl
-miss_step s retires misses false false = refl
+miss_step : (s : Fabric) (misses : Moved) (p e : Bool) →
+    (if not p && e then refused s NeedsEvict else if is_full s 1 then refused s NetFull else misses) ≡ access_by_probe s misses (if not p && e then HasNoFrame else Miss)
+miss_step s misses true e = refl
+miss_step s misses false true = refl
+miss_step s misses false false = refl
 
-read_step : (s : State) (retires misses : Stepped) (w p e : Bool) →
-    (if w then refused s Waits else if p then retires else if not p && e then refused s NeedsEvict else if is_full s 1 then refused s NetFull else misses)
-    ≡ step_by_probe s retires misses (if w then HasToWait else if p then IsReady else if not p && e then HasNoFrame else Miss)
-read_step s retires misses true p e = refl
-read_step s retires misses false true e = refl
-read_step s retires misses false false true = refl
-read_step s retires misses false false false = refl
+read_step : (s : Fabric) (misses : Moved) (w p e : Bool) →
+    (if w then refused s Waits else if p then answered s Retired else if not p && e then refused s NeedsEvict else if is_full s 1 then refused s NetFull else misses)
+    ≡ access_by_probe s misses (if w then HasToWait else if p then IsReady else if not p && e then HasNoFrame else Miss)
+read_step s misses true p e = refl
+read_step s misses false true e = refl
+read_step s misses false false true = refl
+read_step s misses false false false = refl
 
-write_step : (s : State) (retires misses : Stepped) (w v f p e : Bool) →
-    (if w then refused s Waits else if v then (if f then refused s LogFull else retires) else if not p && e then refused s NeedsEvict else if is_full s 1 then refused s NetFull else misses)
-    ≡ step_by_probe s retires misses (if w then HasToWait else if v then (if f then HasNoRoom else IsReady) else if not p && e then HasNoFrame else Miss)
-write_step s retires misses true v f p e = refl
-write_step s retires misses false true true p e = refl
-write_step s retires misses false true false p e = refl
-write_step s retires misses false false f p e = miss_step s retires misses p e
+write_step : (s : Fabric) (misses : Moved) (w v f p e : Bool) →
+    (if w then refused s Waits else if v then (if f then refused s LogFull else answered s Retired) else if not p && e then refused s NeedsEvict else if is_full s 1 then refused s NetFull else misses)
+    ≡ access_by_probe s misses (if w then HasToWait else if v then (if f then HasNoRoom else IsReady) else if not p && e then HasNoFrame else Miss)
+write_step s misses true v f p e = refl
+write_step s misses false true true p e = refl
+write_step s misses false true false p e = refl
+write_step s misses false false f p e = miss_step s misses p e
 
-pub read-agrees : (image : ImageData) (config : Config) (s : State) (n address : ℕ) →
-    reads image config s n address
-    ≡ step_by_probe s (retired image s n (record nothing_found { seen = word_in (line_of (node_at s n).cache (block_of address)).content address })) (missed s n (block_of address) Read)
-    (probe_by (controller_at config s n) (log_at config s n) (block_of address) (node_at s n).now Read)
-read-agrees image config s n address =
-    read_step s (retired image s n (record nothing_found { seen = word_in (line_of (node_at s n).cache (block_of address)).content address })) (missed s n (block_of address) Read)
-    (puts_on (node_at s n).cache.put (block_of address)) (is_present (line_of (node_at s n).cache (block_of address)).state)
-    (nat_le config.ways (frames_taken (node_at s n).cache config.sets (block_of address)))
+pub probe-agrees : (config : Config) (s : Fabric) (n block : ℕ) (need : Need) →
+    accesses config s n block need ≡ access_by_probe s (missed s n block need) (probe_by (controller_at config s n) (log_at config s n) block (node_at s n).now need)
+probe-agrees config s n block Read =
+    read_step s (missed s n block Read) (puts_on (node_at s n).cache.put block) (is_present (line_of (node_at s n).cache block).state)
+    (nat_le config.ways (frames_taken (node_at s n).cache config.sets block))
+probe-agrees config s n block Write =
+    write_step s (missed s n block Write) (puts_on (node_at s n).cache.put block) (is_writable_state (line_of (node_at s n).cache block).state)
+    (nat_lt config.log (length (prepared (node_at s n) block).log)) (is_present (line_of (node_at s n).cache block).state)
+    (nat_le config.ways (frames_taken (node_at s n).cache config.sets block))
 
-pub write-agrees : (image : ImageData) (config : Config) (s : State) (n address : ℕ) (found : Found) →
-    writes image config s n address found
-    ≡ step_by_probe s (retired image (with_node s n (prepared (node_at s n) (block_of address))) n found) (missed s n (block_of address) Write)
-    (probe_by (controller_at config s n) (log_at config s n) (block_of address) (node_at s n).now Write)
-write-agrees image config s n address found =
-    write_step s (retired image (with_node s n (prepared (node_at s n) (block_of address))) n found) (missed s n (block_of address) Write)
-    (puts_on (node_at s n).cache.put (block_of address)) (is_writable_state (line_of (node_at s n).cache (block_of address)).state)
-    (nat_lt config.log (length (prepared (node_at s n) (block_of address)).log)) (is_present (line_of (node_at s n).cache (block_of address)).state)
-    (nat_le config.ways (frames_taken (node_at s n).cache config.sets (block_of address)))
-
-put_agrees : (s : State) (n block : ℕ) (put : Option Put) (state : LineState) → (node_at s n).cache.put ≡ put → evicts s n block state ≡ evicted_by s n block (evict_line put state)
+put_agrees : (s : Fabric) (n block : ℕ) (put : Option Put) (state : LineState) → (node_at s n).cache.put ≡ put → evicts s n block state ≡ evicted_by s n block (evict_line put state)
 put_agrees s n block put Absent e = refl
 put_agrees s n block put Shared e = refl
 put_agrees s n block None Owned e = rw e refl
@@ -94,10 +85,10 @@ put_agrees s n block (Some p) Modified e = rw e refl
 put_agrees s n block None Exclusive e = rw e refl
 put_agrees s n block (Some p) Exclusive e = rw e refl
 
-evict_step : (s : State) (n block : ℕ) (state : LineState) (m : Bool) →
+evict_step : (s : Fabric) (n block : ℕ) (state : LineState) (m : Bool) →
     (if m then refused s MissOpen else evicts s n block state) ≡ evicted_by s n block (if m then MissOpen else evict_line (node_at s n).cache.put state)
 evict_step s n block state true = refl
 evict_step s n block state false = put_agrees s n block (node_at s n).cache.put state refl
 
-pub eviction-agrees : (s : State) (n block : ℕ) → evicted s n block ≡ evicted_by s n block (evict_by (node_at s n).cache block)
+pub eviction-agrees : (s : Fabric) (n block : ℕ) → evicted s n block ≡ evicted_by s n block (evict_by (node_at s n).cache block)
 eviction-agrees s n block = evict_step s n block (line_of (node_at s n).cache block).state (misses_on (node_at s n).cache.miss block)

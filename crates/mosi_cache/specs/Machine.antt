@@ -1,36 +1,36 @@
--- A controller and its log in a state of the machine, and what an event of the machine makes of a controller's answer.
+-- A controller and its log in a state of the fabric, and what an event of the fabric makes of a controller's answer.
 use Rattle.std.specs.Prelude.{ℕ, min, if◌then◌else◌, [], ◌∷◌, length, Option, Some, None}
 use Rattle.sn_base.specs.declared.config.Config.{Config}
 use Rattle.sn_base.specs.declared.event.Answer.{Answer}
-use Rattle.sn_base.specs.declared.event.Answer.TheVariants.{Waits, NeedsEvict, LogFull, NetFull, Evicted, PutBegun}
+use Rattle.sn_base.specs.declared.event.Answer.TheVariants.{Retired, Waits, NeedsEvict, LogFull, NetFull, Evicted, PutBegun}
 use Rattle.sn_msg.specs.declared.Body.TheVariants.{PutReq}
 use Rattle.log_buffer.specs.Log.{LogData}
 use Rattle.sn_model.specs.CacheRows.{send}
-use Rattle.sn_model.specs.Machine.{State, node_at, with_node, home_node}
-use Rattle.sn_model.specs.Access.{Stepped, refused, answered, sending, is_full}
-use Rattle.sn_model.specs.NodeEvents.{without_copy, with_put}
+use Rattle.sn_model.specs.Fabric.{Fabric, Moved, node_at, with_node, home_node, refused, answered}
+use Rattle.sn_model.specs.Net.{sending, is_full}
+use Rattle.sn_model.specs.NodeEvents.{drops_copy, with_put}
 use Rattle.mosi_cache.specs.declared.step.Probe1.{Probe1}
 use Rattle.mosi_cache.specs.declared.step.Probe1.TheVariants.{Ready, Waits as HasToWait, Miss, NeedsEvict as HasNoFrame, LogFull as HasNoRoom}
 use Rattle.mosi_cache.specs.Controller.{CacheData}
 
 -- the controller of a node, and its log
-abbrev pub controller_at : Config → State → ℕ → CacheData
+abbrev pub controller_at : Config → Fabric → ℕ → CacheData
 controller_at config s n = record { node = n; nodes = length s.nodes; sets = config.sets; ways = config.ways; cache = (node_at s n).cache }
 
-abbrev pub log_at : Config → State → ℕ → LogData
+abbrev pub log_at : Config → Fabric → ℕ → LogData
 log_at config s n = record { entries = (node_at s n).log; limit = config.log }
 
--- what a step comes to by the answer to the probe of its access: it retires, it misses, or it is refused
-abbrev pub step_by_probe : State → Stepped → Stepped → Probe1 → Stepped
-step_by_probe s retires misses Ready = retires
-step_by_probe s retires misses Miss = if is_full s 1 then refused s NetFull else misses
-step_by_probe s retires misses HasToWait = refused s Waits
-step_by_probe s retires misses HasNoFrame = refused s NeedsEvict
-step_by_probe s retires misses HasNoRoom = refused s LogFull
+-- what an access comes to by the answer to its probe: its line serves it, it misses, or it is refused
+abbrev pub access_by_probe : Fabric → Moved → Probe1 → Moved
+access_by_probe s misses Ready = answered s Retired
+access_by_probe s misses Miss = if is_full s 1 then refused s NetFull else misses
+access_by_probe s misses HasToWait = refused s Waits
+access_by_probe s misses HasNoFrame = refused s NeedsEvict
+access_by_probe s misses HasNoRoom = refused s LogFull
 
 -- what an eviction comes to by the controller's answer
-abbrev pub evicted_by : State → ℕ → ℕ → Answer → Stepped
-evicted_by s n block Evicted = answered (with_node s n (without_copy (node_at s n) block)) Evicted
+abbrev pub evicted_by : Fabric → ℕ → ℕ → Answer → Moved
+evicted_by s n block Evicted = drops_copy s n block
 evicted_by s n block PutBegun =
     if is_full s 1 then refused s NetFull
     else sending (with_node s n (with_put (node_at s n) block)) n block (send (home_node s block) PutReq ∷ []) PutBegun

@@ -46,7 +46,7 @@ with_miss c block need now = record c { cache = record c.cache { miss = Some (ne
 
 -- the cache after a write to a line that may be written
 abbrev pub stored : CacheData → Write → CacheData
-stored c w = record c { cache = written_to (with_line c.cache (block_of w.address) Modified (line_of c.cache (block_of w.address)).content) (Some w) }
+stored c w = record c { cache = written_to (with_line c.cache (block_of w.address) Modified (line_of c.cache (block_of w.address)).content) w }
 
 -- an eviction
 

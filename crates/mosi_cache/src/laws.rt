@@ -1,42 +1,39 @@
 //! That the words of this layer are those of the whole machine's definitions.
-ghost use Rattle.std.specs.Prelude.{◌≡◌, ℕ, Option, Some};
-ghost use Rattle.sn_base.specs.Image.{ImageData};
+ghost use Rattle.std.specs.Prelude.{◌≡◌, ℕ, Option};
 ghost use Rattle.sn_base.specs.declared.block.Write.{Write};
 ghost use Rattle.sn_base.specs.declared.config.Config.{Config};
 ghost use Rattle.sn_msg.specs.declared.Message.{Message};
-ghost use Rattle.rv_core.specs.Core.{block_of};
 ghost use Rattle.sn_model.specs.declared.cache.Need.{Need};
-ghost use Rattle.sn_model.specs.Caches.{line_of, Miss, Put};
-ghost use Rattle.sn_model.specs.Machine.{State, node_at, with_node};
-ghost use Rattle.sn_model.specs.Access.{Found, nothing_found, word_in, written_to, prepared, retired, missing, missed, reads, writes};
+ghost use Rattle.sn_model.specs.Caches.{Miss, Put};
+ghost use Rattle.sn_model.specs.Fabric.{Fabric, node_at};
+ghost use Rattle.sn_model.specs.Access.{prepared, with_write, missing, missed, accesses};
 ghost use Rattle.sn_model.specs.NodeEvents.{evicted, with_put as putting, issued_by, put_issued_by};
 ghost use Rattle.sn_model.specs.NetEvents.{logged_at, outcome_of, AtCache};
 ghost use Rattle.mosi_cache.specs.Rows.{row_of, MeetsRow};
 ghost use Rattle.mosi_cache.specs.Probe.{log_with, probe_by, with_miss, with_put, stored, evict_by, least_open_of};
-ghost use Rattle.mosi_cache.specs.Machine.{controller_at, log_at, step_by_probe, evicted_by, at_most};
+ghost use Rattle.mosi_cache.specs.Machine.{controller_at, log_at, access_by_probe, evicted_by, at_most};
 
 /// A message that has a row comes to just what its delivery in the machine comes to.
 pub fn row_is_the_machines()
-    ensures { (config : Config) (s : State) (m : Message) → MeetsRow (logged_at s m.to) m.block m.body → outcome_of s m m.body ≡ AtCache (row_of (controller_at config s m.to) (log_at config s m.to) (node_at s m.to).now m) }
+    ensures { (config : Config) (s : Fabric) (m : Message) → MeetsRow (logged_at s m.to) m.block m.body → outcome_of s m m.body ≡ AtCache (row_of (controller_at config s m.to) (log_at config s m.to) (node_at s m.to).now m) }
 {}
 
-/// The answer to a probe says what an instruction's access comes to, but for want of room in the network.
+/// The answer to a probe says what an access comes to, but for want of room in the network.
 pub fn probe_is_the_machines()
-    ensures read { (image : ImageData) (config : Config) (s : State) (n address : ℕ) → reads image config s n address ≡ step_by_probe s (retired image s n (record nothing_found { seen = word_in (line_of (node_at s n).cache (block_of address)).content address })) (missed s n (block_of address) Need.Read) (probe_by (controller_at config s n) (log_at config s n) (block_of address) (node_at s n).now Need.Read) }
-    ensures write { (image : ImageData) (config : Config) (s : State) (n address : ℕ) (found : Found) → writes image config s n address found ≡ step_by_probe s (retired image (with_node s n (prepared (node_at s n) (block_of address))) n found) (missed s n (block_of address) Need.Write) (probe_by (controller_at config s n) (log_at config s n) (block_of address) (node_at s n).now Need.Write) }
+    ensures { (config : Config) (s : Fabric) (n block : ℕ) (need : Need) → accesses config s n block need ≡ access_by_probe s (missed s n block need) (probe_by (controller_at config s n) (log_at config s n) block (node_at s n).now need) }
 {}
 
 /// The answer to an eviction says what it comes to, but for want of room in the network.
 pub fn eviction_is_the_machines()
-    ensures { (s : State) (n block : ℕ) → evicted s n block ≡ evicted_by s n block (evict_by (node_at s n).cache block) }
+    ensures { (s : Fabric) (n block : ℕ) → evicted s n block ≡ evicted_by s n block (evict_by (node_at s n).cache block) }
 {}
 
 /// What an access and an eviction leave in a cache is what they leave in the machine's.
 pub fn changes_are_the_machines()
-    ensures miss { (config : Config) (s : State) (n block : ℕ) (need : Need) → (with_miss (controller_at config s n) block need (node_at s n).now).cache ≡ (missing (node_at s n) block need).cache }
-    ensures write { (config : Config) (s : State) (n : ℕ) (w : Write) → (stored (controller_at config s n) w).cache ≡ written_to (prepared (node_at s n) (block_of w.address)).cache (Some w) }
-    ensures note { (config : Config) (s : State) (n block : ℕ) → log_with (controller_at config s n) (node_at s n).log block (node_at s n).now ≡ (prepared (node_at s n) block).log }
-    ensures put { (config : Config) (s : State) (n block : ℕ) → (with_put (controller_at config s n) block (node_at s n).now).cache ≡ (putting (node_at s n) block).cache }
+    ensures miss { (config : Config) (s : Fabric) (n block : ℕ) (need : Need) → (with_miss (controller_at config s n) block need (node_at s n).now).cache ≡ (missing (node_at s n) block need).cache }
+    ensures write { (config : Config) (s : Fabric) (n : ℕ) (w : Write) → (stored (controller_at config s n) w).cache ≡ (with_write (node_at s n) w).cache }
+    ensures note { (config : Config) (s : Fabric) (n block : ℕ) → log_with (controller_at config s n) (node_at s n).log block (node_at s n).now ≡ (prepared (node_at s n) block).log }
+    ensures put { (config : Config) (s : Fabric) (n block : ℕ) → (with_put (controller_at config s n) block (node_at s n).now).cache ≡ (putting (node_at s n) block).cache }
 {}
 
 /// What a controller has open counts in a report as the machine's definitions say.

@@ -1,6 +1,6 @@
 use Rattle.std.proofs.Common.{List, [], ◌∷◌, ◌++◌, ap, sym, ◌∙◌}
 use Rattle.sn_model.specs.Homes.{HomeEntry}
-use Rattle.sn_model.specs.Machine.{first_home}
+use Rattle.sn_model.specs.Fabric.{first_home}
 use Rattle.home_directory.specs.Home.{entries_below}
 use Rattle.home_directory.proofs.Starts.{entries_more}
 use Rattle.home_directory.proofs.start.first_entries.Goals as goal

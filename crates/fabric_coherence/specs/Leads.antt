@@ -1,0 +1,26 @@
+-- How one block goes on to another by its own events, and the fabric with all its blocks.
+use Rattle.std.specs.Prelude.{◌≡◌, ℕ, ◌<◌, length}
+use Rattle.sn_model.specs.Caches.{block_count}
+use Rattle.sn_model.specs.Fabric.{Fabric, Moved}
+use Rattle.sn_coherence.specs.Block.{Block}
+use Rattle.sn_coherence.specs.Kept.{Kept}
+use Rattle.sn_coherence.specs.KeptRecords.{KeptRecords}
+use Rattle.sn_coherence.specs.Records.{Records}
+use Rattle.fabric_coherence.specs.View.{Beside, block_of}
+use Rattle.fabric_coherence.specs.Steps.{IsShaped}
+use Rattle.fabric_coherence.specs.Recorded.{heard_by}
+
+-- block b leads to block c, and f is what becomes of its records: all sentences that hold before hold after
+pub record Leads (N : ℕ) (b : Block) (f : Records → Records) (c : Block) : Type 0 where
+  pub kept : Kept N b → Kept N c
+  pub records : (r : Records) → Kept N b → KeptRecords b r → KeptRecords c (f r)
+
+-- the fabric goes on, and each block leads to what it is then; u is what stands beside the fabric after that
+pub record Goes (s : Fabric) (t : Beside) (f : ℕ → Records → Records) (after : Fabric) (u : Beside) : Type 0 where
+  pub shape : IsShaped after
+  pub count : length after.nodes ≡ length s.nodes
+  pub blocks : (b : ℕ) → b < block_count → Leads (length s.nodes) (block_of s t b) (f b) (block_of after u b)
+
+-- the fabric goes on to what an event comes to, and the records hear what it tells
+abbrev pub Moves : Fabric → Beside → Moved → Type 0
+Moves s t moved = (u : Beside) × Goes s t (heard_by moved.told) moved.fabric u

@@ -1,0 +1,7 @@
+-- What stands beside the machine at its start.
+use Rattle.std.specs.Prelude.{false}
+use Rattle.sn_coherence.specs.Block.{Asked}
+use Rattle.fabric_coherence.specs.View.{Beside}
+
+abbrev pub first_beside : Beside
+first_beside = record { stage = λ b. Asked; at = λ b. 0; waited = λ b n. false; framed = λ b n j. false }

@@ -1,0 +1,45 @@
+//! The theorems on the fabric alone.
+ghost use Rattle.std.specs.Prelude.{◌≡◌, ℕ, ◌<◌, ◌≤◌, false, List, length};
+ghost use Rattle.sn_base.specs.Image.{ImageData};
+ghost use Rattle.sn_base.specs.declared.config.Config.{Config};
+ghost use Rattle.sn_model.specs.Caches.{block_count};
+ghost use Rattle.sn_model.specs.Cuts.{is_unfinished};
+ghost use Rattle.sn_model.specs.Fabric.{Fabric, first_fabric};
+ghost use Rattle.sn_model.specs.FabricEvents.{FabricEvent, moved_by};
+ghost use Rattle.fabric_coherence.specs.Coherent.{Keeps};
+ghost use Rattle.fabric_coherence.specs.Events.{MayBe};
+ghost use Rattle.fabric_coherence.specs.Holders.{IsCoherent};
+ghost use Rattle.fabric_coherence.specs.Runs.{IsRun, fabric_after};
+
+/// At the start all sentences hold of every block.
+pub fn start_is_kept()
+    ensures { (image : ImageData) (nodes : ℕ) → 1 ≤ nodes → nodes ≤ 16 → Keeps (first_fabric image nodes) }
+{}
+
+/// Every event of the fabric that can happen keeps them, whatever its answer is.
+pub fn each_event_keeps()
+    ensures { (config : Config) (s : Fabric) (event : FabricEvent) → Keeps s → MayBe s event → Keeps (moved_by config s event).fabric }
+{}
+
+/// No event brings or takes a node.
+pub fn nodes_stay()
+    ensures { (config : Config) (s : Fabric) (event : FabricEvent) → length (moved_by config s event).fabric.nodes ≡ length s.nodes }
+{}
+
+/// Where they hold, each block has one writer at most, and one holder at each settled checkpoint, which its home names.
+pub fn what_is_kept_is_coherent()
+    ensures { (s : Fabric) → Keeps s → (b : ℕ) → b < block_count → IsCoherent s b }
+{}
+
+/// And nothing that was begun before the recovery point is unfinished.
+pub fn finished_below_the_point()
+    ensures { (s : Fabric) → Keeps s → is_unfinished s s.point ≡ false }
+{}
+
+/// So whatever is accessed, delivered, lost, killed, evicted, checkpointed or recovered, in whatever order, the fabric is
+/// coherent after it.
+pub fn every_run_is_coherent()
+    ensures kept { (image : ImageData) (config : Config) (nodes : ℕ) (events : List FabricEvent) → 1 ≤ nodes → nodes ≤ 16 → IsRun config (first_fabric image nodes) events → Keeps (fabric_after config (first_fabric image nodes) events) }
+    ensures coherent { (image : ImageData) (config : Config) (nodes : ℕ) (events : List FabricEvent) → 1 ≤ nodes → nodes ≤ 16 → IsRun config (first_fabric image nodes) events
+        → (b : ℕ) → b < block_count → IsCoherent (fabric_after config (first_fabric image nodes) events) b }
+{}
