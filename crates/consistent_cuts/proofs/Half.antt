@@ -5,6 +5,7 @@ use Rattle.fabric_coherence.proofs.Told.{tells}
 use Rattle.fabric_coherence.proofs.KeptStart.{start-kept, start-recorded}
 use Rattle.fabric_coherence.proofs.Finished.{reported_finished}
 use Rattle.fabric_coherence.proofs.InFlight.{in_flight}
+use Rattle.fabric_coherence.proofs.NodesStay.{nodes_same}
 use Rattle.fabric_coherence.specs.Start.{first_beside}
 use Rattle.consistent_cuts.proofs.FabricAfter.{FabricHalf}
 
@@ -20,4 +21,5 @@ half = record {
   start = λ image nodes some few. (first_beside, start-kept image nodes some few, start-recorded image nodes some few);
   finished = λ s r k above. reported_finished s k.0 k.1 r k.2 above;
   flight = in_flight;
+  nodes = nodes_same;
 }
