@@ -44,46 +44,52 @@ use Rattle.consistent_cuts.proofs.FabricAfter.{FabricHalf}
 use Rattle.consistent_cuts.proofs.Retirement.{stepped_joins}
 use Rattle.consistent_cuts.proofs.Traced.{before}
 
--- an answer that isn't a recovery's leaves the retirements of an event that isn't an instruction
-abbrev IsNoStep : Event → Type 0
+-- an event that isn't an instruction
+abbrev pub IsNoStep : Event → Type 0
 IsNoStep (event.Step n) = ⊥
 IsNoStep _ = Unit {0}
 
--- which answers aren't a recovery's
+-- an answer that moves the point or goes back to it
+abbrev pub settles : Answer → Bool
+settles (answer.Validated k) = true
+settles (answer.Recovered undo) = true
+settles _ = false
 
-no_recovery_begins : (s : Fabric) (n block : ℕ) → is_recovered (begins_put s n block).answer ≡ false
-no_recovery_begins s n block = grind arith
+-- which answers don't
 
-no_recovery_evicts : (s : Fabric) (n block : ℕ) (state : LineState) → is_recovered (evicts s n block state).answer ≡ false
-no_recovery_evicts s n block line.Absent = refl
-no_recovery_evicts s n block line.Shared = refl
-no_recovery_evicts s n block line.Owned = no_recovery_begins s n block
-no_recovery_evicts s n block line.Modified = no_recovery_begins s n block
-no_recovery_evicts s n block line.Exclusive = no_recovery_begins s n block
+pub ordinary_begins : (s : Fabric) (n block : ℕ) → settles (begins_put s n block).answer ≡ false
+ordinary_begins s n block = grind arith
 
-no_recovery_evicted : (s : Fabric) (n block : ℕ) → is_recovered (evicted s n block).answer ≡ false
-no_recovery_evicted s n block = grind (arith, no_recovery_evicts s n block (line_of (node_at s n).cache block).state)
+pub ordinary_evicts : (s : Fabric) (n block : ℕ) (state : LineState) → settles (evicts s n block state).answer ≡ false
+ordinary_evicts s n block line.Absent = refl
+ordinary_evicts s n block line.Shared = refl
+ordinary_evicts s n block line.Owned = ordinary_begins s n block
+ordinary_evicts s n block line.Modified = ordinary_begins s n block
+ordinary_evicts s n block line.Exclusive = ordinary_begins s n block
 
-no_recovery_delivers : (config : Config) (s : Fabric) (m : Message) (outcome : Outcome) → is_recovered (delivers config s m outcome).answer ≡ false
-no_recovery_delivers config s m Busy = refl
-no_recovery_delivers config s m (AtCache reply) = grind arith
-no_recovery_delivers config s m (AtHome reply) = grind arith
-no_recovery_delivers config s m (Noted fabric told) = refl
+pub ordinary_evicted : (s : Fabric) (n block : ℕ) → settles (evicted s n block).answer ≡ false
+ordinary_evicted s n block = grind (arith, ordinary_evicts s n block (line_of (node_at s n).cache block).state)
 
-no_recovery_flight : (config : Config) (s : Fabric) (f : Option Flight) → is_recovered (delivers_flight config s f).answer ≡ false
-no_recovery_flight config s None = refl
-no_recovery_flight config s (Some f) = grind (arith, no_recovery_delivers config s f.message (outcome_of s f.message f.message.body))
+pub ordinary_delivers : (config : Config) (s : Fabric) (m : Message) (outcome : Outcome) → settles (delivers config s m outcome).answer ≡ false
+ordinary_delivers config s m Busy = refl
+ordinary_delivers config s m (AtCache reply) = grind arith
+ordinary_delivers config s m (AtHome reply) = grind arith
+ordinary_delivers config s m (Noted fabric told) = refl
 
-no_recovery_hops : (s : Fabric) (f : Option Flight) → is_recovered (hops s f).answer ≡ false
-no_recovery_hops s None = refl
-no_recovery_hops s (Some f) = grind arith
+pub ordinary_flight : (config : Config) (s : Fabric) (f : Option Flight) → settles (delivers_flight config s f).answer ≡ false
+ordinary_flight config s None = refl
+ordinary_flight config s (Some f) = grind (arith, ordinary_delivers config s f.message (outcome_of s f.message f.message.body))
 
-no_recovery_loses : (s : Fabric) (f : Option Flight) → is_recovered (loses s f).answer ≡ false
-no_recovery_loses s None = refl
-no_recovery_loses s (Some f) = refl
+pub ordinary_hops : (s : Fabric) (f : Option Flight) → settles (hops s f).answer ≡ false
+ordinary_hops s None = refl
+ordinary_hops s (Some f) = grind arith
+
+pub ordinary_loses : (s : Fabric) (f : Option Flight) → settles (loses s f).answer ≡ false
+ordinary_loses s None = refl
+ordinary_loses s (Some f) = refl
 
 -- so the retirements stay
-stays_by : (image : ImageData) (s : State) (e : Event) (a : Answer) (trace : List Retired) → IsNoStep e → is_recovered a ≡ false → traced image s e a trace ≡ trace
+stays_by : (image : ImageData) (s : State) (e : Event) (a : Answer) (trace : List Retired) → IsNoStep e → settles a ≡ false → traced image s e a trace ≡ trace
 stays_by image s e a trace plain b = by_answer a b
   where
     others : (e : Event) → IsNoStep e → traced image s e answer.Retired trace ≡ trace
@@ -99,7 +105,7 @@ stays_by image s e a trace plain b = by_answer a b
     others event.Recover plain = refl
     others (event.Input n byte) plain = refl
 
-    by_answer : (a : Answer) → is_recovered a ≡ false → traced image s e a trace ≡ trace
+    by_answer : (a : Answer) → settles a ≡ false → traced image s e a trace ≡ trace
     by_answer answer.Retired b = others e plain
     by_answer (answer.Recovered undo) b = cc
     by_answer _ b = refl
@@ -121,17 +127,17 @@ module _ (half : FabricHalf) (image : ImageData) (config : Config) (s : State) (
   is_node n e = grind (arith, nat_tests)
 
   -- an event of the fabric of which the rest hears
-  heard_joins : (moved : Moved) (e : Event) → IsNoStep e → is_recovered moved.answer ≡ false → Rightly s.fabric moved.fabric moved.told → KeepsRecords moved.fabric (λ b. heard_by moved.told b (r b)) →
+  heard_joins : (moved : Moved) (e : Event) → IsNoStep e → settles moved.answer ≡ false → Rightly s.fabric moved.fabric moved.told → KeepsRecords moved.fabric (λ b. heard_by moved.told b (r b)) →
       Joins image (hearing s moved).state (traced image s e moved.answer trace)
-  heard_joins moved e plain no_recovery right k =
-      subst (Joins image (hearing s moved).state) (sym (stays_by image s e moved.answer trace plain no_recovery)) ((λ b. heard_by moved.told b (r b)), list, hearing_joins image s r list trace j moved.fabric moved.told right k)
+  heard_joins moved e plain ordinary right k =
+      subst (Joins image (hearing s moved).state) (sym (stays_by image s e moved.answer trace plain ordinary)) ((λ b. heard_by moved.told b (r b)), list, hearing_joins image s r list trace j moved.fabric moved.told right k)
 
   -- one of which nobody hears
-  quiet_joins : (moved : Moved) (e : Event) → IsNoStep e → is_recovered moved.answer ≡ false → IsQuiet s.fabric moved → KeepsRecords moved.fabric (λ b. heard_by moved.told b (r b)) →
+  quiet_joins : (moved : Moved) (e : Event) → IsNoStep e → settles moved.answer ≡ false → IsQuiet s.fabric moved → KeepsRecords moved.fabric (λ b. heard_by moved.told b (r b)) →
       Joins image (carried s moved).state (traced image s e moved.answer trace)
-  quiet_joins moved e plain no_recovery quiet k =
+  quiet_joins moved e plain ordinary quiet k =
       subst (λ x. Joins image (record (heard s x) { fabric = moved.fabric }) (traced image s e moved.answer trace)) quiet.told
-      (heard_joins moved e plain no_recovery (subst (Rightly s.fabric moved.fabric) (sym quiet.told) quiet.clocks) k)
+      (heard_joins moved e plain ordinary (subst (Rightly s.fabric moved.fabric) (sym quiet.told) quiet.clocks) k)
 
   recorded : (e : FabricEvent) → MayBeRecorded s.fabric r e → KeepsRecords (moved_by config s.fabric e).fabric (recorded_by s.fabric r e (moved_by config s.fabric e))
   recorded e may = half.event config s.fabric r e j.fabric may
@@ -225,12 +231,12 @@ module _ (half : FabricHalf) (image : ImageData) (config : Config) (s : State) (
   event_joins (event.Step n) fits = stepped_joins half image config s n trace (is_node n fits.numbers) (r, list, j)
   event_joins (event.Evict n block) fits =
       let low : block < block_count = grind (arith, nat_tests, fits.block) in
-      heard_joins (evicted s.fabric n block) (event.Evict n block) tt (no_recovery_evicted s.fabric n block) (rightly_evicted s.fabric n block (is_node n fits.numbers)) (evicted_kept n (is_node n fits.numbers) block low)
+      heard_joins (evicted s.fabric n block) (event.Evict n block) tt (ordinary_evicted s.fabric n block) (rightly_evicted s.fabric n block (is_node n fits.numbers)) (evicted_kept n (is_node n fits.numbers) block low)
   event_joins (event.Edge n) fits = edged_joins n (is_node n fits.numbers)
-  event_joins (event.Hop id) fits = quiet_joins (hopped s.fabric id) (event.Hop id) tt (no_recovery_hops s.fabric (flight_of s.fabric.net.flights id)) (same_hopped s.fabric id) (hopped_kept id)
-  event_joins (event.Deliver id) fits = heard_joins (delivered config s.fabric id) (event.Deliver id) tt (no_recovery_flight config s.fabric (flight_of s.fabric.net.flights id))
+  event_joins (event.Hop id) fits = quiet_joins (hopped s.fabric id) (event.Hop id) tt (ordinary_hops s.fabric (flight_of s.fabric.net.flights id)) (same_hopped s.fabric id) (hopped_kept id)
+  event_joins (event.Deliver id) fits = heard_joins (delivered config s.fabric id) (event.Deliver id) tt (ordinary_flight config s.fabric (flight_of s.fabric.net.flights id))
       (rightly_delivered config s.fabric j.fabric.0 j.fabric.1 id (λ f found. half.flight s.fabric id f j.fabric.1.shape found)) (delivered_kept id)
-  event_joins (event.Lose id) fits = quiet_joins (lost s.fabric id) (event.Lose id) tt (no_recovery_loses s.fabric (flight_of s.fabric.net.flights id)) (same_lost s.fabric id) (lost_kept id)
+  event_joins (event.Lose id) fits = quiet_joins (lost s.fabric id) (event.Lose id) tt (ordinary_loses s.fabric (flight_of s.fabric.net.flights id)) (same_lost s.fabric id) (lost_kept id)
   event_joins (event.Kill switch) fits = quiet_joins (killed s.fabric switch) (event.Kill switch) tt (grind arith) (same_killed s.fabric switch) (killed_kept switch)
   event_joins (event.Report n) fits = quiet_joins (reported s.fabric n) (event.Report n) tt (grind arith) (same_reported s.fabric n) (reported_kept n (is_node n fits.numbers))
   event_joins event.Validate fits = validating (unready_node s) refl

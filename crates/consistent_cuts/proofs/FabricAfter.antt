@@ -14,6 +14,7 @@ use Rattle.sn_model.specs.Access.{stored, written_in}
 use Rattle.sn_model.specs.Caches.{block_count, line_of, is_present}
 use Rattle.sn_model.specs.Fabric.{Fabric, Flight, node_at, first_fabric, initial_block}
 use Rattle.sn_model.specs.Net.{flight_of}
+use Rattle.sn_model.specs.Cuts.{is_unfinished}
 use Rattle.sn_model.specs.FabricEvents.{FabricEvent, moved_by}
 use Rattle.sn_model.specs.Machine.{State, processor_at}
 use Rattle.sn_model.specs.Instructions.{found_at, found_by, written_by, retired}
@@ -47,6 +48,7 @@ pub record FabricHalf : Type 0 where
   -- the start; that a validation comes where nothing is unfinished; and what a message in flight is
   pub start : (image : ImageData) (nodes : ℕ) → 1 ≤ nodes → nodes ≤ 16 → KeepsRecords (first_fabric image nodes) (λ b. no_records (initial_block image b))
   pub finished : (s : Fabric) (r : ℕ → Records) → KeepsRecords s r → ((b n : ℕ) → b < block_count → n < length s.nodes → s.point < (r b).reported n) → IsFinished s (s.point + 1)
+  pub settled : (s : Fabric) (r : ℕ → Records) → KeepsRecords s r → is_unfinished s s.point ≡ false
   pub nodes : (config : Config) (s : Fabric) (event : FabricEvent) → length (moved_by config s event).fabric.nodes ≡ length s.nodes
   pub flight : (s : Fabric) (id : ℕ) (f : Flight) → IsShaped s → flight_of s.net.flights id ≡ Some f → IsInFlight s f.message
 

@@ -3,7 +3,7 @@ use Rattle.fabric_coherence.proofs.Retirements.{load, load_reserved, undone, sto
 use Rattle.fabric_coherence.proofs.KeptEvents.{each_keeps_records}
 use Rattle.fabric_coherence.proofs.Told.{tells}
 use Rattle.fabric_coherence.proofs.KeptStart.{start-kept, start-recorded}
-use Rattle.fabric_coherence.proofs.Finished.{reported_finished}
+use Rattle.fabric_coherence.proofs.Finished.{reported_finished, point_finished}
 use Rattle.fabric_coherence.proofs.InFlight.{in_flight}
 use Rattle.fabric_coherence.proofs.NodesStay.{nodes_same}
 use Rattle.fabric_coherence.specs.Start.{first_beside}
@@ -21,5 +21,6 @@ half = record {
   start = λ image nodes some few. (first_beside, start-kept image nodes some few, start-recorded image nodes some few);
   finished = λ s r k above. reported_finished s k.0 k.1 r k.2 above;
   flight = in_flight;
+  settled = λ s r k. (point_finished s k.0 k.1).none;
   nodes = nodes_same;
 }

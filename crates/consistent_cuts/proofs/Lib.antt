@@ -18,4 +18,5 @@ pub mod Turns
 pub mod Points
 pub mod Half
 pub mod EachEvent
+pub mod Moments
 pub mod Start

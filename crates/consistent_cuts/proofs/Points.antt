@@ -124,10 +124,10 @@ map_count f [] = refl
 map_count f (x ∷ xs) = ap suc (map_count f xs)
 
 -- the fabric and the rest as a recovery leaves them
-abbrev restored_fabric : State → Fabric
+abbrev pub restored_fabric : State → Fabric
 restored_fabric s = record s.fabric { nodes = map (restored_node s.fabric.point) s.fabric.nodes; homes = restored_homes s.fabric s.fabric.point 0 s.fabric.homes; net = restored_net s.fabric.net }
 
-abbrev restored_state : State → State
+abbrev pub restored_state : State → State
 restored_state s = record s {
   fabric = restored_fabric s;
   processors = restored_processors s.fabric s.fabric.point 0 s.processors;
@@ -150,13 +150,13 @@ module _ (image : ImageData) (s : State) (r : ℕ → Records) (list : ℕ → L
   abbrev u : State
   u = restored_state s
 
-  count_nodes : length u.fabric.nodes ≡ M
+  pub count_nodes : length u.fabric.nodes ≡ M
   count_nodes = map_count (restored_node point) s.fabric.nodes
 
   count_processors : length u.processors ≡ M
   count_processors = restored_count s.fabric point 0 s.processors ∙ j.shape.processors
 
-  abbrev checkpoint : ℕ → CoreState
+  abbrev pub checkpoint : ℕ → CoreState
   checkpoint n = checkpoint_of (processor_at s n) (node_at s.fabric n).known point
 
   -- a checkpoint has no reservation
@@ -166,10 +166,10 @@ module _ (image : ImageData) (s : State) (r : ℕ → Records) (list : ℕ → L
   checkpoint_bare : (n : ℕ) → bare (checkpoint n) ≡ checkpoint n
   checkpoint_bare n = ap bare (sym (at_point n)) ∙ cut_bare image (start_places image M) (λ i. refl) list point n ∙ at_point n
 
-  node_is : (n : ℕ) → n < M → node_at u.fabric n ≡ restored_node point (node_at s.fabric n)
+  pub node_is : (n : ℕ) → n < M → node_at u.fabric n ≡ restored_node point (node_at s.fabric n)
   node_is n l = get_or-map (restored_node point) s.fabric.nodes n first_node first_node l
 
-  processor_is : (n : ℕ) → n < M → processor_at u n ≡ restored_processor (processor_at s n) (node_at s.fabric n).known point
+  pub processor_is : (n : ℕ) → n < M → processor_at u n ≡ restored_processor (processor_at s n) (node_at s.fabric n).known point
   processor_is n l =
       let e : 0 + n ≡ n = omega arith in
       restored_at s.fabric point 0 s.processors n (first_processor 0 0) (let a = j.shape.processors in omega (arith, a, l))
@@ -200,13 +200,13 @@ module _ (image : ImageData) (s : State) (r : ℕ → Records) (list : ℕ → L
   free = by_node (λ n p. (b : ℕ) → is_reserved p.core.reservation b ≡ false) (λ n l b. none_reserved (checkpoint n) b (checkpoint_bare n))
       (λ n h b. ap (λ x. is_reserved x.reservation b) (nobody_checkpoint n h) ∙ none_reserved (checkpoint n) b (checkpoint_bare n))
 
-  given_is : (n : ℕ) → (processor_at s n).given ≡ (processor_at u n).given
+  pub given_is : (n : ℕ) → (processor_at s n).given ≡ (processor_at u n).given
   given_is = by_node (λ n p. (processor_at s n).given ≡ p.given) (λ n l. refl) (λ n h. refl)
 
-  known_is : (n : ℕ) → n < M → (node_at u.fabric n).known ≡ point
+  pub known_is : (n : ℕ) → n < M → (node_at u.fabric n).known ≡ point
   known_is n l = ap (λ x. x.known) (node_is n l)
 
-  now_is : (n : ℕ) → n < M → (node_at u.fabric n).now ≡ point
+  pub now_is : (n : ℕ) → n < M → (node_at u.fabric n).now ≡ point
   now_is n l = ap (λ x. x.now) (node_is n l)
 
   first_of_one : (i k : ℕ) (c : CoreState) → i ≡ k → get_or (c ∷ []) (k - i) c ≡ c
@@ -219,7 +219,7 @@ module _ (image : ImageData) (s : State) (r : ℕ → Records) (list : ℕ → L
   committed_is : committed list point ≡ s.committed
   committed_is = committed_sorted image list trace j.made point ∙ sym j.traced.committed
 
-  taken_is : (n : ℕ) → taken_by u n ≡ length (in_of n s.committed)
+  pub taken_is : (n : ℕ) → taken_by u n ≡ length (in_of n s.committed)
   taken_is n = omega arith
 
   left : (n : ℕ) → (processor_at s n).given ≡ (at_cut image (start_places image M) list point).taken n ++ drop (taken_by u n) (processor_at u n).given
