@@ -17,6 +17,8 @@ pub mod Hears
 pub mod Turns
 pub mod Points
 pub mod Half
+pub mod NodesStay
 pub mod EachEvent
 pub mod Moments
 pub mod Start
+pub mod Run

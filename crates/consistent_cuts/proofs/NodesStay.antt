@@ -1,0 +1,77 @@
+-- No event of the machine brings or takes a node.
+use Rattle.std.proofs.Common.{◌≡◌, ℕ, ◌+◌, Bool, true, false, length, Option, Some, None, refl, sym, ap, ◌∙◌, arith, length-set}
+use Rattle.sn_base.specs.Image.{ImageData}
+use Rattle.sn_base.specs.declared.config.Config.{Config}
+use Rattle.sn_base.specs.declared.event.Event.{Event}
+use Rattle.sn_base.specs.declared.event.Event.TheVariants as event
+use Rattle.rv_core.specs.declared.step.Want.{Want}
+use Rattle.rv_core.specs.declared.step.Want.TheVariants as want
+use Rattle.sn_model.specs.declared.cache.Need.{Need}
+use Rattle.sn_model.specs.declared.cache.Need.TheVariants as need
+use Rattle.sn_model.specs.Fabric.{Fabric, Moved}
+use Rattle.sn_model.specs.FabricEvents.{FabricEvent, moved_by}
+use Rattle.sn_model.specs.FabricEvents as fabric
+use Rattle.sn_model.specs.Access.{accessed}
+use Rattle.sn_model.specs.NodeEvents.{evicted, edged, reported}
+use Rattle.sn_model.specs.NetEvents.{hopped, delivered, lost, killed}
+use Rattle.sn_model.specs.PointEvents.{advanced, recovered}
+use Rattle.rv_core.specs.Core.{block_of}
+use Rattle.rv_core.specs.Step.{want_of}
+use Rattle.sn_model.specs.Machine.{State, processor_at}
+use Rattle.sn_model.specs.Instructions.{Stepped, carried, refused, retired, stepped, step_wanting, accessing, takes_input, next_byte}
+use Rattle.sn_model.specs.MachineEvents.{hearing, edges, validates, commits, unready_node, restores}
+use Rattle.sn_model.specs.Step.{step_of}
+use Rattle.consistent_cuts.proofs.FabricAfter.{FabricHalf}
+use Rattle.consistent_cuts.proofs.Half.{half}
+use Rattle.consistent_cuts.proofs.Places.{same_length}
+
+module _ (image : ImageData) (config : Config) (s : State) where
+  abbrev Stays : Stepped → Type 0
+  Stays x = length x.state.fabric.nodes ≡ length s.fabric.nodes
+
+  moved_stays : (e : FabricEvent) → length (moved_by config s.fabric e).fabric.nodes ≡ length s.fabric.nodes
+  moved_stays e = half.nodes config s.fabric e
+
+  accessed_stays : (n block : ℕ) (access : Need) → length (accessed config s.fabric n block access).fabric.nodes ≡ length s.fabric.nodes
+  unfolding moved_by
+  accessed_stays n block access = moved_stays (fabric.Access n block access)
+
+  retired_stays : (n : ℕ) → Stays (retired image s n)
+  retired_stays n = same_length s.fabric n _
+
+  accessing_stays : (n address : ℕ) (access : Need) → Stays (accessing image config s n address access)
+  accessing_stays n address access = grind (arith, accessed_stays n (block_of address) access, retired_stays n)
+
+  input_stays : (n : ℕ) (byte : Option ℕ) → Stays (takes_input image s n byte)
+  input_stays n None = refl
+  input_stays n (Some byte) = retired_stays n
+
+  wanting_stays : (n : ℕ) (w : Want) → Stays (step_wanting image config s n w)
+  wanting_stays n want.Nothing = retired_stays n
+  wanting_stays n want.Input = input_stays n (next_byte s n)
+  wanting_stays n (want.Load address) = accessing_stays n address need.Read
+  wanting_stays n (want.Lr address) = accessing_stays n address need.Read
+  wanting_stays n (want.Store address) = accessing_stays n address need.Write
+  wanting_stays n (want.Amo address) = accessing_stays n address need.Write
+  wanting_stays n (want.Sc address) = grind (arith, accessing_stays n address need.Write, retired_stays n)
+
+  stepped_stays : (n : ℕ) → Stays (stepped image config s n)
+  stepped_stays n = grind (arith, wanting_stays n (want_of image (processor_at s n).core))
+
+  validates_stays : (unready : Option ℕ) → length (advanced s.fabric (s.fabric.point + 1)).fabric.nodes ≡ length s.fabric.nodes → Stays (validates s unready)
+  validates_stays (Some n) h = refl
+  validates_stays None h = h
+
+  pub step_count : (e : Event) → Stays (step_of image config s e)
+  unfolding step_of moved_by
+  step_count (event.Step n) = stepped_stays n
+  step_count (event.Evict n block) = moved_stays (fabric.Evict n block)
+  step_count (event.Edge n) = moved_stays (fabric.Edge n)
+  step_count (event.Hop id) = moved_stays (fabric.Hop id)
+  step_count (event.Deliver id) = moved_stays (fabric.Deliver id)
+  step_count (event.Lose id) = moved_stays (fabric.Lose id)
+  step_count (event.Kill switch) = moved_stays (fabric.Kill switch)
+  step_count (event.Report n) = moved_stays (fabric.Report n)
+  step_count event.Validate = validates_stays (unready_node s) (moved_stays (fabric.Advance (s.fabric.point + 1)))
+  step_count event.Recover = moved_stays (fabric.Recover s.fabric.point)
+  step_count (event.Input n byte) = refl
