@@ -36,7 +36,7 @@ pub same_clocks : (s : Fabric) → IsSameClocks s s
 same_clocks s = record { count = refl; now = λ n. refl; known = λ n. refl; point = refl }
 
 -- a write that leaves a part of the element leaves that part everywhere
-module _ {A : Type 0} (part : A → ℕ) (xs : List A) (i j : ℕ) (v d : A) (same : part v ≡ part (slice_index_or xs i d)) where
+module _ {A B : Type 0} (part : A → B) (xs : List A) (i j : ℕ) (v d : A) (same : part v ≡ part (slice_index_or xs i d)) where
   pub part_set : part (slice_index_or (slice_set xs i v) j d) ≡ part (slice_index_or xs j d)
   part_set = go (cases_order j i) (cases_order i (length xs))
     where

@@ -22,3 +22,4 @@ pub mod EachEvent
 pub mod Moments
 pub mod Start
 pub mod Run
+pub mod RestSays
