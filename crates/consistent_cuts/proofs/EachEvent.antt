@@ -42,18 +42,13 @@ use Rattle.consistent_cuts.proofs.Turns.{edge_joins, input_joins}
 use Rattle.consistent_cuts.proofs.Points.{validation_joins, recovery_joins, restored_is}
 use Rattle.consistent_cuts.proofs.FabricAfter.{FabricHalf}
 use Rattle.consistent_cuts.proofs.Retirement.{stepped_joins}
+use Rattle.consistent_cuts.proofs.SteppedCases.{settles}
 use Rattle.consistent_cuts.proofs.Traced.{before}
 
 -- an event that isn't an instruction
 abbrev pub IsNoStep : Event → Type 0
 IsNoStep (event.Step n) = ⊥
 IsNoStep _ = Unit {0}
-
--- an answer that moves the point or goes back to it
-abbrev pub settles : Answer → Bool
-settles (answer.Validated k) = true
-settles (answer.Recovered undo) = true
-settles _ = false
 
 -- which answers don't
 
@@ -188,7 +183,7 @@ module _ (half : FabricHalf) (image : ImageData) (config : Config) (s : State) (
   ready_all none n l = all_above s.reported s.fabric.point none n l
 
   module _ (none : unready_node s ≡ None) where
-    all_reported : (b n : ℕ) → b < block_count → n < N → s.fabric.point < (r b).reported n
+    pub all_reported : (b n : ℕ) → b < block_count → n < N → s.fabric.point < (r b).reported n
     all_reported b n lb ln =
         let a = ready_all none n (let x = j.shape.reported in omega (arith, x, ln)) in
         let d = j.agrees.reported b n lb ln in

@@ -23,3 +23,5 @@ pub mod Moments
 pub mod Start
 pub mod Run
 pub mod RestSays
+pub mod Restored
+pub mod Events

@@ -13,7 +13,7 @@ use Rattle.sn_model.specs.Machine.{State, Processor, processor_at, with_processo
 use Rattle.sn_model.specs.Instructions.{Stepped, retired, carried, found_at, next_with}
 use Rattle.sn_model.specs.MachineEvents.{heard, hearing, without_reservation, freed, with_checkpoint}
 use Rattle.sn_consistency.specs.Committed.{Begins}
-use Rattle.consistent_cuts.proofs.EachEvent.{settles}
+use Rattle.consistent_cuts.proofs.SteppedCases.{settles}
 use Rattle.consistent_cuts.proofs.Clocks.{part_set}
 use Rattle.consistent_cuts.proofs.Hears.{at_itself, unreserved_is}
 

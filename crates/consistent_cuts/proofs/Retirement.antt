@@ -67,5 +67,5 @@ pub stepped_joins : FabricHalf → (image : ImageData) (config : Config) (s : St
 stepped_joins half image config s n trace l (r, list, joined) =
     stepped_cases image config s n l (λ x. Joins image x.state (traced image s (Step n) x.answer trace))
     (λ can. (records_after image s r n, list_after image s r list n joined.shape joined.agrees (may half image config s n r list trace joined can), retired_joins half image config s n r list trace joined can))
-    (λ block access low leaves. subst (Joins image (record s { fabric = (accessed config s.fabric n block access).fabric })) (sym (leaves trace)) (access_joins half image config s n r list trace joined l block access low))
-    (λ answer leaves. subst (Joins image s) (sym (leaves trace)) (r, list, joined))
+    (λ block access low leaves. subst (Joins image (record s { fabric = (accessed config s.fabric n block access).fabric })) (sym (leaves.1 trace)) (access_joins half image config s n r list trace joined l block access low))
+    (λ answer leaves. subst (Joins image s) (sym (leaves.1 trace)) (r, list, joined))

@@ -1,11 +1,11 @@
 -- What a step of a node comes to: a retirement, an access of the fabric alone, or nothing.
-use Rattle.std.proofs.Common.{◌≡◌, ℕ, ◌<◌, Bool, true, false, not, ◌&&◌, nat_lt, nat_le, if◌then◌else◌, List, length, Option, Some, None, refl, sym, subst, arith}
+use Rattle.std.proofs.Common.{◌≡◌, ℕ, ◌<◌, Bool, true, false, not, ◌&&◌, nat_lt, nat_le, if◌then◌else◌, List, length, Option, Some, None, refl, sym, subst, arith, true≢false}
 use Rattle.std.proofs.lemmas.Bool.Decides.{nat_tests}
 use Rattle.sn_base.specs.Image.{ImageData}
 use Rattle.sn_base.specs.declared.config.Config.{Config}
 use Rattle.sn_base.specs.declared.event.Event.TheVariants.{Step}
 use Rattle.sn_base.specs.declared.event.Answer.{Answer}
-use Rattle.sn_base.specs.declared.event.Answer.TheVariants.{Retired, Waits, NeedsEvict, LogFull, NetFull, Ended, NoInput}
+use Rattle.sn_base.specs.declared.event.Answer.TheVariants.{Validated, Recovered, Retired, Waits, NeedsEvict, LogFull, NetFull, Ended, NoInput}
 use Rattle.rv_core.specs.declared.step.Want.{Want}
 use Rattle.rv_core.specs.declared.step.Want.TheVariants as want
 use Rattle.rv_core.specs.Core.{block_of, is_reserved, is_running}
@@ -48,20 +48,26 @@ module _ (config : Config) (s : Fabric) (n b : ℕ) (l : n < length s.nodes) (lo
       served (has_miss (node_at s n).cache.miss) (puts_on (node_at s n).cache.put b) (serves need (line_of (node_at s n).cache b).state) (lacks_room config (node_at s n) b need)
       (not (is_present (line_of (node_at s n).cache b).state) && nat_le config.ways (frames_taken (node_at s n).cache config.sets b)) (is_full s 1) refl refl refl refl is
 
+-- an answer that moves the point or goes back to it
+abbrev pub settles : Answer → Bool
+settles (Validated k) = true
+settles (Recovered undo) = true
+settles _ = false
+
 -- no answer of an access or a refusal of a step takes a retirement away, and none but Retired adds one
 abbrev pub LeavesTrace : ImageData → State → ℕ → Answer → Type 0
-LeavesTrace image s n answer = (trace : List Entry) → traced image s (Step n) answer trace ≡ trace
+LeavesTrace image s n answer = (settles answer ≡ false) × ((trace : List Entry) → traced image s (Step n) answer trace ≡ trace)
 
 access_leaves : (image : ImageData) (s : State) (n b : ℕ) (access : Need) (a p c d e f : Bool) →
     is_retired (if a then fabric.refused s.fabric Waits else if p then fabric.refused s.fabric Waits else if c then (if d then fabric.refused s.fabric LogFull else fabric.answered s.fabric Retired) else if e then fabric.refused s.fabric NeedsEvict else if f then fabric.refused s.fabric NetFull else missed s.fabric n b access).answer ≡ false →
     LeavesTrace image s n (if a then fabric.refused s.fabric Waits else if p then fabric.refused s.fabric Waits else if c then (if d then fabric.refused s.fabric LogFull else fabric.answered s.fabric Retired) else if e then fabric.refused s.fabric NeedsEvict else if f then fabric.refused s.fabric NetFull else missed s.fabric n b access).answer
-access_leaves image s n b access true p c d e f is trace = refl
-access_leaves image s n b access false true c d e f is trace = refl
-access_leaves image s n b access false false true true e f is trace = refl
-access_leaves image s n b access false false true false e f is trace = cc
-access_leaves image s n b access false false false d true f is trace = refl
-access_leaves image s n b access false false false d false true is trace = refl
-access_leaves image s n b access false false false d false false is trace = refl
+access_leaves image s n b access true p c d e f is = (refl, λ trace. refl)
+access_leaves image s n b access false true c d e f is = (refl, λ trace. refl)
+access_leaves image s n b access false false true true e f is = (refl, λ trace. refl)
+access_leaves image s n b access false false true false e f is = absurd (true≢false is)
+access_leaves image s n b access false false false d true f is = (refl, λ trace. refl)
+access_leaves image s n b access false false false d false true is = (refl, λ trace. refl)
+access_leaves image s n b access false false false d false false is = (refl, λ trace. refl)
 
 accessed_leaves : (image : ImageData) (config : Config) (s : State) (n b : ℕ) (access : Need) → is_retired (accessed config s.fabric n b access).answer ≡ false → LeavesTrace image s n (accessed config s.fabric n b access).answer
 accessed_leaves image config s n b access is =
@@ -87,7 +93,7 @@ module _ (image : ImageData) (config : Config) (s : State) (n : ℕ) (l : n < le
     retires_wanting w e served = retires (record { node = l; running = running; no_miss = no_miss; served = subst (λ w. CanServeWant w (found_by s n w).sc_done config s n) (sym e) served })
 
     input_cases : (byte : Option ℕ) → next_byte s n ≡ byte → want_of image (processor_at s n).core ≡ want.Input → P (takes_input image s n byte)
-    input_cases None is e = stays NoInput (λ trace. refl)
+    input_cases None is e = stays NoInput (refl, λ trace. refl)
     input_cases (Some byte) is e = retires_wanting want.Input e (given (nat_lt (taken_by s n) (length (processor_at s n).given)) refl is)
       where
         given : (test : Bool) → nat_lt (taken_by s n) (length (processor_at s n).given) ≡ test → next_byte s n ≡ Some byte → taken_by s n < length (processor_at s n).given
@@ -108,6 +114,6 @@ module _ (image : ImageData) (config : Config) (s : State) (n : ℕ) (l : n < le
 
   pub stepped_cases : P (stepped image config s n)
   stepped_cases =
-      by_test P (not (is_running (processor_at s n).core.end)) (refused s Ended) _ (λ q. stays Ended (λ trace. refl))
-      (λ q. by_test P (has_miss (node_at s.fabric n).cache.miss) (refused s Waits) (step_wanting image config s n (want_of image (processor_at s n).core)) (λ m. stays Waits (λ trace. refl))
+      by_test P (not (is_running (processor_at s n).core.end)) (refused s Ended) _ (λ q. stays Ended (refl, λ trace. refl))
+      (λ q. by_test P (has_miss (node_at s.fabric n).cache.miss) (refused s Waits) (step_wanting image config s n (want_of image (processor_at s n).core)) (λ m. stays Waits (refl, λ trace. refl))
       (λ m. wanting_cases (grind arith) m (want_of image (processor_at s n).core) refl (want_inside image (processor_at s n).core)))
