@@ -1,26 +1,21 @@
 -- Which events of the fabric leave its clocks: each node's interval and the point that it knows, and the recovery point.
-use Rattle.std.proofs.Common.{◌≡◌, ◌≢◌, ℕ, suc, ◌+◌, ◌<◌, ◌≤◌, Bool, true, false, not, ◌&&◌, nat_lt, nat_le, List, [], ◌∷◌, length, Option, Some, None, arith, refl, sym, ap, ◌∙◌, subst, get_or-set_same, get_or-set_other, length-set, ◌⊎◌, inl, inr, if◌then◌else◌}
+use Rattle.std.proofs.Common.{◌≡◌, ◌≢◌, ℕ, ◌<◌, ◌≤◌, Bool, true, false, not, ◌&&◌, nat_le, List, [], ◌∷◌, length, Option, Some, None, arith, refl, sym, ap, ◌∙◌, subst, get_or-set_same, get_or-set_other, length-set, ◌⊎◌, inl, inr, if◌then◌else◌}
 use Rattle.std.specs.Prelude.{slice_index_or, slice_set}
 use Rattle.std.proofs.Math.Seq.{set_out}
 use Rattle.std.proofs.lemmas.Bool.{cases_order}
 use Rattle.sn_base.specs.declared.block.Write.{Write}
 use Rattle.sn_base.specs.declared.config.Config.{Config}
 use Rattle.sn_base.specs.declared.event.Answer.{Answer}
-use Rattle.sn_base.specs.declared.event.Answer.TheVariants.{Retired, Waits, NeedsEvict, LogFull, NetFull, PutBegun, PutOpen, MissOpen, Reported, Hopped, LostInDead, Arrived, NoMessage, Lost, Killed, AlreadyDead, Delivered}
-use Rattle.sn_base.specs.declared.log.LogEntry.{LogEntry}
+use Rattle.sn_base.specs.declared.event.Answer.TheVariants.{Retired, Waits, NeedsEvict, LogFull, NetFull, Reported, Hopped, LostInDead, Arrived, NoMessage, Lost, Killed, AlreadyDead, Delivered}
 use Rattle.sn_msg.specs.declared.Message.{Message}
-use Rattle.sn_msg.specs.declared.Body.TheVariants.{PutReq, Ready}
+use Rattle.sn_msg.specs.declared.Body.TheVariants.{Ready}
 use Rattle.route_plan.specs.Distances.{is_dead}
-use Rattle.sn_model.specs.declared.cache.LineState.{LineState}
-use Rattle.sn_model.specs.declared.cache.LineState.TheVariants as line
 use Rattle.sn_model.specs.declared.cache.Need.{Need}
-use Rattle.sn_model.specs.declared.cache.Out.{Out}
-use Rattle.sn_model.specs.declared.net.Told.{Told}
-use Rattle.sn_model.specs.Caches.{line_of, is_present, misses_on, puts_on, frames_taken}
+use Rattle.sn_model.specs.Caches.{line_of, is_present, puts_on, frames_taken}
 use Rattle.sn_model.specs.CacheRows.{CacheReply, send}
 use Rattle.sn_model.specs.HomeRows.{HomeReply}
-use Rattle.sn_model.specs.Fabric.{Fabric, Node, Net, Flight, Moved, first_node, node_at, with_node, with_home, with_net, home_node, refused, answered}
-use Rattle.sn_model.specs.Net.{net_limit, sending, is_full, flight_of, without_flight, moved, routes_of, is_there, next_switch}
+use Rattle.sn_model.specs.Fabric.{Fabric, Node, Net, Flight, Moved, first_node, node_at, with_node, with_home, with_net, refused, answered}
+use Rattle.sn_model.specs.Net.{sending, is_full, flight_of, without_flight, moved, routes_of, is_there, next_switch}
 use Rattle.sn_model.specs.Access.{accessed, missed, missing, stored, with_write, has_miss, serves, lacks_room}
 use Rattle.sn_model.specs.NodeEvents.{reported, ready_of}
 use Rattle.sn_model.specs.NetEvents.{hopped, hops, lost, loses, killed, node_after, home_after}

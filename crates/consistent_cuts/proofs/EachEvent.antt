@@ -1,5 +1,5 @@
 -- Every event of the machine keeps what is joined, with the retirements along the run.
-use Rattle.std.proofs.Common.{◌≡◌, ℕ, zero, suc, ◌+◌, ◌-◌, ◌<◌, ◌≤◌, Bool, true, false, not, List, [], ◌∷◌, length, Option, Some, None, arith, refl, sym, ap, ◌∙◌, subst, nat_lt, nat_le, nat_eq, if◌then◌else◌}
+use Rattle.std.proofs.Common.{◌≡◌, ℕ, zero, suc, ◌+◌, ◌-◌, ◌<◌, ◌≤◌, Bool, true, false, List, [], ◌∷◌, length, Option, Some, None, arith, refl, sym, ap, subst, nat_lt, nat_le, nat_eq, if◌then◌else◌}
 use Rattle.std.specs.Prelude.{slice_index, position}
 use Rattle.std.proofs.lemmas.Bool.Decides.{nat_tests}
 use Rattle.sn_base.specs.Image.{ImageData}
@@ -9,35 +9,31 @@ use Rattle.sn_base.specs.declared.event.Event.TheVariants as event
 use Rattle.sn_base.specs.declared.event.Answer.{Answer}
 use Rattle.sn_base.specs.declared.event.Answer.TheVariants as answer
 use Rattle.sn_msg.specs.declared.Message.{Message}
-use Rattle.sn_msg.specs.declared.Body.{Body}
-use Rattle.sn_msg.specs.declared.Body.TheVariants as body
 use Rattle.sn_model.specs.declared.cache.LineState.{LineState}
 use Rattle.sn_model.specs.declared.cache.LineState.TheVariants as line
-use Rattle.sn_model.specs.Homes.{Transaction}
-use Rattle.sn_model.specs.HomeRows.{HomeReply}
-use Rattle.sn_model.specs.Caches.{line_of, misses_on, block_count}
-use Rattle.sn_model.specs.Fabric.{Fabric, Flight, Moved, node_at, home_of, with_node, refused, answered}
-use Rattle.sn_model.specs.Net.{flight_of, is_there, is_full, sending}
+use Rattle.sn_model.specs.Caches.{line_of, block_count}
+use Rattle.sn_model.specs.Fabric.{Fabric, Flight, Moved, node_at, with_node, refused, answered}
+use Rattle.sn_model.specs.Net.{flight_of, is_full, sending}
 use Rattle.sn_model.specs.NodeEvents.{evicted, evicts, begins_put, edged, after_edge, reported, checkpoint_limit}
-use Rattle.sn_model.specs.NetEvents.{hopped, hops, lost, loses, killed, delivered, delivers, delivers_flight, outcome_of, unless_busy, Outcome, Busy, AtCache, AtHome, Noted}
-use Rattle.sn_model.specs.PointEvents.{advanced, advances, recovered, recovers, restored, living_switches}
+use Rattle.sn_model.specs.NetEvents.{hopped, hops, lost, loses, killed, delivered, delivers, delivers_flight, outcome_of, Outcome, Busy, AtCache, AtHome, Noted}
+use Rattle.sn_model.specs.PointEvents.{advanced, advances, recovered, recovers, living_switches}
 use Rattle.sn_model.specs.FabricEvents.{FabricEvent, moved_by}
 use Rattle.sn_model.specs.FabricEvents as fabric
 use Rattle.route_plan.specs.Routes.{first_cut_off}
-use Rattle.sn_model.specs.Machine.{State, processor_at}
-use Rattle.sn_model.specs.Instructions.{Stepped, carried}
-use Rattle.sn_model.specs.MachineEvents.{heard, hearing, edges, with_rest, validated, validates, commits, unready_node, restores, given, is_recovered, is_edged}
-use Rattle.sn_model.specs.Step.{step_of, state_after}
-use Rattle.sn_model.specs.Trace.{Entry as Retired, traced, trace_after}
+use Rattle.sn_model.specs.Machine.{State}
+use Rattle.sn_model.specs.Instructions.{carried}
+use Rattle.sn_model.specs.MachineEvents.{heard, hearing, edges, validates, commits, unready_node, restores, is_recovered, is_edged}
+use Rattle.sn_model.specs.Step.{step_of}
+use Rattle.sn_model.specs.Trace.{Entry as Retired, traced}
 use Rattle.sn_coherence.specs.Records.{Records, unreserves, rolls_back}
 use Rattle.sn_consistency.specs.Entries.{Entry}
 use Rattle.sn_consistency.specs.Sorted.{cut_off}
 use Rattle.fabric_coherence.specs.Recorded.{KeepsRecords, MayBeRecorded, recorded_by, heard_by}
 use Rattle.consistent_cuts.specs.Joined.{IsJoined, Joins}
-use Rattle.consistent_cuts.specs.Runs.{Fits, AllFit}
-use Rattle.consistent_cuts.proofs.Clocks.{IsSameClocks, IsQuiet, same_hopped, same_lost, same_killed, same_reported}
+use Rattle.consistent_cuts.specs.Runs.{Fits}
+use Rattle.consistent_cuts.proofs.Clocks.{IsQuiet, same_hopped, same_lost, same_killed, same_reported}
 use Rattle.consistent_cuts.proofs.Hearings.{Rightly, rightly_evicted, rightly_delivered}
-use Rattle.consistent_cuts.proofs.Hears.{hearing_joins, hearing_of}
+use Rattle.consistent_cuts.proofs.Hears.{hearing_joins}
 use Rattle.consistent_cuts.proofs.Turns.{edge_joins, input_joins}
 use Rattle.consistent_cuts.proofs.Points.{validation_joins, recovery_joins, restored_is}
 use Rattle.consistent_cuts.proofs.FabricAfter.{FabricHalf}

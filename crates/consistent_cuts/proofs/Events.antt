@@ -1,6 +1,5 @@
 -- What each event does to a machine after a run.
-use Rattle.std.proofs.Common.{◌≡◌, ◌≢◌, ℕ, ◌+◌, ◌-◌, ◌<◌, ◌≤◌, Bool, true, false, not, List, [], ◌∷◌, ◌++◌, length, Option, Some, None, arith, refl, sym, ap, ◌∙◌, subst, nat_eq, nat_lt, true≢false, if◌then◌else◌, inl, inr, ◌⊎◌, get_or-set_same, get_or-set_other}
-use Rattle.std.specs.Prelude.{slice_set}
+use Rattle.std.proofs.Common.{◌≡◌, ◌≢◌, ℕ, ◌+◌, ◌-◌, ◌<◌, Bool, true, false, List, [], ◌∷◌, ◌++◌, length, Option, Some, None, arith, refl, sym, ap, ◌∙◌, subst, nat_eq, nat_lt, true≢false, if◌then◌else◌, inl, inr, get_or-set_same, get_or-set_other}
 use Rattle.std.proofs.lemmas.Bool.Decides.{nat_tests}
 use Rattle.sn_base.specs.Image.{ImageData}
 use Rattle.sn_base.specs.declared.config.Config.{Config}
@@ -11,21 +10,20 @@ use Rattle.sn_base.specs.declared.event.Answer.TheVariants as answer
 use Rattle.sn_base.specs.declared.event.Undo.{Undo}
 use Rattle.rv_core.specs.declared.step.Want.{Want}
 use Rattle.rv_core.specs.declared.step.Want.TheVariants as want
-use Rattle.rv_core.specs.Core.{bare, block_of, is_reserved}
+use Rattle.rv_core.specs.Core.{block_of, is_reserved}
 use Rattle.rv_core.specs.Execution.{end_of}
 use Rattle.rv_core.specs.Step.{want_of}
 use Rattle.route_plan.specs.Routes.{first_cut_off}
-use Rattle.sn_model.specs.Caches.{block_count}
 use Rattle.sn_model.specs.Fabric.{Fabric, Moved, node_at, with_node, refused, answered}
 use Rattle.sn_model.specs.Net.{flight_of, is_full, sending}
 use Rattle.sn_model.specs.Access.{accessed}
-use Rattle.sn_model.specs.NodeEvents.{evicted, edged, after_edge, reported, checkpoint_limit}
+use Rattle.sn_model.specs.NodeEvents.{evicted, after_edge, reported, checkpoint_limit}
 use Rattle.sn_model.specs.NetEvents.{hopped, lost, killed, delivered}
-use Rattle.sn_model.specs.PointEvents.{advanced, advances, recovered, recovers, living_switches}
+use Rattle.sn_model.specs.PointEvents.{advances, recovers, living_switches}
 use Rattle.sn_model.specs.Machine.{State, Processor, processor_at, with_processor, first_processor}
 use Rattle.sn_model.specs.Instructions.{Stepped, carried, retired, stepped, found_at, found_by, next_with}
 use Rattle.sn_model.specs.Instructions as step
-use Rattle.sn_model.specs.MachineEvents.{hearing, edges, with_checkpoint, validated, validates, commits, unready_node, restores, given, is_edged}
+use Rattle.sn_model.specs.MachineEvents.{hearing, edges, with_checkpoint, validates, commits, unready_node, restores, given}
 use Rattle.sn_model.specs.Step.{step_of}
 use Rattle.sn_model.specs.RecoveryPoint.{IsRestored}
 use Rattle.sn_model.specs.Trace.{Entry as Retired, entry_at, traced}
@@ -35,7 +33,7 @@ use Rattle.sn_consistency.specs.Committed.{Begins}
 use Rattle.sn_consistency.specs.Laws.{own_reservation}
 use Rattle.sn_consistency.proofs.CoreLaws.{next_reservation}
 use Rattle.fabric_coherence.specs.Coherent.{IsFinished}
-use Rattle.consistent_cuts.specs.Headline.{IsStepOfRun, LeavesBehind, IsUntouched, MayUnreserve, Reserving}
+use Rattle.consistent_cuts.specs.Headline.{IsStepOfRun, IsUntouched, MayUnreserve, Reserving}
 use Rattle.consistent_cuts.specs.Joined.{IsJoined}
 use Rattle.consistent_cuts.specs.Lists.{retirement_of}
 use Rattle.consistent_cuts.specs.Runs.{Fits}

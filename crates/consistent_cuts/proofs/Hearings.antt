@@ -1,5 +1,5 @@
 -- What an event of the fabric tells the rest is of nodes that are there, and its clocks change only by the news of a point.
-use Rattle.std.proofs.Common.{◌≡◌, ℕ, ◌+◌, ◌<◌, ◌≤◌, Bool, true, false, not, max, cond, List, [], ◌∷◌, length, Option, Some, None, arith, refl, sym, ap, ◌∙◌, subst, nat_lt, ◌==◌, get_or-set_same, get_or-set_other, length-set, if◌then◌else◌}
+use Rattle.std.proofs.Common.{◌≡◌, ℕ, ◌+◌, ◌<◌, ◌≤◌, Bool, true, false, not, max, cond, List, [], ◌∷◌, length, Option, Some, None, arith, refl, ap, ◌∙◌, nat_lt, ◌==◌, get_or-set_same, get_or-set_other, length-set, if◌then◌else◌}
 use Rattle.std.specs.Prelude.{slice_index_or, slice_set}
 use Rattle.std.specs.Option.{option_map}
 use Rattle.std.proofs.lemmas.Bool.Decides.{nat_tests}
@@ -15,16 +15,16 @@ use Rattle.sn_model.specs.declared.cache.LineState.TheVariants as line
 use Rattle.sn_model.specs.declared.cache.Out.{Out}
 use Rattle.sn_model.specs.declared.net.Told.{Told}
 use Rattle.sn_model.specs.declared.net.Told.TheVariants as told
-use Rattle.sn_model.specs.Caches.{line_of, misses_on, block_count}
+use Rattle.sn_model.specs.Caches.{line_of, misses_on}
 use Rattle.sn_model.specs.CacheRows.{CacheReply, send, forward_read, forward_write, invalidate, put_go, put_done}
 use Rattle.sn_model.specs.HomeRows.{HomeReply, put_data}
 use Rattle.sn_model.specs.Homes.{Transaction}
-use Rattle.sn_model.specs.Fabric.{Fabric, Node, Flight, Moved, first_node, node_at, with_node, with_net, home_node, home_of, refused, answered}
+use Rattle.sn_model.specs.Fabric.{Fabric, Flight, Moved, first_node, node_at, with_node, with_net, home_node, home_of, refused}
 use Rattle.sn_model.specs.Net.{net_limit, sending, is_full, flight_of, without_flight, is_there}
 use Rattle.sn_model.specs.NodeEvents.{evicted, evicts, begins_put, has_put, with_put, without_copy}
 use Rattle.sn_model.specs.NetEvents.{delivered, delivers, delivers_flight, fits_in, outcome_of, unless_busy, learned, node_after, home_after, Outcome, AtCache, AtHome, copy_lost, logged_at, kept_at}
 use Rattle.sn_coherence.specs.Block as block
-use Rattle.fabric_coherence.specs.View.{Beside, block_of, net_seen, message_seen}
+use Rattle.fabric_coherence.specs.View.{Beside, block_of, message_seen}
 use Rattle.fabric_coherence.specs.Steps.{IsInFlight}
 use Rattle.fabric_coherence.specs.Coherent.{IsKept}
 use Rattle.consistent_cuts.proofs.Clocks.{IsSameClocks, same_clocks, part_set, same_with_node, same_nodes, same_then, cache_clocks, home_clocks}

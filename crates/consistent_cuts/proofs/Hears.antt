@@ -1,6 +1,6 @@
 -- What the rest hears of an event keeps what is joined.
-use Rattle.std.proofs.Common.{◌≡◌, ◌≢◌, ℕ, suc, ◌+◌, ◌-◌, ◌<◌, ◌≤◌, Bool, true, false, max, cond, List, length, drop, Option, Some, None, arith, refl, sym, ap, ◌∙◌, subst, nat_eq, nat_lt, ◌==◌, get_or-set_same, get_or-set_other, length-set, length-drop, get_or-drop, if◌then◌else◌}
-use Rattle.std.specs.Prelude.{slice_index_or, slice_index, slice_set, get_or}
+use Rattle.std.proofs.Common.{◌≡◌, ◌≢◌, ℕ, ◌+◌, ◌-◌, ◌<◌, ◌≤◌, Bool, true, false, max, cond, List, length, Option, Some, None, arith, refl, sym, ap, ◌∙◌, subst, nat_eq, get_or-set_same, get_or-set_other, length-set, length-drop, get_or-drop, if◌then◌else◌}
+use Rattle.std.specs.Prelude.{slice_index, slice_set, get_or}
 use Rattle.std.proofs.lemmas.Bool.Decides.{nat_tests}
 use Rattle.std.proofs.lemmas.List.{get_or_default}
 use Rattle.sn_base.specs.Image.{ImageData}
@@ -17,11 +17,11 @@ use Rattle.sn_coherence.specs.Records.{Records, unreserves, hears}
 use Rattle.sn_consistency.specs.Entries.{Entry}
 use Rattle.sn_consistency.specs.Kept as sorted
 use Rattle.fabric_coherence.specs.Recorded.{KeepsRecords, heard_by}
-use Rattle.consistent_cuts.specs.Outlined.{outline_of, interval_of, start_places, IsRestShaped, Agrees}
-use Rattle.consistent_cuts.specs.Joined.{IsJoined, Joins}
-use Rattle.consistent_cuts.proofs.Clocks.{IsSameClocks, part_set}
+use Rattle.consistent_cuts.specs.Outlined.{outline_of, interval_of, start_places}
+use Rattle.consistent_cuts.specs.Joined.{IsJoined}
+use Rattle.consistent_cuts.proofs.Clocks.{IsSameClocks}
 use Rattle.consistent_cuts.proofs.Hearings.{IsNews, Rightly}
-use Rattle.consistent_cuts.proofs.Outlines.{IsSameHistory, same_history, IsSameRest, less_keeps, news_keeps}
+use Rattle.consistent_cuts.proofs.Outlines.{IsSameHistory, same_history, less_keeps, news_keeps}
 use Rattle.consistent_cuts.proofs.Traced.{traced_same}
 
 -- the machine with this fabric, of which the rest has heard this

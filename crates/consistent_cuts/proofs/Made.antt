@@ -1,11 +1,10 @@
 -- The sorted list is that of the retirements, and what a node has taken of its input.
-use Rattle.std.proofs.Common.{◌≡◌, ℕ, zero, suc, ◌+◌, ◌<◌, ◌≤◌, Bool, true, false, not, cond, nat_eq, nat_lt, List, [], ◌∷◌, ◌++◌, map, filter, length, Option, Some, None, arith, refl, sym, ap, ◌∙◌, length-append, ◌==◌}
+use Rattle.std.proofs.Common.{◌≡◌, ℕ, zero, suc, ◌+◌, Bool, true, false, not, cond, nat_eq, nat_lt, List, [], ◌∷◌, ◌++◌, map, length, Option, Some, None, arith, refl, sym, ap, ◌∙◌, length-append, ◌==◌}
 use Rattle.std.specs.Prelude.{option_to_list, filter_map}
 use Rattle.std.proofs.lemmas.Bool.Decides.{nat_tests}
 use Rattle.std.proofs.lemmas.List.{append-nil, map-append}
 use Rattle.std.proofs.lemmas.List.Elements.{filter_map-append}
 use Rattle.sn_base.specs.Image.{ImageData}
-use Rattle.rv_core.specs.declared.step.Record.{Record}
 use Rattle.rv_core.specs.Execution.{in_of}
 use Rattle.sn_consistency.specs.Words.{puts}
 use Rattle.sn_consistency.specs.Entries.{Entry}

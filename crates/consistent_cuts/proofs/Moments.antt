@@ -1,31 +1,28 @@
 -- What is joined is consistent: at each moment the recovery point is a cut of an execution.
-use Rattle.std.proofs.Common.{◌≡◌, ℕ, zero, suc, ◌+◌, ◌-◌, ◌<◌, ◌≤◌, Bool, true, false, List, [], ◌∷◌, ◌++◌, length, take, drop, Option, Some, None, arith, refl, sym, ap, ◌∙◌, subst, nat_lt}
+use Rattle.std.proofs.Common.{◌≡◌, ℕ, zero, suc, ◌-◌, ◌<◌, ◌≤◌, true, List, [], ◌∷◌, ◌++◌, length, Some, arith, refl, sym, ap, ◌∙◌, subst}
 use Rattle.std.specs.Prelude.{get_or, slice_get}
 use Rattle.std.proofs.lemmas.Bool.Decides.{nat_tests}
 use Rattle.sn_base.specs.Image.{ImageData}
-use Rattle.rv_core.specs.declared.state.CoreState.{CoreState}
 use Rattle.rv_core.specs.Core.{bare, is_reserved}
 use Rattle.rv_core.specs.Flat.{FlatState, flat_start, core_at}
 use Rattle.rv_core.specs.Execution.{IsExecution, end_of, out_of, in_of}
 use Rattle.sn_model.specs.Caches.{block_count, line_of, is_present}
 use Rattle.sn_model.specs.Fabric.{node_at}
-use Rattle.sn_model.specs.Cuts.{names_at, is_unfinished}
+use Rattle.sn_model.specs.Cuts.{names_at}
 use Rattle.sn_model.specs.Machine.{State, processor_at}
 use Rattle.sn_model.specs.RecoveryPoint.{KeepsCheckpoint, IsHeld, IsCut, block_in}
 use Rattle.sn_model.specs.Trace.{Entry as Retired}
 use Rattle.sn_coherence.specs.Records.{Records}
 use Rattle.sn_consistency.specs.Words as words
 use Rattle.sn_consistency.specs.Entries.{Entry}
-use Rattle.sn_consistency.specs.Sorted.{GoodList}
-use Rattle.sn_consistency.specs.Committed.{committed, released, Begins}
+use Rattle.sn_consistency.specs.Committed.{committed, Begins}
 use Rattle.sn_consistency.specs.Shows.{Shows}
 use Rattle.sn_consistency.proofs.CommittedPart.{committed_execution, committed_out}
 use Rattle.sn_consistency.proofs.Kept.{end_content, end_core, given_begins}
 use Rattle.sn_consistency.proofs.Start.{start_shows}
 use Rattle.fabric_coherence.specs.Coherent.{IsFinished}
-use Rattle.fabric_coherence.specs.Told.{Tells}
 use Rattle.consistent_cuts.specs.Outlined.{outline_of, start_places}
-use Rattle.consistent_cuts.specs.Joined.{IsJoined, Joins}
+use Rattle.consistent_cuts.specs.Joined.{IsJoined}
 use Rattle.consistent_cuts.specs.Headline.{IsConsistent}
 use Rattle.consistent_cuts.proofs.FabricAfter.{FabricHalf}
 use Rattle.consistent_cuts.proofs.Made.{committed_sorted, released_sorted}

@@ -1,5 +1,5 @@
 -- No event of the machine brings or takes a node.
-use Rattle.std.proofs.Common.{◌≡◌, ℕ, ◌+◌, Bool, true, false, length, Option, Some, None, refl, sym, ap, ◌∙◌, arith, length-set}
+use Rattle.std.proofs.Common.{◌≡◌, ℕ, ◌+◌, length, Option, Some, None, refl, arith}
 use Rattle.sn_base.specs.Image.{ImageData}
 use Rattle.sn_base.specs.declared.config.Config.{Config}
 use Rattle.sn_base.specs.declared.event.Event.{Event}
@@ -8,20 +8,16 @@ use Rattle.rv_core.specs.declared.step.Want.{Want}
 use Rattle.rv_core.specs.declared.step.Want.TheVariants as want
 use Rattle.sn_model.specs.declared.cache.Need.{Need}
 use Rattle.sn_model.specs.declared.cache.Need.TheVariants as need
-use Rattle.sn_model.specs.Fabric.{Fabric, Moved}
 use Rattle.sn_model.specs.FabricEvents.{FabricEvent, moved_by}
 use Rattle.sn_model.specs.FabricEvents as fabric
 use Rattle.sn_model.specs.Access.{accessed}
-use Rattle.sn_model.specs.NodeEvents.{evicted, edged, reported}
-use Rattle.sn_model.specs.NetEvents.{hopped, delivered, lost, killed}
-use Rattle.sn_model.specs.PointEvents.{advanced, recovered}
+use Rattle.sn_model.specs.PointEvents.{advanced}
 use Rattle.rv_core.specs.Core.{block_of}
 use Rattle.rv_core.specs.Step.{want_of}
 use Rattle.sn_model.specs.Machine.{State, processor_at}
-use Rattle.sn_model.specs.Instructions.{Stepped, carried, refused, retired, stepped, step_wanting, accessing, takes_input, next_byte}
-use Rattle.sn_model.specs.MachineEvents.{hearing, edges, validates, commits, unready_node, restores}
+use Rattle.sn_model.specs.Instructions.{Stepped, retired, stepped, step_wanting, accessing, takes_input, next_byte}
+use Rattle.sn_model.specs.MachineEvents.{validates, unready_node}
 use Rattle.sn_model.specs.Step.{step_of}
-use Rattle.consistent_cuts.proofs.FabricAfter.{FabricHalf}
 use Rattle.consistent_cuts.proofs.Half.{half}
 use Rattle.consistent_cuts.proofs.Places.{same_length}
 

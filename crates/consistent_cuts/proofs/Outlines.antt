@@ -1,13 +1,10 @@
 -- What each event but an instruction does to the outline of the machine: so the sorted list is kept.
-use Rattle.std.proofs.Common.{◌≡◌, ◌≢◌, ℕ, zero, suc, ◌+◌, ◌-◌, ◌<◌, ◌≤◌, Bool, true, false, List, [], ◌∷◌, ◌++◌, length, drop, Option, Some, None, arith, refl, sym, ap, ◌∙◌, subst, nat_lt, nat_le, max, cond, if◌then◌else◌, ◌==◌, append_assoc}
-use Rattle.std.specs.Prelude.{slice_index_or, slice_set, get_or}
+use Rattle.std.proofs.Common.{◌≡◌, ℕ, suc, ◌<◌, ◌≤◌, Bool, true, false, List, ◌++◌, length, drop, arith, refl, sym, ap, ◌∙◌, subst, nat_lt, cond}
 use Rattle.std.proofs.lemmas.Bool.Decides.{nat_tests}
 use Rattle.sn_base.specs.Image.{ImageData}
-use Rattle.rv_core.specs.declared.state.CoreState.{CoreState}
 use Rattle.rv_core.specs.Core.{bare, is_reserved}
-use Rattle.rv_core.specs.Execution.{in_of}
-use Rattle.sn_model.specs.Fabric.{Fabric, Node, node_at}
-use Rattle.sn_model.specs.Machine.{State, Processor, processor_at}
+use Rattle.sn_model.specs.Fabric.{node_at}
+use Rattle.sn_model.specs.Machine.{State, processor_at}
 use Rattle.sn_model.specs.Instructions.{taken_by}
 use Rattle.sn_model.specs.MachineEvents.{checkpoint_of}
 use Rattle.sn_coherence.specs.Records.{Records, rolls_back}

@@ -1,8 +1,8 @@
 -- A validation and a recovery keep what is joined.
-use Rattle.std.proofs.Common.{◌≡◌, ◌≢◌, ℕ, zero, suc, ◌+◌, ◌-◌, ◌<◌, ◌≤◌, Bool, true, false, not, cond, List, [], ◌∷◌, ◌++◌, length, map, filter, drop, Option, Some, None, arith, refl, sym, ap, ◌∙◌, subst, nat_eq, nat_lt, ◌==◌, length-append, if◌then◌else◌}
+use Rattle.std.proofs.Common.{◌≡◌, ℕ, zero, suc, ◌+◌, ◌-◌, ◌<◌, ◌≤◌, Bool, true, false, List, [], ◌∷◌, ◌++◌, length, map, drop, arith, refl, sym, ap, ◌∙◌, subst, nat_lt, length-append}
 use Rattle.std.specs.Prelude.{slice_index_or, slice_index, get_or}
 use Rattle.std.proofs.lemmas.Bool.Decides.{nat_tests}
-use Rattle.std.proofs.lemmas.List.{append-nil, get_or-map}
+use Rattle.std.proofs.lemmas.List.{get_or-map}
 use Rattle.std.proofs.Math.ListN.{get_or-eq_default}
 use Rattle.std.proofs.Math.Seq.{drop-append_seam}
 use Rattle.sn_base.specs.Image.{ImageData}
@@ -10,18 +10,16 @@ use Rattle.rv_core.specs.declared.state.CoreState.{CoreState}
 use Rattle.rv_core.specs.Core.{bare, is_reserved, start_of}
 use Rattle.rv_core.specs.Flat.{flat_start, first_cores, core_at}
 use Rattle.rv_core.specs.Execution.{in_of}
-use Rattle.sn_model.specs.Caches.{block_count}
-use Rattle.sn_model.specs.Fabric.{Fabric, Node, first_node, node_at}
+use Rattle.sn_model.specs.Fabric.{Fabric, first_node, node_at}
 use Rattle.sn_model.specs.Machine.{State, Processor, Retirement, first_processor, processor_at}
 use Rattle.sn_model.specs.Instructions.{taken_by, records_of}
 use Rattle.sn_model.specs.MachineEvents.{committed_next, restored_rest, restored_processor, restored_processors, checkpoint_of}
 use Rattle.sn_model.specs.PointEvents.{restored, restored_node, restored_homes, restored_net}
 use Rattle.sn_model.specs.Trace.{Entry as Retired}
 use Rattle.sn_coherence.specs.Records.{Records, rolls_back}
-use Rattle.sn_consistency.specs.Entries.{Entry, Places}
+use Rattle.sn_consistency.specs.Entries.{Entry}
 use Rattle.sn_consistency.specs.Sorted.{at_cut, cut_off}
 use Rattle.sn_consistency.specs.Committed.{committed}
-use Rattle.sn_consistency.specs.Kept as sorted
 use Rattle.sn_consistency.proofs.CommittedPart.{in_of-append, committed_reads}
 use Rattle.sn_consistency.proofs.Kept.{given_begins}
 use Rattle.sn_consistency.proofs.Others.{cut_bare}
@@ -228,7 +226,7 @@ module _ (image : ImageData) (s : State) (r : ℕ → Records) (list : ℕ → L
       let is : (processor_at s n).given ≡ in_of n s.committed ++ b.more = b.is ∙ ap (λ rs. in_of n rs ++ b.more) committed_is in
       let read : (at_cut image (start_places image M) list point).taken n ≡ in_of n s.committed = committed_reads image (start_places image M) list n point ∙ ap (in_of n) committed_is in
       let rest : drop (taken_by u n) (processor_at u n).given ≡ b.more =
-          ap (λ k. drop k (processor_at u n).given) (taken_is n) ∙ ap (drop (length (in_of n s.committed))) (sym (given_is n) ∙ is) ∙ drop-append_seam (in_of n s.committed) b.more in
+      ap (λ k. drop k (processor_at u n).given) (taken_is n) ∙ ap (drop (length (in_of n s.committed))) (sym (given_is n) ∙ is) ∙ drop-append_seam (in_of n s.committed) b.more in
       is ∙ ap (λ xs. xs ++ b.more) (sym read) ∙ ap (λ xs. (at_cut image (start_places image M) list point).taken n ++ xs) (sym rest)
 
   enough : (n : ℕ) → taken_by u n ≤ length (processor_at u n).given

@@ -1,17 +1,15 @@
 -- What an event that neither moves the point nor goes back to it leaves of the rest of the machine.
-use Rattle.std.proofs.Common.{◌≡◌, ◌≢◌, ℕ, ◌+◌, ◌<◌, Bool, true, false, not, List, [], ◌∷◌, ◌++◌, length, Option, Some, None, arith, refl, sym, ap, ◌∙◌, subst, nat_eq, get_or-set_other, if◌then◌else◌}
+use Rattle.std.proofs.Common.{◌≡◌, ◌≢◌, ℕ, ◌<◌, Bool, true, false, List, [], length, Option, Some, None, arith, refl, sym, ap, ◌∙◌, subst, nat_eq, get_or-set_other, if◌then◌else◌}
 use Rattle.std.proofs.lemmas.Bool.Decides.{nat_tests}
 use Rattle.std.proofs.lemmas.List.{append-nil}
 use Rattle.sn_base.specs.Image.{ImageData}
-use Rattle.sn_base.specs.declared.config.Config.{Config}
-use Rattle.sn_base.specs.declared.event.Answer.{Answer}
-use Rattle.rv_core.specs.Core.{bare, is_reserved}
+use Rattle.rv_core.specs.Core.{is_reserved}
 use Rattle.sn_model.specs.declared.net.Told.{Told}
 use Rattle.sn_model.specs.declared.net.Told.TheVariants as told
-use Rattle.sn_model.specs.Fabric.{Fabric, Moved, node_at}
+use Rattle.sn_model.specs.Fabric.{Moved, node_at}
 use Rattle.sn_model.specs.Machine.{State, Processor, processor_at, with_processor, first_processor}
 use Rattle.sn_model.specs.Instructions.{Stepped, retired, carried, found_at, next_with}
-use Rattle.sn_model.specs.MachineEvents.{heard, hearing, without_reservation, freed, with_checkpoint}
+use Rattle.sn_model.specs.MachineEvents.{heard, hearing, without_reservation, freed}
 use Rattle.sn_consistency.specs.Committed.{Begins}
 use Rattle.consistent_cuts.proofs.SteppedCases.{settles}
 use Rattle.consistent_cuts.proofs.Clocks.{part_set}

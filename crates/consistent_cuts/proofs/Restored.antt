@@ -1,16 +1,12 @@
 -- What a recovery leaves is just the cut.
-use Rattle.std.proofs.Common.{◌≡◌, ℕ, zero, suc, ◌+◌, ◌<◌, ◌≤◌, List, [], ◌∷◌, length, map, Some, None, arith, refl, sym, ap, ◌∙◌, subst}
-use Rattle.std.specs.Prelude.{slice_index_or, slice_index}
+use Rattle.std.proofs.Common.{◌≡◌, ℕ, zero, suc, ◌+◌, ◌<◌, List, [], ◌∷◌, length, None, arith, refl, sym, ap, ◌∙◌, subst}
+use Rattle.std.specs.Prelude.{slice_index_or}
 use Rattle.std.proofs.lemmas.List.{get_or-map}
 use Rattle.sn_base.specs.Image.{ImageData}
-use Rattle.rv_core.specs.Core.{bare}
-use Rattle.rv_core.specs.Flat.{core_at}
-use Rattle.rv_core.specs.Execution.{end_of, in_of}
-use Rattle.sn_model.specs.Caches.{block_count}
+use Rattle.rv_core.specs.Execution.{end_of}
 use Rattle.sn_model.specs.Homes.{HomeEntry, no_sharers}
 use Rattle.sn_model.specs.Fabric.{Fabric, node_at, home_of, no_entry}
-use Rattle.sn_model.specs.Machine.{State, processor_at}
-use Rattle.sn_model.specs.Instructions.{taken_by}
+use Rattle.sn_model.specs.Machine.{State}
 use Rattle.sn_model.specs.PointEvents.{restored_homes}
 use Rattle.sn_model.specs.RecoveryPoint.{IsRestored, IsRestoredNode, IsOwned}
 use Rattle.sn_model.specs.Trace.{Entry as Retired}
@@ -20,7 +16,7 @@ use Rattle.consistent_cuts.specs.Headline.{IsUntouched}
 use Rattle.consistent_cuts.specs.Joined.{IsJoined}
 use Rattle.consistent_cuts.proofs.FabricAfter.{FabricHalf}
 use Rattle.consistent_cuts.proofs.Moments.{end_block, end_register}
-use Rattle.consistent_cuts.proofs.Points.{restored_state, restored_is, node_is, now_is, known_is, processor_is, count_nodes, given_is, taken_is}
+use Rattle.consistent_cuts.proofs.Points.{restored_state, restored_is, node_is, processor_is, count_nodes, given_is, taken_is}
 
 -- nobody shares, and nothing is open
 none_share : (s : Fabric) (k i : ℕ) (homes : List HomeEntry) (b : ℕ) → (slice_index_or (restored_homes s k i homes) b no_entry).sharers ≡ no_sharers

@@ -1,6 +1,6 @@
 -- A program's start has what is joined.
-use Rattle.std.proofs.Common.{◌≡◌, ℕ, zero, suc, ◌+◌, ◌-◌, ◌*◌, ◌<◌, ◌≤◌, Bool, true, false, List, [], ◌∷◌, ◌++◌, length, take, drop, replicate, arith, refl, sym, ap, ◌∙◌, subst, nat_lt, if◌then◌else◌, ◌⊎◌, inl, inr}
-use Rattle.std.specs.Prelude.{get_or, slice_index_or, slice_index}
+use Rattle.std.proofs.Common.{◌≡◌, ℕ, zero, suc, ◌+◌, ◌-◌, ◌*◌, ◌<◌, ◌≤◌, Bool, true, false, List, [], ◌∷◌, ◌++◌, length, take, drop, arith, refl, sym, ap, ◌∙◌, subst, nat_lt, ◌⊎◌, inl, inr}
+use Rattle.std.specs.Prelude.{get_or}
 use Rattle.std.proofs.lemmas.Bool.Decides.{nat_tests}
 use Rattle.std.proofs.lemmas.Bool.{cases_order}
 use Rattle.std.proofs.lemmas.List.{length_push, get_or_append_left, get_or-append_right, length-replicate, get_or-replicate}
@@ -11,20 +11,20 @@ use Rattle.rv_core.specs.declared.state.CoreState.{CoreState}
 use Rattle.rv_core.specs.Core.{bare, is_reserved, start_of}
 use Rattle.rv_core.specs.Flat.{flat_start, first_cores, core_at, initial_memory}
 use Rattle.sn_model.specs.Caches.{block_count}
-use Rattle.sn_model.specs.Fabric.{Node, first_node, node_at, first_fabric, initial_block}
+use Rattle.sn_model.specs.Fabric.{first_node, node_at, initial_block}
 use Rattle.sn_model.specs.Machine.{State, Processor, processor_at, first_processor, first_processors}
 use Rattle.sn_model.specs.Machine as machine
 use Rattle.sn_model.specs.MachineEvents.{checkpoint_of}
 use Rattle.sn_coherence.specs.KeptRecords.{KeptRecords}
 use Rattle.sn_coherence.specs.Records.{Records, no_records}
 use Rattle.sn_consistency.specs.Entries.{Places}
-use Rattle.sn_consistency.specs.Kept.{Keeps, begun}
+use Rattle.sn_consistency.specs.Kept.{begun}
 use Rattle.sn_consistency.specs.Words.{block_in}
 use Rattle.sn_consistency.proofs.Kept.{begun_keeps}
 use Rattle.fabric_coherence.specs.View.{block_of}
 use Rattle.fabric_coherence.specs.Recorded.{KeepsRecords}
-use Rattle.consistent_cuts.specs.Outlined.{outline_of, start_places, interval_of, IsRestShaped, Agrees}
-use Rattle.consistent_cuts.specs.Joined.{IsJoined, Joins}
+use Rattle.consistent_cuts.specs.Outlined.{outline_of, start_places}
+use Rattle.consistent_cuts.specs.Joined.{Joins}
 use Rattle.consistent_cuts.proofs.FabricAfter.{FabricHalf}
 use Rattle.consistent_cuts.proofs.Hears.{recount}
 use Rattle.consistent_cuts.proofs.Outlines.{IsSameKept, same_kept}
@@ -154,22 +154,26 @@ module _ (half : FabricHalf) (image : ImageData) (nodes : ℕ) (some : 1 ≤ nod
       (k.0, k.1, λ b l. subst (λ v. KeptRecords (block_of s.fabric k.0 b) (no_records v)) (sym (initial_is image b l)) (k.2 b l))
 
   pub start_joins : Joins image s []
-  start_joins = (r, (λ x. []), record {
-    fabric = kept;
-    shape = record {
-      processors = count_processors image.entry nodes ∙ sym count;
-      reported = length-replicate nodes 0 ∙ sym count;
-      checkpoints = λ n l. by_processor (λ n p c. (node_at s.fabric n).known + length p.checkpoints ≡ (node_at s.fabric n).now + 1) (λ n. counted n) (λ n. counted n) n;
-      taken = λ n l. omega arith;
-    };
-    agrees = record {
-      reserved = λ b n lb l. sym (free n b);
-      reported = λ b n lb l. sym (get_or-replicate nodes n 0 0 (omega (arith, l, count)));
-    };
-    sorted = recount image nodes (length s.fabric.nodes) (outline_of s r (λ x. [])) count (same_kept image nodes F (begun F) (outline_of s r (λ x. [])) same_start (begun_keeps image nodes F (λ n. refl)));
-    traced = record { pending = refl; committed = refl; held = refl; released = refl };
-    made = record { did = λ x. refl; out = λ x. refl };
-  })
+  start_joins = (
+    r,
+    (λ x. []),
+    record {
+      fabric = kept;
+      shape = record {
+        processors = count_processors image.entry nodes ∙ sym count;
+        reported = length-replicate nodes 0 ∙ sym count;
+        checkpoints = λ n l. by_processor (λ n p c. (node_at s.fabric n).known + length p.checkpoints ≡ (node_at s.fabric n).now + 1) (λ n. counted n) (λ n. counted n) n;
+        taken = λ n l. omega arith;
+      };
+      agrees = record {
+        reserved = λ b n lb l. sym (free n b);
+        reported = λ b n lb l. sym (get_or-replicate nodes n 0 0 (omega (arith, l, count)));
+      };
+      sorted = recount image nodes (length s.fabric.nodes) (outline_of s r (λ x. [])) count (same_kept image nodes F (begun F) (outline_of s r (λ x. [])) same_start (begun_keeps image nodes F (λ n. refl)));
+      traced = record { pending = refl; committed = refl; held = refl; released = refl };
+      made = record { did = λ x. refl; out = λ x. refl };
+    },
+  )
     where
       counted : (n : ℕ) → (node_at s.fabric n).known + 1 ≡ (node_at s.fabric n).now + 1
       counted n = let a = node_is n in let b = ap (λ x. x.known) a in let c = ap (λ x. x.now) a in omega (arith, b, c)

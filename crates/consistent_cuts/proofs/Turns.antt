@@ -1,14 +1,13 @@
 -- A clock edge and a byte of input keep what is joined.
-use Rattle.std.proofs.Common.{◌≡◌, ◌≢◌, ℕ, suc, ◌+◌, ◌-◌, ◌<◌, ◌≤◌, Bool, true, false, cond, List, [], ◌∷◌, ◌++◌, length, drop, Option, Some, None, arith, refl, sym, ap, ◌∙◌, subst, nat_eq, nat_lt, ◌==◌, get_or-set_same, get_or-set_other, length-set, length-append, if◌then◌else◌, ◌⊎◌, inl, inr}
-use Rattle.std.specs.Prelude.{slice_index_or, slice_set, get_or}
+use Rattle.std.proofs.Common.{◌≡◌, ◌≢◌, ℕ, suc, ◌+◌, ◌-◌, ◌<◌, ◌≤◌, Bool, true, false, List, [], ◌∷◌, ◌++◌, length, drop, arith, refl, sym, ap, ◌∙◌, subst, nat_eq, get_or-set_same, get_or-set_other, length-set, length-append}
+use Rattle.std.specs.Prelude.{get_or}
 use Rattle.std.proofs.lemmas.Bool.Decides.{nat_tests}
-use Rattle.std.proofs.lemmas.Bool.{cases_order}
 use Rattle.std.proofs.lemmas.List.{get_or-append_right, get_or_append_left, drop-append-le}
 use Rattle.sn_base.specs.Image.{ImageData}
 use Rattle.rv_core.specs.declared.state.CoreState.{CoreState}
 use Rattle.rv_core.specs.Core.{bare, is_reserved}
 use Rattle.sn_model.specs.Caches.{block_count}
-use Rattle.sn_model.specs.Fabric.{Fabric, Node, first_node, node_at, with_node}
+use Rattle.sn_model.specs.Fabric.{Fabric, first_node, node_at, with_node}
 use Rattle.sn_model.specs.NodeEvents.{after_edge}
 use Rattle.sn_model.specs.Machine.{State, Processor, processor_at, with_processor}
 use Rattle.sn_model.specs.Instructions.{taken_by}
@@ -20,9 +19,9 @@ use Rattle.sn_consistency.specs.Kept as sorted
 use Rattle.fabric_coherence.specs.Recorded.{KeepsRecords}
 use Rattle.consistent_cuts.specs.Outlined.{outline_of, interval_of, start_places}
 use Rattle.consistent_cuts.specs.Joined.{IsJoined}
-use Rattle.consistent_cuts.proofs.Clocks.{IsSameClocks, same_clocks, part_set}
+use Rattle.consistent_cuts.proofs.Clocks.{same_clocks, part_set}
 use Rattle.consistent_cuts.proofs.Hears.{at_each, kept_checkpoint, recount}
-use Rattle.consistent_cuts.proofs.Outlines.{IsSameHistory, same_history, edge_keeps, input_keeps}
+use Rattle.consistent_cuts.proofs.Outlines.{same_history, edge_keeps, input_keeps}
 use Rattle.consistent_cuts.proofs.Traced.{traced_same}
 
 module _ (image : ImageData) (s : State) (r : ℕ → Records) (list : ℕ → List Entry) (trace : List Retired) (j : IsJoined image s r list trace) (e : ℕ) (l : e < length s.fabric.nodes) where

@@ -1,6 +1,6 @@
 -- What is promised of every run: of each moment, and of each event. A run is a list of events that fit a fitting
 -- configuration, from a program's start, in any order, with losses, dead switches and recoveries anywhere.
-use Rattle.std.specs.Prelude.{◌≡◌, ◌≢◌, ◌⊎◌, ℕ, ◌+◌, ◌<◌, Bool, true, false, nat_eq, List, [], ◌∷◌, ◌++◌, length, filter, Some}
+use Rattle.std.specs.Prelude.{◌≡◌, ◌≢◌, ◌⊎◌, ℕ, ◌+◌, ◌<◌, true, false, nat_eq, List, [], ◌∷◌, ◌++◌, length, filter, Some}
 use Rattle.sn_base.specs.Config.{config_fits}
 use Rattle.sn_base.specs.Image.{ImageData}
 use Rattle.sn_base.specs.declared.config.Config.{Config}
@@ -14,19 +14,19 @@ use Rattle.rv_core.specs.Execution.{IsExecution, end_of, in_of, out_of}
 use Rattle.rv_core.specs.Step.{want_of}
 use Rattle.sn_model.specs.declared.net.Told.TheVariants.{LostCopy}
 use Rattle.sn_model.specs.Caches.{block_count, line_of, is_present}
-use Rattle.sn_model.specs.Fabric.{Fabric, node_at}
+use Rattle.sn_model.specs.Fabric.{node_at}
 use Rattle.sn_model.specs.NodeEvents.{evicted}
 use Rattle.sn_model.specs.NetEvents.{delivered}
 use Rattle.sn_model.specs.Machine.{State, start_of, processor_at}
 use Rattle.sn_model.specs.Instructions.{Stepped, records_of}
 use Rattle.sn_model.specs.MachineEvents.{bytes_of}
 use Rattle.sn_model.specs.RecoveryPoint.{IsCut, IsRestored}
-use Rattle.sn_model.specs.Step.{step_of, state_after}
+use Rattle.sn_model.specs.Step.{state_after}
 use Rattle.sn_model.specs.Trace.{Entry, entry_at, trace_after, committed_trace}
 use Rattle.sn_consistency.specs.Committed.{Begins}
 use Rattle.fabric_coherence.specs.Coherent.{IsFinished}
 use Rattle.consistent_cuts.specs.Lists.{retirement_of}
-use Rattle.consistent_cuts.specs.Runs.{Fits, AllFit}
+use Rattle.consistent_cuts.specs.Runs.{AllFit}
 
 -- the premises: 1 to 16 nodes, 1 to 256 sets, 1 to 16 ways, a log of 4 to 4,096 entries; and events whose nodes, switches and
 -- blocks are there

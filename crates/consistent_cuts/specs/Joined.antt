@@ -1,5 +1,5 @@
 -- What holds of the machine at every moment of a run: both theorems together, and what ties them to the rest.
-use Rattle.std.specs.Prelude.{ℕ, List, length}
+use Rattle.std.specs.Prelude.{◌≡◌, ℕ, List, length}
 use Rattle.sn_base.specs.Image.{ImageData}
 use Rattle.sn_model.specs.Machine.{State}
 use Rattle.sn_model.specs.Trace.{Entry as Retired}
@@ -21,3 +21,7 @@ pub record IsJoined (image : ImageData) (s : State) (r : ℕ → Records) (list 
 
 abbrev pub Joins : ImageData → State → List Retired → Type 0
 Joins image s trace = (r : ℕ → Records) × (list : ℕ → List Entry) × IsJoined image s r list trace
+
+-- what holds of a machine of so many nodes, with these retirements along its run
+abbrev pub Holds : ImageData → ℕ → State → List Retired → Type 0
+Holds image nodes s trace = (length s.fabric.nodes ≡ nodes) × Joins image s trace

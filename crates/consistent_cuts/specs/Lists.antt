@@ -1,6 +1,5 @@
 -- What the machine's lists of pending, committed, held and released are, by the retirements along the run.
 use Rattle.std.specs.Prelude.{◌≡◌, ℕ, nat_le, List, map, filter, filter_map, flat_map}
-use Rattle.rv_core.specs.declared.step.Record.{Record}
 use Rattle.sn_base.specs.Image.{ImageData}
 use Rattle.sn_model.specs.Machine.{State, Retirement, HeldByte}
 use Rattle.sn_model.specs.Instructions.{held_in}
