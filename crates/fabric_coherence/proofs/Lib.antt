@@ -38,3 +38,6 @@ mod RowsMet
 mod NodesStay
 mod Told
 mod Reports
+mod Served
+mod ToldOf
+mod FullLogs
