@@ -1,13 +1,12 @@
 -- Which entry a growing log gives for a checkpoint.
-use Rattle.std.proofs.Common.{◌≡◌, ℕ, suc, ◌+◌, ◌<◌, ◌≤◌, Bool, true, false, not, ◌&&◌, ◌||◌, max, cond, List, [], ◌∷◌, ◌++◌, Option, Some, None, IfSome, length, get_or, drop, zero, refl, sym, ap, subst, ◌∙◌, arith, drop-cons, length-append}
+use Rattle.std.proofs.Common.{◌≡◌, ℕ, suc, ◌+◌, ◌<◌, ◌≤◌, Bool, true, false, not, ◌&&◌, ◌||◌, max, cond, List, [], ◌∷◌, ◌++◌, Option, Some, None, IfSome, length, drop, zero, refl, arith, length-append}
 use Rattle.std.specs.Prelude.{nat_le, nat_eq, if◌then◌else◌}
 use Rattle.std.specs.List.{All}
-use Rattle.std.specs.Option.{option_map}
 use Rattle.std.proofs.lemmas.List.Elements.{All-head, All-tail, All-nil, All-cons}
 use Rattle.std.proofs.lemmas.List.Kept.{AllPairs-filter}
 use Rattle.std.proofs.lemmas.List.Quantifiers.{all_pairs_push}
 use Rattle.std.proofs.lemmas.Bool.Decides.{nat_tests}
-use Rattle.log_buffer.specs.Log.{LogEntry, Old, is_home_side, is_about, earlier, entry_at, old_at, has_entry, logged_to, entries_from, IsGrowing, IsLog}
+use Rattle.log_buffer.specs.Log.{LogEntry, Old, is_home_side, is_about, earlier, entry_at, has_entry, logged_to, entries_from, IsGrowing, IsLog}
 
 -- an entry stands before each later one of its side and block
 abbrev pub StandsBefore : LogEntry → LogEntry → Type 0
@@ -61,11 +60,6 @@ entry_at-first e es s b k g h l =
     (if_some_weaker _ _ (λ f t. let u : e.interval < f.interval = t.0 (about_same s b e f h t.1) in omega arith) (entry_at es s b k)
     (entry_at-holds (StandsBefore e) es s b k (IsGrowing-head e es g))))
 
--- where an entry doesn't fit the others decide
-pub entry_at-rest : (e : LogEntry) (es : List LogEntry) (s : Bool) (b k : ℕ) → (is_about s b e && nat_le k e.interval) ≡ false →
-    entry_at (e ∷ es) s b k ≡ entry_at es s b k
-entry_at-rest e es s b k h = grind arith
-
 pub IsGrowing-drop : (n : ℕ) (es : List LogEntry) → IsGrowing es → IsGrowing (drop n es)
 IsGrowing-drop zero es h = h
 IsGrowing-drop (suc n) [] h = h
@@ -99,17 +93,6 @@ IsGrowing-push es i b old g h l = all_pairs_push StandsBefore es (record { inter
 
 pub IsGrowing-from : (k : ℕ) (es : List LogEntry) → IsGrowing es → IsGrowing (entries_from k es)
 IsGrowing-from k es g = AllPairs-filter StandsBefore (λ e. nat_le k e.interval) es g
-
-found_step : (es xs : List LogEntry) (s : Bool) (b k : ℕ) (e : LogEntry) → IsGrowing xs → xs ≡ e ∷ es → is_about s b e ≡ true → nat_le k e.interval ≡ true →
-    Some e.old ≡ old_at xs s b k
-found_step es xs s b k e g h a l = let g2 : IsGrowing (e ∷ es) = subst IsGrowing h g in
-    rw h (ap (option_map (λ (f : LogEntry). f.old)) (sym (entry_at-first e es s b k g2 a l)))
-
--- the first entry that fits, at place i
-pub old_at-found : (es : List LogEntry) (i : ℕ) (s : Bool) (b k : ℕ) (e : LogEntry) → i < length es → IsGrowing es → e ≡ get_or es i e → is_about s b e ≡ true → k ≤ e.interval →
-    Some e.old ≡ old_at (drop i es) s b k
-old_at-found es i s b k e l g h a m =
-    found_step (drop (suc i) es) (drop i es) s b k e (IsGrowing-drop i es g) (drop-cons es i e l ∙ ap (λ (x : LogEntry). x ∷ drop (suc i) es) (sym h)) a (grind (arith, nat_tests))
 
 shorter_step : (c : Bool) (e : LogEntry) (es fs : List LogEntry) → length fs ≤ length es → length (cond c (e ∷ fs) fs) ≤ length (e ∷ es)
 shorter_step true e es fs h = omega arith

@@ -4,14 +4,19 @@
 //! stood at a checkpoint can be told from the log: it is the old content of the block's entry with the least interval
 //! that isn't below the checkpoint, or what stands now where there is none. The layer above sees a list of entries,
 //! oldest first, and how many it may hold. A log never looks at the blocks themselves, and takes memory only when it is
-//! made.
+//! made. Who asks for a block's entries meets these alone, the newest first, however many others there are.
 //!
 //! Source: checkpoint log buffers of SafetyNet (Sorin, Martin, Hill, Wood, ISCA 2002).
 #![tactic(auto)]
 
 ghost use Rattle.std.specs.Prelude.{◌≡◌, ◌+◌, ◌-◌, ◌<◌, ◌≤◌, ◌^◌, ◌&&◌, Bool, true, false, nat_eq, nat_le, [], length, IfOk, option_copied};
-ghost use Rattle.log_buffer.specs.Log.{LogData, IsLog, is_home_side, is_of_side, is_about, old_at, has_entry, noted, entries_from, logged_to, IsGrowing};
+ghost use Rattle.log_buffer.specs.Log.{LogData, IsLog, is_home_side, old_at, has_entry, noted, entries_from, logged_to};
 
+mod places;
+mod renewal;
+
+use places::{Newest, Stored, is_home_side};
+use renewal::{close_up, forget};
 use sn_base::{BlockNo, Entries, Interval, LogEntry, Memory, Old};
 use std::alloc::Global;
 use std::marker::Model;
@@ -19,36 +24,21 @@ use std::marker::Model;
 /// A log. Contracts see its entries, oldest first, and its limit.
 #[derive(Drop)]
 pub struct LogBuffer {
-    entries: Vec<LogEntry>,
+    stored: Vec<Stored>,
+    newest: Newest,
     limit: usize,
 }
 
 impl Model for LogBuffer {
-    ghost use Rattle.std.specs.Prelude.{◌≤◌, vec_capacity};
-    ghost use Rattle.log_buffer.specs.Log.{LogData, IsLog};
+    ghost use Rattle.std.specs.Prelude.{vec_capacity};
+    ghost use Rattle.log_buffer.specs.Log.{LogData};
+    ghost use Rattle.log_buffer.specs.Index.{entries_of, IsHeld};
 
     ghost Value = { LogData };
 
-    ghost view = { λ b. record { entries = b.entries.items; limit = b.limit } };
+    ghost view = { λ b. record { entries = entries_of b.stored.items; limit = b.limit } };
 
-    ghost invariant = { λ b. IsLog (record { entries = b.entries.items; limit = b.limit }) × (b.limit ≤ vec_capacity b.entries) };
-}
-
-fn is_home_side(old: &Old) -> bool
-    ensures { result ≡ is_home_side old.now }
-{
-    match old {
-        Old::NotOwned | Old::Owned(_) => false,
-        Old::WasHome(_) | Old::WasCache(_) => true,
-    }
-}
-
-fn is_about(entry: &LogEntry, home_side: bool, block: BlockNo) -> bool
-    ensures { result ≡ is_about home_side block entry.now }
-{
-    let home_entry = is_home_side(&entry.old);
-    let same_side = if home_side { home_entry } else { !home_entry };
-    same_side && entry.block == block
+    ghost invariant = { λ b. IsHeld b.stored.items b.newest b.limit (vec_capacity b.stored) };
 }
 
 impl LogBuffer {
@@ -57,8 +47,13 @@ impl LogBuffer {
         ensures { IfOk result (λ b. b ≡ record { entries = []; limit = room }) }
     {
         let limit = usize::from(room);
-        let entries = Vec::with_capacity(alloc, limit)?;
-        Ok(LogBuffer { entries, limit })
+        let stored = Vec::with_capacity(alloc, limit)?;
+        let newest = Newest::new(alloc)?;
+        Ok(LogBuffer {
+            stored,
+            newest,
+            limit,
+        })
     }
 
     /// How many more entries fit.
@@ -66,17 +61,20 @@ impl LogBuffer {
         ensures left { result ≡ self.now.limit - length self.now.entries }
         ensures good { IsLog self.now }
     {
-        self.limit - self.entries.len()
+        self.limit - self.stored.len()
     }
 
     /// Whether there is an entry of this interval, side and block. The side is the home's, or else the cache's.
     pub fn has(&self, interval: Interval, home_side: bool, block: BlockNo) -> bool
         ensures { result ≡ has_entry self.now.entries interval home_side block }
     {
-        'entries: for entry in self.entries.iter() {
-            if is_about(entry, home_side, block) && entry.interval == interval {
-                return true;
+        let mut place = self.newest.of(home_side, block);
+        'older: while let Some(at) = place {
+            let stored = &self.stored[usize::from(at)];
+            if stored.entry.interval <= interval {
+                return stored.entry.interval == interval;
             }
+            place = stored.older;
         }
         false
     }
@@ -87,16 +85,19 @@ impl LogBuffer {
         requires latest { logged_to self.old.entries (is_home_side old) block ≤ interval + 1 }
         ensures { self.new ≡ record self.old { entries = noted self.old.entries interval block old } }
     {
-        if self.has(interval, is_home_side(&old), block) {
+        let home_side = is_home_side(&old);
+        if self.has(interval, home_side, block) {
             return;
         }
-        self.entries
-            .push(LogEntry {
-                interval,
-                block,
-                old,
-            })
-            .unwrap();
+        let place = self.stored.len() as u16;
+        let older = self.newest.of(home_side, block);
+        let entry = LogEntry {
+            interval,
+            block,
+            old,
+        };
+        self.stored.push(Stored { entry, older }).unwrap();
+        self.newest.put(home_side, block, Some(place));
     }
 
     /// What stood at checkpoint k, where the block has changed on this side since.
@@ -104,25 +105,32 @@ impl LogBuffer {
         ensures old { option_copied result ≡ old_at self.now.entries home_side block k }
         ensures good { IsLog self.now }
     {
-        'entries: for entry in self.entries.iter() {
-            if is_about(entry, home_side, block) && entry.interval >= k {
-                return Some(&entry.old);
+        let mut found = None;
+        let mut place = self.newest.of(home_side, block);
+        'older: while let Some(at) = place {
+            let stored = &self.stored[usize::from(at)];
+            if stored.entry.interval < k {
+                return found;
             }
+            found = Some(&stored.entry.old);
+            place = stored.older;
         }
-        None
+        found
     }
 
     /// Drops the entries of intervals below k, once no recovery goes back below checkpoint k.
     pub fn free_below(&mut self, k: Interval)
         ensures { self.new ≡ record self.old { entries = entries_from k self.old.entries } }
     {
-        self.entries.retain(|entry| entry.interval >= k);
+        let kept = close_up(self.stored.as_mut_slice(), &mut self.newest, k);
+        self.stored.truncate(kept);
     }
 
     pub fn clear(&mut self)
         ensures { self.new ≡ record self.old { entries = [] } }
     {
-        self.entries.clear();
+        forget(self.stored.as_slice(), &mut self.newest);
+        self.stored.clear();
     }
 }
 
@@ -132,11 +140,11 @@ impl Entries for LogBuffer {
     ghost entries = { λ b. b.entries };
 
     fn count(&self) -> usize {
-        self.entries.len()
+        self.stored.len()
     }
 
     fn entry(&self, place: usize) -> &LogEntry {
-        &self.entries[place]
+        &self.stored[place].entry
     }
 }
 

@@ -1,8 +1,9 @@
 -- what every network keeps, through each change of its list
-use Rattle.std.proofs.Common.{◌≡◌, ℕ, zero, suc, ◌+◌, ◌<◌, ◌≤◌, Bool, true, false, cond, not, eqb, Option, Some, None, IfSome, Result, Ok, Err, IsOk, List, [], ◌∷◌, ◌++◌, length, get_or, set, refl, sym, ap, ◌∙◌, Bor, arith}
+use Rattle.std.proofs.Common.{◌≡◌, ℕ, zero, suc, ◌+◌, ◌<◌, ◌≤◌, Bool, true, false, cond, not, eqb, Option, Some, None, IfSome, Result, Ok, Err, IsOk, List, [], ◌∷◌, ◌++◌, length, get_or, set, refl, sym, ap, subst, ◌∙◌, Bor, arith}
 use Rattle.std.specs.List.{All, filter, position, position_or_len}
 use Rattle.std.specs.Option.{option_copied, is_some}
 use Rattle.std.proofs.lemmas.Bool.{false≢true, ltb-false}
+use Rattle.std.proofs.lemmas.Bool.Decides.{nat_tests}
 use Rattle.std.proofs.lemmas.List.Quantifiers.{position-Some}
 use Rattle.std.proofs.lemmas.List.Sums.{fails_before_first}
 use Rattle.std.proofs.lemmas.List.Elements.{All-nil, All-cons, All-head, All-tail, All-push, All-filter}
@@ -202,3 +203,29 @@ none-cut (Some x) r k h = absurd (refused r x k h)
     refused : {X : Type 0} (r : Result (Unit {0}) X) (x : X) → IsOk r → r ≡ Err x → ⊥
     refused (Ok u) x k h = cc
     refused (Err y) x k h = cc
+
+-- the next number is new
+new_step : (b : Bool) (f : Flight) (o : Option Flight) → b ≡ false → o ≡ None → cond b (Some f) o ≡ None
+new_step b f o h k = rw (h, k) refl
+
+pub find-next : (least bound : ℕ) (fs : List Flight) → AreNumbered least fs bound → find_flight fs bound ≡ None
+find-next least bound [] h = refl
+find-next least bound (f ∷ fs) h =
+    let l : f.message.id + 1 ≤ bound = numbered-le (f.message.id + 1) bound fs h.1 in
+    new_step (eqb f.message.id bound) f (find_flight fs bound) (grind (arith, nat_tests)) (find-next (f.message.id + 1) bound fs h.1)
+
+found_step : (P : Flight → Type 0) (b : Bool) (f : Flight) (o : Option Flight) → P f → IfSome o P → IfSome (cond b (Some f) o) P
+found_step P true f o h k = h
+found_step P false f o h k = k
+
+found_in : (P : Flight → Type 0) (id : ℕ) (fs : List Flight) → All P fs → IfSome (find_flight fs id) P
+found_in P id [] h = tt
+found_in P id (f ∷ fs) h = found_step P (eqb f.message.id id) f (find_flight fs id) (All-head P f fs h) (found_in P id fs (All-tail P f fs h))
+
+copied_step : (P : Flight → Type 0) (r : Option (Bor Flight)) (o : Option Flight) → option_copied r ≡ o → IfSome o P → IfSome r (λ f. P f.now)
+copied_step P None o h k = tt
+copied_step P (Some f) o h k = let Q : Option Flight → Type 0 = λ q. IfSome q P in subst Q (sym h) k
+
+-- what is found is one of the network's messages
+pub net-found : (n : NetData) (id : ℕ) (r : Option (Bor Flight)) → IsNet n → option_copied r ≡ find_flight n.flights id → IfSome r (λ f. IsPlaced n.routes f.now)
+net-found n id r h e = copied_step (IsPlaced n.routes) r (find_flight n.flights id) e (found_in (IsPlaced n.routes) id n.flights h.placed)

@@ -9,6 +9,7 @@
 
 mod answers;
 mod flight;
+mod messages;
 mod net;
 
 pub use answers::{HopAnswer, TakeFault};

@@ -1,6 +1,5 @@
 //! The network.
-ghost use Rattle.std.specs.Prelude.{◌≡◌, ℕ, ◌+◌, ◌-◌, ◌*◌, ◌<◌, ◌≤◌, ◌^◌, ◌↔◌, Bool, true, false, not, ◌==◌, Option, Some, None, Ok, Err, IsNone, IsSome, IfSome, IsOk, OnErr, IfOk, IfErr, IsTrue, MatchResult, List, [], length, replicate, slice_get, slice_set, vec_capacity};
-ghost use Rattle.std.specs.List.{position};
+ghost use Rattle.std.specs.Prelude.{◌≡◌, ℕ, ◌+◌, ◌-◌, ◌*◌, ◌<◌, ◌≤◌, ◌^◌, ◌↔◌, Bool, true, false, not, Option, Some, None, Ok, Err, IsNone, IsSome, IfSome, IsOk, OnErr, IfOk, IfErr, IsTrue, MatchResult, List, [], length, replicate, slice_get, slice_set};
 ghost use Rattle.std.specs.Option.{option_copied};
 ghost use Rattle.route_plan.specs.Distances.{is_dead, is_living};
 ghost use Rattle.route_plan.specs.Routes.{first_cut_off};
@@ -9,14 +8,12 @@ ghost use Rattle.switch_net.specs.Net.{NetData, IsNet, IsPlaced, has_arrived, ne
 
 use crate::answers::{HopAnswer, TakeFault};
 use crate::flight::Flight;
+use crate::messages::{Messages, ROOM};
 use route_plan::{Dead, PlanFault, Routes, cut_off, plan};
 use sn_base::{BlockNo, Interval, Memory, MsgId, NodeId, SwitchId};
 use sn_msg::{Body, Message};
 use std::alloc::Global;
 use std::marker::Model;
-
-/// How many messages may be in flight.
-const ROOM: usize = 1024;
 
 /// The network of a machine.
 #[derive(Drop)]
@@ -25,47 +22,18 @@ pub struct Net {
     routes: Routes,
     dead: Dead,
     next: MsgId,
-    flights: Vec<Flight>,
+    messages: Messages,
 }
 
 impl Model for Net {
-    ghost use Rattle.std.specs.Prelude.{◌≡◌, ◌≤◌, vec_capacity};
+    ghost use Rattle.std.specs.Prelude.{◌≡◌};
     ghost use Rattle.switch_net.specs.Net.{NetData, IsNet};
 
     ghost Value = { NetData };
 
-    ghost view = { λ n. record { routes = n.routes; dead = n.dead; next = n.next; flights = n.flights.items } };
+    ghost view = { λ n. record { routes = n.routes; dead = n.dead; next = n.next; flights = n.messages } };
 
-    ghost invariant = { λ n. IsNet (record { routes = n.routes; dead = n.dead; next = n.next; flights = n.flights.items }) × (n.routes.nodes ≡ n.nodes) × (1024 ≤ vec_capacity n.flights) };
-}
-
-fn drop_number(flights: &mut Vec<Flight>, id: MsgId)
-    ensures others { flights.new.items ≡ without flights.old.items id }
-    ensures room { vec_capacity flights.old ≤ vec_capacity flights.new }
-{
-    flights.retain(|flight| flight.message.id != id);
-}
-
-fn drop_in(flights: &mut Vec<Flight>, switch: SwitchId)
-    ensures others { flights.new.items ≡ outside flights.old.items switch }
-    ensures room { vec_capacity flights.old ≤ vec_capacity flights.new }
-{
-    flights.retain(|flight| flight.at != switch);
-}
-
-fn place_of(flights: &[Flight], id: MsgId) -> Option<usize>
-    ensures { result ≡ position (λ f. f.message.id == id) flights.now }
-{
-    flights.iter().position(|flight| flight.message.id == id)
-}
-
-fn put(flights: &mut Vec<Flight>, id: MsgId, switch: SwitchId)
-    ensures moved { flights.new.items ≡ moved flights.old.items id switch }
-    ensures room { vec_capacity flights.old ≤ vec_capacity flights.new }
-{
-    if let Some(place) = place_of(flights.as_slice(), id) {
-        flights[place].at = switch;
-    }
+    ghost invariant = { λ n. IsNet (record { routes = n.routes; dead = n.dead; next = n.next; flights = n.messages }) × (n.routes.nodes ≡ n.nodes) };
 }
 
 impl Net {
@@ -81,13 +49,13 @@ impl Net {
             Err(PlanFault::Memory) => return Err(Memory),
             Err(PlanFault::CutOff(_, _)) => unreachable!(),
         };
-        let flights = Vec::with_capacity(alloc, ROOM)?;
+        let messages = Messages::new(alloc)?;
         Ok(Net {
             nodes,
             routes,
             dead,
             next: 1,
-            flights,
+            messages,
         })
     }
 
@@ -95,7 +63,7 @@ impl Net {
     pub fn spare(&self) -> usize
         ensures { result ≡ 1024 - length self.now.flights }
     {
-        ROOM - self.flights.len()
+        ROOM - self.messages.len()
     }
 
     /// The number of the next message.
@@ -110,7 +78,7 @@ impl Net {
         ensures count { result ≡ length self.now.flights }
         ensures sound { IsNet self.now }
     {
-        self.flights.len()
+        self.messages.len()
     }
 
     /// The message at a place of the list, and the switch that it stands in.
@@ -118,7 +86,7 @@ impl Net {
         requires { place < length self.now.flights }
         ensures { IfSome (slice_get self.now.flights place) (λ f. (result.0.now ≡ f.message) × (result.1 ≡ f.at)) }
     {
-        let flight = &self.flights[place];
+        let flight = self.messages.at(place);
         (&flight.message, flight.at)
     }
 
@@ -126,20 +94,20 @@ impl Net {
         ensures flight { option_copied result ≡ find_flight self.now.flights id }
         ensures placed { IfSome result (λ f. IsPlaced self.now.routes f.now) }
     {
-        self.flights.iter().find(|flight| flight.message.id == id)
+        self.messages.find(id)
     }
 
     fn remove(&mut self, id: MsgId)
         ensures { self.new ≡ record self.old { flights = without self.old.flights id } }
     {
-        drop_number(&mut self.flights, id);
+        self.messages.remove(id);
     }
 
     fn put_into(&mut self, id: MsgId, switch: SwitchId)
         requires { is_living self.old.routes switch ≡ true }
         ensures { self.new ≡ record self.old { flights = moved self.old.flights id switch } }
     {
-        put(&mut self.flights, id, switch);
+        self.messages.put(id, switch);
     }
 
     /// Sends a message under the next number. False where its entry switch is dead: then it is lost at once.
@@ -171,7 +139,7 @@ impl Net {
         if self.dead.has(at) {
             return false;
         }
-        self.flights.push(Flight { message, at }).unwrap();
+        self.messages.push(&Flight { message, at });
         true
     }
     /// The switch to which a message goes on. None where it has arrived.
@@ -268,7 +236,7 @@ impl Net {
             return false;
         }
         self.dead = self.dead.with(switch);
-        drop_in(&mut self.flights, switch);
+        self.messages.drop_in(switch);
         true
     }
 
@@ -298,8 +266,8 @@ impl Net {
         ensures joined { IsNone (first_cut_off (living_now self.old)) → IsOk result }
     {
         self.routes.replan(self.dead)?;
-        let dropped = self.flights.len() as u32;
-        self.flights.clear();
+        let dropped = self.messages.len() as u32;
+        self.messages.clear();
         Ok(dropped)
     }
 }

@@ -2,7 +2,7 @@ use Rattle.std.proofs.Common.{◌==◌, set, sym, ap, ◌∙◌, List}
 use Rattle.std.specs.List.{position}
 use Rattle.switch_net.specs.declared.flight.Flight.{Flight}
 use Rattle.switch_net.proofs.Nets.{moved-none, moved-some}
-use Rattle.switch_net.proofs.net.put.Goals as goal
+use Rattle.switch_net.proofs.messages.put_in.Goals as goal
 
 pub returns-in-Some-clause-moved : goal.returns-in-Some-clause-moved
 returns-in-Some-clause-moved c =
