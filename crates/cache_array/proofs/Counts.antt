@@ -77,6 +77,10 @@ sets_apart s t w f a b c e =
     (cases_lt t s))
     (cases_lt s t)
 
+-- a block whose frame is of another block's set is of that set
+pub same-set : (d : FrameSlots) (f x b : ℕ) → AreSlots d → block_at d f ≡ Some x → first_of d b ≤ f → f < first_of d b + d.ways → x % d.sets ≡ b % d.sets
+same-set d f x b h e l m = let p = h.placed f x e in sets_apart (x % d.sets) (b % d.sets) d.ways f p.0 p.1 l m
+
 outside_step : (d : FrameSlots) (f b : ℕ) (o : Option ℕ) → AreSlots d → (f < first_of d b) ⊎ (first_of d b + d.ways ≤ f) → block_at d f ≡ o → is_in d.sets (b % d.sets) o ≡ false
 outside_step d f b None h l e = refl
 outside_step d f b (Some x) h l e =
@@ -91,9 +95,7 @@ outside_step d f b (Some x) h l e =
 inside_step : (d : FrameSlots) (f b : ℕ) (o : Option ℕ) → AreSlots d → first_of d b ≤ f → f < first_of d b + d.ways → block_at d f ≡ o → is_in d.sets (b % d.sets) o ≡ is_some o
 inside_step d f b None h l m e = refl
 inside_step d f b (Some x) h l m e =
-    let p = h.placed f x e in
-    let q : x % d.sets ≡ b % d.sets = sets_apart (x % d.sets) (b % d.sets) d.ways f p.0 p.1 l m in
-    grind (arith, nat_tests)
+    let q : x % d.sets ≡ b % d.sets = same-set d f x b h e l m in grind (arith, nat_tests)
 
 pub ways-counted : (d : FrameSlots) (b : ℕ) → AreSlots d → how_many is_some (ways_of d b) ≡ blocks_in d (b % d.sets)
 ways-counted d b h =

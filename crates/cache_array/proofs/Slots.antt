@@ -33,8 +33,9 @@ of_self : (o : Option ℕ) (b : ℕ) → o ≡ Some b → is_of b o ≡ true
 of_self None b h = absurd (none-some b h)
 of_self (Some x) b h = let e : x ≡ b = same_Some x b h in grind (arith, nat_tests)
 
-at_inside : (d : FrameSlots) (f b : ℕ) → block_at d f ≡ Some b → f < length d.slots
-at_inside d f b h =
+-- a frame that has a block is among all
+pub at-inside : (d : FrameSlots) (f b : ℕ) → block_at d f ≡ Some b → f < length d.slots
+at-inside d f b h =
     ⊎_elim
     (λ (l : f < length d.slots). l)
     (λ (l : length d.slots ≤ f). absurd (none-some b (sym (get_or_past d.slots f None l) ∙ h)))
@@ -46,7 +47,7 @@ found-at d f b h = of_step (block_at d f) b (position-Some (is_of b) d.slots f N
 
 found_step : (d : FrameSlots) (f b : ℕ) (o : Option ℕ) → AreSlots d → block_at d f ≡ Some b → frame_of d b ≡ o → o ≡ Some f
 found_step d f b None h e i =
-    let n : is_of b (block_at d f) ≡ false = position-None (is_of b) d.slots f None i (at_inside d f b e) in
+    let n : is_of b (block_at d f) ≡ false = position-None (is_of b) d.slots f None i (at-inside d f b e) in
     let y : is_of b (block_at d f) ≡ true = of_self (block_at d f) b e in cc
 found_step d f b (Some g) h e i = ap (λ (n : ℕ). let s : Option ℕ = Some n in s) (h.apart g f b (found-at d g b i) e)
 
@@ -65,7 +66,7 @@ frame-none d b h = none_step d b (frame_of d b) h refl
 -- where none is found, no frame has it
 pub none-at : (d : FrameSlots) (f b : ℕ) → frame_of d b ≡ None → block_at d f ≡ Some b → ⊥
 none-at d f b h e =
-    let n : is_of b (block_at d f) ≡ false = position-None (is_of b) d.slots f None h (at_inside d f b e) in
+    let n : is_of b (block_at d f) ≡ false = position-None (is_of b) d.slots f None h (at-inside d f b e) in
     let y : is_of b (block_at d f) ≡ true = of_self (block_at d f) b e in cc
 
 -- a look at one set
@@ -244,7 +245,7 @@ parted f g b x o p h i s e =
 pub frame-freed : (d : FrameSlots) (f b x : ℕ) → AreSlots d → frame_of d b ≡ Some f → frame_of (freed d f) x ≡ cond (nat_eq b x) None (frame_of d x)
 frame-freed d f b x h i =
     let a = found-at d f b i in
-    let l = at_inside d f b a in
+    let l = at-inside d f b a in
     let k = slots-freed d f h l in
     ⊎_elim
     (λ (e : b ≡ x). let t : nat_eq b x ≡ true = grind (arith, nat_tests) in

@@ -69,6 +69,7 @@ impl Frames {
     /// The frame of the first way of the block's set.
     fn first_of(&self, block: BlockNo) -> usize
         ensures frame { result ≡ first_of self.now block }
+        ensures of_memory { block < 2 ^ 16 }
         ensures small { result + self.now.ways < 2 ^ 24 }
         ensures good { AreSlots self.now }
     {
@@ -77,6 +78,7 @@ impl Frames {
 
     fn ways_of(&self, block: BlockNo) -> &[Option<BlockNo>]
         ensures ways { result.now ≡ ways_of self.now block }
+        ensures of_memory { block < 2 ^ 16 }
         ensures good { AreSlots self.now }
     {
         let first = self.first_of(block);
@@ -86,6 +88,7 @@ impl Frames {
     /// The frame of the block. None exactly where it has none.
     pub fn find(&self, block: BlockNo) -> Option<usize>
         ensures frame { result ≡ frame_of self.now block }
+        ensures of_memory { block < 2 ^ 16 }
         ensures good { AreSlots self.now }
     {
         let way = way_of(self.ways_of(block), block)?;
