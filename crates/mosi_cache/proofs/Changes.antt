@@ -1,89 +1,140 @@
--- What a change of the list of frames leaves: frames as they may be, and the map from blocks with one line changed.
-use Rattle.std.proofs.Common.{◌≡◌, ℕ, suc, ◌<◌, ◌≤◌, ◌%◌, Bool, true, false, cond, List, [], ◌∷◌, ◌++◌, length, get_or, set, Some, None, refl, ◌∙◌, subst, arith}
-use Rattle.std.specs.Prelude.{nat_eq, nat_lt}
-use Rattle.std.specs.List.{position, position_or_len}
-use Rattle.std.proofs.lemmas.Bool.Decides.{nat_tests}
-use Rattle.std.proofs.lemmas.List.{get_or-set_same}
-use Rattle.std.proofs.lemmas.List.Quantifiers.{position-Some}
-use Rattle.std.proofs.lemmas.List.Sums.{fails_before_first}
-use Rattle.std.proofs.lemmas.List.Elements.{All-get_or}
+-- What a change of a block's line leaves: frames and what they keep as they may be, and the map from blocks with that line changed.
+use Rattle.std.proofs.Common.{◌≡◌, ℕ, zero, suc, ◌<◌, ◌≤◌, true, false, cond, List, [], ◌∷◌, length, get_or, set, Option, Some, None, refl, sym, ap, ◌∙◌, subst, arith, ⊎_elim, length-set}
+use Rattle.std.specs.Prelude.{nat_eq, is_some, IfSome}
+use Rattle.std.proofs.lemmas.Bool.{cases_eq, cases_lt}
+use Rattle.std.proofs.lemmas.List.{get_or-set_same, get_or-set_other, get_or_past, set-get_or}
+use Rattle.std.proofs.lemmas.Option.{none-some, same_Some}
+use Rattle.cache_array.specs.Slots.{FrameSlots, block_at, IsOfSet, frame_of, is_full, taken, freed}
+use Rattle.cache_array.proofs.Slots.{found-at, at-inside, frame-inside, slots-taken, slots-freed}
 use Rattle.sn_model.specs.Caches.{Line, no_line, is_present, block_count, frames_taken}
-use Rattle.mosi_cache.specs.Frames.{Frame, closed, line_at, line_of_frame, is_of, line_in, lines_of, numbers, has_number, count_in, AreFrames}
-use Rattle.mosi_cache.proofs.Frames.{others, length-lines, line-at, lines-changed, line-absent, line-pushed, line-dropped, line-found, line-set}
-use Rattle.mosi_cache.proofs.Counts.{taken-counted, frames-others, frames-set, frames-pushed}
+use Rattle.mosi_cache.specs.Frames.{Kept, closed, line_at, kept_at, line_kept, line_in_frame, line_in, lines_of, AreLines}
+use Rattle.mosi_cache.proofs.Frames.{length-lines, line-at, lines-changed, line-written, line-taken, line-freed}
+use Rattle.mosi_cache.proofs.Counts.{not-full}
+
+-- what is said of a block's line by its frame
+
+-- a block that has a frame
+pub read-found : (d : FrameSlots) (ks : List Kept) (b f : ℕ) → AreLines d ks → frame_of d b ≡ Some f →
+    (line_at (lines_of d ks) b ≡ line_kept (kept_at ks f)) × (is_present (kept_at ks f).state ≡ true)
+read-found d ks b f h e =
+    let a = found-at d f b e in (line-at d ks b (h.inside f b a) ∙ ap (line_in_frame ks) e, h.present f b a)
+
+-- one that has none
+pub read-absent : (d : FrameSlots) (ks : List Kept) (b : ℕ) → frame_of d b ≡ None → line_at (lines_of d ks) b ≡ no_line
+read-absent d ks b e =
+    ⊎_elim
+    (λ (l : b < block_count). line-at d ks b l ∙ ap (line_in_frame ks) e)
+    (λ (l : block_count ≤ b). get_or_past (lines_of d ks) b no_line (omega (arith, length-lines d ks)))
+    (cases_lt b block_count)
+
+pub frame-kept : (d : FrameSlots) (ks : List Kept) (b f : ℕ) → AreLines d ks → frame_of d b ≡ Some f → f < length ks
+frame-kept d ks b f h e = omega (arith, h.whole, at-inside d f b (found-at d f b e))
+
+-- what a frame keeps, whatever else would be read past the last
+pub kept-read : (ks : List Kept) (f : ℕ) (k : Kept) → f < length ks → get_or ks f k ≡ kept_at ks f
+kept-read [] f k l = absurd (omega arith)
+kept-read (x ∷ ks) zero k l = refl
+kept-read (x ∷ ks) (suc f) k l = kept-read ks f k (omega arith)
 
 -- frames that give one block another line
-pub record Changed (sets ways : ℕ) (fs gs : List Frame) (b : ℕ) (l : Line) : Type 0 where
-  pub frames : AreFrames sets ways gs
-  pub lines : lines_of gs ≡ set (lines_of fs) b l
-  pub read : line_at (lines_of gs) b ≡ l
+pub record Changed (d e : FrameSlots) (ks ms : List Kept) (b : ℕ) (l : Line) : Type 0 where
+  pub frames : AreLines e ms
+  pub lines : lines_of e ms ≡ set (lines_of d ks) b l
+  pub read : line_at (lines_of e ms) b ≡ l
 
-changed : (sets ways : ℕ) (fs gs : List Frame) (b : ℕ) (l : Line) → AreFrames sets ways gs → b < block_count → ((x : ℕ) → line_in gs x ≡ cond (nat_eq b x) l (line_in fs x)) → Changed sets ways fs gs b l
-changed sets ways fs gs b l h n e =
-    let q : lines_of gs ≡ set (lines_of fs) b l = lines-changed fs gs b l e n in
-    let i : b < length (lines_of fs) = rw (length-lines fs) n in
+changed : (d e : FrameSlots) (ks ms : List Kept) (b : ℕ) (l : Line) → AreLines e ms → b < block_count → ((x : ℕ) → line_in e ms x ≡ cond (nat_eq b x) l (line_in d ks x)) → Changed d e ks ms b l
+changed d e ks ms b l h n i =
+    let q : lines_of e ms ≡ set (lines_of d ks) b l = lines-changed d e ks ms b l i n in
+    let j : b < length (lines_of d ks) = rw (length-lines d ks) n in
     record {
       frames = h;
       lines = q;
-      read = rw q (get_or-set_same (lines_of fs) b l no_line i);
+      read = rw q (get_or-set_same (lines_of d ks) b l no_line j);
     }
 
+-- what was written into a frame, or what it kept
+kept_step : (ks : List Kept) (f g : ℕ) (k : Kept) → f < length ks → is_present k.state ≡ true → ((f ≡ g → ⊥) → is_present (kept_at ks g).state ≡ true) → is_present (kept_at (set ks f k) g).state ≡ true
+kept_step ks f g k l h i =
+    ⊎_elim
+    (λ (e : f ≡ g). subst (λ (m : Kept). is_present m.state ≡ true) (sym (ap (λ (n : ℕ). kept_at (set ks f k) n) (sym e) ∙ get_or-set_same ks f k _ l)) h)
+    (λ (e : f ≡ g → ⊥). subst (λ (m : Kept). is_present m.state ≡ true) (sym (get_or-set_other ks f g k _ (λ j. e (sym j)))) (i e))
+    (cases_eq f g)
+
 -- a line in the place of the block's line
-pub put-found : (sets ways : ℕ) (fs : List Frame) (g : Frame) (b p : ℕ) → AreFrames sets ways fs → position (is_of b) fs ≡ Some p → g.number ≡ b → b < block_count → is_present g.state ≡ true →
-    Changed sets ways fs (set fs p g) b (line_of_frame g)
-put-found sets ways fs g b p h f e n t =
-    let f2 : position (is_of g.number) fs ≡ Some p = rw e f in
-    let s = position-Some (is_of g.number) fs p g f2 in
-    let k : g.number ≡ (get_or fs p g).number = let u = s.1 in grind (arith, nat_tests) in
-    changed sets ways fs (set fs p g) b (line_of_frame g) (frames-set sets ways p g fs s.0 k t h) n
-    (λ x. subst (λ (m : ℕ). line_in (set fs p g) x ≡ cond (nat_eq m x) (line_of_frame g) (line_in fs x)) e (line-set fs g p g s.0 s.1 s.2 x))
+pub put-found : (d : FrameSlots) (ks : List Kept) (k : Kept) (b f : ℕ) → AreLines d ks → frame_of d b ≡ Some f → is_present k.state ≡ true → Changed d d ks (set ks f k) b (line_kept k)
+put-found d ks k b f h e t =
+    let l = frame-kept d ks b f h e in
+    changed d d ks (set ks f k) b (line_kept k)
+    (record {
+      slots = h.slots;
+      whole = length-set ks f k ∙ h.whole;
+      inside = h.inside;
+      present = λ g x i. kept_step ks f g k l t (λ _. h.present g x i);
+    })
+    (h.inside f b (found-at d f b e))
+    (line-written d ks f b k e l)
 
--- a search that finds no place
+-- what a slot that was taken has: the new block, or what it had
+at_taken : (d : FrameSlots) (f b g x : ℕ) (P : Type 0) → f < length d.slots → block_at (taken d f b) g ≡ Some x → (f ≡ g → b ≡ x → P) → ((f ≡ g → ⊥) → block_at d g ≡ Some x → P) → P
+at_taken d f b g x P l h same other =
+    ⊎_elim
+    (λ (e : f ≡ g). same e (same_Some b x (sym (get_or-set_same d.slots f (Some b) None l) ∙ ap (block_at (taken d f b)) e ∙ h)))
+    (λ (e : f ≡ g → ⊥). other e (sym (get_or-set_other d.slots f g (Some b) None (λ j. e (sym j))) ∙ h))
+    (cases_eq f g)
 
-nowhere_step : (fs : List Frame) (b : ℕ) → ((k : ℕ) → k < length fs → (d : Frame) → is_of b (get_or fs k d) ≡ false) → has_number (numbers fs) b ≡ false
-nowhere_step [] b h = refl
-nowhere_step (f ∷ fs) b h =
-    let u : is_of b f ≡ false = h 0 (omega arith) f in
-    let v : has_number (numbers fs) b ≡ false = nowhere_step fs b (λ k l d. h (suc k) (omega arith) d) in
-    rw (u, v) refl
+-- a line of a block that had none, in a free frame of its set
+pub put-new : (d : FrameSlots) (ks : List Kept) (k : Kept) (b f : ℕ) → AreLines d ks → frame_of d b ≡ None → block_at d f ≡ None → IsOfSet d f b → b < block_count → is_present k.state ≡ true →
+    Changed d (taken d f b) ks (set ks f k) b (line_kept k)
+put-new d ks k b f h e z i n t =
+    let l = frame-inside d f b h.slots i in
+    let m : f < length ks = omega (arith, h.whole, l) in
+    changed d (taken d f b) ks (set ks f k) b (line_kept k)
+    (record {
+      slots = slots-taken d f b h.slots e i;
+      whole = length-set ks f k ∙ h.whole ∙ sym (length-set d.slots f (Some b));
+      inside = λ g x j. at_taken d f b g x (x < block_count) l j (λ _ q. subst (λ (y : ℕ). y < block_count) q n) (λ _ q. h.inside g x q);
+      present = λ g x j. kept_step ks f g k m t (λ a. at_taken d f b g x (is_present (kept_at ks g).state ≡ true) l j (λ q _. absurd (a q)) (λ _ q. h.present g x q));
+    })
+    n
+    (line-taken d ks f b k h.slots e z i m)
 
-none_past : (c : Bool) (n : ℕ) → cond c (Some n) None ≡ None → c ≡ false
-none_past true n h = cc
-none_past false n h = refl
+-- what a slot that was freed has, it had
+at_freed : (d : FrameSlots) (f g x : ℕ) → f < length d.slots → block_at (freed d f) g ≡ Some x → block_at d g ≡ Some x
+at_freed d f g x l h =
+    ⊎_elim
+    (λ (e : f ≡ g). absurd (none-some x (sym (get_or-set_same d.slots f None None l) ∙ ap (block_at (freed d f)) e ∙ h)))
+    (λ (e : f ≡ g → ⊥). sym (get_or-set_other d.slots f g None None (λ j. e (sym j))) ∙ h)
+    (cases_eq f g)
 
-pub nowhere : (fs : List Frame) (b : ℕ) → position (is_of b) fs ≡ None → has_number (numbers fs) b ≡ false
-nowhere fs b h =
-    let t = none_past (nat_lt (position_or_len (is_of b) fs) (length fs)) (position_or_len (is_of b) fs) h in
-    let l : length fs ≤ position_or_len (is_of b) fs = grind (arith, nat_tests) in
-    nowhere_step fs b (λ k m d. fails_before_first (is_of b) fs k d (omega arith))
+-- the frame of a block is free
+pub removed : (d : FrameSlots) (ks : List Kept) (b f : ℕ) → AreLines d ks → frame_of d b ≡ Some f → Changed d (freed d f) ks ks b no_line
+removed d ks b f h e =
+    let a = found-at d f b e in
+    let l = at-inside d f b a in
+    changed d (freed d f) ks ks b no_line
+    (record {
+      slots = slots-freed d f h.slots l;
+      whole = h.whole ∙ sym (length-set d.slots f None);
+      inside = λ g x j. h.inside g x (at_freed d f g x l j);
+      present = λ g x j. h.present g x (at_freed d f g x l j);
+    })
+    (h.inside f b a)
+    (line-freed d ks f b h.slots e)
 
-absent_in : (fs : List Frame) (b : ℕ) → has_number (numbers fs) b ≡ false → b < block_count → line_at (lines_of fs) b ≡ no_line
-absent_in fs b h n = line-at fs b n ∙ line-absent fs b h
+pub dropped : (d e : FrameSlots) (ks : List Kept) (b : ℕ) (o : Option ℕ) → AreLines d ks → frame_of d b ≡ o → is_some o ≡ true → IfSome o (λ f. e ≡ freed d f) → Changed d e ks ks b no_line
+dropped d e ks b None h i s q = cc
+dropped d e ks b (Some f) h i s q = subst (λ (x : FrameSlots). Changed d x ks ks b no_line) (sym q) (removed d ks b f h i)
 
--- a line of a block that had none, where its set has room
-pub put-new : (sets ways : ℕ) (fs : List Frame) (g : Frame) (b : ℕ) → AreFrames sets ways fs → position (is_of b) fs ≡ None → g.number ≡ b → b < block_count → is_present g.state ≡ true →
-    (b < block_count → is_present (line_at (lines_of fs) b).state ≡ false → frames_taken (closed (lines_of fs)) sets b < ways) → Changed sets ways fs (fs ++ g ∷ []) b (line_of_frame g)
-put-new sets ways fs g b h f e n t r =
-    let o : has_number (numbers fs) b ≡ false = nowhere fs b f in
-    let o2 : has_number (numbers fs) g.number ≡ false = rw e o in
-    let l : g.number < block_count = rw e n in
-    let w : is_present (line_at (lines_of fs) b).state ≡ false = rw (absent_in fs b o n) refl in
-    let q : frames_taken (closed (lines_of fs)) sets b < ways = r n w in
-    let m : count_in sets (g.number % sets) (numbers fs) < ways = rw e (rw (taken-counted fs sets ways b h) at q) in
-    changed sets ways fs (fs ++ g ∷ []) b (line_of_frame g) (frames-pushed sets ways g fs h o2 l t m) n
-    (λ x. subst (λ (m2 : ℕ). line_in (fs ++ g ∷ []) x ≡ cond (nat_eq m2 x) (line_of_frame g) (line_in fs x)) e (line-pushed fs g x o2))
+pub is-none : (o : Option ℕ) → is_some o ≡ false → o ≡ None
+is-none None h = refl
+is-none (Some f) h = cc
 
--- the frames without those of a block
-pub removed : (sets ways : ℕ) (fs : List Frame) (b : ℕ) → AreFrames sets ways fs → b < block_count → Changed sets ways fs (others b fs) b no_line
-removed sets ways fs b h n = changed sets ways fs (others b fs) b no_line (frames-others sets ways b fs h) n (λ x. line-dropped fs b x)
+-- a block without a line has none after it is taken away
+pub nothing-removed : (d : FrameSlots) (ks : List Kept) (b : ℕ) → frame_of d b ≡ None → lines_of d ks ≡ set (lines_of d ks) b no_line
+nothing-removed d ks b e = sym (set-get_or (lines_of d ks) b no_line) ∙ ap (set (lines_of d ks) b) (read-absent d ks b e)
 
--- what a search says of the block's line
-
-pub read-found : (sets ways : ℕ) (fs : List Frame) (b p : ℕ) (d : Frame) → AreFrames sets ways fs → position (is_of b) fs ≡ Some p → b < block_count →
-    (line_at (lines_of fs) b ≡ line_of_frame (get_or fs p d)) × (is_present (get_or fs p d).state ≡ true)
-read-found sets ways fs b p d h f n =
-    let s = position-Some (is_of b) fs p d f in
-    (line-at fs b n ∙ line-found fs b p d s.0 s.1 s.2, All-get_or (λ (f : Frame). is_present f.state ≡ true) fs p d s.0 h.present)
-
-pub read-absent : (fs : List Frame) (b : ℕ) → position (is_of b) fs ≡ None → b < block_count → line_at (lines_of fs) b ≡ no_line
-read-absent fs b f n = absent_in fs b (nowhere fs b f) n
+-- the set of a block without a line has a frame for it, where the machine's count says so
+pub has-frame : (d : FrameSlots) (ks : List Kept) (b : ℕ) → AreLines d ks → frame_of d b ≡ None → b < block_count →
+    (b < block_count → is_present (line_at (lines_of d ks) b).state ≡ false → frames_taken (closed (lines_of d ks)) d.sets b < d.ways) → is_full d b ≡ false
+has-frame d ks b h e n r =
+    let w : is_present (line_at (lines_of d ks) b).state ≡ false = rw (read-absent d ks b e) refl in not-full d ks b h (r n w)

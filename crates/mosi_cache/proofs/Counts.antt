@@ -1,246 +1,163 @@
--- How many frames stand in each set, after each change of the list of frames.
-use Rattle.std.proofs.Common.{◌≡◌, ℕ, zero, suc, ◌+◌, ◌*◌, ◌<◌, ◌≤◌, ◌%◌, Bool, true, false, not, ◌&&◌, ◌||◌, cond, List, [], ◌∷◌, ◌++◌, length, get_or, set, refl, sym, ap, ◌∙◌, subst, arith}
-use Rattle.std.specs.Prelude.{nat_eq, nat_lt, if◌then◌else◌}
-use Rattle.std.specs.List.{filter, All}
+-- How many frames of a set the lines take: as many as blocks of the set have a frame.
+use Rattle.std.proofs.Common.{◌≡◌, ℕ, zero, suc, ◌+◌, ◌<◌, ◌≤◌, ◌%◌, Bool, true, false, ◌&&◌, ◌||◌, cond, List, [], ◌∷◌, length, get_or, Option, Some, None, refl, sym, ap, ◌∙◌, arith, ⊎_elim}
+use Rattle.std.specs.Prelude.{nat_eq, nat_lt, nat_le, if◌then◌else◌, is_some}
+use Rattle.std.specs.List.{position}
+use Rattle.std.proofs.lemmas.Bool.{cases_eq}
 use Rattle.std.proofs.lemmas.Bool.Decides.{nat_tests}
-use Rattle.std.proofs.lemmas.List.{length-map, length_push, map_push, map-set, set-get_or, get_or-map}
-use Rattle.std.proofs.lemmas.List.Elements.{All-nil, All-head, All-tail, All-push, All-filter, All-set}
-use Rattle.sn_model.specs.Caches.{Line, is_present, block_count, frames_below, frames_taken}
-use Rattle.mosi_cache.specs.Frames.{Frame, closed, line_at, line_of_frame, is_of, line_in, lines_of, numbers, has_number, AreApart, how_many, count_in, AreFrames}
-use Rattle.mosi_cache.proofs.Frames.{others, line-at}
+use Rattle.std.proofs.lemmas.Option.{none-some, same_Some}
+use Rattle.cache_array.specs.Slots.{FrameSlots, is_of, frame_of, is_full}
+use Rattle.cache_array.proofs.Places.{position-None}
+use Rattle.cache_array.proofs.Slots.{found-at}
+use Rattle.cache_array.proofs.Counts.{how_many, is_in, blocks_in, full-counted}
+use Rattle.sn_model.specs.Caches.{Line, is_present, empty_lines, block_count, frames_below, frames_taken}
+use Rattle.mosi_cache.specs.Frames.{Kept, closed, line_at, line_in_frame, line_in, lines_of, AreLines}
+use Rattle.mosi_cache.proofs.Frames.{line-at, empty-at}
 
--- the blocks of the frames after each change
+-- slots of a set with a block below a number, and with just that block
 
-pub numbers-pushed : (fs : List Frame) (g : Frame) → numbers (fs ++ g ∷ []) ≡ numbers fs ++ g.number ∷ []
-numbers-pushed fs g = map_push (λ (f : Frame). f.number) fs g
+abbrev below : ℕ → ℕ → ℕ → Option ℕ → Bool
+below m sets s None = false
+below m sets s (Some n) = nat_lt n m && nat_eq (n % sets) s
 
-pub numbers-set : (fs : List Frame) (p : ℕ) (g : Frame) → p < length fs → g.number ≡ (get_or fs p g).number → numbers (set fs p g) ≡ numbers fs
-numbers-set fs p g l e =
-    map-set (λ (f : Frame). f.number) fs p g
-    ∙ ap (λ (n : ℕ). set (numbers fs) p n) (e ∙ sym (get_or-map (λ (f : Frame). f.number) fs p g 0 l))
-    ∙ set-get_or (numbers fs) p 0
+abbrev at : ℕ → ℕ → ℕ → Option ℕ → Bool
+at m sets s None = false
+at m sets s (Some n) = nat_eq n m && nat_eq (n % sets) s
 
--- the blocks but one
-abbrev pub without : ℕ → List ℕ → List ℕ
-without x ns = filter (λ n. not (nat_eq n x)) ns
+none_below : (sets s : ℕ) (os : List (Option ℕ)) → how_many (below 0 sets s) os ≡ 0
+none_below sets s [] = refl
+none_below sets s (None ∷ os) = rw (none_below sets s os) refl
+none_below sets s (Some n ∷ os) = let t : nat_lt n 0 ≡ false = grind (arith, nat_tests) in rw (t, none_below sets s os) refl
 
-numbers_step : (c : Bool) (f : Frame) (fs : List Frame) (ns : List ℕ) → numbers fs ≡ ns → numbers (cond c (f ∷ fs) fs) ≡ cond c (f.number ∷ ns) ns
-numbers_step true f fs ns h = ap (λ (ms : List ℕ). f.number ∷ ms) h
-numbers_step false f fs ns h = h
+one_more : (n m : ℕ) (c : Bool) (a b : ℕ) → cond (nat_lt n (suc m) && c) 1 0 + (a + b) ≡ (cond (nat_lt n m && c) 1 0 + a) + (cond (nat_eq n m && c) 1 0 + b)
+one_more n m c a b = grind (arith, nat_tests)
 
-pub numbers-others : (x : ℕ) (fs : List Frame) → numbers (others x fs) ≡ without x (numbers fs)
-numbers-others x [] = refl
-numbers-others x (f ∷ fs) = numbers_step (not (nat_eq f.number x)) f (others x fs) (without x (numbers fs)) (numbers-others x fs)
+more_below : (m sets s : ℕ) (os : List (Option ℕ)) → how_many (below (suc m) sets s) os ≡ how_many (below m sets s) os + how_many (at m sets s) os
+more_below m sets s [] = refl
+more_below m sets s (None ∷ os) = rw (more_below m sets s os) (omega arith)
+more_below m sets s (Some n ∷ os) = rw (more_below m sets s os) (one_more n m (nat_eq (n % sets) s) (how_many (below m sets s) os) (how_many (at m sets s) os))
 
 -- no block stands there twice
+abbrev AreApart : List (Option ℕ) → Type 0
+AreApart os = (f g b : ℕ) → get_or os f None ≡ Some b → get_or os g None ≡ Some b → f ≡ g
 
-has_pushed : (ns : List ℕ) (x b : ℕ) → has_number (ns ++ x ∷ []) b ≡ (has_number ns b || nat_eq x b)
-has_pushed [] x b = grind arith
-has_pushed (n ∷ ns) x b = rw (has_pushed ns x b) (grind arith)
+apart_rest : (o : Option ℕ) (os : List (Option ℕ)) → AreApart (o ∷ os) → AreApart os
+apart_rest o os a f g b h i = let e : suc f ≡ suc g = a (suc f) (suc g) b h i in omega arith
 
-other_way : (x n : ℕ) (r : Bool) → (nat_eq n x || r) ≡ false → nat_eq x n ≡ false
-other_way x n r h = grind (arith, nat_tests)
+abbrev has : List (Option ℕ) → ℕ → Bool
+has [] b = false
+has (o ∷ os) b = is_of b o || has os b
 
-rest_false : (a b : Bool) → (a || b) ≡ false → b ≡ false
-rest_false a b h = grind arith
-
-both_false : (a b : Bool) → a ≡ false → b ≡ false → (a || b) ≡ false
-both_false a b h k = grind arith
-
-pub apart-pushed : (ns : List ℕ) (x : ℕ) → AreApart ns → has_number ns x ≡ false → AreApart (ns ++ x ∷ [])
-apart-pushed [] x a h = (refl, tt)
-apart-pushed (n ∷ ns) x a h = (
-  has_pushed ns x n ∙ both_false (has_number ns n) (nat_eq x n) a.0 (other_way x n (has_number ns x) h),
-  apart-pushed ns x a.1 (rest_false (nat_eq n x) (has_number ns x) h),
-)
-
-has_step : (c : Bool) (n b : ℕ) (ns : List ℕ) → has_number ns b ≡ false → nat_eq n b ≡ false → has_number (cond c (n ∷ ns) ns) b ≡ false
-has_step true n b ns h k = both_false (nat_eq n b) (has_number ns b) k h
-has_step false n b ns h k = h
-
-first_false : (a b : Bool) → (a || b) ≡ false → a ≡ false
-first_false a b h = grind arith
-
-has_without : (x b : ℕ) (ns : List ℕ) → has_number ns b ≡ false → has_number (without x ns) b ≡ false
-has_without x b [] h = refl
-has_without x b (n ∷ ns) h =
-    has_step (not (nat_eq n x)) n b (without x ns) (has_without x b ns (rest_false (nat_eq n b) (has_number ns b) h)) (first_false (nat_eq n b) (has_number ns b) h)
-
-apart_step : (c : Bool) (n : ℕ) (ns : List ℕ) → AreApart ns → has_number ns n ≡ false → AreApart (cond c (n ∷ ns) ns)
-apart_step true n ns a h = (h, a)
-apart_step false n ns a h = a
-
-pub apart-without : (x : ℕ) (ns : List ℕ) → AreApart ns → AreApart (without x ns)
-apart-without x [] a = tt
-apart-without x (n ∷ ns) a = apart_step (not (nat_eq n x)) n (without x ns) (apart-without x ns a.1) (has_without x n ns a.0)
-
--- how many blocks of a set there are
-
-pub count-pushed : (p : ℕ → Bool) (ns : List ℕ) (x : ℕ) → how_many p (ns ++ x ∷ []) ≡ how_many p ns + cond (p x) 1 0
-count-pushed p [] x = omega arith
-count-pushed p (n ∷ ns) x = rw (count-pushed p ns x) (omega arith)
-
-count_step : (p : ℕ → Bool) (c : Bool) (n k : ℕ) (ns : List ℕ) → how_many p ns ≤ k → how_many p (cond c (n ∷ ns) ns) ≤ cond (p n) 1 0 + k
-count_step p true n k ns h = omega arith
-count_step p false n k ns h = omega arith
-
-pub count-without : (p : ℕ → Bool) (x : ℕ) (ns : List ℕ) → how_many p (without x ns) ≤ how_many p ns
-count-without p x [] = omega arith
-count-without p x (n ∷ ns) = count_step p (not (nat_eq n x)) n (how_many p ns) (without x ns) (count-without p x ns)
-
--- all sets together
-
-abbrev below_set : ℕ → ℕ → List ℕ → ℕ
-below_set sets k ns = how_many (λ n. nat_lt (n % sets) k) ns
-
-none_below : (sets : ℕ) (ns : List ℕ) → below_set sets 0 ns ≡ 0
-none_below sets [] = refl
-none_below sets (n ∷ ns) = let t : nat_lt (n % sets) 0 ≡ false = grind (arith, nat_tests) in rw (t, none_below sets ns) refl
-
-one_more : (m k a b : ℕ) → cond (nat_lt m (suc k)) 1 0 + (a + b) ≡ (cond (nat_lt m k) 1 0 + a) + (cond (nat_eq m k) 1 0 + b)
-one_more m k a b = grind (arith, nat_tests)
-
-more_below : (sets k : ℕ) (ns : List ℕ) → below_set sets (suc k) ns ≡ below_set sets k ns + count_in sets k ns
-more_below sets k [] = refl
-more_below sets k (n ∷ ns) = rw (more_below sets k ns) (one_more (n % sets) k (below_set sets k ns) (count_in sets k ns))
-
-few_below : (sets ways : ℕ) (ns : List ℕ) → ((s : ℕ) → count_in sets s ns ≤ ways) → (k : ℕ) → below_set sets k ns ≤ k * ways
-few_below sets ways ns h zero = omega (arith, none_below sets ns)
-few_below sets ways ns h (suc k) = omega (arith, more_below sets k ns, h k, few_below sets ways ns h k)
-
-all_below : (sets : ℕ) (ns : List ℕ) → 0 < sets → below_set sets sets ns ≡ length ns
-all_below sets [] h = refl
-all_below sets (n ∷ ns) h = let l : n % sets < sets = omega arith in let t : nat_lt (n % sets) sets ≡ true = grind (arith, nat_tests) in rw (t, all_below sets ns h) (omega arith)
-
--- there are no more frames than all sets together have ways
-pub few-frames : (sets ways : ℕ) (ns : List ℕ) → 0 < sets → ((s : ℕ) → count_in sets s ns ≤ ways) → length ns ≤ sets * ways
-few-frames sets ways ns p h = omega (arith, all_below sets ns p, few_below sets ways ns h sets)
-
--- the frames that the machine counts are those of the list
-
-abbrev below_block : ℕ → ℕ → ℕ → List ℕ → ℕ
-below_block m sets s ns = how_many (λ n. nat_lt n m && nat_eq (n % sets) s) ns
-
-abbrev at_block : ℕ → ℕ → ℕ → List ℕ → ℕ
-at_block m sets s ns = how_many (λ n. nat_eq n m && nat_eq (n % sets) s) ns
-
-none_under : (sets s : ℕ) (ns : List ℕ) → below_block 0 sets s ns ≡ 0
-none_under sets s [] = refl
-none_under sets s (n ∷ ns) = let t : nat_lt n 0 ≡ false = grind (arith, nat_tests) in rw (t, none_under sets s ns) refl
-
-one_block : (n m : ℕ) (c : Bool) (a b : ℕ) → cond (nat_lt n (suc m) && c) 1 0 + (a + b) ≡ (cond (nat_lt n m && c) 1 0 + a) + (cond (nat_eq n m && c) 1 0 + b)
-one_block n m c a b = grind (arith, nat_tests)
-
-more_blocks : (m sets s : ℕ) (ns : List ℕ) → below_block (suc m) sets s ns ≡ below_block m sets s ns + at_block m sets s ns
-more_blocks m sets s [] = refl
-more_blocks m sets s (n ∷ ns) = rw (more_blocks m sets s ns) (one_block n m (nat_eq (n % sets) s) (below_block m sets s ns) (at_block m sets s ns))
-
-none_at : (m sets s : ℕ) (ns : List ℕ) → has_number ns m ≡ false → at_block m sets s ns ≡ 0
+none_at : (m sets s : ℕ) (os : List (Option ℕ)) → ((f : ℕ) → get_or os f None ≡ Some m → ⊥) → how_many (at m sets s) os ≡ 0
 none_at m sets s [] h = refl
-none_at m sets s (n ∷ ns) h =
-    let t : nat_eq n m ≡ false = first_false (nat_eq n m) (has_number ns m) h in
-    rw (t, none_at m sets s ns (rest_false (nat_eq n m) (has_number ns m) h)) refl
+none_at m sets s (None ∷ os) h = rw (none_at m sets s os (λ f e. h (suc f) e)) refl
+none_at m sets s (Some n ∷ os) h =
+    ⊎_elim
+    (λ (i : n ≡ m). absurd (h 0 (ap (λ (k : ℕ). let o : Option ℕ = Some k in o) i)))
+    (λ (i : n ≡ m → ⊥). let t : nat_eq n m ≡ false = grind (arith, nat_tests) in rw (t, none_at m sets s os (λ f e. h (suc f) e)) refl)
+    (cases_eq n m)
 
-at_step : (c : Bool) (n m sets s k : ℕ) (r : Bool) → nat_eq n m ≡ c → (c ≡ true → k ≡ 0) → k ≡ cond (r && nat_eq (m % sets) s) 1 0 →
-    cond (c && nat_eq (n % sets) s) 1 0 + k ≡ cond ((c || r) && nat_eq (m % sets) s) 1 0
-at_step true n m sets s k r e z i = let q : n ≡ m = grind (arith, nat_tests) in rw (z refl, q) (omega arith)
-at_step false n m sets s k r e z i = rw i (omega arith)
+apart_first : (n m : ℕ) (os : List (Option ℕ)) (f : ℕ) → AreApart (Some n ∷ os) → n ≡ m → get_or os f None ≡ Some m → ⊥
+apart_first n m os f a i e = let j : 0 ≡ suc f = a 0 (suc f) m (ap (λ (k : ℕ). let o : Option ℕ = Some k in o) i) e in omega arith
 
-one_at : (m sets s : ℕ) (ns : List ℕ) → AreApart ns → at_block m sets s ns ≡ cond (has_number ns m && nat_eq (m % sets) s) 1 0
+at_self : (m sets s : ℕ) (k : ℕ) → k ≡ 0 → cond (nat_eq m m && nat_eq (m % sets) s) 1 0 + k ≡ cond (nat_eq (m % sets) s) 1 0
+at_self m sets s k h = grind (arith, nat_tests)
+
+one_at : (m sets s : ℕ) (os : List (Option ℕ)) → AreApart os → how_many (at m sets s) os ≡ cond (has os m && nat_eq (m % sets) s) 1 0
 one_at m sets s [] a = refl
-one_at m sets s (n ∷ ns) a =
-    at_step (nat_eq n m) n m sets s (at_block m sets s ns) (has_number ns m) refl
-    (λ c. let e : n ≡ m = grind (arith, nat_tests) in none_at m sets s ns (subst (λ (x : ℕ). has_number ns x ≡ false) e a.0))
-    (one_at m sets s ns a.1)
+one_at m sets s (None ∷ os) a = rw (one_at m sets s os (apart_rest None os a)) (omega arith)
+one_at m sets s (Some n ∷ os) a =
+    ⊎_elim
+    (λ (i : n ≡ m).
+    let t : nat_eq n m ≡ true = grind (arith, nat_tests) in
+    let z = none_at m sets s os (λ f e. apart_first n m os f a i e) in
+    rw (t, i) (omega (arith, z)))
+    (λ (i : n ≡ m → ⊥). let t : nat_eq n m ≡ false = grind (arith, nat_tests) in rw (t, one_at m sets s os (apart_rest (Some n) os a)) (omega arith))
+    (cases_eq n m)
 
-present_step : (c r : Bool) (l m : Line) → is_present l.state ≡ true → is_present m.state ≡ r → is_present (if c then l else m).state ≡ (c || r)
-present_step true r l m h i = h
-present_step false r l m h i = i
+-- a block stands among the slots exactly where it has a frame, and then it has a line
 
-pub present-in : (fs : List Frame) (b : ℕ) → All (λ (f : Frame). is_present f.state ≡ true) fs → is_present (line_in fs b).state ≡ has_number (numbers fs) b
-present-in [] b h = refl
-present-in (f ∷ fs) b h =
-    present_step (is_of b f) (has_number (numbers fs) b) (line_of_frame f) (line_in fs b)
-    (All-head (λ (g : Frame). is_present g.state ≡ true) f fs h)
-    (present-in fs b (All-tail (λ (g : Frame). is_present g.state ≡ true) f fs h))
+or_true : (a : Bool) → (a || true) ≡ true
+or_true true = refl
+or_true false = refl
+
+or_false : (a b : Bool) → a ≡ false → b ≡ false → (a || b) ≡ false
+or_false a b h i = grind arith
+
+none_has : (os : List (Option ℕ)) (b : ℕ) → ((f : ℕ) → f < length os → is_of b (get_or os f None) ≡ false) → has os b ≡ false
+none_has [] b h = refl
+none_has (o ∷ os) b h = or_false (is_of b o) (has os b) (h 0 (omega arith)) (none_has os b (λ f l. h (suc f) (omega arith)))
+
+of_at : (o : Option ℕ) (b : ℕ) → o ≡ Some b → is_of b o ≡ true
+of_at None b h = absurd (none-some b h)
+of_at (Some x) b h = let e : x ≡ b = same_Some x b h in grind (arith, nat_tests)
+
+has_at : (os : List (Option ℕ)) (f b : ℕ) → get_or os f None ≡ Some b → has os b ≡ true
+has_at [] f b h = absurd (none-some b h)
+has_at (o ∷ os) zero b h = rw (of_at o b h) refl
+has_at (o ∷ os) (suc f) b h = rw (has_at os f b h) (or_true (is_of b o))
+
+no_place : (os : List (Option ℕ)) (b : ℕ) → position (is_of b) os ≡ None → has os b ≡ false
+no_place os b h = none_has os b (λ f l. position-None (is_of b) os f None h l)
+
+has_frame : (d : FrameSlots) (b : ℕ) (o : Option ℕ) → frame_of d b ≡ o → is_some o ≡ has d.slots b
+has_frame d b None h = sym (no_place d.slots b h)
+has_frame d b (Some f) h = sym (has_at d.slots f b (found-at d f b h))
+
+present_step : (d : FrameSlots) (ks : List Kept) (b : ℕ) (o : Option ℕ) → AreLines d ks → frame_of d b ≡ o → is_present (line_in_frame ks o).state ≡ is_some o
+present_step d ks b None h e = refl
+present_step d ks b (Some f) h e = h.present f b (found-at d f b e)
+
+pub present-in : (d : FrameSlots) (ks : List Kept) (b : ℕ) → AreLines d ks → is_present (line_in d ks b).state ≡ has d.slots b
+present-in d ks b h = present_step d ks b (frame_of d b) h refl ∙ has_frame d b (frame_of d b) refl
+
+-- the lines that the machine counts
 
 more_step : (a b k l : ℕ) (p q c : Bool) → a ≡ b → l ≡ cond (q && c) 1 0 → p ≡ q → a + (if c && (p || false) then 1 else 0) ≡ b + l
 more_step a b k l p q c h i j = grind arith
 
-counted : (fs : List Frame) (sets s m : ℕ) → AreApart (numbers fs) → All (λ (f : Frame). is_present f.state ≡ true) fs → m ≤ block_count →
-    frames_below m (closed (lines_of fs)) sets s ≡ below_block m sets s (numbers fs)
-counted fs sets s zero a p l = sym (none_under sets s (numbers fs))
-counted fs sets s (suc m) a p l =
-    more_step (frames_below m (closed (lines_of fs)) sets s) (below_block m sets s (numbers fs)) 0 (at_block m sets s (numbers fs))
-    (is_present (line_at (lines_of fs) m).state) (has_number (numbers fs) m) (nat_eq (m % sets) s)
-    (counted fs sets s m a p (omega arith))
-    (one_at m sets s (numbers fs) a)
-    (ap (λ (x : Line). is_present x.state) (line-at fs m (omega arith)) ∙ present-in fs m p)
-    ∙ sym (more_blocks m sets s (numbers fs))
+counted : (d : FrameSlots) (ks : List Kept) (sets s m : ℕ) → AreLines d ks → m ≤ block_count →
+    frames_below m (closed (lines_of d ks)) sets s ≡ how_many (below m sets s) d.slots
+counted d ks sets s zero h l = sym (none_below sets s d.slots)
+counted d ks sets s (suc m) h l =
+    more_step (frames_below m (closed (lines_of d ks)) sets s) (how_many (below m sets s) d.slots) 0 (how_many (at m sets s) d.slots)
+    (is_present (line_at (lines_of d ks) m).state) (has d.slots m) (nat_eq (m % sets) s)
+    (counted d ks sets s m h (omega arith)) (one_at m sets s d.slots h.slots.apart)
+    (ap (λ (n : Line). is_present n.state) (line-at d ks m (omega arith)) ∙ present-in d ks m h)
+    ∙ sym (more_below m sets s d.slots)
 
-all_blocks : (m sets s : ℕ) (ns : List ℕ) → All (λ n. n < m) ns → below_block m sets s ns ≡ count_in sets s ns
-all_blocks m sets s [] h = refl
-all_blocks m sets s (n ∷ ns) h =
-    let l : n < m = All-head (λ k. k < m) n ns h in
-    let t : nat_lt n m ≡ true = grind (arith, nat_tests) in
-    rw (t, all_blocks m sets s ns (All-tail (λ k. k < m) n ns h)) refl
+within_step : (o : Option ℕ) (sets s : ℕ) → ((b : ℕ) → o ≡ Some b → b < block_count) → below block_count sets s o ≡ is_in sets s o
+within_step None sets s h = refl
+within_step (Some b) sets s h = let l : b < block_count = h b refl in grind (arith, nat_tests)
 
-pub taken-counted : (fs : List Frame) (sets ways block : ℕ) → AreFrames sets ways fs → frames_taken (closed (lines_of fs)) sets block ≡ count_in sets (block % sets) (numbers fs)
+all_below : (os : List (Option ℕ)) (sets s : ℕ) → ((f b : ℕ) → get_or os f None ≡ Some b → b < block_count) → how_many (below block_count sets s) os ≡ how_many (is_in sets s) os
+all_below [] sets s h = refl
+all_below (o ∷ os) sets s h = rw (within_step o sets s (h 0), all_below os sets s (λ f b e. h (suc f) b e)) refl
+
+-- the frames of a set that the lines take are as many as its blocks that have a frame
+pub taken-counted : (d : FrameSlots) (ks : List Kept) (b : ℕ) → AreLines d ks → frames_taken (closed (lines_of d ks)) d.sets b ≡ blocks_in d (b % d.sets)
 unfolding frames_taken
-taken-counted fs sets ways block h =
-    counted fs sets (block % sets) block_count h.apart h.present (omega arith) ∙ all_blocks block_count sets (block % sets) (numbers fs) h.inside
+taken-counted d ks b h = counted d ks d.sets (b % d.sets) block_count h (omega arith) ∙ all_below d.slots d.sets (b % d.sets) h.inside
 
--- frames stay as they may be
+-- a set is full exactly where the lines take as many of its frames as it has ways
+pub full-taken : (d : FrameSlots) (ks : List Kept) (b : ℕ) → AreLines d ks → is_full d b ≡ nat_le d.ways (frames_taken (closed (lines_of d ks)) d.sets b)
+full-taken d ks b h = rw (taken-counted d ks b h) (full-counted d b h.slots)
 
-pub frames-none : (sets ways : ℕ) → AreFrames sets ways []
-frames-none sets ways = record {
-  apart = tt;
-  inside = All-nil (λ n. n < block_count);
-  present = All-nil (λ (f : Frame). is_present f.state ≡ true);
-  within = λ s. omega arith;
-}
+few_step : (full : Bool) (n w : ℕ) → full ≡ nat_le w n → n < w → full ≡ false
+few_step full n w h l = grind (arith, nat_tests)
 
-pub frames-others : (sets ways x : ℕ) (fs : List Frame) → AreFrames sets ways fs → AreFrames sets ways (others x fs)
-frames-others sets ways x fs h = record {
-  apart = rw (numbers-others x fs) (apart-without x (numbers fs) h.apart);
-  inside = rw (numbers-others x fs) (All-filter (λ n. not (nat_eq n x)) (λ n. n < block_count) (numbers fs) h.inside);
-  present = All-filter (λ (f : Frame). not (nat_eq f.number x)) (λ (f : Frame). is_present f.state ≡ true) fs h.present;
-  within = λ s. rw (numbers-others x fs) (omega (arith, count-without (λ n. nat_eq (n % sets) s) x (numbers fs), h.within s));
-}
+pub not-full : (d : FrameSlots) (ks : List Kept) (b : ℕ) → AreLines d ks → frames_taken (closed (lines_of d ks)) d.sets b < d.ways → is_full d b ≡ false
+not-full d ks b h l = few_step (is_full d b) (frames_taken (closed (lines_of d ks)) d.sets b) d.ways (full-taken d ks b h) l
 
-pub frames-set : (sets ways p : ℕ) (g : Frame) (fs : List Frame) → p < length fs → g.number ≡ (get_or fs p g).number → is_present g.state ≡ true → AreFrames sets ways fs → AreFrames sets ways (set fs p g)
-frames-set sets ways p g fs l e t h = record {
-  apart = rw (numbers-set fs p g l e) h.apart;
-  inside = rw (numbers-set fs p g l e) h.inside;
-  present = All-set (λ (f : Frame). is_present f.state ≡ true) fs p g t h.present;
-  within = λ s. rw (numbers-set fs p g l e) (h.within s);
-}
+-- a cache without a line takes no frame
 
-within_step : (m s k a ways : ℕ) → (s ≡ m → a < ways) → a ≤ ways → a + (if nat_eq m s then 1 else 0) ≤ ways
-within_step m s k a ways h l = grind (arith, nat_tests)
+no_step : (a : ℕ) (c p : Bool) → a ≡ 0 → p ≡ false → a + (if c && (p || false) then 1 else 0) ≡ 0
+no_step a c p h i = grind arith
 
-pub frames-pushed : (sets ways : ℕ) (g : Frame) (fs : List Frame) → AreFrames sets ways fs → has_number (numbers fs) g.number ≡ false → g.number < block_count → is_present g.state ≡ true →
-    count_in sets (g.number % sets) (numbers fs) < ways → AreFrames sets ways (fs ++ g ∷ [])
-frames-pushed sets ways g fs h n l t r = record {
-  apart = rw (numbers-pushed fs g) (apart-pushed (numbers fs) g.number h.apart n);
-  inside = rw (numbers-pushed fs g) (All-push (λ n. n < block_count) (numbers fs) g.number h.inside l);
-  present = All-push (λ (f : Frame). is_present f.state ≡ true) fs g h.present t;
-  within = λ s. rw (numbers-pushed fs g, count-pushed (λ n. nat_eq (n % sets) s) (numbers fs) g.number)
-      (within_step (g.number % sets) s 0 (count_in sets s (numbers fs)) ways (λ e. rw e r) (h.within s));
-}
+no_frame : (n sets s : ℕ) → frames_below n (closed empty_lines) sets s ≡ 0
+no_frame zero sets s = refl
+no_frame (suc n) sets s =
+    no_step (frames_below n (closed empty_lines) sets s) (nat_eq (n % sets) s) (is_present (line_at empty_lines n).state) (no_frame n sets s) (ap (λ (l : Line). is_present l.state) (empty-at n))
 
--- where a further frame fits its set, there is room for it
-pub room-for : (sets ways : ℕ) (g : Frame) (fs : List Frame) → 0 < sets → AreFrames sets ways (fs ++ g ∷ []) → length fs < sets * ways
-room-for sets ways g fs p h =
-    let a = few-frames sets ways (numbers (fs ++ g ∷ [])) p h.within in
-    let b : length (numbers (fs ++ g ∷ [])) ≡ length fs + 1 = length-map (fs ++ g ∷ []) (λ (f : Frame). f.number) ∙ length_push fs g in
-    omega arith
-
-filtered_step : (c : Bool) (f : Frame) (fs : List Frame) (k : ℕ) → length fs ≡ k → length (cond c (f ∷ fs) fs) ≡ (if c then 1 else 0) + k
-filtered_step true f fs k h = omega arith
-filtered_step false f fs k h = omega arith
-
-pub count-filtered : (sets s : ℕ) (fs : List Frame) → length (filter (λ (f : Frame). nat_eq (f.number % sets) s) fs) ≡ count_in sets s (numbers fs)
-count-filtered sets s [] = refl
-count-filtered sets s (f ∷ fs) =
-    filtered_step (nat_eq (f.number % sets) s) f (filter (λ (g : Frame). nat_eq (g.number % sets) s) fs) (count_in sets s (numbers fs)) (count-filtered sets s fs)
+pub none-taken : (sets b : ℕ) → frames_taken (closed empty_lines) sets b ≡ 0
+unfolding frames_taken
+none-taken sets b = no_frame block_count sets (b % sets)

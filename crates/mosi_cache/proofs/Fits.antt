@@ -1,5 +1,5 @@
 -- No set has more frames taken than ways, after a change of a line or of what is open.
-use Rattle.std.proofs.Common.{◌≡◌, ℕ, ◌+◌, ◌<◌, ◌≤◌, ◌%◌, Bool, true, ◌||◌, List, set, Option, Some, None, refl, sym, ap, subst, arith, ⊎_elim, [], IsNone, IfSome, false}
+use Rattle.std.proofs.Common.{◌≡◌, ℕ, ◌+◌, ◌<◌, ◌≤◌, ◌%◌, Bool, true, ◌||◌, List, set, Option, Some, None, refl, sym, ap, subst, arith, ⊎_elim, IsNone, IfSome, false}
 use Rattle.std.specs.Prelude.{nat_eq, if◌then◌else◌}
 use Rattle.std.specs.Option.{option_map}
 use Rattle.std.proofs.lemmas.Bool.{cases_Bool}
@@ -11,9 +11,8 @@ use Rattle.sn_model.specs.Caches.{Line, Cache, Miss, no_line, is_present, is_own
 use Rattle.sn_model.specs.declared.cache.LineState.{LineState}
 use Rattle.sn_model.specs.declared.cache.LineState.TheVariants.{Absent, Shared, Owned, Modified, Exclusive}
 use Rattle.sn_model.specs.CacheRows.{fixed_at, acknowledged, AwaitsAnswer}
-use Rattle.mosi_cache.specs.Frames.{LinesData, HasRoom, closed, line_at, lines_of}
-use Rattle.mosi_cache.proofs.Frames.{lines-none}
-use Rattle.mosi_cache.proofs.Counts.{frames-none, taken-counted}
+use Rattle.mosi_cache.specs.Frames.{LinesData, HasRoom, closed, line_at}
+use Rattle.mosi_cache.proofs.Counts.{none-taken}
 use Rattle.mosi_cache.specs.Controller.{miss_of, cache_of, FitsSets}
 use Rattle.mosi_cache.proofs.Taken.{TakesFewer, taken-fewer, taken-more, taken-same, taken-strictly, fewer-set}
 
@@ -150,12 +149,9 @@ taken-closed need a o y n =
     taken-same (closed a.lines) (cache_of need a o) a.sets y (closed_fewer a.lines (cache_of need a o) refl)
     (λ b h. strip need o.miss b (is_present (line_at a.lines b).state) n h)
 
-none_taken_at : (sets ways y : ℕ) → frames_taken (closed (lines_of [])) sets y ≤ ways
-none_taken_at sets ways y = let e = taken-counted [] sets ways y (frames-none sets ways) in omega (arith, e)
-
 -- a cache without a line takes no frame
 pub fits-none : (sets ways : ℕ) → FitsSets (closed empty_lines) sets ways
-fits-none sets ways y = subst (λ (ls : List Line). frames_taken (closed ls) sets y ≤ ways) lines-none (none_taken_at sets ways y)
+fits-none sets ways y = omega (arith, none-taken sets y)
 
 -- a miss on a block that has a line, or whose set has a frame for one
 

@@ -1,106 +1,115 @@
--- What the map from blocks is after each change of the list of frames.
-use Rattle.std.proofs.Common.{◌≡◌, ℕ, zero, suc, ◌+◌, ◌<◌, Bool, true, false, not, ◌||◌, cond, List, [], ◌∷◌, ◌++◌, map, length, get_or, set, replicate, refl, sym, ap, ◌∙◌, arith, ⊎_elim, length-set}
+-- What the map from blocks is after each change of the frames and of what they keep.
+use Rattle.std.proofs.Common.{◌≡◌, ℕ, ◌*◌, ◌<◌, ◌≤◌, Bool, true, false, cond, List, length, get_or, set, replicate, Option, Some, None, refl, sym, ap, ◌∙◌, arith, ⊎_elim, length-set}
 use Rattle.std.specs.Prelude.{nat_eq, if◌then◌else◌}
-use Rattle.std.specs.List.{range_with_len, filter}
-use Rattle.std.proofs.lemmas.Bool.{cases_eq}
+use Rattle.std.proofs.lemmas.Bool.{cases_eq, cases_lt}
 use Rattle.std.proofs.lemmas.Bool.Decides.{nat_tests}
-use Rattle.std.proofs.lemmas.List.{get_or-set_same, get_or-set_other}
+use Rattle.std.proofs.lemmas.List.{get_or-set_same, get_or-set_other, get_or_past, get_or-replicate, length-replicate}
 use Rattle.std.proofs.lemmas.List.FromFn.{length-map-range_with_len, get_or-map-range_with_len, fill_by_all}
+use Rattle.std.proofs.lemmas.Option.{none-some, same_Some}
+use Rattle.cache_array.specs.Slots.{FrameSlots, AreSlots, block_at, IsOfSet, frame_of, taken, freed}
+use Rattle.cache_array.proofs.Slots.{frame-none, found-at, frame-taken, frame-freed}
 use Rattle.sn_model.specs.Caches.{Line, no_line, empty_lines, block_count}
-use Rattle.mosi_cache.specs.Frames.{Frame, line_at, line_of_frame, is_of, line_in, lines_of, numbers, has_number}
+use Rattle.mosi_cache.specs.Frames.{Kept, line_at, line_kept, line_in_frame, line_in, lines_of}
 
-none_step : (a n : ℕ) → map (line_in []) (range_with_len a n) ≡ replicate n no_line
-none_step a zero = refl
-none_step a (suc n) = ap (λ (xs : List Line). no_line ∷ xs) (none_step (a + 1) n)
-
-pub lines-none : lines_of [] ≡ empty_lines
-unfolding lines_of empty_lines
-lines-none = none_step 0 block_count
-
-pub length-lines : (fs : List Frame) → length (lines_of fs) ≡ block_count
+pub length-lines : (d : FrameSlots) (ks : List Kept) → length (lines_of d ks) ≡ block_count
 unfolding lines_of
-length-lines fs = length-map-range_with_len (line_in fs) 0 block_count
+length-lines d ks = length-map-range_with_len (line_in d ks) 0 block_count
 
-pub line-at : (fs : List Frame) (b : ℕ) → b < block_count → line_at (lines_of fs) b ≡ line_in fs b
+pub line-at : (d : FrameSlots) (ks : List Kept) (b : ℕ) → b < block_count → line_at (lines_of d ks) b ≡ line_in d ks b
 unfolding lines_of
-line-at fs b h = get_or-map-range_with_len (line_in fs) 0 block_count b b no_line h (omega arith)
+line-at d ks b h = get_or-map-range_with_len (line_in d ks) 0 block_count b b no_line h (omega arith)
 
-pub lines-all : (fs : List Frame) (ls : List Line) → length ls ≡ block_count → ((b : ℕ) → b < block_count → line_at ls b ≡ line_in fs b) → ls ≡ lines_of fs
+lines_all : (d : FrameSlots) (ks : List Kept) (ls : List Line) → length ls ≡ block_count → ((b : ℕ) → b < block_count → line_at ls b ≡ line_in d ks b) → ls ≡ lines_of d ks
 unfolding lines_of
-lines-all fs ls n h = fill_by_all (line_in fs) ls block_count no_line n h
+lines_all d ks ls n h = fill_by_all (line_in d ks) ls block_count no_line n h
 
-changed_at : (fs gs : List Frame) (x : ℕ) (l : Line) → ((b : ℕ) → line_in gs b ≡ (if nat_eq x b then l else line_in fs b)) → x < block_count →
-    (b : ℕ) → b < block_count → line_at (set (lines_of fs) x l) b ≡ line_in gs b
-changed_at fs gs x l h n b m =
+-- where no frame has a block, there is no line
+
+free_at : (n f b : ℕ) → get_or (replicate n None) f None ≡ Some b → ⊥
+free_at n f b h =
     ⊎_elim
-    (λ (e : x ≡ b). let t : nat_eq x b ≡ true = grind (arith, nat_tests) in
-    let i : x < length (lines_of fs) = omega (arith, length-lines fs) in
-    rw (h b, t, ← e) (get_or-set_same (lines_of fs) x l no_line i))
-    (λ (d : x ≡ b → ⊥). let t : nat_eq x b ≡ false = grind (arith, nat_tests) in
-    rw (h b, t) (get_or-set_other (lines_of fs) x b l no_line (λ e. d (sym e)) ∙ line-at fs b m))
+    (λ (l : f < n). none-some b (sym (get_or-replicate n f None None l) ∙ h))
+    (λ (l : n ≤ f). none-some b (sym (get_or_past (replicate n None) f None (omega (arith, length-replicate {A = Option ℕ} n None))) ∙ h))
+    (cases_lt f n)
+
+abbrev pub all_free : ℕ → ℕ → FrameSlots
+all_free sets ways = record { sets = sets; ways = ways; slots = replicate (sets * ways) None }
+
+none_in : (sets ways : ℕ) (ks : List Kept) (b : ℕ) → line_in (all_free sets ways) ks b ≡ no_line
+none_in sets ways ks b = ap (line_in_frame ks) (frame-none (all_free sets ways) b (λ f h. free_at (sets * ways) f b h))
+
+pub empty-at : (b : ℕ) → line_at empty_lines b ≡ no_line
+unfolding empty_lines
+empty-at b =
+    ⊎_elim
+    (λ (l : b < block_count). get_or-replicate block_count b no_line no_line l)
+    (λ (l : block_count ≤ b). get_or_past (replicate block_count no_line) b no_line (omega (arith, length-replicate block_count no_line)))
+    (cases_lt b block_count)
+
+length_empty : length empty_lines ≡ block_count
+unfolding empty_lines
+length_empty = length-replicate block_count no_line
+
+pub lines-none : (sets ways : ℕ) (ks : List Kept) → lines_of (all_free sets ways) ks ≡ empty_lines
+lines-none sets ways ks = sym (lines_all (all_free sets ways) ks empty_lines length_empty (λ b l. empty-at b ∙ sym (none_in sets ways ks b)))
+
+-- one line is another
+
+changed_at : (d e : FrameSlots) (ks ms : List Kept) (x : ℕ) (l : Line) → ((b : ℕ) → line_in e ms b ≡ (if nat_eq x b then l else line_in d ks b)) → x < block_count →
+    (b : ℕ) → b < block_count → line_at (set (lines_of d ks) x l) b ≡ line_in e ms b
+changed_at d e ks ms x l h n b m =
+    ⊎_elim
+    (λ (i : x ≡ b). let t : nat_eq x b ≡ true = grind (arith, nat_tests) in
+    let j : x < length (lines_of d ks) = omega (arith, length-lines d ks) in
+    rw (h b, t, ← i) (get_or-set_same (lines_of d ks) x l no_line j))
+    (λ (i : x ≡ b → ⊥). let t : nat_eq x b ≡ false = grind (arith, nat_tests) in
+    rw (h b, t) (get_or-set_other (lines_of d ks) x b l no_line (λ j. i (sym j)) ∙ line-at d ks b m))
     (cases_eq x b)
 
--- where a list gives one block another line, the map has that line there
-pub lines-changed : (fs gs : List Frame) (x : ℕ) (l : Line) → ((b : ℕ) → line_in gs b ≡ (if nat_eq x b then l else line_in fs b)) → x < block_count →
-    lines_of gs ≡ set (lines_of fs) x l
-lines-changed fs gs x l h n =
-    sym (lines-all gs (set (lines_of fs) x l) (length-set (lines_of fs) x l ∙ length-lines fs) (changed_at fs gs x l h n))
+-- where frames give one block another line, the map has that line there
+pub lines-changed : (d e : FrameSlots) (ks ms : List Kept) (x : ℕ) (l : Line) → ((b : ℕ) → line_in e ms b ≡ (if nat_eq x b then l else line_in d ks b)) → x < block_count →
+    lines_of e ms ≡ set (lines_of d ks) x l
+lines-changed d e ks ms x l h n =
+    sym (lines_all e ms (set (lines_of d ks) x l) (length-set (lines_of d ks) x l ∙ length-lines d ks) (changed_at d e ks ms x l h n))
 
--- no frame is of the block
+-- what a frame keeps is written
 
-absent_step : (c : Bool) (l m : Line) (r : Bool) → (c || r) ≡ false → (r ≡ false → m ≡ no_line) → (if c then l else m) ≡ no_line
-absent_step true l m r h i = grind arith
-absent_step false l m r h i = i h
+same_frame : (ks : List Kept) (f : ℕ) (k : Kept) (o : Option ℕ) → (o ≡ Some f → ⊥) → line_in_frame (set ks f k) o ≡ line_in_frame ks o
+same_frame ks f k None h = refl
+same_frame ks f k (Some g) h =
+    ap line_kept (get_or-set_other ks f g k _ (λ (i : g ≡ f). h (ap (λ (n : ℕ). let s : Option ℕ = Some n in s) i)))
 
-pub line-absent : (fs : List Frame) (b : ℕ) → has_number (numbers fs) b ≡ false → line_in fs b ≡ no_line
-line-absent [] b h = refl
-line-absent (f ∷ fs) b h = absent_step (is_of b f) (line_of_frame f) (line_in fs b) (has_number (numbers fs) b) h (line-absent fs b)
+written : (ks : List Kept) (f : ℕ) (k : Kept) → f < length ks → line_in_frame (set ks f k) (Some f) ≡ line_kept k
+written ks f k l = ap line_kept (get_or-set_same ks f k _ l)
 
-pushed_step : (c d : Bool) (l m n k : Line) → n ≡ (if d then m else k) → (c ≡ true → d ≡ false) → (if c then l else n) ≡ (if d then m else (if c then l else k))
-pushed_step true true l m n k h i = grind arith
-pushed_step true false l m n k h i = refl
-pushed_step false d l m n k h i = h
+pub line-written : (d : FrameSlots) (ks : List Kept) (f x : ℕ) (k : Kept) → frame_of d x ≡ Some f → f < length ks →
+    (b : ℕ) → line_in d (set ks f k) b ≡ (if nat_eq x b then line_kept k else line_in d ks b)
+line-written d ks f x k h l b =
+    ⊎_elim
+    (λ (i : x ≡ b). let t : nat_eq x b ≡ true = grind (arith, nat_tests) in rw (t, ← i, h) (written ks f k l))
+    (λ (i : x ≡ b → ⊥). let t : nat_eq x b ≡ false = grind (arith, nat_tests) in
+    rw t (same_frame ks f k (frame_of d b) (λ e. i (same_Some x b (sym (found-at d f x h) ∙ found-at d f b e)))))
+    (cases_eq x b)
 
-pub line-pushed : (fs : List Frame) (g : Frame) (b : ℕ) → has_number (numbers fs) g.number ≡ false → line_in (fs ++ g ∷ []) b ≡ (if nat_eq g.number b then line_of_frame g else line_in fs b)
-line-pushed [] g b h = refl
-line-pushed (f ∷ fs) g b h =
-    pushed_step (is_of b f) (nat_eq g.number b) (line_of_frame f) (line_of_frame g) (line_in (fs ++ g ∷ []) b) (line_in fs b)
-    (line-pushed fs g b (grind arith))
-    (λ i. grind (arith, nat_tests))
+-- a block takes a free frame
 
--- the frames but those of one block
-abbrev pub others : ℕ → List Frame → List Frame
-others x fs = filter (λ (f : Frame). not (nat_eq f.number x)) fs
+after_taken : (ks : List Kept) (f : ℕ) (k : Kept) (c : Bool) (o p : Option ℕ) → o ≡ cond c (Some f) p → f < length ks → (p ≡ Some f → ⊥) →
+    line_in_frame (set ks f k) o ≡ (if c then line_kept k else line_in_frame ks p)
+after_taken ks f k true o p e l n = ap (line_in_frame (set ks f k)) e ∙ written ks f k l
+after_taken ks f k false o p e l n = ap (line_in_frame (set ks f k)) e ∙ same_frame ks f k p n
 
-dropped_step : (c d : Bool) (f : Frame) (fs : List Frame) (l : Line) (x b : ℕ) → nat_eq f.number x ≡ c → nat_eq x b ≡ d → line_in fs b ≡ (if d then no_line else l) →
-    line_in (cond (not c) (f ∷ fs) fs) b ≡ (if d then no_line else (if is_of b f then line_of_frame f else l))
-dropped_step true true f fs l x b h i e = e
-dropped_step true false f fs l x b h i e = let t : nat_eq f.number b ≡ false = grind (arith, nat_tests) in rw t e
-dropped_step false true f fs l x b h i e = let t : nat_eq f.number b ≡ false = grind (arith, nat_tests) in rw t e
-dropped_step false false f fs l x b h i e = ap (λ (m : Line). if is_of b f then line_of_frame f else m) e
+pub line-taken : (d : FrameSlots) (ks : List Kept) (f x : ℕ) (k : Kept) → AreSlots d → frame_of d x ≡ None → block_at d f ≡ None → IsOfSet d f x → f < length ks →
+    (b : ℕ) → line_in (taken d f x) (set ks f k) b ≡ (if nat_eq x b then line_kept k else line_in d ks b)
+line-taken d ks f x k h n z i l b =
+    after_taken ks f k (nat_eq x b) (frame_of (taken d f x) b) (frame_of d b) (frame-taken d f x b h n z i) l
+    (λ e. none-some b (sym z ∙ found-at d f b e))
 
-pub line-dropped : (fs : List Frame) (x b : ℕ) → line_in (others x fs) b ≡ (if nat_eq x b then no_line else line_in fs b)
-line-dropped [] x b = elim (nat_eq x b) as (λ t. no_line ≡ (if t then no_line else no_line)) [ true ↦ refl | false ↦ refl ]
-line-dropped (f ∷ fs) x b = dropped_step (nat_eq f.number x) (nat_eq x b) f (others x fs) (line_in fs b) x b refl refl (line-dropped fs x b)
+-- a frame is freed
 
--- the first frame of a block, at its place
+after_freed : (ks : List Kept) (c : Bool) (o p : Option ℕ) → o ≡ cond c None p → line_in_frame ks o ≡ (if c then no_line else line_in_frame ks p)
+after_freed ks true o p e = ap (line_in_frame ks) e
+after_freed ks false o p e = ap (line_in_frame ks) e
 
-pub line-found : (fs : List Frame) (b p : ℕ) (d : Frame) → p < length fs → is_of b (get_or fs p d) ≡ true → ((k : ℕ) → k < p → is_of b (get_or fs k d) ≡ false) →
-    line_in fs b ≡ line_of_frame (get_or fs p d)
-line-found [] b p d l t e = absurd (omega arith)
-line-found (f ∷ fs) b zero d l t e = rw t refl
-line-found (f ∷ fs) b (suc p) d l t e = rw (e 0 (omega arith)) (line-found fs b p d (omega arith) t (λ k m. e (suc k) (omega arith)))
-
-set_step : (c d : Bool) (l m n k : Line) → n ≡ (if d then m else k) → (c ≡ true → d ≡ false) → (if c then l else n) ≡ (if d then m else (if c then l else k))
-set_step c d l m n k h i = pushed_step c d l m n k h i
-
-pub line-set : (fs : List Frame) (g : Frame) (p : ℕ) (d : Frame) → p < length fs → is_of g.number (get_or fs p d) ≡ true → ((k : ℕ) → k < p → is_of g.number (get_or fs k d) ≡ false) →
-    (b : ℕ) → line_in (set fs p g) b ≡ (if nat_eq g.number b then line_of_frame g else line_in fs b)
-line-set [] g p d l t e b = absurd (omega arith)
-line-set (f ∷ fs) g zero d l t e b =
-    elim (nat_eq g.number b) as (λ u. nat_eq g.number b ≡ u → (if u then line_of_frame g else line_in fs b) ≡ (if u then line_of_frame g else (if is_of b f then line_of_frame f else line_in fs b)))
-    [ true ↦ λ _. refl | false ↦ λ u. let v : nat_eq f.number b ≡ false = grind (arith, nat_tests) in rw v refl ] refl
-line-set (f ∷ fs) g (suc p) d l t e b =
-    set_step (is_of b f) (nat_eq g.number b) (line_of_frame f) (line_of_frame g) (line_in (set fs p g) b) (line_in fs b)
-    (line-set fs g p d (omega arith) t (λ k m. e (suc k) (omega arith)) b)
-    (λ i. let v : is_of g.number f ≡ false = e 0 (omega arith) in grind (arith, nat_tests))
+pub line-freed : (d : FrameSlots) (ks : List Kept) (f x : ℕ) → AreSlots d → frame_of d x ≡ Some f →
+    (b : ℕ) → line_in (freed d f) ks b ≡ (if nat_eq x b then no_line else line_in d ks b)
+line-freed d ks f x h e b = after_freed ks (nat_eq x b) (frame_of (freed d f) b) (frame_of d b) (frame-freed d f x b h e)

@@ -1,106 +1,131 @@
 -- The least block that may leave its set.
-use Rattle.std.proofs.Common.{◌≡◌, ℕ, ◌<◌, ◌≤◌, ◌%◌, Bool, true, false, not, ◌&&◌, min, List, [], ◌∷◌, Option, Some, None, refl, sym, ap, ◌∙◌, subst, arith, ⊎_elim}
-use Rattle.std.specs.Prelude.{nat_eq, if◌then◌else◌, IfSome}
-use Rattle.std.specs.List.{All}
-use Rattle.std.proofs.lemmas.List.Elements.{All-head, All-tail}
+use Rattle.std.proofs.Common.{◌≡◌, ℕ, ◌+◌, ◌*◌, ◌<◌, ◌≤◌, ◌%◌, Bool, true, false, not, ◌&&◌, min, List, Option, Some, None, refl, sym, ap, ◌∙◌, subst, arith, ⊎_elim}
+use Rattle.std.specs.Prelude.{nat_eq, if◌then◌else◌}
 use Rattle.std.specs.Option.{option_map}
 use Rattle.std.proofs.lemmas.Bool.{cases_eq, cases_lt}
 use Rattle.std.proofs.lemmas.Bool.Decides.{nat_tests}
+use Rattle.std.proofs.lemmas.Option.{none-some, same_Some}
 use Rattle.sn_base.specs.declared.event.Answer.TheVariants.{MissOpen}
+use Rattle.cache_array.specs.Slots.{FrameSlots, block_at, first_of, frame_of}
+use Rattle.cache_array.proofs.Slots.{found-at, frame-found}
+use Rattle.cache_array.proofs.Counts.{same-set}
 use Rattle.sn_model.specs.declared.cache.LineState.{LineState}
 use Rattle.sn_model.specs.declared.cache.LineState.TheVariants.{Absent, Shared, Owned, Modified, Exclusive}
-use Rattle.sn_model.specs.Caches.{Line, Miss, Put, no_line, misses_on, block_count}
+use Rattle.sn_model.specs.Caches.{Line, Miss, Put, no_line, misses_on}
 use Rattle.sn_model.specs.NodeEvents.{has_put}
-use Rattle.mosi_cache.specs.Frames.{Frame, line_at, line_of_frame, line_in, lines_of, numbers, AreApart, is_spared, may_leave, leaves, lesser_of, least_in}
+use Rattle.mosi_cache.specs.Frames.{Kept, line_at, kept_at, lines_of, AreLines, is_spared, may_leave, leaves, lesser_of, leaving_by, leaving_at, IsLeastLeaving}
 use Rattle.mosi_cache.specs.Controller.{CacheData}
 use Rattle.mosi_cache.specs.Probe.{evict_line, lets_go, may_go}
-use Rattle.mosi_cache.proofs.Frames.{line-at, line-absent}
+use Rattle.mosi_cache.proofs.Changes.{read-found, read-absent}
 
--- a number is the least that passes a test, or none does
-abbrev pub IsLeast : (ℕ → Bool) → Option ℕ → Type 0
-IsLeast p None = (k : ℕ) → p k ≡ false
-IsLeast p (Some m) = (p m ≡ true) × ((k : ℕ) → k < m → p k ≡ false)
+-- the least of the frames below one more
 
-same_test : (p q : ℕ → Bool) (o : Option ℕ) → ((k : ℕ) → q k ≡ p k) → IsLeast p o → IsLeast q o
-same_test p q None e h = λ k. e k ∙ h k
-same_test p q (Some m) e h = (e m ∙ h.0, λ k l. e k ∙ h.1 k l)
+up_to : (f e : ℕ) → f < e + 1 → (f ≡ e → ⊥) → f < e
+up_to f e l h = ⊎_elim (λ (k : f < e). k) (λ (k : e ≤ f). absurd (h (omega arith))) (cases_lt f e)
 
-at_self : (q : ℕ → Bool) (n : ℕ) (c r : Bool) → q n ≡ (if nat_eq n n then c else r) → q n ≡ c
-at_self q n c r e = let t : nat_eq n n ≡ true = grind (arith, nat_tests) in rw t at e
+pub least-none-more : (leaving : ℕ → Option ℕ) (a e : ℕ) (o : Option ℕ) → IsLeastLeaving leaving a e o → leaving e ≡ None → IsLeastLeaving leaving a (e + 1) o
+least-none-more leaving a e None h n =
+    λ f l m. ⊎_elim (λ (i : f ≡ e). ap leaving i ∙ n) (λ (i : f ≡ e → ⊥). h f l (up_to f e m i)) (cases_eq f e)
+least-none-more leaving a e (Some k) h n = (
+  (h.0.0, (h.0.1.0, omega (arith, h.0.1.1), h.0.1.2)),
+  λ f x l m i. ⊎_elim (λ (j : f ≡ e). absurd (none-some x (sym n ∙ sym (ap leaving j) ∙ i))) (λ (j : f ≡ e → ⊥). h.1 f x l (up_to f e m j) i) (cases_eq f e),
+)
 
-at_other : (n k : ℕ) (u c r : Bool) → u ≡ (if nat_eq n k then c else r) → (n ≡ k → ⊥) → u ≡ r
-at_other n k u c r e d = let t : nat_eq n k ≡ false = grind (arith, nat_tests) in rw t at e
+some_eq : (a b : ℕ) → a ≡ b → Some a ≡ Some b
+some_eq a b e = ap (λ (n : ℕ). let o : Option ℕ = Some n in o) e
 
-apart_numbers : (p : ℕ → Bool) (n m : ℕ) → p n ≡ false → p m ≡ true → n ≡ m → ⊥
-apart_numbers p n m a b e = let q : p n ≡ true = subst (λ (k : ℕ). p k ≡ true) (sym e) b in cc
+pub least-some-more : (leaving : ℕ → Option ℕ) (a e n : ℕ) (o : Option ℕ) (m : ℕ) → a ≤ e → IsLeastLeaving leaving a e o → leaving e ≡ Some n → Some m ≡ lesser_of o (Some n) → IsLeastLeaving leaving a (e + 1) (Some m)
+least-some-more leaving a e n None m l h s q =
+    let r : m ≡ n = same_Some m n q in (
+      (e, (l, omega arith, s ∙ some_eq n m (sym r))),
+      λ f x i j k. ⊎_elim
+          (λ (t : f ≡ e). let u : n ≡ x = same_Some n x (sym s ∙ sym (ap leaving t) ∙ k) in omega arith)
+          (λ (t : f ≡ e → ⊥). absurd (none-some x (sym (h f i (up_to f e j t)) ∙ k)))
+          (cases_eq f e),
+    )
+least-some-more leaving a e n (Some k) m l h s q =
+    let r : m ≡ min k n = same_Some m (min k n) q in (
+      ⊎_elim
+          (λ (t : k < n). let v : k ≡ m = omega arith in (h.0.0, (h.0.1.0, omega (arith, h.0.1.1), h.0.1.2 ∙ some_eq k m v)))
+          (λ (t : n ≤ k). let v : n ≡ m = omega arith in (e, (l, omega arith, s ∙ some_eq n m v)))
+          (cases_lt k n),
+      λ f x i j w. ⊎_elim
+          (λ (t : f ≡ e). let u : n ≡ x = same_Some n x (sym s ∙ sym (ap leaving t) ∙ w) in omega arith)
+          (λ (t : f ≡ e → ⊥). omega (arith, h.1 f x i (up_to f e j t) w))
+          (cases_eq f e),
+    )
 
-one_more : (p q : ℕ → Bool) (n : ℕ) (c : Bool) (o : Option ℕ) → ((k : ℕ) → q k ≡ (if nat_eq n k then c else p k)) → p n ≡ false → IsLeast p o → IsLeast q (lesser_of (if c then Some n else None) o)
-one_more p q n false o e z h =
-    same_test p q o (λ k. ⊎_elim
-    (λ (d : n ≡ k). subst (λ (j : ℕ). q j ≡ p j) d (at_self q n false (p n) (e n) ∙ sym z))
-    (λ (d : n ≡ k → ⊥). at_other n k (q k) false (p k) (e k) d)
-    (cases_eq n k)) h
-one_more p q n true None e z h = (at_self q n true (p n) (e n), λ k l. at_other n k (q k) true (p k) (e k) (λ d. omega arith) ∙ h k)
-one_more p q n true (Some m) e z h =
-    let d : n ≡ m → ⊥ = apart_numbers p n m z h.0 in
-    ⊎_elim
-    (λ (l : n < m). let i : min n m ≡ n = omega arith in
-    rw i (at_self q n true (p n) (e n), λ k j. at_other n k (q k) true (p k) (e k) (λ x. omega arith) ∙ h.1 k (omega arith)))
-    (λ (l : m ≤ n). let i : min n m ≡ m = omega arith in
-    rw i (at_other n m (q m) true (p m) (e m) d ∙ h.0, λ k j. at_other n k (q k) true (p k) (e k) (λ x. omega arith) ∙ h.1 k j))
-    (cases_lt n m)
+pub least-of-none : (leaving : ℕ → Option ℕ) (a : ℕ) → IsLeastLeaving leaving a a None
+least-of-none leaving a = λ f l m. absurd (omega arith)
 
--- whether a block may leave, by a list of frames
-abbrev passes : ℕ → ℕ → Option ℕ → Bool → List Frame → ℕ → Bool
-passes sets set spared owned_too fs k = leaves sets set spared owned_too k (line_in fs k).state
+-- what a frame gives is a block that may leave its set
+
+chosen : (c : Bool) (b m : ℕ) (spared : Option ℕ) (owned_too : Bool) (s : LineState) → (not (is_spared spared b) && may_leave owned_too s) ≡ c → (if c then Some b else None) ≡ Some m →
+    (Some b ≡ Some m) × ((not (is_spared spared m) && may_leave owned_too s) ≡ true)
+chosen true b m spared owned_too s e h = (h, subst (λ (k : ℕ). (not (is_spared spared k) && may_leave owned_too s) ≡ true) (same_Some b m h) e)
+chosen false b m spared owned_too s e h = absurd (none-some m h)
+
+gives_step : (spared : Option ℕ) (owned_too : Bool) (s : LineState) (o : Option ℕ) (m : ℕ) → leaving_by spared owned_too s o ≡ Some m → (o ≡ Some m) × ((not (is_spared spared m) && may_leave owned_too s) ≡ true)
+gives_step spared owned_too s None m h = absurd (none-some m h)
+gives_step spared owned_too s (Some b) m h = chosen (not (is_spared spared b) && may_leave owned_too s) b m spared owned_too s refl h
+
+and_true : (a b : Bool) → a ≡ true → b ≡ true → (a && b) ≡ true
+and_true a b h i = grind arith
+
+same_number : (a b : ℕ) → a ≡ b → nat_eq a b ≡ true
+same_number a b h = grind (arith, nat_tests)
+
+leaves_at : (d : FrameSlots) (ks : List Kept) (spared : Option ℕ) (owned_too : Bool) (b f m : ℕ) → AreLines d ks → first_of d b ≤ f → f < first_of d b + d.ways → leaving_at d ks spared owned_too f ≡ Some m →
+    leaves d.sets (b % d.sets) spared owned_too m (line_at (lines_of d ks) m).state ≡ true
+leaves_at d ks spared owned_too b f m h l n e =
+    let g = gives_step spared owned_too (kept_at ks f).state (block_at d f) m e in
+    let r = read-found d ks m f h (frame-found d f m h.slots g.0) in
+    let s : nat_eq (m % d.sets) (b % d.sets) ≡ true = same_number (m % d.sets) (b % d.sets) (same-set d f m b h.slots g.0 l n) in
+    rw r.0 (and_true (nat_eq (m % d.sets) (b % d.sets)) (not (is_spared spared m) && may_leave owned_too (kept_at ks f).state) s g.1)
+
+-- a block that may leave its set is given by its frame
 
 never : (a b : Bool) (owned_too : Bool) → (a && (b && may_leave owned_too no_line.state)) ≡ false
 never a b owned_too = grind arith
 
-choice : (c : Bool) (sets set : ℕ) (spared : Option ℕ) (owned_too : Bool) (f : Frame) (l : Line) (k : ℕ) → nat_eq f.number k ≡ c →
-    leaves sets set spared owned_too k (if c then line_of_frame f else l).state ≡ (if c then leaves sets set spared owned_too f.number f.state else leaves sets set spared owned_too k l.state)
-choice true sets set spared owned_too f l k e = let q : f.number ≡ k = grind (arith, nat_tests) in rw q refl
-choice false sets set spared owned_too f l k e = refl
+gone_step : (sets set : ℕ) (spared : Option ℕ) (owned_too : Bool) (k : ℕ) → leaves sets set spared owned_too k no_line.state ≡ true → ⊥
+gone_step sets set spared owned_too k h = let e = never (nat_eq (k % sets) set) (not (is_spared spared k)) owned_too in cc
 
-pub least-right : (sets set : ℕ) (spared : Option ℕ) (owned_too : Bool) (fs : List Frame) → AreApart (numbers fs) → IsLeast (passes sets set spared owned_too fs) (least_in sets set spared owned_too fs)
-least-right sets set spared owned_too [] a = λ k. never (nat_eq (k % sets) set) (not (is_spared spared k)) owned_too
-least-right sets set spared owned_too (f ∷ fs) a =
-    one_more (passes sets set spared owned_too fs) (passes sets set spared owned_too (f ∷ fs)) f.number (leaves sets set spared owned_too f.number f.state) (least_in sets set spared owned_too fs)
-    (λ k. choice (nat_eq f.number k) sets set spared owned_too f (line_in fs k) k refl)
-    (ap (λ (l : Line). leaves sets set spared owned_too f.number l.state) (line-absent fs f.number a.0) ∙ never (nat_eq (f.number % sets) set) (not (is_spared spared f.number)) owned_too)
-    (least-right sets set spared owned_too fs a.1)
+parts : (sets set : ℕ) (a b : Bool) (k : ℕ) → (nat_eq (k % sets) set && (a && b)) ≡ true → (k % sets ≡ set) × ((a && b) ≡ true)
+parts sets set a b k h = (grind (arith, nat_tests), grind arith)
 
-below : (k m n : ℕ) → k < m → m < n → k < n
-below k m n l h = omega arith
+given_step : (d : FrameSlots) (ks : List Kept) (spared : Option ℕ) (owned_too : Bool) (b k : ℕ) (o : Option ℕ) → AreLines d ks → leaves d.sets (b % d.sets) spared owned_too k (line_at (lines_of d ks) k).state ≡ true → frame_of d k ≡ o →
+    (f : ℕ) × ((first_of d b ≤ f) × (f < first_of d b + d.ways) × (leaving_at d ks spared owned_too f ≡ Some k))
+given_step d ks spared owned_too b k None h e n =
+    absurd (gone_step d.sets (b % d.sets) spared owned_too k (subst (λ (l : Line). leaves d.sets (b % d.sets) spared owned_too k l.state ≡ true) (read-absent d ks k n) e))
+given_step d ks spared owned_too b k (Some f) h e n =
+    let a = found-at d f k n in
+    let r = read-found d ks k f h n in
+    let t = subst (λ (l : Line). leaves d.sets (b % d.sets) spared owned_too k l.state ≡ true) r.0 e in
+    let p = parts d.sets (b % d.sets) (not (is_spared spared k)) (may_leave owned_too (kept_at ks f).state) k t in
+    let i : first_of d k ≡ first_of d b = ap (λ m. m * d.ways) p.0 in
+    let q = h.slots.placed f k a in
+    (f, (omega (arith, q.0), omega (arith, q.1), rw (a, p.1) refl))
 
--- the same by the map from blocks
+not_true : (b : Bool) → (b ≡ true → ⊥) → b ≡ false
+not_true true h = absurd (h refl)
+not_true false h = refl
 
-pub least-none : (sets set : ℕ) (spared : Option ℕ) (owned_too : Bool) (fs : List Frame) → AreApart (numbers fs) → least_in sets set spared owned_too fs ≡ None →
-    (k : ℕ) → k < block_count → leaves sets set spared owned_too k (line_at (lines_of fs) k).state ≡ false
-least-none sets set spared owned_too fs a e k n =
-    let h : IsLeast (passes sets set spared owned_too fs) None = subst (IsLeast (passes sets set spared owned_too fs)) e (least-right sets set spared owned_too fs a) in
-    ap (λ (l : Line). leaves sets set spared owned_too k l.state) (line-at fs k n) ∙ h k
+pub least-none : (d : FrameSlots) (ks : List Kept) (spared : Option ℕ) (owned_too : Bool) (b : ℕ) → AreLines d ks →
+    IsLeastLeaving (leaving_at d ks spared owned_too) (first_of d b) (first_of d b + d.ways) None → (k : ℕ) → leaves d.sets (b % d.sets) spared owned_too k (line_at (lines_of d ks) k).state ≡ false
+least-none d ks spared owned_too b h n k =
+    not_true (leaves d.sets (b % d.sets) spared owned_too k (line_at (lines_of d ks) k).state)
+    (λ e. let g = given_step d ks spared owned_too b k (frame_of d k) h e refl in none-some k (sym (n g.0 g.1.0 g.1.1) ∙ g.1.2))
 
-inside_step : (c : Bool) (n w : ℕ) (o : Option ℕ) → n < w → IfSome o (λ m. m < w) → IfSome (lesser_of (if c then Some n else None) o) (λ m. m < w)
-inside_step false n w o l h = h
-inside_step true n w None l h = l
-inside_step true n w (Some m) l h = omega arith
-
-least_inside : (sets set : ℕ) (spared : Option ℕ) (owned_too : Bool) (fs : List Frame) → All (λ n. n < block_count) (numbers fs) → IfSome (least_in sets set spared owned_too fs) (λ m. m < block_count)
-least_inside sets set spared owned_too [] h = tt
-least_inside sets set spared owned_too (f ∷ fs) h =
-    inside_step (leaves sets set spared owned_too f.number f.state) f.number block_count (least_in sets set spared owned_too fs)
-    (All-head (λ n. n < block_count) f.number (numbers fs) h)
-    (least_inside sets set spared owned_too fs (All-tail (λ n. n < block_count) f.number (numbers fs) h))
-
-pub least-some : (sets set : ℕ) (spared : Option ℕ) (owned_too : Bool) (fs : List Frame) (m : ℕ) → AreApart (numbers fs) → All (λ n. n < block_count) (numbers fs) → least_in sets set spared owned_too fs ≡ Some m →
-    (leaves sets set spared owned_too m (line_at (lines_of fs) m).state ≡ true) × ((k : ℕ) → k < m → leaves sets set spared owned_too k (line_at (lines_of fs) k).state ≡ false)
-least-some sets set spared owned_too fs m a i e =
-    let n : m < block_count = subst (λ (o : Option ℕ). IfSome o (λ x. x < block_count)) e (least_inside sets set spared owned_too fs i) in
-    let h : IsLeast (passes sets set spared owned_too fs) (Some m) = subst (IsLeast (passes sets set spared owned_too fs)) e (least-right sets set spared owned_too fs a) in (
-      ap (λ (l : Line). leaves sets set spared owned_too m l.state) (line-at fs m n) ∙ h.0,
-      λ k l. ap (λ (x : Line). leaves sets set spared owned_too k x.state) (line-at fs k (below k m block_count l n)) ∙ h.1 k l,
-    )
+pub least-some : (d : FrameSlots) (ks : List Kept) (spared : Option ℕ) (owned_too : Bool) (b m : ℕ) → AreLines d ks →
+    IsLeastLeaving (leaving_at d ks spared owned_too) (first_of d b) (first_of d b + d.ways) (Some m) →
+    (leaves d.sets (b % d.sets) spared owned_too m (line_at (lines_of d ks) m).state ≡ true)
+    × ((k : ℕ) → k < m → leaves d.sets (b % d.sets) spared owned_too k (line_at (lines_of d ks) k).state ≡ false)
+least-some d ks spared owned_too b m h n = (
+  leaves_at d ks spared owned_too b n.0.0 m h n.0.1.0 n.0.1.1 n.0.1.2,
+  λ k l. not_true (leaves d.sets (b % d.sets) spared owned_too k (line_at (lines_of d ks) k).state)
+      (λ e. let g = given_step d ks spared owned_too b k (frame_of d k) h e refl in absurd (omega (arith, n.1 g.0 k g.1.0 g.1.1 g.1.2, l))),
+)
 
 -- the same by what an eviction comes to
 

@@ -1,12 +1,13 @@
--- The lines of a cache as a plain list of frames, in any order, and the map from blocks that they stand for.
-use Rattle.std.specs.Prelude.{◌≡◌, ℕ, ◌+◌, ◌<◌, ◌≤◌, ◌%◌, Bool, true, false, not, ◌&&◌, ◌||◌, nat_eq, min, if◌then◌else◌, List, [], ◌∷◌, map, slice_index_or, Option, Some, None}
-use Rattle.std.specs.List.{range_with_len, All}
+-- The lines of a cache by their frames: what each frame keeps, and the map from blocks that the frames stand for.
+use Rattle.std.specs.Prelude.{◌≡◌, ℕ, ◌<◌, ◌≤◌, ◌%◌, Bool, true, false, not, ◌&&◌, nat_eq, min, if◌then◌else◌, List, [], length, map, slice_index_or, Option, Some, None}
+use Rattle.std.specs.List.{range_with_len}
+use Rattle.cache_array.specs.Slots.{FrameSlots, AreSlots, block_at, frame_of}
 use Rattle.sn_model.specs.declared.cache.LineState.{LineState}
 use Rattle.sn_model.specs.declared.cache.LineState.TheVariants.{Absent, Shared, Owned, Modified, Exclusive}
 use Rattle.sn_model.specs.declared.cache.Need.{Need}
 use Rattle.sn_model.specs.CacheRows.{line_when_done}
 use Rattle.sn_model.specs.Caches.{Line, Cache, no_line, is_present, block_count, frames_taken}
-pub use Rattle.mosi_cache.specs.declared.lines.Frame.{Frame}
+pub use Rattle.mosi_cache.specs.declared.lines.Kept.{Kept}
 
 -- the lines that a cache keeps, and how they are divided
 pub record LinesData : Type 0 where
@@ -26,56 +27,36 @@ closed lines = record { lines = lines; miss = None; put = None }
 abbrev pub HasRoom : LinesData → ℕ → Type 0
 HasRoom d block = block < block_count → is_present (line_at d.lines block).state ≡ false → frames_taken (closed d.lines) d.sets block < d.ways
 
--- the line in a frame
-abbrev pub line_of_frame : Frame → Line
-line_of_frame f = record { state = f.state; content = f.content }
-
 -- a line when the miss on its block is complete
 abbrev pub completed : Line → Need → Line
 completed l need = record l { state = line_when_done l.state need }
 
--- whether a frame is of this block
-abbrev pub is_of : ℕ → Frame → Bool
-is_of block f = nat_eq f.number block
+-- what a frame keeps
+abbrev pub kept_at : List Kept → ℕ → Kept
+kept_at kept frame = slice_index_or kept frame (record { state = Absent; content = [] })
 
--- the line of a block: that of the first frame that is of it
-abbrev pub line_in : List Frame → ℕ → Line
-line_in [] block = no_line
-line_in (f ∷ fs) block = if is_of block f then line_of_frame f else line_in fs block
+abbrev pub line_kept : Kept → Line
+line_kept k = record { state = k.state; content = k.content }
+
+-- the line of a block that has this frame, or none
+abbrev pub line_in_frame : List Kept → Option ℕ → Line
+line_in_frame kept None = no_line
+line_in_frame kept (Some frame) = line_kept (kept_at kept frame)
+
+-- the line of a block: what its frame keeps
+abbrev pub line_in : FrameSlots → List Kept → ℕ → Line
+line_in frames kept block = line_in_frame kept (frame_of frames block)
 
 -- the lines of all blocks, in order of their numbers
-unfoldable pub lines_of : List Frame → List Line
-lines_of frames = map (line_in frames) (range_with_len 0 block_count)
+unfoldable pub lines_of : FrameSlots → List Kept → List Line
+lines_of frames kept = map (line_in frames kept) (range_with_len 0 block_count)
 
--- the blocks of the frames
-abbrev pub numbers : List Frame → List ℕ
-numbers frames = map (λ (f : Frame). f.number) frames
-
--- whether a block is one of these
-abbrev pub has_number : List ℕ → ℕ → Bool
-has_number [] block = false
-has_number (n ∷ ns) block = nat_eq n block || has_number ns block
-
--- no block stands there twice
-abbrev pub AreApart : List ℕ → Type 0
-AreApart [] = Unit {0}
-AreApart (n ∷ ns) = (has_number ns n ≡ false) × AreApart ns
-
--- how many of these pass a test
-abbrev pub how_many : (ℕ → Bool) → List ℕ → ℕ
-how_many p [] = 0
-how_many p (n ∷ ns) = (if p n then 1 else 0) + how_many p ns
-
--- how many blocks of a set are among these
-abbrev pub count_in : ℕ → ℕ → List ℕ → ℕ
-count_in sets set ns = how_many (λ n. nat_eq (n % sets) set) ns
-
--- frames as they may be: each of another block of memory, each with a line, and no more in a set than it has ways
-pub record AreFrames (sets ways : ℕ) (frames : List Frame) : Type 0 where
-  pub apart : AreApart (numbers frames)
-  pub inside : All (λ n. n < block_count) (numbers frames)
-  pub present : All (λ (f : Frame). is_present f.state ≡ true) frames
-  pub within : (set : ℕ) → count_in sets set (numbers frames) ≤ ways
+-- frames and what they keep as they may be: each frame keeps something, a block that has one is of memory, and has a line
+pub record AreLines (frames : FrameSlots) (kept : List Kept) : Type 0 where
+  pub slots : AreSlots frames
+  pub whole : length kept ≡ length frames.slots
+  pub inside : (frame block : ℕ) → block_at frames frame ≡ Some block → block < block_count
+  pub present : (frame block : ℕ) → block_at frames frame ≡ Some block → is_present (kept_at kept frame).state ≡ true
 
 -- the least block that may leave its set
 
@@ -102,8 +83,17 @@ lesser_of None o = o
 lesser_of (Some a) None = Some a
 lesser_of (Some a) (Some b) = Some (min a b)
 
--- the least block of the frames whose lines may leave a set
-abbrev pub least_in : ℕ → ℕ → Option ℕ → Bool → List Frame → Option ℕ
-least_in sets set spared owned_too [] = None
-least_in sets set spared owned_too (f ∷ fs) =
-    lesser_of (if leaves sets set spared owned_too f.number f.state then Some f.number else None) (least_in sets set spared owned_too fs)
+-- the block in a frame, where it isn't spared and its line may leave
+abbrev pub leaving_by : Option ℕ → Bool → LineState → Option ℕ → Option ℕ
+leaving_by spared owned_too state None = None
+leaving_by spared owned_too state (Some block) = if not (is_spared spared block) && may_leave owned_too state then Some block else None
+
+abbrev pub leaving_at : FrameSlots → List Kept → Option ℕ → Bool → ℕ → Option ℕ
+leaving_at frames kept spared owned_too frame = leaving_by spared owned_too (kept_at kept frame).state (block_at frames frame)
+
+-- the least of the blocks that these frames give, or that they give none
+abbrev pub IsLeastLeaving : (ℕ → Option ℕ) → ℕ → ℕ → Option ℕ → Type 0
+IsLeastLeaving leaving first end None = (frame : ℕ) → first ≤ frame → frame < end → leaving frame ≡ None
+IsLeastLeaving leaving first end (Some least) =
+    ((frame : ℕ) × ((first ≤ frame) × (frame < end) × (leaving frame ≡ Some least)))
+    × ((frame block : ℕ) → first ≤ frame → frame < end → leaving frame ≡ Some block → least ≤ block)

@@ -1,20 +1,22 @@
-//! The lines of a cache, each in a frame of its block's set.
+//! The lines of a cache, each kept by the number of its block's frame.
 //!
-//! The frames that have a line are a plain list, in no order. The layer above sees the line of each block, and how many
-//! frames of a set the lines take. A line never finds its set full: who adds one asks before.
-ghost use Rattle.std.specs.Prelude.{◌≡◌, ℕ, ◌*◌, ◌<◌, ◌%◌, ◌&&◌, true, false, nat_eq, nat_le, position, filter, length, slice_set, IfOk, IfSome, IsNone, not, Some};
+//! A block has a frame exactly where it has a line, and the frame keeps the line's state and content. Every question about a
+//! block, and every change of its line, looks at the frames of its set alone. The layer above sees the line of each block,
+//! and how many frames of a set the lines take. A line never finds its set full: who adds one asks before.
+ghost use Rattle.std.specs.Prelude.{◌≡◌, ℕ, ◌*◌, ◌+◌, ◌<◌, ◌≤◌, ◌%◌, ◌&&◌, true, false, nat_le, length, slice_set, IfOk, IfSome, IsNone, not, Some};
+ghost use Rattle.cache_array.specs.Slots.{FrameSlots};
 ghost use Rattle.sn_model.specs.Caches.{no_line, empty_lines, is_present, block_count, frames_taken};
-ghost use Rattle.mosi_cache.specs.Frames.{LinesData, HasRoom, closed, line_at, line_of_frame, completed, is_of, is_spared, may_leave, leaves, lesser_of, least_in};
+ghost use Rattle.mosi_cache.specs.Frames.{LinesData, HasRoom, closed, line_at, line_kept, completed, is_spared, may_leave, leaves, lesser_of, leaving_at, IsLeastLeaving};
 
+use cache_array::Frames;
 use sn_base::{Block, BlockNo, Memory};
 use sn_model::{LineState, Need};
 use std::alloc::Global;
 use std::marker::Model;
 
-/// A frame with a line, which is never absent, and the number of the line's block.
+/// What a frame keeps: the state and the content of its block's line. What a free frame keeps is never read.
 #[derive(Clone, Copy, PartialEq, Eq, Debug)]
-pub struct Frame {
-    pub number: u16,
+pub struct Kept {
     pub state: LineState,
     pub content: Block,
 }
@@ -22,53 +24,56 @@ pub struct Frame {
 /// The lines. Contracts see the line of each block, and how many sets and ways there are.
 #[derive(Drop)]
 pub struct Lines {
-    frames: Vec<Frame>,
+    frames: Frames,
+    kept: Vec<Kept>,
     sets: u16,
     ways: u8,
 }
 
 impl Model for Lines {
-    ghost use Rattle.std.specs.Prelude.{ℕ, ◌*◌, ◌<◌, ◌≤◌, vec_capacity};
-    ghost use Rattle.mosi_cache.specs.Frames.{LinesData, lines_of, AreFrames};
+    ghost use Rattle.std.specs.Prelude.{◌≡◌};
+    ghost use Rattle.mosi_cache.specs.Frames.{LinesData, lines_of, AreLines};
 
     ghost Value = { LinesData };
 
-    ghost view = { λ l. record { lines = lines_of l.frames.items; sets = l.sets; ways = l.ways } };
+    ghost view = { λ l. record { lines = lines_of l.frames l.kept.items; sets = l.frames.sets; ways = l.frames.ways } };
 
-    ghost invariant = { λ l. (0 < l.sets) × AreFrames l.sets l.ways l.frames.items × (l.sets * l.ways ≤ vec_capacity l.frames) };
+    ghost invariant = { λ l. AreLines l.frames l.kept.items × (l.sets ≡ l.frames.sets) × (l.ways ≡ l.frames.ways) };
 }
 
-fn place_of(frames: &[Frame], block: BlockNo) -> Option<usize>
-    ensures place { result ≡ position (is_of block) frames.now }
-    ensures block { block < block_count }
-{
-    let number = block.number();
-    frames.iter().position(|frame| frame.number == number)
-}
-
-fn count_in(frames: &[Frame], sets: u16, set: u16) -> usize
-    requires { 0 < sets }
-    ensures { result ≡ length (filter (λ f. nat_eq (f.number % sets) set) frames.now) }
-{
-    frames
-        .iter()
-        .filter(|frame| frame.number % sets == set)
-        .count()
-}
-
-fn may_go(frame: &Frame, spared: &Option<BlockNo>, owned_too: bool) -> bool
-    ensures { result ≡ (not (is_spared spared.now frame.now.number) && may_leave owned_too frame.now.state) }
+fn may_go(kept: &Kept, number: u16, spared: &Option<BlockNo>, owned_too: bool) -> bool
+    ensures { result ≡ (not (is_spared spared.now number) && may_leave owned_too kept.now.state) }
 {
     let is_spared = match spared {
-        Some(block) => block.number() == frame.number,
+        Some(block) => block.number() == number,
         None => false,
     };
-    let may_leave = match frame.state {
+    let may_leave = match kept.state {
         LineState::Absent => false,
         LineState::Shared => true,
         LineState::Owned | LineState::Modified | LineState::Exclusive => owned_too,
     };
     !is_spared && may_leave
+}
+
+/// The number of the block in a frame, where its line may leave.
+fn leaving(
+    frames: &Frames,
+    kept: &[Kept],
+    frame: usize,
+    spared: &Option<BlockNo>,
+    owned_too: bool,
+) -> Option<u16>
+    requires inside { frame < frames.now.sets * frames.now.ways }
+    requires kept { frame < length kept.now }
+    ensures { result ≡ leaving_at frames.now kept.now spared.now owned_too frame }
+{
+    match frames.block_in(frame) {
+        Some(block) if may_go(&kept[frame], block.number(), spared, owned_too) => {
+            Some(block.number())
+        }
+        _ => None,
+    }
 }
 
 fn lesser(least: Option<u16>, number: u16) -> u16
@@ -80,51 +85,63 @@ fn lesser(least: Option<u16>, number: u16) -> u16
     }
 }
 
+/// The least of the blocks in these frames whose lines may leave.
 fn least_of(
-    frames: &[Frame],
-    sets: u16,
-    set: u16,
+    frames: &Frames,
+    kept: &[Kept],
+    first: usize,
+    end: usize,
     spared: &Option<BlockNo>,
     owned_too: bool,
 ) -> Option<u16>
-    requires { 0 < sets }
-    ensures { result ≡ least_in sets set spared.now owned_too frames.now }
+    requires some { first ≤ end }
+    requires inside { end ≤ frames.now.sets * frames.now.ways }
+    requires kept { end ≤ length kept.now }
+    ensures { IsLeastLeaving (leaving_at frames.now kept.now spared.now owned_too) first end result }
 {
     let mut least = None;
-    'frames: for frame in frames.iter() {
-        let may_go = may_go(frame, spared, owned_too);
-        if may_go && frame.number % sets == set {
-            least = Some(lesser(least, frame.number));
+    'frames: for frame in first..end {
+        if let Some(number) = leaving(frames, kept, frame, spared, owned_too) {
+            least = Some(lesser(least, number));
         }
     }
     least
 }
 
 impl Lines {
-    /// No lines, with room for so many sets of so many ways.
+    /// No lines, with a frame for each way of so many sets.
     pub fn new(alloc: Global, sets: u16, ways: u8) -> Result<Lines, Memory>
         requires { 0 < sets }
         ensures { IfOk result (λ l. l ≡ record { lines = empty_lines; sets = sets; ways = ways }) }
     {
-        let room = usize::from(sets) * usize::from(ways);
-        let frames = Vec::with_capacity(alloc, room)?;
-        Ok(Lines { frames, sets, ways })
+        let frames = Frames::new(alloc, sets, ways)?;
+        let nothing = Kept {
+            state: LineState::Absent,
+            content: Block::zero(),
+        };
+        let kept = vec![in alloc; nothing; usize::from(sets) * usize::from(ways)]?;
+        Ok(Lines {
+            frames,
+            kept,
+            sets,
+            ways,
+        })
     }
 
-    /// The frame that has the block's line.
-    pub fn find(&self, block: BlockNo) -> Option<&Frame>
+    /// What the frame of the block keeps, where it has one.
+    pub fn find(&self, block: BlockNo) -> Option<&Kept>
         ensures none { IsNone result → line_at self.now.lines block ≡ no_line }
-        ensures some { IfSome result (λ f. (line_at self.now.lines block ≡ line_of_frame f.now) × (is_present f.now.state ≡ true)) }
+        ensures some { IfSome result (λ k. (line_at self.now.lines block ≡ line_kept k.now) × (is_present k.now.state ≡ true)) }
     {
-        let place = place_of(&self.frames, block)?;
-        Some(&self.frames[place])
+        let frame = self.frames.find(block)?;
+        Some(&self.kept[frame])
     }
 
     pub fn state(&self, block: BlockNo) -> LineState
         ensures { result ≡ (line_at self.now.lines block).state }
     {
         match self.find(block) {
-            Some(frame) => frame.state,
+            Some(kept) => kept.state,
             None => LineState::Absent,
         }
     }
@@ -134,10 +151,10 @@ impl Lines {
         requires { is_present (line_at self.now.lines block).state ≡ true }
         ensures { result ≡ (line_at self.now.lines block).content }
     {
-        let Some(frame) = self.find(block) else {
+        let Some(kept) = self.find(block) else {
             unreachable!()
         };
-        frame.content
+        kept.content
     }
 
     /// The block's line is this one now, whether it had one or not.
@@ -147,15 +164,13 @@ impl Lines {
         ensures lines { self.new ≡ record self.old { lines = slice_set self.old.lines block (record { state = state; content = content }) } }
         ensures read { line_at self.new.lines block ≡ record { state = state; content = content } }
     {
-        let number = block.number();
-        let frame = Frame {
-            number,
-            state,
-            content,
-        };
-        match place_of(&self.frames, block) {
-            Some(place) => self.frames[place] = frame,
-            None => self.frames.push(frame).unwrap(),
+        let line = Kept { state, content };
+        match self.frames.find(block) {
+            Some(frame) => self.kept[frame] = line,
+            None => {
+                let frame = self.frames.reserve(block);
+                self.kept[frame] = line;
+            }
         }
     }
 
@@ -164,8 +179,9 @@ impl Lines {
         ensures lines { self.new ≡ record self.old { lines = slice_set self.old.lines block no_line } }
         ensures gone { line_at self.new.lines block ≡ no_line }
     {
-        let number = block.number();
-        self.frames.retain(|frame| frame.number != number);
+        if self.frames.find(block).is_some() {
+            self.frames.drop_frame(block);
+        }
     }
 
     /// The block's miss is complete: where it was for a write, the block's line is Modified, if it has one.
@@ -173,9 +189,9 @@ impl Lines {
         ensures { self.new ≡ record self.old { lines = slice_set self.old.lines block (completed (line_at self.old.lines block) need) } }
     {
         if need == Need::Write
-            && let Some(frame) = self.find(block)
+            && let Some(kept) = self.find(block)
         {
-            let content = frame.content;
+            let content = kept.content;
             self.put(block, LineState::Modified, content);
         }
     }
@@ -184,8 +200,7 @@ impl Lines {
     pub fn is_full(&self, block: BlockNo) -> bool
         ensures { result ≡ nat_le self.now.ways (frames_taken (closed self.now.lines) self.now.sets block) }
     {
-        let set = block.number() % self.sets;
-        usize::from(self.ways) <= count_in(&self.frames, self.sets, set)
+        self.frames.set_full(block)
     }
 
     /// The least block with a line in the set of a block that may leave: a Shared line, or, where that is asked for, one
@@ -194,8 +209,16 @@ impl Lines {
         ensures none { IsNone result → (k : ℕ) → k < block_count → leaves self.now.sets (block % self.now.sets) spared owned_too k (line_at self.now.lines k).state ≡ false }
         ensures some { IfSome result (λ b. (leaves self.now.sets (block % self.now.sets) spared owned_too b (line_at self.now.lines b).state ≡ true) × ((k : ℕ) → k < b → leaves self.now.sets (block % self.now.sets) spared owned_too k (line_at self.now.lines k).state ≡ false)) }
     {
-        let set = block.number() % self.sets;
-        let number = least_of(&self.frames, self.sets, set, &spared, owned_too)?;
+        let ways = usize::from(self.ways);
+        let first = usize::from(block.number() % self.sets) * ways;
+        let number = least_of(
+            &self.frames,
+            &self.kept,
+            first,
+            first + ways,
+            &spared,
+            owned_too,
+        )?;
         Some(BlockNo::new(number))
     }
 }

@@ -1,17 +1,27 @@
-use Rattle.std.proofs.Common.{sym, ap, ◌∙◌}
-use Rattle.std.specs.List.{position}
-use Rattle.mosi_cache.specs.Frames.{LinesData, is_of, line_at, line_of_frame}
-use Rattle.mosi_cache.proofs.Changes.{read-found, read-absent}
+use Rattle.std.proofs.Common.{◌≡◌, Some, true, sym, ap, ◌∙◌, subst}
+use Rattle.cache_array.specs.Slots.{frame_of}
+use Rattle.sn_model.specs.Caches.{no_line, is_present}
+use Rattle.mosi_cache.specs.Frames.{Kept, LinesData, line_at, line_kept, kept_at}
+use Rattle.mosi_cache.proofs.Changes.{read-found, read-absent, frame-kept, kept-read}
 use Rattle.mosi_cache.proofs.lines.Lines.find.Goals as goal
 
-pub returns-in_err-place-clause-none : goal.returns-in_err-place-clause-none
-returns-in_err-place-clause-none c = λ _.
-    ap (λ (d : LinesData). line_at d.lines c.args.block) (sym c.self.view_is)
-    ∙ read-absent c.self.inside.frames.items c.args.block
-    (ap (position (is_of c.args.block)) (sym c.deref.ensures.value) ∙ sym c.place_of.ensures.place ∙ c.in_err-place.was) c.place_of.ensures.block
+pub returns-in_err-frame-clause-none : goal.returns-in_err-frame-clause-none
+returns-in_err-frame-clause-none c = λ _.
+    subst (λ (d : LinesData). line_at d.lines c.args.block ≡ no_line) c.self.view_is
+    (read-absent c.self.inside.frames c.self.inside.kept.items c.args.block (sym c.find.ensures.frame ∙ c.in_err-frame.was))
+
+found : (c : goal.After-index) → frame_of c.self.inside.frames c.args.block ≡ Some c.in_ok-frame.frame
+found c = sym c.find.ensures.frame ∙ c.in_ok-frame.was
+
+read : (c : goal.After-index) → c.index.result.now ≡ kept_at c.self.inside.kept.items c.in_ok-frame.frame
+read c =
+    c.index.ensures
+    ∙ kept-read c.self.inside.kept.items c.in_ok-frame.frame c.index.result.now
+    (frame-kept c.self.inside.frames c.self.inside.kept.items c.args.block c.in_ok-frame.frame c.self.invariant.0 (found c))
 
 pub returns-clause-some : goal.returns-clause-some
 returns-clause-some c =
-    let r = read-found c.self.inside.sets c.self.inside.ways c.self.inside.frames.items c.args.block c.in_ok-place.place c.index.result.now c.self.invariant.1
-    (ap (position (is_of c.args.block)) (sym c.deref.ensures.value) ∙ sym c.place_of.ensures.place ∙ c.in_ok-place.was) c.place_of.ensures.block in
-    (ap (λ (d : LinesData). line_at d.lines c.args.block) (sym c.self.view_is) ∙ r.0 ∙ ap line_of_frame (sym c.index.ensures), rw c.index.ensures r.1)
+    let r = read-found c.self.inside.frames c.self.inside.kept.items c.args.block c.in_ok-frame.frame c.self.invariant.0 (found c) in (
+      subst (λ (d : LinesData). line_at d.lines c.args.block ≡ line_kept c.index.result.now) c.self.view_is (r.0 ∙ ap line_kept (sym (read c))),
+      subst (λ (k : Kept). is_present k.state ≡ true) (sym (read c)) r.1,
+    )

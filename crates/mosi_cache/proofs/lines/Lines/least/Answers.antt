@@ -1,25 +1,31 @@
-use Rattle.std.proofs.Common.{◌≡◌, ℕ, ◌<◌, ◌%◌, Bool, true, false, Option, Some, List, sym, ap, ◌∙◌, subst}
-use Rattle.sn_model.specs.Caches.{block_count}
-use Rattle.mosi_cache.specs.Frames.{Frame, LinesData, line_at, leaves, least_in}
+use Rattle.std.proofs.Common.{◌≡◌, ◌+◌, ◌*◌, ◌%◌, ◌<◌, ℕ, Bool, true, false, Option, Some, None, List, sym, ap, ◌∙◌, subst}
+use Rattle.cache_array.specs.Slots.{FrameSlots, first_of}
+use Rattle.mosi_cache.specs.Frames.{Kept, LinesData, line_at, leaves, leaving_at, IsLeastLeaving}
 use Rattle.mosi_cache.proofs.Least.{least-none, least-some}
 use Rattle.mosi_cache.proofs.lines.Lines.least.Goals as goal
 
-abbrev some : ℕ → Option ℕ
-some m = Some m
-
-among : (sets n b : ℕ) (spared : Option ℕ) (owned_too : Bool) (ds fs : List Frame) → n ≡ b → ds ≡ fs → least_in sets (n % sets) spared owned_too ds ≡ least_in sets (b % sets) spared owned_too fs
-among sets n b spared owned_too ds fs e f = ap (λ m. least_in sets (m % sets) spared owned_too ds) e ∙ ap (least_in sets (b % sets) spared owned_too) f
+-- the frames that were looked at are those of the block's set
+of_set : (d : FrameSlots) (js ks : List Kept) (spared : Option ℕ) (owned_too : Bool) (b n m s w : ℕ) (o : Option ℕ) → IsLeastLeaving (leaving_at d js spared owned_too) (m * w) (m * w + w) o →
+    js ≡ ks → m ≡ n % s → n ≡ b → s ≡ d.sets → w ≡ d.ways → IsLeastLeaving (leaving_at d ks spared owned_too) (first_of d b) (first_of d b + d.ways) o
+of_set d js ks spared owned_too b n m s w o h e f g i j =
+    subst (λ (xs : List Kept). IsLeastLeaving (leaving_at d xs spared owned_too) (first_of d b) (first_of d b + d.ways) o) e
+    (subst (λ (v : ℕ). IsLeastLeaving (leaving_at d js spared owned_too) ((b % d.sets) * v) ((b % d.sets) * v + v) o) j
+    (subst (λ (k : ℕ). IsLeastLeaving (leaving_at d js spared owned_too) (k * w) (k * w + w) o) (f ∙ ap (λ k. k % s) g ∙ ap (λ k. b % k) i) h))
 
 pub returns-in_err-number-clause-none : goal.returns-in_err-number-clause-none
-returns-in_err-number-clause-none c = λ _.
-    subst (λ (d : LinesData). (k : ℕ) → k < block_count → leaves d.sets (c.args.block % d.sets) c.args.spared c.args.owned_too k (line_at d.lines k).state ≡ false) c.self.view_is
-    (least-none c.self.inside.sets (c.args.block % c.self.inside.sets) c.args.spared c.args.owned_too c.self.inside.frames.items c.self.invariant.1.apart
-    (sym (among c.self.inside.sets c.number.result c.args.block c.args.spared c.args.owned_too c.deref.result.now c.self.inside.frames.items c.number.ensures.same c.deref.ensures.value) ∙ sym c.in_err-number.ensures))
+returns-in_err-number-clause-none c = λ _ k _.
+    subst (λ (d : LinesData). leaves d.sets (c.args.block % d.sets) c.args.spared c.args.owned_too k (line_at d.lines k).state ≡ false) c.self.view_is
+    (least-none c.self.inside.frames c.self.inside.kept.items c.args.spared c.args.owned_too c.args.block c.self.invariant.0
+    (of_set c.self.inside.frames c.deref.result.now c.self.inside.kept.items c.args.spared c.args.owned_too c.args.block c.number.result c.from.result c.self.inside.sets c.from-ways.result None
+    (subst (IsLeastLeaving (leaving_at c.self.inside.frames c.deref.result.now c.args.spared c.args.owned_too) (c.from.result * c.from-ways.result) (c.from.result * c.from-ways.result + c.from-ways.result)) c.in_err-number.was c.least_of.ensures)
+    c.deref.ensures.value c.from.ensures c.number.ensures.same c.self.invariant.1 (c.from-ways.ensures ∙ c.self.invariant.2)) k)
 
 pub returns-clause-some : goal.returns-clause-some
 returns-clause-some c =
     subst (λ (d : LinesData). (leaves d.sets (c.args.block % d.sets) c.args.spared c.args.owned_too c.new.result (line_at d.lines c.new.result).state ≡ true)
     × ((k : ℕ) → k < c.new.result → leaves d.sets (c.args.block % d.sets) c.args.spared c.args.owned_too k (line_at d.lines k).state ≡ false)) c.self.view_is
-    (least-some c.self.inside.sets (c.args.block % c.self.inside.sets) c.args.spared c.args.owned_too c.self.inside.frames.items c.new.result c.self.invariant.1.apart c.self.invariant.1.inside
-    (sym (among c.self.inside.sets c.number.result c.args.block c.args.spared c.args.owned_too c.deref.result.now c.self.inside.frames.items c.number.ensures.same c.deref.ensures.value)
-    ∙ sym c.in_ok-number.ensures ∙ ap (λ (m : ℕ). some m) (sym c.new.ensures)))
+    (least-some c.self.inside.frames c.self.inside.kept.items c.args.spared c.args.owned_too c.args.block c.new.result c.self.invariant.0
+    (of_set c.self.inside.frames c.deref.result.now c.self.inside.kept.items c.args.spared c.args.owned_too c.args.block c.number.result c.from.result c.self.inside.sets c.from-ways.result (Some c.new.result)
+    (subst (IsLeastLeaving (leaving_at c.self.inside.frames c.deref.result.now c.args.spared c.args.owned_too) (c.from.result * c.from-ways.result) (c.from.result * c.from-ways.result + c.from-ways.result))
+    (c.in_ok-number.was ∙ ap (λ (m : ℕ). let s : Option ℕ = Some m in s) (sym c.new.ensures)) c.least_of.ensures)
+    c.deref.ensures.value c.from.ensures c.number.ensures.same c.self.invariant.1 (c.from-ways.ensures ∙ c.self.invariant.2)))

@@ -1,67 +1,57 @@
-use Rattle.std.proofs.Common.{◌≡◌, ◌++◌, ◌∷◌, [], List, set, sym, ap, subst, refl, ◌∙◌, length, arith}
-use Rattle.std.specs.List.{position}
+use Rattle.std.proofs.Common.{◌≡◌, List, [], set, sym, ap, subst, ◌∙◌}
+use Rattle.cache_array.specs.Slots.{FrameSlots}
 use Rattle.sn_model.specs.Caches.{Line}
-use Rattle.mosi_cache.specs.Frames.{Frame, LinesData, HasRoom, line_of_frame, is_of}
-use Rattle.mosi_cache.proofs.Changes.{Changed, put-found, put-new}
-use Rattle.mosi_cache.proofs.Counts.{room-for}
+use Rattle.mosi_cache.specs.Frames.{LinesData, HasRoom, lines_of}
+use Rattle.mosi_cache.proofs.Changes.{Changed, put-found, put-new, has-frame}
 use Rattle.mosi_cache.proofs.lines.Lines.put.Goals as goal
-
-found : (c : goal.After-self-1) → let g : Frame = record { number = c.number-number.result; state = c.args.state; content = c.args.content } in
-    Changed c.self.inside.sets c.self.inside.ways c.self.inside.frames.items (set c.self.inside.frames.items c.in-Some.place g) c.args.block (line_of_frame g)
-found c =
-    put-found c.self.inside.sets c.self.inside.ways c.self.inside.frames.items (record { number = c.number-number.result; state = c.args.state; content = c.args.content }) c.args.block c.in-Some.place
-    c.self.invariant.1
-    (ap (position (is_of c.args.block)) (sym c.deref.ensures.value) ∙ sym c.place_of.ensures.place ∙ c.in-Some.is)
-    c.number-number.ensures.same c.place_of.ensures.block c.requires.line
-
-pub invariant_of-self : goal.invariant_of-self
-invariant_of-self c = (c.self.invariant.0, (found c).frames, c.self.invariant.2)
 
 -- the value of lines in so many sets and ways
 abbrev value : List Line → LinesData → LinesData
 value ls d = record d { lines = ls }
 
+found : (c : goal.After-self-1) →
+    Changed c.self.inside.frames c.self.inside.frames c.self.inside.kept.items (set c.self.inside.kept.items c.in-Some.frame (record { state = c.args.state; content = c.args.content })) c.args.block (record { state = c.args.state; content = c.args.content })
+found c =
+    put-found c.self.inside.frames c.self.inside.kept.items (record { state = c.args.state; content = c.args.content }) c.args.block c.in-Some.frame c.self.invariant.0
+    (sym c.find.ensures.frame ∙ c.in-Some.is) c.requires.line
+
 pub returns-in-Some-clause-lines : goal.returns-in-Some-clause-lines
 returns-in-Some-clause-lines c =
-    ap (λ (ls : List Line). value ls (record { lines = []; sets = c.self.inside.sets; ways = c.self.inside.ways })) (found c).lines
+    ap (λ (ls : List Line). value ls (record { lines = []; sets = c.self.inside.frames.sets; ways = c.self.inside.frames.ways })) (found c).lines
     ∙ ap (λ (d : LinesData). value (set d.lines c.args.block (record { state = c.args.state; content = c.args.content })) d) c.self.view_is
 
 pub returns-in-Some-clause-read : goal.returns-in-Some-clause-read
 returns-in-Some-clause-read c = (found c).read
 
-fresh : (c : goal.After-push) → let g : Frame = record { number = c.number-number.result; state = c.args.state; content = c.args.content } in
-    Changed c.self.inside.sets c.self.inside.ways c.self.inside.frames.items (c.self.inside.frames.items ++ g ∷ []) c.args.block (line_of_frame g)
-fresh c =
-    put-new c.self.inside.sets c.self.inside.ways c.self.inside.frames.items (record { number = c.number-number.result; state = c.args.state; content = c.args.content }) c.args.block
-    c.self.invariant.1
-    (ap (position (is_of c.args.block)) (sym c.deref.ensures.value) ∙ sym c.place_of.ensures.place ∙ c.in-None.is)
-    c.number-number.ensures.same c.place_of.ensures.block c.requires.line
+pub reserve-frame-requires-clause-room : goal.reserve-frame-requires-clause-room
+reserve-frame-requires-clause-room c =
+    has-frame c.self.inside.frames c.self.inside.kept.items c.args.block c.self.invariant.0 (sym c.find.ensures.frame ∙ c.in-None.is) c.find.ensures.of_memory
     (subst (λ (d : LinesData). HasRoom d c.args.block) (sym c.self.view_is) c.requires.room)
 
-pub unwrap-requires : goal.unwrap-requires
-unwrap-requires c =
-    let r = room-for c.self.inside.sets c.self.inside.ways (record { number = c.number-number.result; state = c.args.state; content = c.args.content }) c.self.inside.frames.items c.self.invariant.0 (fresh c).frames in
-    c.push.ensures.succeeds (omega (arith, c.deref.ensures.len, ap (λ (fs : List Frame). length fs) c.deref.ensures.value))
+fresh : (c : goal.After-self-in-None-1) →
+    Changed c.self.inside.frames c.reserve-frame.new.self c.self.inside.kept.items (set c.self.inside.kept.items c.reserve-frame.result (record { state = c.args.state; content = c.args.content })) c.args.block
+    (record { state = c.args.state; content = c.args.content })
+fresh c =
+    subst (λ (e : FrameSlots). Changed c.self.inside.frames e c.self.inside.kept.items (set c.self.inside.kept.items c.reserve-frame.result (record { state = c.args.state; content = c.args.content })) c.args.block (record { state = c.args.state; content = c.args.content }))
+    (sym c.reserve-frame.ensures.slots)
+    (put-new c.self.inside.frames c.self.inside.kept.items (record { state = c.args.state; content = c.args.content }) c.args.block c.reserve-frame.result c.self.invariant.0
+    (sym c.find.ensures.frame ∙ c.in-None.is) c.reserve-frame.ensures.free c.reserve-frame.ensures.own c.find.ensures.of_memory c.requires.line)
 
-items : (c : goal.After-unwrap) → c.push.new.self.items ≡ c.self.inside.frames.items ++ record { number = c.number-number.result; state = c.args.state; content = c.args.content } ∷ []
-items c = rw (c.push.ensures.items, c.unwrap.ensures) refl
+same_sets : (c : goal.After-self-in-None-1) → c.self.inside.frames.sets ≡ c.reserve-frame.new.self.sets
+same_sets c = ap (λ (f : FrameSlots). f.sets) (sym c.reserve-frame.ensures.slots)
 
-pushed : (c : goal.After-unwrap) → Changed c.self.inside.sets c.self.inside.ways c.self.inside.frames.items c.push.new.self.items c.args.block (record { state = c.args.state; content = c.args.content })
-pushed c =
-    subst (λ (gs : List Frame). Changed c.self.inside.sets c.self.inside.ways c.self.inside.frames.items gs c.args.block (record { state = c.args.state; content = c.args.content })) (sym (items c))
-    (put-new c.self.inside.sets c.self.inside.ways c.self.inside.frames.items (record { number = c.number-number.result; state = c.args.state; content = c.args.content }) c.args.block
-    c.self.invariant.1
-    (ap (position (is_of c.args.block)) (sym c.deref.ensures.value) ∙ sym c.place_of.ensures.place ∙ c.in-None.is)
-    c.number-number.ensures.same c.place_of.ensures.block c.requires.line
-    (subst (λ (d : LinesData). HasRoom d c.args.block) (sym c.self.view_is) c.requires.room))
+same_ways : (c : goal.After-self-in-None-1) → c.self.inside.frames.ways ≡ c.reserve-frame.new.self.ways
+same_ways c = ap (λ (f : FrameSlots). f.ways) (sym c.reserve-frame.ensures.slots)
 
 pub invariant_of-self-in-None : goal.invariant_of-self-in-None
-invariant_of-self-in-None c = (c.self.invariant.0, (pushed c).frames, omega (arith, c.push.ensures.capacity))
+invariant_of-self-in-None c = ((fresh c).frames, c.self.invariant.1 ∙ same_sets c, c.self.invariant.2 ∙ same_ways c)
 
 pub returns-in-None-clause-lines : goal.returns-in-None-clause-lines
 returns-in-None-clause-lines c =
-    ap (λ (ls : List Line). value ls (record { lines = []; sets = c.self.inside.sets; ways = c.self.inside.ways })) (pushed c).lines
+    ap (λ (f : FrameSlots). value (lines_of f (set c.self.inside.kept.items c.reserve-frame.result (record { state = c.args.state; content = c.args.content }))) (record { lines = []; sets = f.sets; ways = f.ways })) c.reserve-frame.ensures.slots
+    ∙ ap (λ (ls : List Line). value ls (record { lines = []; sets = c.self.inside.frames.sets; ways = c.self.inside.frames.ways }))
+    (ap (λ (f : FrameSlots). lines_of f (set c.self.inside.kept.items c.reserve-frame.result (record { state = c.args.state; content = c.args.content }))) (sym c.reserve-frame.ensures.slots) ∙ (fresh c).lines)
     ∙ ap (λ (d : LinesData). value (set d.lines c.args.block (record { state = c.args.state; content = c.args.content })) d) c.self.view_is
 
 pub returns-in-None-clause-read : goal.returns-in-None-clause-read
-returns-in-None-clause-read c = (pushed c).read
+returns-in-None-clause-read c = (fresh c).read
