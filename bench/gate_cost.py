@@ -10,6 +10,7 @@
 check is a process whose words name the crate. What a check did in its last second is lost, and a check that was shorter than a
 second may be. What an earlier run on this machine proved takes no time, so measure with nothing kept (`rt ci --anew`).
 """
+import contextlib
 import os
 import re
 import subprocess
@@ -72,6 +73,22 @@ def edit_in(crate, folder):
     return "?"
 
 
+def checks_among(now):
+    """Of the processes below a command, those that are checks of their own: a check's helpers have its words too."""
+    found = {}
+    for it, (parent, _) in now.items():
+        with contextlib.suppress(OSError, IndexError):
+            what = what_is(it)
+            if what and not (parent in now and what_is(parent)):
+                found[it] = what
+    return found
+
+
+def used_by(process, now):
+    """Its processor seconds, with those of all that lives below it."""
+    return now[process][1] + sum(used_by(it, now) for it, (parent, _) in now.items() if parent == process)
+
+
 def watch(top, log, has_ended):
     """Writes a line for each check below a process as it ends: crate, kind, edit, processor seconds, seconds."""
     known = {}
@@ -79,19 +96,15 @@ def watch(top, log, has_ended):
         ended = has_ended()
         now = {} if ended else descendants(top)
         for it in set(known) - set(now):
-            (crate, kind, edit), begun, used, last = known.pop(it)
-            if crate:
-                log.write(f"{crate} {kind} {edit} {used:.1f} {last - begun:.0f}\n")
-                log.flush()
+            (crate, kind, edit), begun, last, used = known.pop(it)
+            log.write(f"{crate} {kind} {edit} {used:.1f} {last - begun:.0f}\n")
+            log.flush()
         if ended:
             return
-        for it, (_, used) in now.items():
-            try:
-                what, begun = known[it][:2] if it in known else (what_is(it), time.time())
-            except (OSError, IndexError):
-                continue
-            below = sum(more for other, (parent, more) in now.items() if parent == it)
-            known[it] = what or (None, "", ""), begun, used + below, time.time()
+        for it, what in checks_among(now).items():
+            # a helper that was just waited for counts in neither look
+            what, begun, _, used = known.get(it, (what, time.time(), 0, 0))
+            known[it] = what, begun, time.time(), max(used, used_by(it, now))
         time.sleep(1)
 
 
