@@ -30,13 +30,10 @@ proves() {
 }
 [ ! -e "$FAILS.hang" ] || { echo $$ >"$FAILS.hang"; exec sleep 60; }
 case "$1" in
-  lib) proves "$crate" ;;
-  all)
-    for it in low left right; do
-      echo "== $it"
-      proves "$it" || { printf '%s\n' "== summary" "$it: failed (1)"; exit 1; }
-    done
-    exec sleep 60
+  lib)
+    proves "$crate" || exit
+    mkdir -p out/rlib
+    echo "$crate" >>out/rlib/built
     ;;
   run)
     proves "$crate" || exit
@@ -86,12 +83,16 @@ check "no program is run where a crate isn't proved" 125 "" 1 replay a
 is_so "the crate is named" grep -q "left is not proved" "$work/err"
 : >"$FAILS"
 check "the first call builds, and gives words and status on" 7 "first:replay a b" 1 replay a "b"
-is_so "crates that nothing can run beside are built alone, the others side by side, and what isn't needed isn't built" \
-  diff - <(sed 's/--jobs [0-9]*/--jobs N/' "$CALLS") <<'END'
-low lib
-safetynet_program all check --jobs N
+is_so "each crate is built once, after those below it, and what isn't needed isn't built" \
+  diff - <(sed 's/--jobs [0-9]*/--jobs N/; s/^left/right/' "$CALLS" | sort) <<'END'
+low lib --jobs N
+right lib --jobs N
+right lib --jobs N
 safetynet_program run -- --version
 END
+is_so "the lowest first" grep -q "^low" <(head -n 1 "$CALLS")
+is_so "what rt keeps of a crate stays in its folder" [ "$(sort -u "$repo/crates/right/out/rlib/built")" = right ]
+is_so "and nothing else is left" [ ! -e "$repo/crates/safetynet_program/out/views" ]
 check "the second call builds nothing" 7 "first:" 0
 change aside "second"
 check "a crate that the program doesn't stand on changes nothing" 7 "first:x" 0 x
@@ -126,6 +127,7 @@ touch "$FAILS.hang"
 is_so "a build that was interrupted runs nothing" [ ! -s "$work/out" ]
 is_so "and leaves no rt behind" bash -c "! kill -0 $(cat "$FAILS.hang") 2>/dev/null"
 rm "$FAILS.hang"
+is_so "what was kept is still there" [ -s "$repo/crates/low/out/rlib/built" ]
 check "the next call goes on with it" 7 "fifth:x" 1 x
 
 # Without rt, and without a build.
