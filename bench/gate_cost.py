@@ -45,8 +45,8 @@ def descendants(top):
     return {it: found[it] for it in below - {top} if it in found}
 
 
-def what_is(process):
-    """The crate and the kind of a check, and the edit that it tries, or None where the process is none."""
+def what_is(process, top):
+    """The crate and the kind of a check, and the edit that it tries, or None where the process is none. The command works where top is."""
     words = Path(f"/proc/{process}/cmdline").read_bytes().decode(errors="replace").split("\0")
     if not words[0].endswith("/rattle") or "--crate-name" not in words:
         return None
@@ -54,18 +54,18 @@ def what_is(process):
     if "/rt-edit-" not in folder:
         return crate, "tests" if "--test" in words else "proof", "-"
     over = words[words.index("--incremental") + 1] if "--incremental" in words else ""
-    return (crate, "seed", "-") if over.endswith("/seed") else (crate, "edit", edit_in(crate, folder))
+    return (crate, "seed", "-") if over.endswith("/seed") else (crate, "edit", edit_in(Path(f"/proc/{top}/cwd/crates", crate), folder))
 
 
 def edit_in(crate, folder):
-    """The name of the edit whose new lines stand in this folder's files, and its old ones don't."""
-    for edit in sorted(Path("crates", crate, "must-fail").glob("*.edit")):
+    """The name of the edit whose new lines stand in this folder's files, and its old ones don't; `crate` is the crate as it was."""
+    for edit in sorted((crate / "must-fail").glob("*.edit")):
         text = edit.read_text()
         files = re.findall(r"^file: (.*)$", text, re.M)
         pairs = re.findall(r"^old: (.*)\nnew: ?(.*)$", text, re.M)
         try:
             now = "".join(Path(folder, it).read_text() for it in files)
-            was = "".join(Path("crates", crate, it).read_text() for it in files)
+            was = "".join((crate / it).read_text() for it in files)
         except OSError:
             continue
         if now != was and all(new in now and now.count(old) < max(was.count(old), 1 + new.count(old)) for old, new in pairs):
@@ -73,13 +73,13 @@ def edit_in(crate, folder):
     return "?"
 
 
-def checks_among(now):
+def checks_among(now, top):
     """Of the processes below a command, those that are checks of their own: a check's helpers have its words too."""
     found = {}
     for it, (parent, _) in now.items():
         with contextlib.suppress(OSError, IndexError):
-            what = what_is(it)
-            if what and not (parent in now and what_is(parent)):
+            what = what_is(it, top)
+            if what and not (parent in now and what_is(parent, top)):
                 found[it] = what
     return found
 
@@ -101,7 +101,7 @@ def watch(top, log, has_ended):
             log.flush()
         if ended:
             return
-        for it, what in checks_among(now).items():
+        for it, what in checks_among(now, top).items():
             # a helper that was just waited for counts in neither look
             what, begun, _, used = known.get(it, (what, time.time(), 0, 0))
             known[it] = what, begun, time.time(), max(used, used_by(it, now))
