@@ -7,7 +7,7 @@ failed=0 passed=0
 work=$(mktemp -d)
 trap 'rm -rf "$work"' EXIT
 
-./safetynet --version >/dev/null && ./safetynet --help >/dev/null || { echo "--help or --version failed" >&2; failed=$((failed + 1)); }
+./safetynet --build || { echo "the program was not built" >&2; exit 1; }
 
 for script in examples/first/*.script; do
   name=${script%.script}

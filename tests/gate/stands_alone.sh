@@ -1,5 +1,5 @@
 #!/usr/bin/env bash
-# The repository cites no paper of its makers by number, holds no build output, and keeps its handles.
+# The repository cites nothing that isn't in it by number, holds no build output, and keeps its handles.
 set -u
 cd "$(dirname "$0")/../.." || exit 1
 failed=0
