@@ -39,9 +39,9 @@ def load_definitions():
     # Distances are recursions that branch at each switch, and are evaluated once for each argument.
     world.modules["route_plan", "Distances"].remembered |= {"comes", "distance"}
     world.modules["route_plan", "Routes"].remembered |= {"next_of", "enter_of", "first_cut_off"}
-    access = world.modules["sn_model", "Access"]
-    access.overrides["want_of"] = curried(instructions.want_of, 2)
-    access.overrides["next_of"] = curried(instructions.next_of, 5)
+    steps = world.modules["sn_model", "Instructions"]
+    steps.overrides["want_of"] = curried(instructions.want_of, 2)
+    steps.overrides["next_of"] = curried(instructions.next_of, 5)
     return world
 
 
@@ -108,14 +108,15 @@ class Machine:
         self.state = self.get("Machine", "start_of")(self.image)(nodes)
 
     def cut_lines(self):
-        point = self.state["point"]
-        checkpoint = self.get("Cuts", "checkpoint_of")
-        lines = [core_text(n, checkpoint(node)(point)) for n, node in enumerate(self.state["nodes"])]
+        fabric, processors = self.state["fabric"], self.state["processors"]
+        point = fabric["point"]
+        checkpoint = self.get("MachineEvents", "checkpoint_of")
+        lines = [core_text(n, checkpoint(processors[n])(node["known"])(point)) for n, node in enumerate(fabric["nodes"])]
         block = (self.watch - 0x80000000) // 64
-        holder = self.get("Cuts", "names_at")(self.state)(block)(point)
+        holder = self.get("Cuts", "names_at")(fabric)(block)(point)
         content = holder[1]
         if holder[0] == "Holder.OfCache":
-            content = self.get("Cuts", "holds_at")(self.state)(holder[1])(block)(point)[1]
+            content = self.get("Cuts", "holds_at")(fabric)(holder[1])(block)(point)[1]
         place = (self.watch - 0x80000000) % 64
         word = int.from_bytes(bytes(content[place:place + 4]), "little")
         return lines + [f"watch {self.watch:08x} {word:08x}"]
@@ -127,14 +128,14 @@ class Machine:
 
     def summary(self, events):
         s = self.state
-        return [f"events {events}", f"point {s['point']}", f"committed {len(s['committed'])}", f"released {len(s['released'])}"] + self.cut_lines()
+        return [f"events {events}", f"point {s['fabric']['point']}", f"committed {len(s['committed'])}", f"released {len(s['released'])}"] + self.cut_lines()
 
 
 def candidates(machine, choose):
     """An event that is likely to do something."""
     nodes = machine.config["nodes"]
     node = choose.randrange(nodes)
-    flights = machine.state["net"]["flights"]
+    flights = machine.state["fabric"]["net"]["flights"]
     if flights and choose.random() < 0.55:
         flight = choose.choice(flights)
         kind = "Deliver" if flight["place"] // 2 == flight["message"]["to"] else "Hop"
