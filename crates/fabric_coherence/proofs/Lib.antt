@@ -19,25 +19,25 @@ mod NodeSeen
 mod NodeAccess
 mod NodeOther
 mod Recovery
-mod Holders
+pub mod Holders
 mod KeptCommon
 mod KeptNet
 mod KeptHome
 mod KeptNode
 mod KeptEvict
 mod KeptAccess
-mod Retirements
-mod Finished
+pub mod Retirements
+pub mod Finished
 mod KeptOwn
 mod KeptReport
-mod KeptStart
+pub mod KeptStart
 mod CacheOutcomes
 mod KeptCache
-mod KeptEvents
-mod RowsMet
-mod NodesStay
-mod Told
-mod Reports
-mod Served
-mod ToldOf
-mod FullLogs
+pub mod KeptEvents
+pub mod RowsMet
+pub mod NodesStay
+pub mod Told
+pub mod Reports
+pub mod Served
+pub mod ToldOf
+pub mod FullLogs
