@@ -213,6 +213,11 @@ class Module:
 
     def read(self, text):
         text = re.sub(r"--[^\n]*", "", text)
+        # variants under a name for all of them, as `told.Ready`, get plain names of their own
+        for type_name, local in re.findall(r"^use Rattle\.[\w.]+\.(\w+)\.TheVariants as (\w+)$", text, re.M):
+            for name in set(re.findall(rf"\b{local}\.(\w+)", text)):
+                self.names[f"{local}_{name}"] = ("variant", type_name, name)
+            text = re.sub(rf"\b{local}\.(\w+)", rf"{local}_\1", text)
         entries, current = [], []
         for line in text.split("\n"):
             if line and not line[0].isspace() and line[0] not in ")}":

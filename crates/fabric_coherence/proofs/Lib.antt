@@ -19,7 +19,7 @@ mod NodeSeen
 mod NodeAccess
 mod NodeOther
 mod Recovery
-mod Holders
+pub mod Holders
 mod KeptCommon
 mod KeptNet
 mod KeptHome
@@ -34,10 +34,10 @@ pub mod KeptStart
 mod CacheOutcomes
 mod KeptCache
 pub mod KeptEvents
-mod RowsMet
+pub mod RowsMet
 pub mod NodesStay
 pub mod Told
 pub mod Reports
-mod Served
-mod ToldOf
-mod FullLogs
+pub mod Served
+pub mod ToldOf
+pub mod FullLogs
