@@ -259,7 +259,8 @@ class Module:
         type_name = re.search(r"data (\w+)", text).group(1)
         for name, rest in re.findall(r"^\s+(\w+) :(.*)$", text, re.M):
             self.names[name] = ("variant", type_name, name)
-            self.world.carried[type_name, name] = rest.count("→")
+            named = sum(len(group.split()) for group in re.findall(r"\(([\w ]+) :", rest))
+            self.world.carried[type_name, name] = named or rest.count("→")
 
     def variant_of(self, name):
         entry = self.names.get(name)
