@@ -25,3 +25,7 @@ pub mod Run
 pub mod RestSays
 pub mod Restored
 pub mod Events
+pub mod Walk
+pub mod Written
+pub mod LostTransfer
+pub mod ByIntervals

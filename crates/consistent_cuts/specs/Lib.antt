@@ -4,3 +4,4 @@ pub mod Joined
 pub mod Accesses
 pub mod Runs
 pub mod Headline
+pub mod Example

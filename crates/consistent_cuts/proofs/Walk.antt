@@ -1,0 +1,87 @@
+-- A run event by event: what one event makes of a state and of the retirements, and the events after it from there. And
+-- what the long lists of a start say: no line is present, and no home has a transaction open.
+use Rattle.std.proofs.Common.{◌≡◌, ◌⊎◌, ℕ, zero, suc, ◌+◌, ◌<◌, ◌≤◌, Bool, true, false, if◌then◌else◌, List, [], ◌∷◌, Option, None, refl, ap, sym, ◌∙◌, ⊎_elim, arith, nat_eq, ◌%◌, ◌&&◌}
+use Rattle.std.specs.Prelude.{slice_index_or}
+use Rattle.std.proofs.lemmas.Bool.{cases_lt}
+use Rattle.std.proofs.lemmas.List.{get_or_past}
+use Rattle.sn_base.specs.Image.{ImageData}
+use Rattle.sn_base.specs.declared.config.Config.{Config}
+use Rattle.sn_base.specs.declared.event.Answer.{Answer}
+use Rattle.sn_base.specs.declared.event.Event.{Event}
+use Rattle.sn_base.specs.Events.{event_fits}
+use Rattle.sn_model.specs.Caches.{block_count}
+use Rattle.sn_model.specs.Fabric.{no_entry, first_homes}
+use Rattle.sn_model.specs.Homes.{HomeEntry, Transaction}
+use Rattle.sn_model.specs.NodeEvents.{begun_by, least_begun}
+use Rattle.sn_model.specs.Machine.{State}
+use Rattle.sn_model.specs.Step.{step_of, state_after}
+use Rattle.sn_model.specs.Trace.{Entry, traced, trace_after}
+use Rattle.consistent_cuts.specs.Runs.{AllFit, block_fits}
+use Rattle.fabric_coherence.proofs.KeptStart.{first_homes_at, length-first_homes}
+
+-- a state, and the retirements up to it
+pub record Moment : Type 0 where
+  pub state : State
+  pub trace : List Entry
+
+module _ (image : ImageData) (config : Config) where
+  -- an event leads from one to the other, with this answer
+  pub record Leads (a : Moment) (event : Event) (answer : Answer) (b : Moment) : Type 0 where
+    pub answers : (step_of image config a.state event).answer ≡ answer
+    pub state : (step_of image config a.state event).state ≡ b.state
+    pub trace : traced image a.state event answer a.trace ≡ b.trace
+
+  -- and so do events in order
+  pub record Comes (a : Moment) (events : List Event) (b : Moment) : Type 0 where
+    pub state : state_after image config a.state events ≡ b.state
+    pub trace : trace_after image config a.state events a.trace ≡ b.trace
+
+  pub stays : (a : Moment) → Comes a [] a
+  stays a = record { state = refl; trace = refl }
+
+  pub leads : {a b c : Moment} {event : Event} {answer : Answer} {events : List Event} → Leads a event answer b → Comes b events c → Comes a (event ∷ events) c
+  leads {a = a} {b = b} {event = event} {answer = answer} {events = events} h k = record {
+    state = ap (λ (s : State). state_after image config s events) h.state ∙ k.state;
+    trace =
+        ap (λ (x : Answer). trace_after image config (step_of image config a.state event).state events (traced image a.state event x a.trace)) h.answers
+        ∙ ap (λ (s : State). trace_after image config s events (traced image a.state event answer a.trace)) h.state
+        ∙ ap (λ (es : List Entry). trace_after image config b.state events es) h.trace
+        ∙ k.trace;
+  }
+
+-- a list of events fits where a test says so of each
+
+abbrev pub each_fits : ℕ → List Event → Bool
+each_fits nodes [] = true
+each_fits nodes (event ∷ events) = event_fits nodes event && (block_fits event && each_fits nodes events)
+
+three : (a b c : Bool) → (a && (b && c)) ≡ true → (a ≡ true) × (b ≡ true) × (c ≡ true)
+three true true c h = (refl, refl, h)
+three true false c h = absurd (cc)
+three false b c h = absurd (cc)
+
+pub all_fit : (nodes : ℕ) (events : List Event) → each_fits nodes events ≡ true → AllFit nodes events
+all_fit nodes [] h = tt
+all_fit nodes (event ∷ events) h =
+    let p = three (event_fits nodes event) (block_fits event) (each_fits nodes events) h in
+    (record { numbers = p.0; block = p.1 }, all_fit nodes events p.2)
+
+-- where no transaction is open, the least interval of an open one is the node's
+
+free_step : (least now : ℕ) (here : Bool) (t : Option Transaction) → t ≡ None → least ≡ now → (if here then begun_by least t else least) ≡ now
+free_step least now true t e h = ap (begun_by least) e ∙ h
+free_step least now false t e h = h
+
+least_free : (now nodes n start : ℕ) (homes : List HomeEntry) → ((b : ℕ) → (slice_index_or homes b no_entry).transaction ≡ None) → least_begun now nodes n start homes ≡ now
+least_free now nodes n start [] h = refl
+least_free now nodes n start (entry ∷ homes) h =
+    free_step (least_begun now nodes n (start + 1) homes) now (nat_eq (start % nodes) n) entry.transaction (h 0) (least_free now nodes n (start + 1) homes (λ b. h (suc b)))
+
+first_free : (image : ImageData) (b : ℕ) → (slice_index_or (first_homes image) b no_entry).transaction ≡ None
+first_free image b = ⊎_elim
+    (λ (l : b < block_count). ap (λ (e : HomeEntry). e.transaction) (first_homes_at image b l))
+    (λ (l : block_count ≤ b). ap (λ (e : HomeEntry). e.transaction) (get_or_past (first_homes image) b no_entry (let e = length-first_homes image in omega (arith, e, l))))
+    (cases_lt b block_count)
+
+pub least_at_start : (image : ImageData) (now nodes n : ℕ) → least_begun now nodes n 0 (first_homes image) ≡ now
+least_at_start image now nodes n = least_free now nodes n 0 (first_homes image) (first_free image)
