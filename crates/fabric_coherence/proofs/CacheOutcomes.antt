@@ -1,7 +1,6 @@
 -- A message that is delivered to a cache is an event of its block that the coherence theorem allows there; all that its row
 -- asks for follows from what the theorem keeps.
-use Rattle.std.proofs.Common.{◌≡◌, ◌∙◌, ℕ, ◌+◌, ◌<◌, ◌≤◌, Bool, true, false, ◌&&◌, ◌==◌, List, length, refl, sym, ap, subst, nat_eq, arith, ◌≢◌, length-set, if◌then◌else◌, slice_set}
-use Rattle.std.proofs.lemmas.Bool.Decides.{nat_tests}
+use Rattle.std.proofs.Common.{◌≡◌, ◌∙◌, ℕ, ◌+◌, ◌<◌, ◌≤◌, Bool, true, false, ◌&&◌, ◌==◌, List, length, refl, sym, ap, subst, nat_eq, ◌≢◌, length-set, if◌then◌else◌, slice_set}
 use Rattle.std.specs.Prelude.{Option, Some, None}
 use Rattle.log_buffer.specs.Log.{logged_to}
 use Rattle.sn_msg.specs.declared.Message.{Message}
@@ -40,7 +39,7 @@ settled_leads N b i n true e = end_miss_elsewhere_leads N b (elsewhere b i 1) n 
 settled_leads N b i n false e = elsewhere_leads N b i 0
 
 -- a miss that settles loses no copy
-settled_loses : (at : Logged) (home : ℕ) (o : Option Miss) → (settled at home o).lost ≡ None
+pub settled_loses : (at : Logged) (home : ℕ) (o : Option Miss) → (settled at home o).lost ≡ None
 settled_loses at home None = refl
 settled_loses at home (Some miss) = by_fixed miss.fixed
   where

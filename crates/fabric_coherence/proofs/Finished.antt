@@ -1,11 +1,11 @@
 -- What is finished before a checkpoint: where each block says that nothing is unfinished, nothing is, and the other way round.
-use Rattle.std.proofs.Common.{◌≡◌, ◌≢◌, ◌∙◌, ℕ, zero, suc, ◌+◌, ◌%◌, ◌<◌, ◌≤◌, Bool, true, false, ◌||◌, List, [], ◌∷◌, length, refl, sym, subst, arith, nat_eq, slice_index_or, if◌then◌else◌, Option, Some, None}
+use Rattle.std.proofs.Common.{◌≡◌, ◌≢◌, ℕ, zero, suc, ◌+◌, ◌<◌, ◌≤◌, Bool, true, false, ◌||◌, List, [], ◌∷◌, length, refl, sym, subst, arith, slice_index_or, Option, Some, None}
 use Rattle.std.proofs.lemmas.Bool.Decides.{nat_tests}
 use Rattle.std.specs.List.{list_any}
 use Rattle.sn_model.specs.Caches.{Miss, Put, block_count}
 use Rattle.sn_model.specs.Cuts.{miss_before, put_before, transaction_before, unfinished_node, is_unfinished}
 use Rattle.sn_model.specs.Homes.{HomeEntry, Transaction}
-use Rattle.sn_model.specs.Fabric.{Fabric, Node, node_at, home_of, first_node, no_entry}
+use Rattle.sn_model.specs.Fabric.{Fabric, node_at, home_of, first_node, no_entry}
 use Rattle.sn_coherence.specs.Block as block
 use Rattle.sn_coherence.specs.Block.{Block}
 use Rattle.sn_coherence.specs.OtherEvents.{validate}

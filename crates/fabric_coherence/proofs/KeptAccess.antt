@@ -1,5 +1,5 @@
 -- An access leads every block on: it changes nothing where its line serves it, and else it is a miss.
-use Rattle.std.proofs.Common.{◌≡◌, ℕ, ◌<◌, Bool, true, false, not, ◌&&◌, nat_lt, nat_le, length, length-set, if◌then◌else◌}
+use Rattle.std.proofs.Common.{◌≡◌, ℕ, ◌<◌, false, not, ◌&&◌, nat_le, length, length-set, if◌then◌else◌}
 use Rattle.sn_base.specs.declared.config.Config.{Config}
 use Rattle.sn_base.specs.declared.event.Answer.TheVariants.{Retired, Missed, Waits, NeedsEvict, LogFull, NetFull}
 use Rattle.sn_msg.specs.declared.Body.TheVariants.{GetS, GetM}
@@ -8,7 +8,7 @@ use Rattle.sn_model.specs.declared.cache.Need.TheVariants as need
 use Rattle.sn_model.specs.Caches.{block_count, line_of, is_present, puts_on, frames_taken}
 use Rattle.sn_model.specs.CacheRows.{send}
 use Rattle.sn_model.specs.Access.{missing, missed, misses, has_miss, serves, lacks_room, accesses, accessed}
-use Rattle.sn_model.specs.Fabric.{Fabric, node_at, with_node, home_node, refused, answered}
+use Rattle.sn_model.specs.Fabric.{Fabric, node_at, home_node, refused, answered}
 use Rattle.sn_model.specs.Net.{is_full}
 use Rattle.sn_coherence.specs.OtherEvents.{begin_miss_elsewhere, numbers_elsewhere}
 use Rattle.sn_coherence.specs.Events.{Event, BeginReadMiss, BeginWriteMiss, NumbersElsewhere, Free, Allows, after}

@@ -1,5 +1,5 @@
 -- A delivery whose message comes to a cache leads every block on.
-use Rattle.std.proofs.Common.{true≢false, ◌≡◌, ℕ, ◌+◌, ◌<◌, ◌≤◌, Bool, true, false, List, length, refl, sym, subst, if◌then◌else◌, length-set}
+use Rattle.std.proofs.Common.{true≢false, ◌≡◌, ℕ, ◌+◌, ◌<◌, ◌≤◌, Bool, true, false, length, sym, subst, if◌then◌else◌, length-set}
 use Rattle.std.specs.Prelude.{nat_lt, Option}
 use Rattle.sn_base.specs.declared.config.Config.{Config}
 use Rattle.sn_base.specs.declared.event.Answer.TheVariants.{LogFull, NetFull}

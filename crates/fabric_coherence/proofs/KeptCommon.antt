@@ -1,6 +1,6 @@
 -- What every part of the proof that events keep the sentences needs: the losses, what a block sees of an event of another one,
 -- and how the fabric goes on where each of its blocks does.
-use Rattle.std.proofs.Common.{◌≡◌, ◌≢◌, ℕ, ◌<◌, Bool, true, false, List, [], ◌∷◌, length, refl, cond, sym, subst, arith, nat_eq, if◌then◌else◌, Some}
+use Rattle.std.proofs.Common.{◌≡◌, ◌≢◌, ℕ, ◌<◌, Bool, true, false, List, [], ◌∷◌, length, refl, sym, subst, arith, nat_eq, if◌then◌else◌, Some}
 use Rattle.std.specs.Prelude.{⊤}
 use Rattle.std.proofs.lemmas.Bool.Decides.{nat_tests}
 use Rattle.sn_base.specs.declared.event.Answer.{Answer}

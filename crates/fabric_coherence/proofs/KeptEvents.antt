@@ -13,7 +13,6 @@ use Rattle.sn_model.specs.NetEvents.{delivers, delivers_flight, outcome_of}
 use Rattle.sn_model.specs.PointEvents.{advanced, advances}
 use Rattle.sn_model.specs.FabricEvents.{FabricEvent, Access, Write, Evict, Edge, Hop, Deliver, Lose, Kill, Report, Advance, Recover, moved_by}
 use Rattle.sn_coherence.specs.Block.{is_to_home}
-use Rattle.sn_coherence.specs.KeptRecords.{KeptRecords}
 use Rattle.sn_coherence.specs.Records.{Records}
 use Rattle.fabric_coherence.specs.View.{Beside, message_seen}
 use Rattle.fabric_coherence.specs.Steps.{IsInFlight}

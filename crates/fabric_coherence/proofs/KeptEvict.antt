@@ -7,7 +7,7 @@ use Rattle.sn_model.specs.declared.cache.LineState.TheVariants as state
 use Rattle.sn_model.specs.declared.cache.LineState.TheVariants.{Shared}
 use Rattle.sn_model.specs.Caches.{block_count, line_of, no_line, misses_on, is_owned}
 use Rattle.sn_model.specs.CacheRows.{send}
-use Rattle.sn_model.specs.Fabric.{Fabric, node_at, with_node, home_node, Moved, refused, answered}
+use Rattle.sn_model.specs.Fabric.{Fabric, node_at, with_node, home_node, Moved, refused}
 use Rattle.sn_model.specs.Net.{sending, is_full}
 use Rattle.sn_model.specs.NodeEvents.{evicted, evicts, begins_put, with_put, without_copy, drops_copy, has_put}
 use Rattle.sn_coherence.specs.OtherEvents.{evict_shared, begin_put, begin_put_elsewhere, numbers_elsewhere}

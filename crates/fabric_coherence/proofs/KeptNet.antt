@@ -1,9 +1,9 @@
 -- The events of messages and switches that are no row, and the rise of the recovery point, lead every block on.
-use Rattle.std.proofs.Common.{◌≡◌, ◌≢◌, ◌∙◌, ℕ, ◌+◌, ◌<◌, ◌≤◌, Bool, true, false, not, List, length, refl, ap, sym, subst, arith, if◌then◌else◌, nat_eq, filter, length-set, Option, Some, None}
+use Rattle.std.proofs.Common.{◌≡◌, ◌∙◌, ℕ, ◌+◌, ◌<◌, ◌≤◌, Bool, true, false, not, List, length, refl, ap, sym, subst, arith, if◌then◌else◌, nat_eq, filter, length-set, Option, Some, None}
 use Rattle.std.specs.Prelude.{nat_lt, slice_set}
 use Rattle.std.proofs.lemmas.Bool.Decides.{nat_tests}
 use Rattle.sn_base.specs.declared.config.Config.{Config}
-use Rattle.sn_base.specs.declared.event.Answer.TheVariants.{Validated, LostInDead, Hopped, Killed, AlreadyDead, Arrived, NoMessage}
+use Rattle.sn_base.specs.declared.event.Answer.TheVariants.{Validated, LostInDead, Hopped, AlreadyDead, Arrived, NoMessage}
 use Rattle.sn_msg.specs.declared.Message.{Message as Sent}
 use Rattle.sn_msg.specs.declared.Body.TheVariants.{Ready, Advance}
 use Rattle.route_plan.specs.Distances.{is_dead}
@@ -16,7 +16,7 @@ use Rattle.sn_coherence.specs.Block as block
 use Rattle.sn_coherence.specs.Block.{Block, Message, with_number}
 use Rattle.sn_coherence.specs.OtherEvents.{lose, deliver_ready, deliver_advance, validate}
 use Rattle.sn_coherence.specs.Events.{Lose, DeliverAdvance, Arrives, DeliverReady}
-use Rattle.sn_coherence.specs.Records.{Records, hears}
+use Rattle.sn_coherence.specs.Records.{hears}
 use Rattle.fabric_coherence.specs.View.{Beside, block_of, net_seen, message_seen}
 use Rattle.fabric_coherence.specs.Steps.{losing, lost_at_once}
 use Rattle.fabric_coherence.specs.Flights.{standing}

@@ -1,12 +1,11 @@
 -- What an event of one node leaves of the shape of the fabric, and what its tests say of a block.
-use Rattle.std.proofs.Common.{Option, Some, None, ◌≡◌, ◌≢◌, ◌∙◌, ℕ, ◌<◌, Bool, true, false, [], ◌∷◌, length, refl, arith, length-set, if◌then◌else◌, nat_lt}
-use Rattle.std.proofs.lemmas.Bool.Decides.{nat_tests}
+use Rattle.std.proofs.Common.{Option, Some, None, ◌≡◌, ◌≢◌, ℕ, ◌<◌, true, false, [], ◌∷◌, length, refl, arith, length-set}
 use Rattle.sn_base.specs.declared.event.Answer.{Answer}
 use Rattle.sn_model.specs.declared.cache.Out.{Out}
 use Rattle.sn_model.specs.declared.cache.LineState.{LineState}
-use Rattle.sn_model.specs.Caches.{Cache, Miss, Put, block_count, is_present, is_owned, is_writable_state, misses_on, puts_on}
+use Rattle.sn_model.specs.Caches.{Miss, Put, block_count, is_present, is_owned, is_writable_state, misses_on, puts_on}
 use Rattle.sn_model.specs.Access.{has_miss}
-use Rattle.sn_model.specs.Fabric.{Fabric, Node, node_at, with_node, Moved}
+use Rattle.sn_model.specs.Fabric.{Fabric, Node, node_at, with_node}
 use Rattle.sn_model.specs.Net.{posted, routes_of, sending}
 use Rattle.sn_model.specs.NodeEvents.{has_put}
 use Rattle.sn_coherence.specs.Block.{NoLine, Nothing, NoPut, Here, is_owned as owns, is_writable, is_here}

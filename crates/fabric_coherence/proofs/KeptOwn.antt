@@ -1,5 +1,5 @@
 -- A clock edge and a recovery lead every block on.
-use Rattle.std.proofs.Common.{◌≡◌, ◌∙◌, ℕ, suc, ◌+◌, ◌-◌, ◌<◌, ◌≤◌, Bool, true, false, List, [], ◌∷◌, ◌++◌, length, refl, ap, sym, subst, arith, if◌then◌else◌, nat_eq, map, length-set, Option, Some, None}
+use Rattle.std.proofs.Common.{◌≡◌, ◌∙◌, ℕ, suc, ◌+◌, ◌-◌, ◌<◌, ◌≤◌, Bool, true, false, List, [], ◌∷◌, length, refl, ap, sym, subst, arith, if◌then◌else◌, nat_eq, map, length-set, Option, Some, None}
 use Rattle.std.proofs.lemmas.Bool.Decides.{nat_tests}
 use Rattle.std.proofs.lemmas.List.{length-map, length-replicate}
 use Rattle.log_buffer.specs.Log.{LogEntry}
@@ -8,7 +8,7 @@ use Rattle.route_plan.specs.Routes.{first_cut_off}
 use Rattle.sn_model.specs.Caches.{Line, block_count}
 use Rattle.sn_model.specs.Homes.{HomeEntry}
 use Rattle.sn_model.specs.FabricEvents as event
-use Rattle.sn_model.specs.Fabric.{Fabric, Node, node_at, with_node, home_of, Moved, refused, answered}
+use Rattle.sn_model.specs.Fabric.{Fabric, node_at, with_node, home_of, Moved, refused, answered}
 use Rattle.sn_model.specs.NodeEvents.{edged, after_edge, checkpoint_limit}
 use Rattle.sn_model.specs.PointEvents.{recovered, recovers, restored, restored_node, restored_lines, restored_homes, living_switches}
 use Rattle.sn_coherence.specs.OtherEvents.{edge, recover}

@@ -38,3 +38,6 @@ mod RowsMet
 pub mod NodesStay
 pub mod Told
 pub mod Reports
+mod Served
+mod ToldOf
+mod FullLogs

@@ -1,6 +1,6 @@
 -- What a block sees of an access: a miss, a write.
 use Rattle.std.proofs.lemmas.List.{get_or_past}
-use Rattle.std.proofs.Common.{set-set, get_or-set_same, get_or-set_other, inl, inr, Option, Some, None, subst, ◌≡◌, ◌≢◌, ◌∙◌, ℕ, ◌+◌, ◌<◌, ◌≤◌, Bool, true, false, ◌||◌, cond, List, [], length, refl, ap, sym, arith, ◌==◌, length-set, if◌then◌else◌, nat_eq}
+use Rattle.std.proofs.Common.{get_or-set_same, get_or-set_other, inl, inr, Some, ◌≡◌, ◌≢◌, ◌∙◌, ℕ, ◌+◌, ◌<◌, ◌≤◌, Bool, true, false, ◌||◌, cond, List, [], length, refl, ap, sym, arith, ◌==◌, length-set, if◌then◌else◌, nat_eq}
 use Rattle.std.proofs.lemmas.Bool.Decides.{nat_tests}
 use Rattle.sn_base.specs.declared.block.Write.{Write}
 use Rattle.sn_base.specs.declared.log.Old.TheVariants.{Owned as WasOwned}
@@ -15,7 +15,7 @@ use Rattle.sn_model.specs.Caches.{Cache, Line, line_of, is_owned, is_writable_st
 use Rattle.sn_model.specs.CacheRows.{send}
 use Rattle.rv_core.specs.Core.{block_of as block_at}
 use Rattle.sn_model.specs.Access.{missed, missing, request_for, new_miss, written_to, written_in, with_write, stored}
-use Rattle.sn_model.specs.Fabric.{Fabric, Node, node_at, with_node, home_node, first_node}
+use Rattle.sn_model.specs.Fabric.{Fabric, Node, node_at, home_node}
 use Rattle.sn_msg.specs.declared.Body.TheVariants.{GetS, GetM}
 use Rattle.sn_base.specs.declared.event.Answer.TheVariants.{Missed}
 use Rattle.sn_coherence.specs.Block as miss
@@ -23,7 +23,7 @@ use Rattle.sn_coherence.specs.Block.{Block, Message, gone, set, set_row}
 use Rattle.sn_coherence.specs.OtherEvents.{store, begin_read_miss, begin_write_miss, begin_miss_elsewhere, numbers_elsewhere}
 use Rattle.sn_coherence.specs.Same.{IsSame}
 use Rattle.sn_coherence.specs.Log.{was_owned, old_content, was_home, old_cache, told_at, NoteLaw}
-use Rattle.fabric_coherence.specs.View.{Beside, block_of, line_seen, content_held, miss_seen, put_seen, put_issued, is_for_all, miss_here}
+use Rattle.fabric_coherence.specs.View.{Beside, block_of, line_seen, content_held, miss_seen, is_for_all, miss_here}
 use Rattle.fabric_coherence.specs.Steps.{IsShaped, losing, lost_at_once}
 use Rattle.fabric_coherence.specs.NodeSeen.{changed, carried_by, IsSameAtHome}
 use Rattle.fabric_coherence.proofs.NodeSeen.{same_then, set_self, set_with, node_changed, log_same, own_post, other_post, sends, routes_with, sent_same, own_block, other_block}

@@ -17,9 +17,9 @@ use Rattle.sn_model.specs.Access.{missed, misses, has_miss, serves, lacks_room, 
 use Rattle.sn_model.specs.Fabric.{Fabric, Flight, Moved, node_at, home_of, home_node, refused, answered}
 use Rattle.sn_model.specs.FabricEvents.{FabricEvent, Access, Write, Evict, Edge, Hop, Deliver, Lose, Kill, Report, Advance as Advances, Recover, moved_by}
 use Rattle.sn_model.specs.Net.{net_limit, routes_of, flight_of, is_there, is_full, next_switch}
-use Rattle.sn_model.specs.NodeEvents.{evicts, evicted, begins_put, has_put, edged, checkpoint_limit, reported}
-use Rattle.sn_model.specs.NetEvents.{Outcome, Busy, AtCache, AtHome, Noted, logged_at, kept_at, get_shared, get_modified, put_request, unless_busy, outcome_of, node_after, delivers, delivers_flight, hops, hops_to, loses, killed}
-use Rattle.sn_model.specs.PointEvents.{advanced, recovers, restored, restored_node, living_switches}
+use Rattle.sn_model.specs.NodeEvents.{evicts, begins_put, has_put, checkpoint_limit}
+use Rattle.sn_model.specs.NetEvents.{AtCache, AtHome, logged_at, kept_at, get_shared, get_modified, put_request, unless_busy, outcome_of, node_after, delivers, delivers_flight, hops, hops_to, loses}
+use Rattle.sn_model.specs.PointEvents.{recovers, restored, restored_node, living_switches}
 use Rattle.route_plan.specs.Distances.{is_dead}
 use Rattle.route_plan.specs.Routes.{first_cut_off}
 

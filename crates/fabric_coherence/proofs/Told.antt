@@ -1,11 +1,10 @@
 -- What the records of a block tell of the fabric.
-use Rattle.std.proofs.Common.{◌≡◌, ◌≢◌, ◌∙◌, ℕ, ◌+◌, ◌<◌, ◌≤◌, Bool, true, false, true≢false, List, length, map, refl, ap, sym, subst, arith, Option, Some, None}
-use Rattle.std.specs.Prelude.{is_some, slice_index_or}
+use Rattle.std.proofs.Common.{◌≡◌, ◌≢◌, ◌∙◌, ℕ, ◌<◌, ◌≤◌, Bool, true, false, true≢false, List, length, refl, ap, sym, subst, arith, Option, Some, None}
+use Rattle.std.specs.Prelude.{is_some}
 use Rattle.std.proofs.lemmas.List.{get_or-map}
-use Rattle.log_buffer.specs.Log.{entry_at, old_at}
+use Rattle.log_buffer.specs.Log.{entry_at}
 use Rattle.sn_model.specs.declared.cache.LineState.{LineState}
 use Rattle.sn_model.specs.declared.cache.LineState.TheVariants as state
-use Rattle.sn_model.specs.Access.{has_miss}
 use Rattle.sn_model.specs.Caches.{Line, line_of, is_present, is_writable_state, misses_on, block_count}
 use Rattle.sn_model.specs.Cuts.{holds_at, names_at, transaction_before}
 use Rattle.sn_model.specs.Homes.{Holder, Itself, OfCache, HomeEntry}
@@ -19,9 +18,7 @@ use Rattle.sn_coherence.specs.KeptRecords.{KeptRecords}
 use Rattle.sn_coherence.specs.Records.{Records}
 use Rattle.sn_coherence.proofs.WhatFollows.{kept_content, kept_legal}
 use Rattle.fabric_coherence.specs.View.{Beside, block_of, line_seen, is_itself, owner_of, content_of}
-use Rattle.fabric_coherence.specs.Steps.{IsShaped}
 use Rattle.fabric_coherence.specs.Coherent.{IsKept}
-use Rattle.fabric_coherence.specs.Events.{CanUse}
 use Rattle.fabric_coherence.specs.Holders.{HasOneHolder}
 use Rattle.fabric_coherence.specs.Told.{Tells}
 use Rattle.fabric_coherence.proofs.Finished.{home_finished}

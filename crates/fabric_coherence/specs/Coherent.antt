@@ -1,5 +1,5 @@
 -- The coherence theorem's sentences of every block of the fabric.
-use Rattle.std.specs.Prelude.{◌≡◌, ℕ, ◌<◌, ◌≤◌, false, length}
+use Rattle.std.specs.Prelude.{◌≡◌, ℕ, ◌+◌, ◌<◌, ◌≤◌, false, length}
 use Rattle.sn_model.specs.Caches.{block_count}
 use Rattle.sn_model.specs.Cuts.{is_unfinished}
 use Rattle.sn_model.specs.Fabric.{Fabric, node_at}
@@ -20,3 +20,10 @@ Keeps s = (t : Beside) × IsKept s t
 pub record IsFinished (s : Fabric) (k : ℕ) : Type 0 where
   pub now : (n : ℕ) → n < length s.nodes → k ≤ (node_at s n).now
   pub none : is_unfinished s k ≡ false
+
+-- a node knows a point that is at most the recovery point, which its interval has reached; and it has at most four
+-- checkpoints above the point that it knows
+pub record IsInTime (s : Fabric) (n : ℕ) : Type 0 where
+  pub known : (node_at s n).known ≤ s.point
+  pub reached : s.point ≤ (node_at s n).now
+  pub few : (node_at s n).now ≤ (node_at s n).known + 4

@@ -1,5 +1,5 @@
 -- The records of accesses of every block, and what each event of the fabric makes of them.
-use Rattle.std.specs.Prelude.{◌≡◌, ℕ, ◌+◌, ◌<◌, nat_eq, if◌then◌else◌, length, Option, Some, None}
+use Rattle.std.specs.Prelude.{◌≡◌, ℕ, ◌+◌, ◌<◌, ◌≤◌, nat_eq, if◌then◌else◌, length, Option, Some, None}
 use Rattle.sn_model.specs.declared.net.Told.{Told}
 use Rattle.sn_model.specs.declared.net.Told.TheVariants.{LostCopy, Ready, Advance}
 use Rattle.sn_model.specs.Caches.{block_count}
@@ -28,6 +28,13 @@ abbrev pub noted_by : Fabric → FabricEvent → Moved → ℕ → Records → R
 noted_by s (Edge n) moved b x = if is_edged moved.answer then unreserves x n else x
 noted_by s (Recover k) moved b x = if is_recovered moved.answer then rolls_back x (length s.nodes) k else x
 noted_by s _ moved b x = heard_by moved.told b x
+
+-- what is told names a node and a block that are there, and no point above the recovery point
+abbrev pub IsOfFabric : Fabric → Option Told → Type 0
+IsOfFabric s None = Unit {0}
+IsOfFabric s (Some (LostCopy n block)) = (n < length s.nodes) × (block < block_count)
+IsOfFabric s (Some (Ready n k)) = n < length s.nodes
+IsOfFabric s (Some (Advance n k)) = (n < length s.nodes) × (k ≤ s.point)
 
 -- the records after an event that came to this
 abbrev pub recorded_by : Fabric → (ℕ → Records) → FabricEvent → Moved → ℕ → Records

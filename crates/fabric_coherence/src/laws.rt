@@ -1,14 +1,18 @@
 //! The theorems on the fabric alone.
-ghost use Rattle.std.specs.Prelude.{◌≡◌, ℕ, ◌<◌, ◌≤◌, false, List, length};
+ghost use Rattle.std.specs.Prelude.{◌≡◌, ℕ, ◌<◌, ◌≤◌, true, false, List, length};
 ghost use Rattle.sn_base.specs.Image.{ImageData};
 ghost use Rattle.sn_base.specs.declared.config.Config.{Config};
-ghost use Rattle.sn_model.specs.Caches.{block_count};
+ghost use Rattle.sn_base.specs.declared.event.Answer.TheVariants.{Retired};
+ghost use Rattle.sn_model.specs.declared.cache.Need.{Need};
+ghost use Rattle.sn_model.specs.Access.{accessed, serves};
+ghost use Rattle.sn_model.specs.Caches.{block_count, line_of};
 ghost use Rattle.sn_model.specs.Cuts.{is_unfinished};
-ghost use Rattle.sn_model.specs.Fabric.{Fabric, first_fabric};
+ghost use Rattle.sn_model.specs.Fabric.{Fabric, node_at, first_fabric};
 ghost use Rattle.sn_model.specs.FabricEvents.{FabricEvent, moved_by};
-ghost use Rattle.fabric_coherence.specs.Coherent.{Keeps};
-ghost use Rattle.fabric_coherence.specs.Events.{MayBe};
+ghost use Rattle.fabric_coherence.specs.Coherent.{Keeps, IsInTime};
+ghost use Rattle.fabric_coherence.specs.Events.{MayBe, CanUse};
 ghost use Rattle.fabric_coherence.specs.Holders.{IsCoherent};
+ghost use Rattle.fabric_coherence.specs.Recorded.{IsOfFabric};
 ghost use Rattle.fabric_coherence.specs.Runs.{IsRun, fabric_after};
 
 /// At the start all sentences hold of every block.
@@ -34,6 +38,22 @@ pub fn what_is_kept_is_coherent()
 /// And nothing that was begun before the recovery point is unfinished.
 pub fn finished_below_the_point()
     ensures { (s : Fabric) → Keeps s → is_unfinished s s.point ≡ false }
+{}
+
+/// The clocks of the nodes and the recovery point are in order.
+pub fn nodes_are_in_time()
+    ensures { (s : Fabric) → Keeps s → (n : ℕ) → n < length s.nodes → IsInTime s n }
+{}
+
+/// What an event tells the layer above is of this fabric.
+pub fn what_is_told_is_of_the_fabric()
+    ensures { (config : Config) (s : Fabric) (event : FabricEvent) → Keeps s → MayBe s event → IsOfFabric s (moved_by config s event).told }
+{}
+
+/// An access that its line serves is one of which the records speak, and its line is what it needs.
+pub fn what_is_served_can_be_used()
+    ensures { (config : Config) (s : Fabric) (n block : ℕ) (need : Need) → n < length s.nodes → block < block_count → (accessed config s n block need).answer ≡ Retired
+        → CanUse s n block × (serves need (line_of (node_at s n).cache block).state ≡ true) }
 {}
 
 /// So whatever is accessed, delivered, lost, killed, evicted, checkpointed or recovered, in whatever order, the fabric is
