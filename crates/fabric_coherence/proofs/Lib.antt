@@ -18,7 +18,7 @@ mod HomeOutcomes
 mod NodeSeen
 mod NodeAccess
 mod NodeOther
-mod Recovery
+pub mod Recovery
 mod Holders
 mod KeptCommon
 mod KeptNet
@@ -34,7 +34,7 @@ pub mod KeptStart
 mod CacheOutcomes
 mod KeptCache
 pub mod KeptEvents
-mod RowsMet
+pub mod RowsMet
 pub mod NodesStay
 pub mod Told
 pub mod Reports
