@@ -27,7 +27,8 @@ cache_at node k = restored_cache node.log k node.cache
 
 -- the blocks that had frames of node n at its edge to interval j are some that fit: those of a cache that does
 abbrev pub EdgeFits : Config → Beside → ℕ → ℕ → Type 0
-EdgeFits config t n j = (cache : Cache) × Fits config cache × ((b : ℕ) → b < block_count → t.framed b n j ≡ true → takes_frame cache b ≡ true)
+EdgeFits config t n j =
+    (cache : Cache) × Fits config cache × ((b : ℕ) → b < block_count → t.framed b n j ≡ true → takes_frame cache b ≡ true)
 
 -- no log has more entries than it may, no more messages are in flight than may be, each cache fits, and so did the blocks
 -- that had frames at each edge
@@ -49,7 +50,8 @@ HasRoom config s _ = ⊤
 -- each event of the list can happen when its turn comes, and each write was served
 abbrev pub IsServedRun : Config → Fabric → List FabricEvent → Type 0
 IsServedRun config s [] = ⊤
-IsServedRun config s (event ∷ events) = (MayBe s event × HasRoom config s event) × IsServedRun config (moved_by config s event).fabric events
+IsServedRun config s (event ∷ events) =
+    (MayBe s event × HasRoom config s event) × IsServedRun config (moved_by config s event).fabric events
 
 -- the messages that bring a line to a cache
 abbrev pub brings_line : Body → Bool

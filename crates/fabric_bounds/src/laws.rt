@@ -15,7 +15,8 @@ ghost use Rattle.fabric_bounds.specs.Counts.{SendsFew, CountsTo};
 
 /// At the start all bounds are kept.
 pub fn start_is_bounded()
-    ensures { (image : ImageData) (config : Config) (nodes : ℕ) → 1 ≤ nodes → nodes ≤ 16 → KeepsBounds config (first_fabric image nodes) }
+    ensures { (image : ImageData) (config : Config) (nodes : ℕ) → 1 ≤ nodes → nodes ≤ 16
+        → KeepsBounds config (first_fabric image nodes) }
 {}
 
 /// Every event that can happen keeps them, whatever its answer is, where a write was served.
@@ -27,7 +28,8 @@ pub fn each_event_keeps_bounds()
 /// So they hold along every run.
 pub fn every_run_is_bounded()
     ensures { (image : ImageData) (config : Config) (nodes : ℕ) (events : List FabricEvent) → 1 ≤ nodes → nodes ≤ 16
-        → IsServedRun config (first_fabric image nodes) events → KeepsBounds config (fabric_after config (first_fabric image nodes) events) }
+        → IsServedRun config (first_fabric image nodes) events
+        → KeepsBounds config (fabric_after config (first_fabric image nodes) events) }
 {}
 
 /// Where they are kept, no log has more entries than it may, no more messages are in flight than may be, and in no set of a
@@ -35,7 +37,8 @@ pub fn every_run_is_bounded()
 pub fn what_is_bounded()
     ensures logs { (config : Config) (s : Fabric) (n : ℕ) → KeepsBounds config s → n < length s.nodes → length (node_at s n).log ≤ config.log }
     ensures net { (config : Config) (s : Fabric) → KeepsBounds config s → length s.net.flights ≤ net_limit }
-    ensures frames { (config : Config) (s : Fabric) (n : ℕ) → KeepsBounds config s → n < length s.nodes → Fits config (node_at s n).cache }
+    ensures frames { (config : Config) (s : Fabric) (n : ℕ) → KeepsBounds config s → n < length s.nodes
+        → Fits config (node_at s n).cache }
 {}
 
 /// A message that brings a line finds that its block has a frame already: so the cache fits with the line too.
@@ -47,7 +50,8 @@ pub fn answers_find_their_frames()
 /// What a node holds at a cut from the recovery point on fits its cache, so a recovery finds the frames that it needs; the
 /// blocks that take a frame of that cache are those that are held there.
 pub fn cuts_fit_the_sets()
-    ensures fits { (config : Config) (s : Fabric) (n k : ℕ) → KeepsBounds config s → n < length s.nodes → s.point ≤ k → Fits config (cache_at (node_at s n) k) }
+    ensures fits { (config : Config) (s : Fabric) (n k : ℕ) → KeepsBounds config s → n < length s.nodes → s.point ≤ k
+        → Fits config (cache_at (node_at s n) k) }
     ensures held { (s : Fabric) (n b k : ℕ) → Keeps s → n < length s.nodes → b < block_count
         → takes_frame (cache_at (node_at s n) k) b ≡ is_some (holds_at s n b k) }
 {}
@@ -61,6 +65,7 @@ pub fn each_event_sends_few()
 /// end of 64 bits.
 pub fn numbers_do_not_run_out()
     ensures counts { (image : ImageData) (config : Config) (nodes : ℕ) (events : List FabricEvent) → 1 ≤ nodes → nodes ≤ 16
-        → IsRun config (first_fabric image nodes) events → CountsTo (length events) (fabric_after config (first_fabric image nodes) events) }
+        → IsRun config (first_fabric image nodes) events
+        → CountsTo (length events) (fabric_after config (first_fabric image nodes) events) }
     ensures next { (s : Fabric) (events : ℕ) → CountsTo events s → events ≤ 4000000000 → s.net.next_id < 9223372036854775808 }
 {}
