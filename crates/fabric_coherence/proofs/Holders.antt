@@ -1,4 +1,4 @@
--- What the sentences of a block say of its holders, in the words of the machine's definitions.
+-- What the sentences of a block say of its holders, in the words of the fabric's definitions.
 use Rattle.std.proofs.Common.{◌≡◌, ◌≢◌, ◌∙◌, ℕ, ◌<◌, ◌≤◌, true, false, length, refl, sym, subst, ap, arith, Option, Some, None}
 use Rattle.std.proofs.lemmas.Bool.Decides.{nat_tests}
 use Rattle.std.specs.Prelude.{is_some}

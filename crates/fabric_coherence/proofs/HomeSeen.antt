@@ -1,4 +1,4 @@
--- What a block sees of the machine after a row of a home, field by field: its own block, and another.
+-- What a block sees of the fabric after a row of a home, field by field: its own block, and another.
 use Rattle.std.proofs.Common.{◌≡◌, ◌≢◌, ◌∙◌, ℕ, ◌+◌, ◌<◌, ◌≤◌, Bool, true, false, not, ◌&&◌, ◌||◌, cond, List, [], ◌∷◌, ◌++◌, length, refl, sym, subst, arith, ◌==◌, length-set, if◌then◌else◌, nat_eq}
 use Rattle.std.proofs.lemmas.Bool.Decides.{nat_tests}
 use Rattle.std.specs.Prelude.{slice_index_or, ◌%◌}

@@ -19,7 +19,7 @@ mod NodeSeen
 mod NodeAccess
 mod NodeOther
 pub mod Recovery
-mod Holders
+pub mod Holders
 mod KeptCommon
 mod KeptNet
 mod KeptHome
@@ -38,6 +38,6 @@ pub mod RowsMet
 pub mod NodesStay
 pub mod Told
 pub mod Reports
-mod Served
-mod ToldOf
-mod FullLogs
+pub mod Served
+pub mod ToldOf
+pub mod FullLogs

@@ -107,14 +107,14 @@ pub advances-within : (k to : ℕ) (ns : List Node) (nodes : ℕ) → to + lengt
 advances-within k to [] nodes l m = tt
 advances-within k to (node ∷ ns) nodes l m = ((omega arith, omega arith), advances-within k (to + 1) ns nodes (omega arith) m)
 
--- the shape of a machine with another net
+-- the shape of a fabric with another net
 pub net-shaped : (s : Fabric) → IsShaped s → IsNetShaped s.net (length s.nodes)
 net-shaped s h = record { below = h.below; within = h.within; rising = h.rising }
 
 pub with_net-shaped : (s : Fabric) (net : Net) → IsShaped s → IsNetShaped net (length s.nodes) → IsShaped (with_net s net)
 with_net-shaped s net h n = record { some = h.some; few = h.few; lines = h.lines; homes = h.homes; sharers = h.sharers; below = n.below; within = n.within; rising = n.rising }
 
--- the shape of a machine with another node of as many lines
+-- the shape of a fabric with another node of as many lines
 node_or : (t : Bool) (a b : Node) → length a.cache.lines ≡ block_count → length b.cache.lines ≡ block_count → length (cond t a b).cache.lines ≡ block_count
 node_or true a b l m = l
 node_or false a b l m = m
@@ -160,7 +160,7 @@ module _ (s : Fabric) (h : IsShaped s) where
       first_block : 0 < block_count
       first_block = search rules
 
--- a machine with another entry of as many sharers
+-- a fabric with another entry of as many sharers
 entry_or : (t : Bool) (a b : HomeEntry) → length a.sharers ≡ 16 → length b.sharers ≡ 16 → length (cond t a b).sharers ≡ 16
 entry_or true a b l m = l
 entry_or false a b l m = m

@@ -35,9 +35,11 @@ comes_to_cache PutDone = true
 comes_to_cache _ = false
 
 -- a reply of a cache is this event of its own block, and makes of the others these blocks; it says that this copy was lost
-pub record IsCacheEvent (s : Fabric) (t : Beside) (m : Message) (reply : CacheReply) (event : Event) (others : ℕ → Block) (lost : Option ℕ) : Type 0 where
+pub record IsCacheEvent (s : Fabric) (t : Beside) (m : Message) (reply : CacheReply) (event : Event) (others : ℕ → Block)
+    (lost : Option ℕ) : Type 0 where
   pub own : IsOwnRow s t m reply (after (length s.nodes) (block_of s t m.block) event)
-  pub leads : Leads (length s.nodes) (block_of s t m.block) (heard_by (told_of m.to lost) m.block) (after (length s.nodes) (block_of s t m.block) event)
+  pub leads : Leads (length s.nodes) (block_of s t m.block) (heard_by (told_of m.to lost) m.block)
+      (after (length s.nodes) (block_of s t m.block) event)
   pub passes : (o : ℕ) → o ≢ m.block → IsElsewhere s t m reply (after (length s.nodes) (block_of s t m.block) event) o (others o)
   pub passed : (o : ℕ) → o ≢ m.block → Leads (length s.nodes) (block_of s t o) (heard_by (told_of m.to lost) o) (others o)
   pub loses : reply.lost ≡ lost

@@ -53,7 +53,7 @@ with_row block row = record block {
   waited = row.waited;
 }
 
--- of these, the ones that the machine has
+-- of these, the ones that the fabric has
 pub record IsRow (a b : Block) : Type 0 where
   pub line : (n : ℕ) → a.line n ≡ b.line n
   pub content : (n : ℕ) → a.content n ≡ b.content n
@@ -68,11 +68,13 @@ pub record IsRow (a b : Block) : Type 0 where
 
 -- a reply of a cache is, for its own block, this row of the block
 abbrev pub IsOwnRow : Fabric → Beside → Message → CacheReply → Block → Type 0
-IsOwnRow s t m reply row = IsSame (block_of (after_cache s m reply).fabric (beside_with t m.block row) m.block) (losing row (lost_at_once (after_cache s m reply).sent))
+IsOwnRow s t m reply row =
+    IsSame (block_of (after_cache s m reply).fabric (beside_with t m.block row) m.block) (losing row (lost_at_once (after_cache s m reply).sent))
 
 -- the net with a message of the block taken, and one sent by its receiver
 abbrev pub net_answered : Fabric → Beside → Message → Out → ℕ → Seen
-net_answered s t m out = set (set (block_of s t m.block).net m.id gone) s.net.next_id (message_seen (message_of s.net m.to (node_at s m.to).now m.block out) out.body)
+net_answered s t m out =
+    set (set (block_of s t m.block).net m.id gone) s.net.next_id (message_seen (message_of s.net m.to (node_at s m.to).now m.block out) out.body)
 
 -- a log says of the cache's side of a block what it said before
 pub record KeepsCacheSide (before after : List LogEntry) (o : ℕ) : Type 0 where

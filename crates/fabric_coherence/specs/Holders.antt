@@ -1,4 +1,4 @@
--- Who holds a block, in the words of the machine's definitions: one writer now, and one holder at each settled cut.
+-- Who holds a block, in the words of the fabric's definitions: one writer now, and one holder at each settled cut.
 use Rattle.std.specs.Prelude.{◌≡◌, ◌≢◌, ℕ, ◌<◌, ◌≤◌, true, false, length, is_some}
 use Rattle.sn_model.specs.declared.cache.LineState.TheVariants.{Absent}
 use Rattle.sn_model.specs.Caches.{line_of, is_writable_state, misses_on}
@@ -18,7 +18,7 @@ pub record HasOneHolder (s : Fabric) (b k : ℕ) : Type 0 where
   pub named : (n : ℕ) → n < length s.nodes → is_some (holds_at s n b k) ≡ true → names_at s b k ≡ OfCache n
   pub holds : (n : ℕ) → names_at s b k ≡ OfCache n → (n < length s.nodes) × (is_some (holds_at s n b k) ≡ true)
 
--- who holds the blocks of the machine
+-- who holds a block of the fabric
 pub record IsCoherent (s : Fabric) (b : ℕ) : Type 0 where
   pub writer : HasOneWriter s b
   pub holder : (k : ℕ) → s.point ≤ k → transaction_before (home_of s b).transaction k ≡ false → HasOneHolder s b k

@@ -60,9 +60,11 @@ pub record LeavesHome (s : Fabric) (m : Sent) (reply : HomeReply) (e : Block) : 
   pub kind : kind_open reply.after.entry.transaction ≡ e.kind
   pub requester : requester_of reply.after.entry.transaction ≡ e.requester
   pub begun : begun_of reply.after.entry.transaction ≡ e.begun
-  pub net : (routes : Switches) (i : ℕ) → net_seen m.block (posted routes (without_flight s.net m.id) m.to (node_at s m.to).now m.block reply.sends).flights i
+  pub net : (routes : Switches) (i : ℕ) →
+      net_seen m.block (posted routes (without_flight s.net m.id) m.to (node_at s m.to).now m.block reply.sends).flights i
       ≡ net_losing e.net (lost_at_once (sent_by routes (without_flight s.net m.id) m.to (node_at s m.to).now m.block reply.sends)) i
-  pub next : (routes : Switches) → (posted routes (without_flight s.net m.id) m.to (node_at s m.to).now m.block reply.sends).next_id ≡ e.next
+  pub next : (routes : Switches) →
+      (posted routes (without_flight s.net m.id) m.to (node_at s m.to).now m.block reply.sends).next_id ≡ e.next
   pub named_home : (j : ℕ) → told_at was_home reply.after.log true m.block (is_itself reply.after.entry.holder) j ≡ e.named_home j
   pub named : (j : ℕ) → told_at old_cache reply.after.log true m.block (owner_of reply.after.entry.holder) j ≡ e.named j
   pub home_held : (j : ℕ) → told_at old_content reply.after.log true m.block (content_of reply.after.entry.holder) j ≡ e.home_held j
@@ -74,8 +76,10 @@ other_targets sharers r k = slice_index_or (targets 0 (others sharers r)) k 0
 
 -- a row of a home is this row of its block, and then the loss of what was lost at once
 abbrev pub IsHomeRow : Fabric → Beside → Sent → HomeReply → Block → Type 0
-IsHomeRow s t m reply e = IsSame (block_of (after_home s m reply).fabric (beside_with t m.block e) m.block) (losing e (lost_at_once (after_home s m reply).sent))
+IsHomeRow s t m reply e =
+    IsSame (block_of (after_home s m reply).fabric (beside_with t m.block e) m.block) (losing e (lost_at_once (after_home s m reply).sent))
 
 -- another block sees that the message is gone, and that numbers were taken
 abbrev pub IsHomeElsewhere : Fabric → Beside → Sent → HomeReply → Block → ℕ → Type 0
-IsHomeElsewhere s t m reply e o = IsSame (block_of (after_home s m reply).fabric (beside_with t m.block e) o) (elsewhere (block_of s t o) m.id (length reply.sends))
+IsHomeElsewhere s t m reply e o =
+    IsSame (block_of (after_home s m reply).fabric (beside_with t m.block e) o) (elsewhere (block_of s t o) m.id (length reply.sends))

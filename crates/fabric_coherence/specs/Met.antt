@@ -23,7 +23,8 @@ comes_to_home _ = false
 
 -- the message finds its row's condition at the cache, and what its row notes is not older than the log's entries
 abbrev pub MeetsCache : Fabric → Message → Type 0
-MeetsCache s m = MeetsRow (logged_at s m.to) m.block m.body × NotesLast (node_at s m.to).log m.block (noted_in (node_at s m.to).now m.tag m.body)
+MeetsCache s m =
+    MeetsRow (logged_at s m.to) m.block m.body × NotesLast (node_at s m.to).log m.block (noted_in (node_at s m.to).now m.tag m.body)
 
 -- the message has come to its block's home, has a row there, and what that notes is not older than the log's entries
 abbrev pub MeetsHome : Fabric → Message → Type 0
@@ -36,11 +37,16 @@ MeetsHome s m =
 abbrev pub answer_to : Config → Fabric → Message → Answer
 answer_to config s m = (delivers config s m (outcome_of s m m.body)).answer
 
--- it is that the log is full exactly where the controller's row would be over the log's limit
+-- whether the controller's row would be over the log's limit
+abbrev pub is_over_at : Config → Fabric → Message → Bool
+is_over_at config s m =
+    is_over (log_at config s m.to) (row_of (controller_at config s m.to) (log_at config s m.to) (node_at s m.to).now m)
+
+-- the log is full exactly where that is so
 abbrev pub IsFullAsAtCache : Config → Fabric → Message → Type 0
 IsFullAsAtCache config s m =
-    (answer_to config s m ≡ LogFull → is_over (log_at config s m.to) (row_of (controller_at config s m.to) (log_at config s m.to) (node_at s m.to).now m) ≡ true)
-    × (is_over (log_at config s m.to) (row_of (controller_at config s m.to) (log_at config s m.to) (node_at s m.to).now m) ≡ true → answer_to config s m ≡ LogFull)
+    (answer_to config s m ≡ LogFull → is_over_at config s m ≡ true)
+    × (is_over_at config s m ≡ true → answer_to config s m ≡ LogFull)
 
 -- and where the home's verdict is that its log lacks the room
 abbrev pub IsFullAsAtHome : Config → Fabric → Message → Type 0

@@ -40,11 +40,15 @@ IsOfFabric s (Some (Advance n k)) = (n < length s.nodes) × (k ≤ s.point)
 abbrev pub recorded_by : Fabric → (ℕ → Records) → FabricEvent → Moved → ℕ → Records
 recorded_by s r event moved b = noted_by s event moved b (r b)
 
+-- every node has reported more than the point, as each block's records say
+abbrev pub HaveReported : Fabric → (ℕ → Records) → Type 0
+HaveReported s r = (b n : ℕ) → b < block_count → n < length s.nodes → s.point < (r b).reported n
+
 -- when an event can happen beside these records: a write is the end of an access, of which more is said than of an event;
 -- the point rises where every node has reported more
 abbrev pub MayBeRecorded : Fabric → (ℕ → Records) → FabricEvent → Type 0
 MayBeRecorded s r (Write n w) = ⊥
-MayBeRecorded s r (Advances k) = (k ≡ s.point + 1) × ((b n : ℕ) → b < block_count → n < length s.nodes → s.point < (r b).reported n)
+MayBeRecorded s r (Advances k) = (k ≡ s.point + 1) × HaveReported s r
 MayBeRecorded s r event = MayBe s event
 
 -- these records, with others of block b

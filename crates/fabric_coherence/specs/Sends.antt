@@ -35,7 +35,7 @@ abbrev pub NoneForAll : List Out → Type 0
 NoneForAll [] = ⊤
 NoneForAll (out ∷ outs) = (is_for_all out.body ≡ false) × NoneForAll outs
 
--- the net's part of a machine's shape
+-- the net's part of a fabric's shape
 pub record IsNetShaped (net : Net) (nodes : ℕ) : Type 0 where
   pub below : Below net.flights net.next_id
   pub within : Within net.flights nodes

@@ -1,4 +1,4 @@
--- The machine as one block sees it: each field of the coherence theorem's block, read off the machine's lists.
+-- The fabric as one block sees it: each field of the coherence theorem's block, read off the fabric's lists.
 use Rattle.std.specs.Prelude.{ℕ, Bool, true, false, ◌&&◌, ◌||◌, nat_eq, if◌then◌else◌, List, [], ◌∷◌, slice_index_or, Option, Some, None, is_some}
 use Rattle.sn_msg.specs.declared.Message.{Message}
 use Rattle.sn_msg.specs.declared.Body.{Body}
@@ -141,7 +141,7 @@ pub record Beside : Type 0 where
 abbrev pub home_log : Fabric → ℕ → List LogEntry
 home_log s b = (node_at s (home_node s b)).log
 
--- block b of the machine
+-- block b of the fabric
 abbrev pub block_of : Fabric → Beside → ℕ → block.Block
 block_of s t b = record {
   point = s.point;

@@ -60,14 +60,16 @@ pub fn what_is_told_is_of_the_fabric()
 
 /// An access that its line serves is one of which the records speak, and its line is what it needs.
 pub fn what_is_served_can_be_used()
-    ensures { (config : Config) (s : Fabric) (n block : ℕ) (need : Need) → n < length s.nodes → block < block_count → (accessed config s n block need).answer ≡ Retired
+    ensures { (config : Config) (s : Fabric) (n block : ℕ) (need : Need) → n < length s.nodes → block < block_count
+        → (accessed config s n block need).answer ≡ Retired
         → CanUse s n block × (serves need (line_of (node_at s n).cache block).state ≡ true) }
 {}
 
 /// So whatever is accessed, delivered, lost, killed, evicted, checkpointed or recovered, in whatever order, the fabric is
 /// coherent after it.
 pub fn every_run_is_coherent()
-    ensures kept { (image : ImageData) (config : Config) (nodes : ℕ) (events : List FabricEvent) → 1 ≤ nodes → nodes ≤ 16 → IsRun config (first_fabric image nodes) events → Keeps (fabric_after config (first_fabric image nodes) events) }
-    ensures coherent { (image : ImageData) (config : Config) (nodes : ℕ) (events : List FabricEvent) → 1 ≤ nodes → nodes ≤ 16 → IsRun config (first_fabric image nodes) events
-        → (b : ℕ) → b < block_count → IsCoherent (fabric_after config (first_fabric image nodes) events) b }
+    ensures kept { (image : ImageData) (config : Config) (nodes : ℕ) (events : List FabricEvent) → 1 ≤ nodes → nodes ≤ 16
+        → IsRun config (first_fabric image nodes) events → Keeps (fabric_after config (first_fabric image nodes) events) }
+    ensures coherent { (image : ImageData) (config : Config) (nodes : ℕ) (events : List FabricEvent) → 1 ≤ nodes → nodes ≤ 16
+        → IsRun config (first_fabric image nodes) events → (b : ℕ) → b < block_count → IsCoherent (fabric_after config (first_fabric image nodes) events) b }
 {}
