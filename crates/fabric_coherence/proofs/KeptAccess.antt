@@ -18,7 +18,7 @@ use Rattle.fabric_coherence.specs.Steps.{IsShaped, losing, lost_at_once}
 use Rattle.fabric_coherence.specs.Coherent.{IsKept}
 use Rattle.fabric_coherence.specs.Leads.{Moves}
 use Rattle.fabric_coherence.proofs.NodeAccess.{old_line, read_miss-seen, write_miss-seen, other_miss-seen}
-use Rattle.fabric_coherence.proofs.KeptCommon.{IsQuiet, quiet_losing, then_losing, then_quiet, begin_miss_elsewhere_leads, goes_own, as_it_is, by_test}
+use Rattle.fabric_coherence.proofs.KeptCommon.{IsQuiet, frames_stay, quiet_losing, then_losing, then_quiet, begin_miss_elsewhere_leads, goes_own, as_it_is, by_test}
 use Rattle.fabric_coherence.proofs.KeptNode.{sent-shaped, no_miss_seen, put_apart, absent_seen, not_writable_seen}
 
 -- the event that a miss is
@@ -50,7 +50,7 @@ module _ (s : Fabric) (t : Beside) (n : ℕ) (kept : IsKept s t) (l : n < length
     missed_moves : (access : Need) → puts_on (node_at s n).cache.put b ≡ false → serves access (old_line s n b).state ≡ false → Moves s t (missed s n b access)
     missed_moves access apart e = (
       t,
-      goes_own s t (λ o r. r) (missed s n b access).fabric t (length-set s.nodes n _) (miss-shaped access)
+      goes_own s t (λ o r. r) (missed s n b access).fabric t (length-set s.nodes n _) (frames_stay s t) (miss-shaped access)
           b (losing (after (length s.nodes) (block_of s t b) (begins access n)) (lost_at_once (missed s n b access).sent)) (λ o. losing (numbers_elsewhere (begin_miss_elsewhere (block_of s t o) n) 1) (lost_at_once (missed s n b access).sent))
           (miss-seen access)
           (quiet_losing (length s.nodes) (block_of s t b) (begins access n) (lost_at_once (missed s n b access).sent) (may_miss access apart e) (begins_quiet access n))

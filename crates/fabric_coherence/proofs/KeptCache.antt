@@ -21,7 +21,7 @@ use Rattle.fabric_coherence.specs.Leads.{Goes, Moves}
 use Rattle.fabric_coherence.specs.CacheEvents.{comes_to_cache, told_of, IsCacheEvent}
 use Rattle.fabric_coherence.proofs.NetShape.{after_cache-shaped}
 use Rattle.fabric_coherence.proofs.CacheOutcomes.{forward_read-event, forward_write-event, invalidate-event, data_shared-event, data_modified-event, data_exclusive-event, upgrade_granted-event, acknowledge-event, put_go-event, put_done-event}
-use Rattle.fabric_coherence.proofs.KeptCommon.{then_losing, goes_own, as_it_is}
+use Rattle.fabric_coherence.proofs.KeptCommon.{frames_stay, then_losing, goes_own, as_it_is}
 
 -- a message that is in flight, and whose receiver's interval has reached its tag
 module _ (s : Fabric) (t : Beside) (m : Message) (kept : IsKept s t) (flight : IsInFlight s m) (reached : m.tag ≤ (node_at s m.to).now) where
@@ -33,7 +33,7 @@ module _ (s : Fabric) (t : Beside) (m : Message) (kept : IsKept s t) (flight : I
   row_moves reply event others lost does = (
     beside_with t m.block own,
     subst (λ x. Goes s t (heard_by (told_of m.to x)) (after_cache s m reply).fabric (beside_with t m.block own)) (sym does.loses) (goes_own s t (heard_by (told_of m.to lost)) (after_cache s m reply).fabric (beside_with t m.block own)
-        (length-set s.nodes m.to (node_after (node_at s m.to) reply)) (after_cache-shaped s m kept.shape flight.to flight.block reply does.lines does.sends) m.block (losing own (lost_at_once (after_cache s m reply).sent)) others
+        (length-set s.nodes m.to (node_after (node_at s m.to) reply)) (frames_stay s t) (after_cache-shaped s m kept.shape flight.to flight.block reply does.lines does.sends) m.block (losing own (lost_at_once (after_cache s m reply).sent)) others
         does.own (then_losing (length s.nodes) (block_of s t m.block) own (heard_by (told_of m.to lost) m.block) (lost_at_once (after_cache s m reply).sent) does.leads)
         (λ o l other. does.passes o other) (λ o l other. does.passed o other)),
   )

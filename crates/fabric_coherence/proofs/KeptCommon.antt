@@ -1,6 +1,6 @@
 -- What every part of the proof that events keep the sentences needs: the losses, what a block sees of an event of another one,
 -- and how the fabric goes on where each of its blocks does.
-use Rattle.std.proofs.Common.{◌≡◌, ◌≢◌, ℕ, ◌<◌, Bool, true, false, List, [], ◌∷◌, length, refl, sym, subst, arith, nat_eq, if◌then◌else◌, Some}
+use Rattle.std.proofs.Common.{◌≡◌, ◌≢◌, inl, ℕ, ◌<◌, Bool, true, false, List, [], ◌∷◌, length, refl, sym, subst, arith, nat_eq, if◌then◌else◌, Some}
 use Rattle.std.specs.Prelude.{⊤}
 use Rattle.std.proofs.lemmas.Bool.Decides.{nat_tests}
 use Rattle.sn_base.specs.declared.event.Answer.{Answer}
@@ -21,7 +21,7 @@ use Rattle.fabric_coherence.specs.Steps.{losing, elsewhere, IsShaped}
 use Rattle.fabric_coherence.specs.Coherent.{IsKept}
 use Rattle.fabric_coherence.specs.Recorded.{heard_by}
 use Rattle.fabric_coherence.specs.CacheEvents.{told_of}
-use Rattle.fabric_coherence.specs.Leads.{Leads, Goes, Moves}
+use Rattle.fabric_coherence.specs.Leads.{Leads, KeepsFrames, Goes, Moves}
 
 -- an event that is allowed leads to the block after it
 pub event_leads : (N : ℕ) (b : Block) (e : Event) → Allows N b e → ((r : Records) → MayHappen N b r e) → Leads N b (λ r. recorded N b r e) (after N b e)
@@ -152,12 +152,17 @@ told_there n block o other r = by_test (nat_eq o block) apart
 pub leads_seen : (N : ℕ) (b c d : Block) (f : Records → Records) → IsSame d c → Leads N b f c → Leads N b f d
 leads_seen N b c d f same x = subst (λ y. Leads N b f y) (sym (same_block d c same)) x
 
+-- where the frames at edges stay
+pub frames_stay : (s : Fabric) (t : Beside) → KeepsFrames s t t
+frames_stay s t n j = inl (λ b. refl)
+
 -- the fabric goes on, where each block does
-module _ (s : Fabric) (t : Beside) (f : ℕ → Records → Records) (after : Fabric) (u : Beside) (count : length after.nodes ≡ length s.nodes) (shape : IsShaped after) where
+module _ (s : Fabric) (t : Beside) (f : ℕ → Records → Records) (after : Fabric) (u : Beside) (count : length after.nodes ≡ length s.nodes) (frames : KeepsFrames s t u) (shape : IsShaped after) where
   pub goes_each : (each : ℕ → Block) → ((o : ℕ) → o < block_count → IsSame (block_of after u o) (each o)) → ((o : ℕ) → o < block_count → Leads (length s.nodes) (block_of s t o) (f o) (each o)) → Goes s t f after u
   goes_each each sees leads = record {
     shape = shape;
     count = count;
+    frames = frames;
     blocks = λ o l. leads_seen (length s.nodes) (block_of s t o) (each o) (block_of after u o) (f o) (sees o l) (leads o l);
   }
 
@@ -165,7 +170,7 @@ module _ (s : Fabric) (t : Beside) (f : ℕ → Records → Records) (after : Fa
   pub goes_own : (b : ℕ) (own : Block) (others : ℕ → Block) →
       IsSame (block_of after u b) own → Leads (length s.nodes) (block_of s t b) (f b) own →
       ((o : ℕ) → o < block_count → o ≢ b → IsSame (block_of after u o) (others o)) → ((o : ℕ) → o < block_count → o ≢ b → Leads (length s.nodes) (block_of s t o) (f o) (others o)) → Goes s t f after u
-  goes_own b own others sees leads sees_others leads_others = record { shape = shape; count = count; blocks = λ o l. either o l (nat_eq o b) refl }
+  goes_own b own others sees leads sees_others leads_others = record { shape = shape; count = count; frames = frames; blocks = λ o l. either o l (nat_eq o b) refl }
     where
       equal : (o : ℕ) → nat_eq o b ≡ true → o ≡ b
       equal o e = grind (arith, nat_tests)
@@ -179,7 +184,7 @@ module _ (s : Fabric) (t : Beside) (f : ℕ → Records → Records) (after : Fa
 
 -- an event that changes nothing, and tells nothing
 pub as_it_is : (s : Fabric) (t : Beside) (answer : Answer) → IsShaped s → Moves s t (refused s answer)
-as_it_is s t answer shape = (t, record { shape = shape; count = refl; blocks = λ o l. stays (length s.nodes) (block_of s t o) })
+as_it_is s t answer shape = (t, record { shape = shape; count = refl; frames = frames_stay s t; blocks = λ o l. stays (length s.nodes) (block_of s t o) })
 
 -- a test of the fabric
 pub by_test : (s : Fabric) (t : Beside) (test : Bool) (a b : Moved) → (test ≡ true → Moves s t a) → (test ≡ false → Moves s t b) → Moves s t (if test then a else b)

@@ -19,10 +19,10 @@ use Rattle.fabric_coherence.specs.Steps.{IsInFlight}
 use Rattle.fabric_coherence.specs.Coherent.{IsKept, Keeps, IsFinished}
 use Rattle.fabric_coherence.specs.Events.{MayBe}
 use Rattle.fabric_coherence.specs.Recorded.{KeepsRecords, MayBeRecorded, noted_by, recorded_by}
-use Rattle.fabric_coherence.specs.Leads.{Goes, Moves}
+use Rattle.fabric_coherence.specs.Leads.{KeepsFrames, Goes, Moves}
 use Rattle.fabric_coherence.specs.Runs.{IsRun, fabric_after}
 use Rattle.fabric_coherence.specs.CacheEvents.{comes_to_cache}
-use Rattle.fabric_coherence.proofs.KeptCommon.{as_it_is, by_test, kept_on, recorded_on}
+use Rattle.fabric_coherence.proofs.KeptCommon.{frames_stay, as_it_is, by_test, kept_on, recorded_on}
 use Rattle.fabric_coherence.proofs.KeptNet.{lost_moves, hopped_moves, killed_moves, rises_goes, ready_delivered_moves, advance_delivered_moves}
 use Rattle.fabric_coherence.proofs.KeptHome.{home_delivery_moves}
 use Rattle.fabric_coherence.proofs.KeptCache.{cache_delivery_moves}
@@ -128,6 +128,30 @@ each_keeps config s (Kill switch) k m = event_keeps config s k.0 (Kill switch) k
 each_keeps config s (Report n) k m = event_keeps config s k.0 (Report n) k.1 m tt
 each_keeps config s (Advance j) k m = event_keeps config s k.0 (Advance j) k.1 m tt
 each_keeps config s (Recover j) k m = event_keeps config s k.0 (Recover j) k.1 m tt
+
+-- the same, with what becomes of the frames at edges
+abbrev FramesKept : Config → Fabric → Beside → FabricEvent → Type 0
+FramesKept config s t event = (u : Beside) × IsKept (moved_by config s event).fabric u × KeepsFrames s t u
+
+no_write_frames : (config : Config) (s : Fabric) (t : Beside) (event : FabricEvent) → IsKept s t → MayBe s event → IsNoWrite event → FramesKept config s t event
+no_write_frames config s t event k m w = let g = event_goes config s t event k m w in (g.0, kept_on s t (noted_by s event (moved_by config s event)) (moved_by config s event).fabric g.0 k g.1, g.1.frames)
+
+write_frames : (config : Config) (s : Fabric) (t : Beside) (n : ℕ) (w : Written) → IsKept s t → MayBe s (Write n w) → FramesKept config s t (Write n w)
+unfolding moved_by
+write_frames config s t n w k m = (t, stored_kept s t k n w m, frames_stay s t)
+
+pub each_keeps_frames : (config : Config) (s : Fabric) (t : Beside) (event : FabricEvent) → IsKept s t → MayBe s event → FramesKept config s t event
+each_keeps_frames config s t (Write n w) k m = write_frames config s t n w k m
+each_keeps_frames config s t (Access n b need) k m = no_write_frames config s t (Access n b need) k m tt
+each_keeps_frames config s t (Evict n b) k m = no_write_frames config s t (Evict n b) k m tt
+each_keeps_frames config s t (Edge n) k m = no_write_frames config s t (Edge n) k m tt
+each_keeps_frames config s t (Hop id) k m = no_write_frames config s t (Hop id) k m tt
+each_keeps_frames config s t (Deliver id) k m = no_write_frames config s t (Deliver id) k m tt
+each_keeps_frames config s t (Lose id) k m = no_write_frames config s t (Lose id) k m tt
+each_keeps_frames config s t (Kill switch) k m = no_write_frames config s t (Kill switch) k m tt
+each_keeps_frames config s t (Report n) k m = no_write_frames config s t (Report n) k m tt
+each_keeps_frames config s t (Advance j) k m = no_write_frames config s t (Advance j) k m tt
+each_keeps_frames config s t (Recover j) k m = no_write_frames config s t (Recover j) k m tt
 
 -- and those on the records
 pub each_keeps_records : (config : Config) (s : Fabric) (r : ℕ → Records) (event : FabricEvent) → KeepsRecords s r → MayBeRecorded s r event →

@@ -21,7 +21,7 @@ use Rattle.fabric_coherence.specs.CacheEvents.{told_of}
 use Rattle.fabric_coherence.specs.Leads.{Moves}
 use Rattle.fabric_coherence.proofs.NetShape.{with_node-shaped}
 use Rattle.fabric_coherence.proofs.NodeOther.{put-seen, other_put-seen, drop-seen, other_drop-seen}
-use Rattle.fabric_coherence.proofs.KeptCommon.{event_leads, quiet_losing, then_losing, then_quiet, begin_put_elsewhere_leads, stays, leads_as, told_here, told_there, goes_own, as_it_is, by_test}
+use Rattle.fabric_coherence.proofs.KeptCommon.{frames_stay, event_leads, quiet_losing, then_losing, then_quiet, begin_put_elsewhere_leads, stays, leads_as, told_here, told_there, goes_own, as_it_is, by_test}
 use Rattle.fabric_coherence.proofs.KeptNode.{sent-shaped, miss_apart, no_put_seen, owned_seen}
 
 module _ (s : Fabric) (t : Beside) (n b : ℕ) (kept : IsKept s t) (l : n < length s.nodes) (low : b < block_count) (apart : misses_on (node_at s n).cache.miss b ≡ false) where
@@ -32,7 +32,7 @@ module _ (s : Fabric) (t : Beside) (n b : ℕ) (kept : IsKept s t) (l : n < leng
   put_moves : has_put (node_at s n).cache.put ≡ false → is_owned (line_of (node_at s n).cache b).state ≡ true → Moves s t put_begun
   put_moves none owned = (
     t,
-    goes_own s t (λ o r. r) put_begun.fabric t (length-set s.nodes n _)
+    goes_own s t (λ o r. r) put_begun.fabric t (length-set s.nodes n _) (frames_stay s t)
         (sent-shaped s n kept.shape l (with_put (node_at s n) b) b (send (home_node s b) PutReq) PutBegun (kept.shape.lines n l) low (kept.blocks b low).nodes.home_low kept.shape.some)
         b (losing (begin_put (block_of s t b) n) (lost_at_once put_begun.sent)) (λ o. losing (numbers_elsewhere (begin_put_elsewhere (block_of s t o) n) 1) (lost_at_once put_begun.sent))
         (put-seen s t n b kept.shape l)
@@ -52,7 +52,7 @@ module _ (s : Fabric) (t : Beside) (n b : ℕ) (kept : IsKept s t) (l : n < leng
   drop_moves : (line_of (node_at s n).cache b).state ≡ Shared → Moves s t (drops_copy s n b)
   drop_moves shared = (
     t,
-    goes_own s t (heard_by (told_of n (Some b))) (with_node s n (without_copy (node_at s n) b)) t (length-set s.nodes n _)
+    goes_own s t (heard_by (told_of n (Some b))) (with_node s n (without_copy (node_at s n) b)) t (length-set s.nodes n _) (frames_stay s t)
         (with_node-shaped s n (without_copy (node_at s n) b) kept.shape l (length-set (node_at s n).cache.lines b no_line ∙ kept.shape.lines n l))
         b (evict_shared (block_of s t b) n) (λ o. block_of s t o)
         (drop-seen s t n b l shared)

@@ -29,7 +29,7 @@ use Rattle.sn_coherence.specs.Events.{GrantExclusive, ReadAtHome, Upgrades, Move
 use Rattle.fabric_coherence.specs.HomeEvents.{read_event, write_event, put_event, other_count}
 use Rattle.fabric_coherence.specs.HomeSeen.{other_targets}
 use Rattle.fabric_coherence.specs.Leads.{Moves}
-use Rattle.fabric_coherence.proofs.KeptCommon.{IsQuiet, quiet_losing, elsewhere_leads, goes_own, as_it_is}
+use Rattle.fabric_coherence.proofs.KeptCommon.{IsQuiet, frames_stay, quiet_losing, elsewhere_leads, goes_own, as_it_is}
 
 reply_is : (a b : row.HomeReply) → AtHome a ≡ AtHome b → a ≡ b
 reply_is a b h = cc
@@ -166,7 +166,7 @@ module _ (s : Fabric) (t : Beside) (m : Message) (kept : IsKept s t) (flight : I
   row_moves : (x : Body) (reply : row.HomeReply) → m.body ≡ x → outcome_of s m x ≡ AtHome reply → Moves s t (after_home s m reply)
   row_moves x reply is h = (
     beside_with t m.block own,
-    goes_own s t (λ o r. r) (after_home s m reply).fabric (beside_with t m.block own) (length-set s.nodes m.to (record (node_at s m.to) { log = reply.after.log })) shaped m.block (losing own lost) others
+    goes_own s t (λ o r. r) (after_home s m reply).fabric (beside_with t m.block own) (length-set s.nodes m.to (record (node_at s m.to) { log = reply.after.log })) (frames_stay s t) shaped m.block (losing own lost) others
         does.0 (quiet_losing (length s.nodes) (block_of s t m.block) (home_event s m x) lost does.1 (home-quiet s m x))
         (λ o l other. home-elsewhere s t m kept.shape flight of_block reached own o other x reply is h) (λ o l other. elsewhere_leads (length s.nodes) (block_of s t o) m.id (length reply.sends)),
   )

@@ -25,7 +25,7 @@ use Rattle.fabric_coherence.specs.Leads.{Leads, Goes, Moves}
 use Rattle.fabric_coherence.proofs.InFlight.{in_flight, found-for_all}
 use Rattle.fabric_coherence.proofs.NetEvents.{lose-seen, move-seen, kill-seen, ready-seen, advance-seen, validate-seen}
 use Rattle.fabric_coherence.proofs.NetShape.{without-kept, moved-kept, kill-kept, advance-kept, validate-kept}
-use Rattle.fabric_coherence.proofs.KeptCommon.{event_leads, quiet_leads, leads_as, losing_leads, then_losing, stays, goes_each, as_it_is, by_test}
+use Rattle.fabric_coherence.proofs.KeptCommon.{frames_stay, event_leads, quiet_leads, leads_as, losing_leads, then_losing, stays, goes_each, as_it_is, by_test}
 
 module _ (s : Fabric) (t : Beside) (kept : IsKept s t) where
   abbrev nodes : ℕ
@@ -33,15 +33,15 @@ module _ (s : Fabric) (t : Beside) (kept : IsKept s t) where
 
   -- a message is taken out, moves on, or is lost with its switch
   without_goes : (id : ℕ) → Goes s t (λ o r. r) (with_net s (without_flight s.net id)) t
-  without_goes id = goes_each s t (λ o r. r) (with_net s (without_flight s.net id)) t refl (without-kept s kept.shape id) (λ o. lose (block_of s t o) id)
+  without_goes id = goes_each s t (λ o r. r) (with_net s (without_flight s.net id)) t refl (frames_stay s t) (without-kept s kept.shape id) (λ o. lose (block_of s t o) id)
       (λ o l. lose-seen s t o id) (λ o l. quiet_leads nodes (block_of s t o) (Lose id) tt tt)
 
   moved_goes : (id place : ℕ) → Goes s t (λ o r. r) (with_net s (moved s.net id place)) t
-  moved_goes id place = goes_each s t (λ o r. r) (with_net s (moved s.net id place)) t refl (moved-kept s kept.shape id place) (block_of s t)
+  moved_goes id place = goes_each s t (λ o r. r) (with_net s (moved s.net id place)) t refl (frames_stay s t) (moved-kept s kept.shape id place) (block_of s t)
       (λ o l. move-seen s t o id place) (λ o l. stays nodes (block_of s t o))
 
   kill_goes : (switch : ℕ) (dead : List Bool) → Goes s t (λ o r. r) (with_net s (record s.net { dead = dead; flights = filter (λ f. not (nat_eq f.place switch)) s.net.flights })) t
-  kill_goes switch dead = goes_each s t (λ o r. r) (with_net s (record s.net { dead = dead; flights = filter (λ f. not (nat_eq f.place switch)) s.net.flights })) t refl (kill-kept s kept.shape switch dead)
+  kill_goes switch dead = goes_each s t (λ o r. r) (with_net s (record s.net { dead = dead; flights = filter (λ f. not (nat_eq f.place switch)) s.net.flights })) t refl (frames_stay s t) (kill-kept s kept.shape switch dead)
       (λ o. losing (block_of s t o) (standing switch s.net.flights))
       (λ o l. kill-seen s t o switch dead kept.shape.rising) (λ o l. losing_leads nodes (block_of s t o) (standing switch s.net.flights))
 
@@ -79,7 +79,7 @@ module _ (s : Fabric) (t : Beside) (kept : IsKept s t) where
       Moves s t (delivers config s m (outcome_of s m (Ready k)))
   ready_moves config m k e l = (
     t,
-    goes_each s t (λ o r. hears r m.from k) (with_net s (without_flight s.net m.id)) t refl (without-kept s kept.shape m.id) (λ o. deliver_ready (block_of s t o) m.id)
+    goes_each s t (λ o r. hears r m.from k) (with_net s (without_flight s.net m.id)) t refl (frames_stay s t) (without-kept s kept.shape m.id) (λ o. deliver_ready (block_of s t o) m.id)
         (λ o q. ready-seen s t o m.id) heard,
   )
     where
@@ -94,7 +94,7 @@ module _ (s : Fabric) (t : Beside) (kept : IsKept s t) where
       Moves s t (delivers config s m (outcome_of s m (Advance k)))
   advance_moves config m k low e l = (
     t,
-    goes_each s t (λ o r. r) (with_net (with_node s m.to (learned (node_at s m.to) k)) (without_flight s.net m.id)) t (length-set s.nodes m.to (learned (node_at s m.to) k))
+    goes_each s t (λ o r. r) (with_net (with_node s m.to (learned (node_at s m.to) k)) (without_flight s.net m.id)) t (length-set s.nodes m.to (learned (node_at s m.to) k)) (frames_stay s t)
         (advance-kept s kept.shape m.id m.to k low) (λ o. deliver_advance (block_of s t o) m.id)
         (λ o q. advance-seen s t o m k low (e o)) (λ o q. quiet_leads nodes (block_of s t o) (DeliverAdvance m.id) (seen_arrives block.Advance o m.from m.to m.tag k m.id (e o) l) tt),
   )
@@ -119,5 +119,5 @@ module _ (s : Fabric) (t : Beside) (kept : IsKept s t) where
   rises = sending (record s { point = s.point + 1 }) 0 0 (advances (s.point + 1) 0 s.nodes) (Validated (s.point + 1))
 
   pub rises_goes : ((o : ℕ) → o < block_count → Leads nodes (block_of s t o) (λ r. r) (validate nodes (block_of s t o))) → Goes s t (λ o r. r) rises.fabric t
-  rises_goes leads = goes_each s t (λ o r. r) rises.fabric t refl (validate-kept s kept.shape) (λ o. losing (validate nodes (block_of s t o)) (lost_at_once rises.sent))
+  rises_goes leads = goes_each s t (λ o r. r) rises.fabric t refl (frames_stay s t) (validate-kept s kept.shape) (λ o. losing (validate nodes (block_of s t o)) (lost_at_once rises.sent))
       (λ o l. validate-seen s t o kept.shape.below) (λ o l. then_losing nodes (block_of s t o) (validate nodes (block_of s t o)) (λ r. r) (lost_at_once rises.sent) (leads o l))

@@ -1,6 +1,8 @@
 -- A clock edge and a recovery lead every block on.
-use Rattle.std.proofs.Common.{◌≡◌, ◌∙◌, ℕ, suc, ◌+◌, ◌-◌, ◌<◌, ◌≤◌, Bool, true, false, List, [], ◌∷◌, length, refl, ap, sym, subst, arith, if◌then◌else◌, nat_eq, map, length-set, Option, Some, None}
+use Rattle.std.proofs.Common.{◌≡◌, ◌⊎◌, inl, inr, ⊎_elim, ◌∙◌, ℕ, suc, ◌+◌, ◌-◌, ◌<◌, ◌≤◌, Bool, true, false, List, [], ◌∷◌, length, refl, ap, sym, subst, arith, if◌then◌else◌, nat_eq, map, length-set, Option, Some, None}
+use Rattle.std.proofs.lemmas.Bool.{cases_eq}
 use Rattle.std.proofs.lemmas.Bool.Decides.{nat_tests}
+use Rattle.sn_coherence.specs.Block.{set, set_row}
 use Rattle.std.proofs.lemmas.List.{length-map, length-replicate}
 use Rattle.log_buffer.specs.Log.{LogEntry}
 use Rattle.sn_base.specs.declared.event.Answer.TheVariants.{CheckpointsFull, Edged, CutOff}
@@ -20,19 +22,39 @@ use Rattle.fabric_coherence.specs.Sends.{IsNetShaped}
 use Rattle.fabric_coherence.specs.NodeSeen.{beside_edged, beside_restored}
 use Rattle.fabric_coherence.specs.Coherent.{IsKept}
 use Rattle.fabric_coherence.specs.Recorded.{noted_by}
-use Rattle.fabric_coherence.specs.Leads.{Goes}
+use Rattle.fabric_coherence.specs.Leads.{is_framed, KeepsFrames, Goes}
 use Rattle.fabric_coherence.proofs.NetShape.{with_node-shaped, restored-shaped}
 use Rattle.fabric_coherence.proofs.NodeOther.{edge-seen}
 use Rattle.fabric_coherence.proofs.Recovery.{recovery-seen, each_node, restored_home_at}
-use Rattle.fabric_coherence.proofs.KeptCommon.{event_leads, goes_each, as_it_is}
+use Rattle.fabric_coherence.proofs.KeptCommon.{frames_stay, event_leads, goes_each, as_it_is}
 
 -- there is room for a checkpoint
 has_room : (now known : ℕ) → nat_eq (now - known) checkpoint_limit ≡ false → now ≤ known + 4 → now < known + 4
 has_room now known e l = grind (arith, nat_tests)
 
+-- a row of frames with a new edge: at it stands h, and else what stood before
+edge_row : (f : ℕ → ℕ → ℕ → Bool) (h : ℕ → ℕ → Bool) (n k m j : ℕ) →
+    ((b : ℕ) → set_row (f b) n (set (f b n) k (h b n)) m j ≡ f b m j) ⊎ ((b : ℕ) → set_row (f b) n (set (f b n) k (h b n)) m j ≡ h b m)
+edge_row f h n k m j = ⊎_elim
+    (λ (e : m ≡ n). ⊎_elim
+    (λ (d : j ≡ k). inr (λ b. edge_at b e d))
+    (λ (d : j ≡ k → ⊥). inl (λ b. edge_past b (λ g i. d i)))
+    (cases_eq j k))
+    (λ (e : m ≡ n → ⊥). inl (λ b. edge_past b (λ g i. e g)))
+    (cases_eq m n)
+  where
+    edge_at : (b : ℕ) → m ≡ n → j ≡ k → set_row (f b) n (set (f b n) k (h b n)) m j ≡ h b m
+    edge_at b e d = grind (arith, nat_tests)
+
+    edge_past : (b : ℕ) → (m ≡ n → j ≡ k → ⊥) → set_row (f b) n (set (f b n) k (h b n)) m j ≡ f b m j
+    edge_past b e = grind (arith, nat_tests)
+
 module _ (s : Fabric) (t : Beside) (kept : IsKept s t) (n : ℕ) (l : n < length s.nodes) where
+  edge_frames : KeepsFrames s t (beside_edged s t n)
+  edge_frames m j = edge_row t.framed (λ b x. is_framed (block_of s t b) x) n ((node_at s n).now + 1) m j
+
   edge_goes : nat_eq ((node_at s n).now - (node_at s n).known) checkpoint_limit ≡ false → Goes s t (λ b r. unreserves r n) (with_node s n (after_edge (node_at s n))) (beside_edged s t n)
-  edge_goes e = goes_each s t (λ b r. unreserves r n) (with_node s n (after_edge (node_at s n))) (beside_edged s t n) (length-set s.nodes n (after_edge (node_at s n)))
+  edge_goes e = goes_each s t (λ b r. unreserves r n) (with_node s n (after_edge (node_at s n))) (beside_edged s t n) (length-set s.nodes n (after_edge (node_at s n))) edge_frames
       (with_node-shaped s n (after_edge (node_at s n)) kept.shape l (kept.shape.lines n l))
       (λ b. edge (block_of s t b) n) (λ b w. edge-seen s t n b l) (λ b w. event_leads (length s.nodes) (block_of s t b) (Edge n) (allowed b w) (λ r. allowed b w))
     where
@@ -97,7 +119,7 @@ module _ (s : Fabric) (shape : IsShaped s) where
 
 module _ (s : Fabric) (t : Beside) (kept : IsKept s t) where
   restored_goes : Goes s t (λ b r. rolls_back r (length s.nodes) s.point) (restored s s.point) (beside_restored t)
-  restored_goes = goes_each s t (λ b r. rolls_back r (length s.nodes) s.point) (restored s s.point) (beside_restored t) (length-restored_nodes s kept.shape) (recovery-shaped s kept.shape)
+  restored_goes = goes_each s t (λ b r. rolls_back r (length s.nodes) s.point) (restored s s.point) (beside_restored t) (length-restored_nodes s kept.shape) (frames_stay s t) (recovery-shaped s kept.shape)
       (λ b. recover (length s.nodes) (block_of s t b)) (λ b w. recovery-seen s t b kept.shape w)
       (λ b w. event_leads (length s.nodes) (block_of s t b) Recover tt (λ r. tt))
 

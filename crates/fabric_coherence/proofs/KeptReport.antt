@@ -19,7 +19,7 @@ use Rattle.fabric_coherence.specs.Coherent.{IsKept}
 use Rattle.fabric_coherence.specs.Leads.{Goes, Moves}
 use Rattle.fabric_coherence.proofs.NetShape.{with_net-shaped, posted-shaped, net-shaped}
 use Rattle.fabric_coherence.proofs.NodeOther.{report-seen}
-use Rattle.fabric_coherence.proofs.KeptCommon.{quiet_losing, goes_each, as_it_is, by_test}
+use Rattle.fabric_coherence.proofs.KeptCommon.{frames_stay, quiet_losing, goes_each, as_it_is, by_test}
 
 -- each least is at most what it was made of
 
@@ -129,7 +129,7 @@ module _ (s : Fabric) (t : Beside) (kept : IsKept s t) (n : ℕ) where
         (posted-shaped (routes_of s) s.net n (node_at s n).now 0 (send 0 (Ready (ready_of s n)) ∷ []) (length s.nodes) l first_block ((kept.shape.some, kept.shape.some), tt) (net-shaped s kept.shape))
 
     report_goes : Goes s t (λ b r. r) sends.fabric t
-    report_goes = goes_each s t (λ b r. r) sends.fabric t refl report-shaped
+    report_goes = goes_each s t (λ b r. r) sends.fabric t refl (frames_stay s t) report-shaped
         (λ b. losing (report (block_of s t b) n (ready_of s n)) (lost_at_once sends.sent))
         (λ b w. report-seen s t n b (ready_of s n) kept.shape)
         (λ b w. quiet_losing (length s.nodes) (block_of s t b) (Report n (ready_of s n)) (lost_at_once sends.sent) (l, report-ready b w) tt)

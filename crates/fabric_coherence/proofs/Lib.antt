@@ -18,7 +18,7 @@ mod HomeOutcomes
 mod NodeSeen
 mod NodeAccess
 mod NodeOther
-mod Recovery
+pub mod Recovery
 pub mod Holders
 mod KeptCommon
 mod KeptNet

@@ -1,8 +1,8 @@
 -- How one block goes on to another by its own events, and the fabric with all its blocks.
-use Rattle.std.specs.Prelude.{◌≡◌, ℕ, ◌<◌, length}
+use Rattle.std.specs.Prelude.{◌≡◌, ◌⊎◌, ℕ, ◌<◌, Bool, length}
 use Rattle.sn_model.specs.Caches.{block_count}
 use Rattle.sn_model.specs.Fabric.{Fabric, Moved}
-use Rattle.sn_coherence.specs.Block.{Block}
+use Rattle.sn_coherence.specs.Block.{Block, has_frame}
 use Rattle.sn_coherence.specs.Kept.{Kept}
 use Rattle.sn_coherence.specs.KeptRecords.{KeptRecords}
 use Rattle.sn_coherence.specs.Records.{Records}
@@ -15,10 +15,19 @@ pub record Leads (N : ℕ) (b : Block) (f : Records → Records) (c : Block) : T
   pub kept : Kept N b → Kept N c
   pub records : (r : Records) → Kept N b → KeptRecords b r → KeptRecords c (f r)
 
+-- whether a block has a frame of node n
+abbrev pub is_framed : Block → ℕ → Bool
+is_framed block n = has_frame (block.line n) (block.miss n).want
+
+-- at each edge of a node those blocks had frames that had them before, or, at a new edge, those that have them
+abbrev pub KeepsFrames : Fabric → Beside → Beside → Type 0
+KeepsFrames s t u = (n j : ℕ) → ((b : ℕ) → u.framed b n j ≡ t.framed b n j) ⊎ ((b : ℕ) → u.framed b n j ≡ is_framed (block_of s t b) n)
+
 -- the fabric goes on, and each block leads to what it is then; u is what stands beside the fabric after that
 pub record Goes (s : Fabric) (t : Beside) (f : ℕ → Records → Records) (after : Fabric) (u : Beside) : Type 0 where
   pub shape : IsShaped after
   pub count : length after.nodes ≡ length s.nodes
+  pub frames : KeepsFrames s t u
   pub blocks : (b : ℕ) → b < block_count → Leads (length s.nodes) (block_of s t b) (f b) (block_of after u b)
 
 -- the fabric goes on to what an event comes to, and the records hear what it tells

@@ -9,11 +9,13 @@ ghost use Rattle.sn_model.specs.Caches.{block_count, line_of};
 ghost use Rattle.sn_model.specs.Cuts.{is_unfinished};
 ghost use Rattle.sn_model.specs.Fabric.{Fabric, node_at, first_fabric};
 ghost use Rattle.sn_model.specs.FabricEvents.{FabricEvent, moved_by};
-ghost use Rattle.fabric_coherence.specs.Coherent.{Keeps, IsInTime};
+ghost use Rattle.fabric_coherence.specs.Coherent.{IsKept, Keeps, IsInTime};
 ghost use Rattle.fabric_coherence.specs.Events.{MayBe, CanUse};
 ghost use Rattle.fabric_coherence.specs.Holders.{IsCoherent};
+ghost use Rattle.fabric_coherence.specs.Leads.{KeepsFrames};
 ghost use Rattle.fabric_coherence.specs.Recorded.{IsOfFabric};
 ghost use Rattle.fabric_coherence.specs.Runs.{IsRun, fabric_after};
+ghost use Rattle.fabric_coherence.specs.View.{Beside};
 
 /// At the start all sentences hold of every block.
 pub fn start_is_kept()
@@ -23,6 +25,12 @@ pub fn start_is_kept()
 /// Every event of the fabric that can happen keeps them, whatever its answer is.
 pub fn each_event_keeps()
     ensures { (config : Config) (s : Fabric) (event : FabricEvent) → Keeps s → MayBe s event → Keeps (moved_by config s event).fabric }
+{}
+
+/// And the blocks that had frames of a node at an edge stay those that have them there, which bounds the lines of a cut.
+pub fn each_event_keeps_frames()
+    ensures { (config : Config) (s : Fabric) (t : Beside) (event : FabricEvent) → IsKept s t → MayBe s event
+        → (u : Beside) × IsKept (moved_by config s event).fabric u × KeepsFrames s t u }
 {}
 
 /// No event brings or takes a node.

@@ -1,0 +1,11 @@
+mod Lists
+mod Steps
+mod Rows
+mod Replies
+mod Misses
+mod Deliveries
+pub mod Events
+mod Cuts
+pub mod Runs
+pub mod Numbers
+mod Finds
