@@ -29,3 +29,4 @@ pub mod Walk
 pub mod Written
 pub mod LostTransfer
 pub mod ByIntervals
+pub mod FabricRuns

@@ -5,3 +5,4 @@ pub mod Accesses
 pub mod Runs
 pub mod Headline
 pub mod Example
+pub mod OfFabric
