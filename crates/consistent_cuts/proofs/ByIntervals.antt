@@ -1,5 +1,5 @@
 -- The run whose two nodes retire in the order that isn't that of their intervals, event by event.
-use Rattle.std.proofs.Common.{◌≡◌, ℕ, ◌+◌, true, false, List, [], ◌∷◌, ◌++◌, Some, None, refl, ap, ◌∙◌}
+use Rattle.std.proofs.Common.{◌≡◌, ℕ, ◌+◌, List, [], ◌∷◌, ◌++◌, None, refl, ap}
 use Rattle.sn_base.specs.declared.event.Answer.TheVariants.{Retired, Edged, Reported, Hopped, Delivered, Validated}
 use Rattle.sn_base.specs.declared.event.Event.TheVariants.{Step, Edge, Hop, Deliver, Report, Validate}
 use Rattle.sn_msg.specs.declared.Body.TheVariants.{Ready, Advance}

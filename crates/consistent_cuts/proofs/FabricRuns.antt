@@ -20,14 +20,13 @@ use Rattle.sn_model.specs.Fabric.{Fabric, first_fabric}
 use Rattle.sn_model.specs.FabricEvents.{FabricEvent, moved_by}
 use Rattle.sn_model.specs.FabricEvents as fabric
 use Rattle.sn_model.specs.Machine.{State, start_of, processor_at}
-use Rattle.sn_model.specs.Instructions.{Stepped, found_at, retired, stepped, written_by}
+use Rattle.sn_model.specs.Instructions.{found_at, retired, stepped, written_by}
 use Rattle.sn_model.specs.MachineEvents.{validates, unready_node}
-use Rattle.sn_model.specs.PointEvents.{advanced}
 use Rattle.sn_model.specs.Step.{step_of, state_after}
 use Rattle.sn_model.specs.Trace.{Entry as Retired, traced}
 use Rattle.sn_coherence.specs.Records.{Records}
 use Rattle.sn_consistency.specs.Entries.{Entry}
-use Rattle.fabric_coherence.specs.Events.{MayBe, CanUse, CanWrite}
+use Rattle.fabric_coherence.specs.Events.{MayBe, CanUse}
 use Rattle.fabric_coherence.specs.Runs.{IsRun, fabric_after}
 use Rattle.fabric_coherence.specs.Start.{first_beside}
 use Rattle.fabric_coherence.proofs.KeptStart.{start-kept}
@@ -36,7 +35,7 @@ use Rattle.fabric_bounds.specs.Counts.{CountsTo}
 use Rattle.fabric_bounds.proofs.Runs.{start_bounded, run_keeps_bounds}
 use Rattle.fabric_bounds.proofs.Numbers.{start_counts, counts_from_the_start}
 use Rattle.consistent_cuts.specs.Accesses.{CanServe, CanServeWant, CanRetire, write_of}
-use Rattle.consistent_cuts.specs.Joined.{IsJoined, Joins, Holds}
+use Rattle.consistent_cuts.specs.Joined.{IsJoined, Holds}
 use Rattle.consistent_cuts.specs.OfFabric.{GoesBy}
 use Rattle.consistent_cuts.specs.Runs.{Fits, AllFit}
 use Rattle.consistent_cuts.proofs.EachEvent.{all_reported}

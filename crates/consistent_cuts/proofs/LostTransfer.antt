@@ -1,5 +1,5 @@
 -- The run that loses a block with its ownership, event by event.
-use Rattle.std.proofs.Common.{◌≡◌, ℕ, true, false, List, [], ◌∷◌, ◌++◌, Some, None, refl, sym, ap, ◌∙◌, arith}
+use Rattle.std.proofs.Common.{◌≡◌, ℕ, List, [], ◌∷◌, ◌++◌, Some, None, refl, ap, ◌∙◌, arith}
 use Rattle.sn_base.specs.declared.event.Answer.TheVariants.{Retired, Missed, Edged, Reported, Hopped, Delivered, Lost, Validated, Recovered}
 use Rattle.sn_base.specs.declared.event.Event.{Event}
 use Rattle.sn_base.specs.declared.event.Event.TheVariants.{Step, Edge, Hop, Deliver, Lose, Report, Validate, Recover}
@@ -11,7 +11,6 @@ use Rattle.route_plan.specs.Grid.{row_count, column_count, along, partner, is_li
 use Rattle.route_plan.specs.Distances.{least_below, some_below, is_living, comes, distance}
 use Rattle.route_plan.specs.Routes.{enter_of, next_of as next_place, is_cut_off, cut_off_from, first_cut_off}
 use Rattle.sn_model.specs.declared.cache.Need.TheVariants.{Write}
-use Rattle.sn_model.specs.Fabric.{Fabric}
 use Rattle.sn_model.specs.Machine.{State}
 use Rattle.sn_model.specs.NodeEvents.{ready_of}
 use Rattle.sn_model.specs.Net.{flight_of}

@@ -11,7 +11,7 @@ use Rattle.rv_core.specs.Core.{start_of}
 use Rattle.sn_model.specs.Caches.{Miss, empty_lines}
 use Rattle.sn_model.specs.Fabric.{Fabric, Node, Flight, first_homes, no_switches}
 use Rattle.sn_model.specs.Homes.{HomeEntry}
-use Rattle.sn_model.specs.Machine.{State, Processor, Retirement, start_of as first_state}
+use Rattle.sn_model.specs.Machine.{Processor, Retirement, start_of as first_state}
 use Rattle.sn_model.specs.Trace.{Entry}
 use Rattle.consistent_cuts.specs.Example.{storing, small}
 use Rattle.consistent_cuts.proofs.Walk.{Moment, Leads, Comes, leads, stays}

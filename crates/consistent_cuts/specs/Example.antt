@@ -6,12 +6,11 @@ use Rattle.sn_base.specs.declared.event.Answer.TheVariants.{Validated, Recovered
 use Rattle.sn_base.specs.declared.event.Event.{Event}
 use Rattle.sn_base.specs.declared.event.Event.TheVariants.{Step, Edge, Hop, Deliver, Lose, Report, Validate, Recover}
 use Rattle.sn_msg.specs.declared.Body.TheVariants.{DataM}
-use Rattle.rv_core.specs.declared.step.Record.{Record}
 use Rattle.sn_model.specs.Fabric.{initial_block}
 use Rattle.sn_model.specs.Net.{flight_of}
 use Rattle.sn_model.specs.Step.{step_of}
 use Rattle.sn_model.specs.Trace.{Entry}
-use Rattle.consistent_cuts.specs.Headline.{IsRun, reached, retirements}
+use Rattle.consistent_cuts.specs.Headline.{reached, retirements}
 
 -- addi x6, x0, 1 · lui x5, 0x80001 · sw x6, 0(x5): a store to block 64, whose home is node 0
 abbrev pub storing : ImageData

@@ -20,5 +20,5 @@ mod runs;
 
 pub use bounds::every_run_is_one_of_the_fabric;
 pub use examples::some_runs_are_runs;
-pub use kept::{each_event_joins, joined_is_consistent, start_is_joined};
+pub use kept::{each_event_joins, joined_is_consistent, records_are_of_the_list, start_is_joined};
 pub use runs::{every_event_is_consistent, every_moment_is_consistent};

@@ -1,5 +1,5 @@
 -- What the sentences of a block say of its holders, in the words of the fabric's definitions.
-use Rattle.std.proofs.Common.{◌≡◌, ◌≢◌, ◌∙◌, ℕ, ◌<◌, ◌≤◌, true, false, length, refl, sym, subst, ap, arith, Option, Some, None}
+use Rattle.std.proofs.Common.{true≢false, ◌≡◌, ◌≢◌, ◌∙◌, ℕ, ◌<◌, ◌≤◌, true, false, List, length, refl, sym, subst, ap, arith, Option, Some, None}
 use Rattle.std.proofs.lemmas.Bool.Decides.{nat_tests}
 use Rattle.std.specs.Prelude.{is_some}
 use Rattle.std.specs.Option.{option_map}
@@ -10,7 +10,7 @@ use Rattle.sn_model.specs.declared.cache.LineState.{LineState}
 use Rattle.sn_model.specs.declared.cache.LineState.TheVariants as state
 use Rattle.sn_model.specs.Caches.{Line, Miss, line_of, is_owned, is_writable_state, misses_on, block_count}
 use Rattle.sn_model.specs.Cuts.{held_by, named_by, owned_content, holds_at, names_at, transaction_before}
-use Rattle.sn_model.specs.Homes.{Holder, OfCache, Transaction}
+use Rattle.sn_model.specs.Homes.{Holder, Itself, OfCache, Transaction}
 use Rattle.sn_model.specs.Fabric.{Fabric, node_at, home_of, home_node}
 use Rattle.sn_coherence.specs.Block as block
 use Rattle.sn_coherence.specs.Consequences.{HasOneHolder as BlockHolder}
@@ -19,7 +19,8 @@ use Rattle.sn_coherence.specs.Log.{was_owned, was_home, old_cache, told}
 use Rattle.sn_coherence.proofs.WhatFollows.{kept_one_holder}
 use Rattle.fabric_coherence.specs.View.{Beside, block_of, line_seen, miss_seen, is_itself, owner_of, kind_open, begun_of}
 use Rattle.fabric_coherence.specs.Coherent.{IsKept}
-use Rattle.fabric_coherence.specs.Holders.{HasOneWriter, HasOneHolder, IsCoherent}
+use Rattle.sn_model.specs.RecoveryPoint.{IsHeld}
+use Rattle.fabric_coherence.specs.Holders.{HasOneWriter, HasHolder, IsCoherent}
 use Rattle.fabric_coherence.proofs.Recovery.{entry_sided, IsSided}
 use Rattle.fabric_coherence.proofs.HomeRows.{of-cache}
 
@@ -57,6 +58,34 @@ sided old h = grind (arith, h)
 named_told : (o : Option LogEntry) (holder : Holder) → IsSided true o → (is_itself (named_by (old_of o) holder) ≡ told was_home (old_of o) (is_itself holder)) × (owner_of (named_by (old_of o) holder) ≡ told old_cache (old_of o) (owner_of holder))
 named_told None holder side = (refl, refl)
 named_told (Some e) holder side = old_named e.old holder (sided e.old side)
+
+-- at checkpoint k the home names a cache exactly where that cache holds the block, and no other cache holds it
+pub record HasOneHolder (s : Fabric) (b k : ℕ) : Type 0 where
+  pub named : (n : ℕ) → n < length s.nodes → is_some (holds_at s n b k) ≡ true → names_at s b k ≡ OfCache n
+  pub holds : (n : ℕ) → names_at s b k ≡ OfCache n → (n < length s.nodes) × (is_some (holds_at s n b k) ≡ true)
+
+-- so it is held, with what stands there
+none_held : (c : Option (List ℕ)) → (is_some c ≡ true → ⊥) → c ≡ None
+none_held None h = refl
+none_held (Some content) h = absurd (h refl)
+
+with_content : (c : Option (List ℕ)) → is_some c ≡ true → (content : List ℕ) × (c ≡ Some content)
+with_content None h = absurd (true≢false (sym h))
+with_content (Some content) h = (content, refl)
+
+module _ (s : Fabric) (b k : ℕ) (one : HasOneHolder s b k) where
+  not_held : (x : Holder) → names_at s b k ≡ x → (n : ℕ) → n < length s.nodes → (x ≡ OfCache n → ⊥) → holds_at s n b k ≡ None
+  not_held x e n l other = none_held (holds_at s n b k) (λ h. other (sym e ∙ one.named n l h))
+
+  held_as : (x : Holder) → names_at s b k ≡ x → (content : List ℕ) × IsHeld s b k content x
+  held_as (Itself named) e = (named, (refl, λ n l. not_held (Itself named) e n l (λ q. cc)))
+  held_as (OfCache owner) e =
+      let h = one.holds owner e in
+      let c = with_content (holds_at s owner b k) h.1 in
+      (c.0, (h.0, c.1, λ n l other. not_held (OfCache owner) e n l (λ q. other (sym (ap owner_of q)))))
+
+  pub one_held : HasHolder s b k
+  one_held = held_as (names_at s b k) refl
 
 module _ (s : Fabric) (t : Beside) (b : ℕ) where
   pub holds_is : (n k : ℕ) → is_some (holds_at s n b k) ≡ (block_of s t b).holds n k
@@ -103,4 +132,4 @@ module _ (s : Fabric) (t : Beside) (b : ℕ) where
       (kept.sharing.writer_alone n m (writable_seen (line_of (node_at s n).cache b).state writes) (misses_seen (node_at s n).cache.miss none) apart)
 
 pub coherent : (s : Fabric) (t : Beside) → IsKept s t → (b : ℕ) → b < block_count → IsCoherent s b
-coherent s t kept b l = record { writer = writer_of s t b (kept.blocks b l); holder = λ k low begun. holder_of s t b (kept.blocks b l) k low begun }
+coherent s t kept b l = record { writer = writer_of s t b (kept.blocks b l); holder = λ k low begun. one_held s b k (holder_of s t b (kept.blocks b l) k low begun) }

@@ -19,10 +19,9 @@ use Rattle.sn_coherence.specs.Records.{Records}
 use Rattle.sn_coherence.proofs.WhatFollows.{kept_content, kept_legal}
 use Rattle.fabric_coherence.specs.View.{Beside, block_of, line_seen, is_itself, owner_of, content_of}
 use Rattle.fabric_coherence.specs.Coherent.{IsKept}
-use Rattle.fabric_coherence.specs.Holders.{HasOneHolder}
 use Rattle.fabric_coherence.specs.Told.{Tells}
 use Rattle.fabric_coherence.proofs.Finished.{home_finished}
-use Rattle.fabric_coherence.proofs.Holders.{holder_of, holds_is, names_home, misses_seen}
+use Rattle.fabric_coherence.proofs.Holders.{HasOneHolder, holder_of, holds_is, names_home, misses_seen}
 use Rattle.fabric_coherence.proofs.KeptAccess.{free}
 use Rattle.fabric_coherence.proofs.KeptNode.{present_seen, writable_seen}
 use Rattle.fabric_coherence.proofs.KeptOwn.{length-restored_nodes}
