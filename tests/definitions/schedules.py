@@ -29,5 +29,7 @@ SCHEDULES = {
     "a store-conditional is done": ("reserves", (2, 16, 4, 256), steps(1, 3) + ["hop 1", "deliver 1", "hop 2", "deliver 2", "hop 3", "deliver 3", "step 1"] + steps(0, 3) + ["deliver 4", "hop 5", "deliver 5", "hop 6", "deliver 6", "deliver 7", "step 0", "step 0", "deliver 8", "hop 9", "deliver 9", "hop 10", "deliver 10", "deliver 11", "step 0"]),
     "an exclusive line is written without a message": ("loads", (2, 16, 4, 256), steps(0, 2) + delivered(1, 2, 3) + steps(0, 2) + steps(1, 2) + ["hop 4", "deliver 4", "deliver 5"]),
     "a byte of input is read again after a recovery": ("echoes", (1, 16, 4, 256), ["step 0", "step 0", "input 0 41"] + steps(0, 3) + ["recover"] + steps(0, 4) + REPORTS + ["deliver 1", "validate"]),
+    "two bytes are read in one interval": ("pairs", (1, 16, 4, 256), ["input 0 41", "input 0 42"] + steps(0, 8) + REPORTS + ["deliver 1", "validate"]),
+    "a recovery comes while the home has forwarded a write": ("adds", (2, 16, 4, 256), steps(0, 3) + delivered(1, 2, 3) + ["step 0", "edge 0", "edge 1", "report 0", "report 1", "deliver 4", "hop 5", "deliver 5", "validate"] + steps(1, 3) + ["hop 8", "deliver 8", "recover"]),
     "a full network refuses": ("puts", (1, 16, 4, 256), ["edge 0"] + ["report 0"] * 1025 + ["deliver 1", "report 0", "validate", "lose 2", "validate"]),
 }
