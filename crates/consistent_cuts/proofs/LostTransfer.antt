@@ -414,7 +414,7 @@ unfolding step_of
 loses = record { answers = refl; state = refl; trace = refl }
 
 recovers : Leads storing small lost Recover (Recovered (record { to = 1; undone = 1; dropped = 2 })) recovered
-unfolding step_of first_cut_off cut_off_from is_cut_off distance comes is_living some_below least_below is_linked along partner row_count column_count restored_rest
+unfolding step_of restored_rest first_cut_off cut_off_from is_cut_off distance comes is_living some_below least_below is_linked along partner row_count column_count
 recovers = record { answers = refl; state = refl; trace = refl }
 
 -- the run
