@@ -1,5 +1,5 @@
 -- The run whose two nodes retire in the order that isn't that of their intervals, event by event.
-use Rattle.std.proofs.Common.{◌≡◌, ℕ, ◌+◌, List, [], ◌∷◌, ◌++◌, None, refl, ap}
+use Rattle.std.proofs.Common.{◌≡◌, ℕ, ◌+◌, List, [], ◌∷◌, ◌++◌, refl, ap}
 use Rattle.sn_base.specs.declared.event.Answer.TheVariants.{Retired, Edged, Reported, Hopped, Delivered, Validated}
 use Rattle.sn_base.specs.declared.event.Event.TheVariants.{Step, Edge, Hop, Deliver, Report, Validate}
 use Rattle.sn_msg.specs.declared.Body.TheVariants.{Ready, Advance}
@@ -13,10 +13,10 @@ use Rattle.sn_model.specs.Machine.{State, Processor}
 use Rattle.sn_model.specs.NodeEvents.{ready_of}
 use Rattle.sn_model.specs.Step.{step_of}
 use Rattle.sn_model.specs.Trace.{Entry}
-use Rattle.consistent_cuts.specs.Example.{storing, small, retirement, validating, IsCommittedByIntervals}
+use Rattle.consistent_cuts.specs.Example.{storing, small, plain, retirement, validating, IsCommittedByIntervals}
 use Rattle.consistent_cuts.specs.Headline.{IsRun}
 use Rattle.consistent_cuts.proofs.Walk.{Moment, Leads, Comes, all_fit, least_at_start}
-use Rattle.consistent_cuts.proofs.Written.{begun, added, processor, waits, did, node, flight, homes, fabric, moment, start, ◌⨾◌, no_more}
+use Rattle.consistent_cuts.proofs.Written.{begun, added, processor, waits, bare, flight, homes, fabric, moment, start, ◌⨾◌, no_more}
 
 -- the parts that the moments share
 
@@ -44,20 +44,22 @@ entries = retirement 1 1 ∷ retirement 0 0 ∷ []
 -- the two nodes in these intervals, with nothing reported and both retirements waiting
 abbrev both_waiting : ℕ → ℕ → List Processor → Moment
 both_waiting now_0 now_1 processors =
-    moment (fabric (node now_0 None [] ∷ node now_1 None [] ∷ []) homes [] 1 0) processors (0 ∷ 0 ∷ []) (waits 1 1 ∷ waits 0 0 ∷ []) [] entries
+    moment (fabric (bare now_0 ∷ bare now_1 ∷ []) homes [] 1 0) processors (0 ∷ 0 ∷ []) (waits 1 1 ∷ waits 0 0 ∷ []) [] entries
 
 -- both in interval 2, with these messages in flight
 abbrev reporting : List Flight → ℕ → List ℕ → Moment
 reporting flights next reports =
-    moment (fabric (node 2 None [] ∷ node 2 None [] ∷ []) homes flights next 0) last reports (waits 1 1 ∷ waits 0 0 ∷ []) [] entries
+    moment (fabric (bare 2 ∷ bare 2 ∷ []) homes flights next 0) last reports (waits 1 1 ∷ waits 0 0 ∷ []) [] entries
 
 -- the moments
 
 abbrev edged : Moment
-edged = moment (fabric (node 0 None [] ∷ node 1 None [] ∷ []) homes [] 1 0) (waiting_first ∷ processor (begun 1) (begun 1 ∷ begun 1 ∷ []) ∷ []) (0 ∷ 0 ∷ []) [] [] []
+edged =
+    moment (fabric (bare 0 ∷ bare 1 ∷ []) homes [] 1 0) (waiting_first ∷ processor (begun 1) (begun 1 ∷ begun 1 ∷ []) ∷ []) (0 ∷ 0 ∷ []) [] [] []
 
 abbrev retired : Moment
-retired = moment (fabric (node 0 None [] ∷ node 1 None [] ∷ []) homes [] 1 0) (waiting_first ∷ ahead ∷ []) (0 ∷ 0 ∷ []) (waits 1 1 ∷ []) [] (retirement 1 1 ∷ [])
+retired =
+    moment (fabric (bare 0 ∷ bare 1 ∷ []) homes [] 1 0) (waiting_first ∷ ahead ∷ []) (0 ∷ 0 ∷ []) (waits 1 1 ∷ []) [] (retirement 1 1 ∷ [])
 
 abbrev both_retired : Moment
 both_retired = both_waiting 0 1 (processor (added 0) (begun 0 ∷ []) ∷ ahead ∷ [])
@@ -87,10 +89,10 @@ abbrev both_heard : Moment
 both_heard = reporting [] 3 (2 ∷ 2 ∷ [])
 
 abbrev validated : Moment
-validated = moment (fabric (node 2 None [] ∷ node 2 None [] ∷ []) homes (told 3 1) 5 1) last (2 ∷ 2 ∷ []) (waits 1 1 ∷ []) (did 0 ∷ []) entries
+validated = moment (fabric (bare 2 ∷ bare 2 ∷ []) homes (told 3 1) 5 1) last (2 ∷ 2 ∷ []) (waits 1 1 ∷ []) (plain 0 ∷ []) entries
 
 abbrev both_validated : Moment
-both_validated = moment (fabric (node 2 None [] ∷ node 2 None [] ∷ []) homes (told 3 1 ++ told 5 2) 7 2) last (2 ∷ 2 ∷ []) [] (did 0 ∷ did 1 ∷ []) entries
+both_validated = moment (fabric (bare 2 ∷ bare 2 ∷ []) homes (told 3 1 ++ told 5 2) 7 2) last (2 ∷ 2 ∷ []) [] (plain 0 ∷ plain 1 ∷ []) entries
 
 -- the events
 

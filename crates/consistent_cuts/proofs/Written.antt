@@ -1,5 +1,5 @@
 -- The states of the short runs, written out by their parts. The homes and the lines of a start are left as names.
-use Rattle.std.proofs.Common.{◌≡◌, refl, ℕ, false, List, [], ◌∷◌, Option, None}
+use Rattle.std.proofs.Common.{◌≡◌, refl, ℕ, List, [], ◌∷◌, Option, None}
 use Rattle.std.specs.Prelude.{slice_set}
 use Rattle.sn_base.specs.declared.log.LogEntry.{LogEntry}
 use Rattle.sn_base.specs.declared.event.Answer.{Answer}
@@ -8,15 +8,15 @@ use Rattle.sn_msg.specs.declared.Body.{Body}
 use Rattle.rv_core.specs.declared.state.CoreState.{CoreState}
 use Rattle.rv_core.specs.declared.step.Record.{Record}
 use Rattle.rv_core.specs.Core.{start_of}
-use Rattle.sn_model.specs.Caches.{Miss, empty_lines}
+use Rattle.sn_model.specs.Caches.{Line, Miss, empty_lines}
 use Rattle.sn_model.specs.Fabric.{Fabric, Node, Flight, first_homes, no_switches}
 use Rattle.sn_model.specs.Homes.{HomeEntry}
 use Rattle.sn_model.specs.Machine.{Processor, Retirement, start_of as first_state}
 use Rattle.sn_model.specs.Trace.{Entry}
-use Rattle.consistent_cuts.specs.Example.{storing, small}
+use Rattle.consistent_cuts.specs.Example.{storing, small, plain}
 use Rattle.consistent_cuts.proofs.Walk.{Moment, Leads, Comes, leads, stays}
 
--- node n's core at the entry, and after its first and second instruction
+-- node n's core at the entry, and after its first, second and third instruction
 abbrev pub begun : ℕ → CoreState
 begun n = start_of n 2147483648
 
@@ -26,18 +26,21 @@ added n = record (begun n) { pc = 2147483652; x = slice_set (begun n).x 6 1 }
 abbrev pub pointed : ℕ → CoreState
 pointed n = record (begun n) { pc = 2147483656; x = slice_set (added n).x 5 2147487744 }
 
+abbrev pub stored : ℕ → CoreState
+stored n = record (pointed n) { pc = 2147483660 }
+
 abbrev pub processor : CoreState → List CoreState → Processor
 processor core checkpoints = record { core = core; checkpoints = checkpoints; given = [] }
 
-abbrev pub did : ℕ → Record
-did n = record { core = n; seen = 0; sc_done = false; read = None }
-
 abbrev pub waits : ℕ → ℕ → Retirement
-waits n interval = record { interval = interval; did = did n }
+waits n interval = record { interval = interval; did = plain n }
 
--- a node without a line, and a message in its switch
-abbrev pub node : ℕ → Option Miss → List LogEntry → Node
-node now miss log = record { now = now; known = 0; cache = record { lines = empty_lines; miss = miss; put = None }; log = log }
+-- a node that knows of no recovery point but the first, and one without a line; a message in its switch
+abbrev pub node : ℕ → List Line → Option Miss → List LogEntry → Node
+node now lines miss log = record { now = now; known = 0; cache = record { lines = lines; miss = miss; put = None }; log = log }
+
+abbrev pub bare : ℕ → Node
+bare now = node now empty_lines None []
 
 abbrev pub flight : ℕ → ℕ → ℕ → ℕ → ℕ → Body → ℕ → Flight
 flight id from to tag block body place = record { message = record { id = id; from = from; to = to; tag = tag; block = block; body = body }; place = place }
@@ -55,19 +58,29 @@ fabric nodes entries flights next point = record {
 
 abbrev pub moment : Fabric → List Processor → List ℕ → List Retirement → List Record → List Entry → Moment
 moment f processors reported pending committed trace = record {
-  state = record { fabric = f; processors = processors; reported = reported; pending = pending; committed = committed; held = []; released = [] };
+  state = record {
+    fabric = f;
+    processors = processors;
+    reported = reported;
+    pending = pending;
+    committed = committed;
+    held = [];
+    released = [];
+  };
   trace = trace;
 }
 
 abbrev pub start : Moment
-start = moment (fabric (node 0 None [] ∷ node 0 None [] ∷ []) homes [] 1 0) (processor (begun 0) (begun 0 ∷ []) ∷ processor (begun 1) (begun 1 ∷ []) ∷ []) (0 ∷ 0 ∷ []) [] [] []
+start =
+    moment (fabric (bare 0 ∷ bare 0 ∷ []) homes [] 1 0) (processor (begun 0) (begun 0 ∷ []) ∷ processor (begun 1) (begun 1 ∷ []) ∷ []) (0 ∷ 0 ∷ []) [] [] []
 
 pub is_start : start.state ≡ first_state storing 2
 is_start = refl
 
 infixr 10 ◌⨾◌
 -- an event, and those after it
-pub ◌⨾◌ : {a b c : Moment} {event : Event} {answer : Answer} {events : List Event} → Leads storing small a event answer b → Comes storing small b events c → Comes storing small a (event ∷ events) c
+pub ◌⨾◌ : {a b c : Moment} {event : Event} {answer : Answer} {events : List Event} →
+    Leads storing small a event answer b → Comes storing small b events c → Comes storing small a (event ∷ events) c
 h ⨾ k = leads storing small h k
 
 pub no_more : {a : Moment} → Comes storing small a [] a
