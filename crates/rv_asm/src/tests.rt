@@ -1,0 +1,3 @@
+//! Lines and their words.
+
+mod words;
