@@ -1,0 +1,25 @@
+-- A fabric as a value, and what a call makes of it.
+use Rattle.std.specs.Prelude.{◌≡◌, List, Option, None, length}
+use Rattle.sn_base.specs.declared.config.Config.{Config}
+use Rattle.sn_base.specs.declared.event.Answer.{Answer}
+use Rattle.sn_model.specs.declared.net.Sent.{Sent}
+use Rattle.sn_model.specs.declared.net.Told.{Told}
+use Rattle.switch_net.specs.Net.{NetData}
+use Rattle.sn_model.specs.Fabric.{Fabric, Moved}
+use Rattle.sn_fabric.specs.Nets.{net_as}
+
+-- the sizes, the fabric of the machine's definitions, and what the last call sent
+pub record FabricData : Type 0 where
+  pub config : Config
+  pub fabric : Fabric
+  pub sent : List Sent
+
+-- a call's answer, and what it leaves, are those of an event of the machine's definitions
+pub record IsAfter (before after : FabricData) (said : Answer) (moved : Moved) : Type 0 where
+  pub answer : said ≡ moved.answer
+  pub left : after ≡ record before { fabric = moved.fabric; sent = moved.sent }
+
+-- the network of a fabric
+pub record IsNetOf (n : NetData) (f : FabricData) : Type 0 where
+  pub nodes : n.routes.nodes ≡ length f.fabric.nodes
+  pub carried : net_as n ≡ f.fabric.net

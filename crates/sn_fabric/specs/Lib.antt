@@ -1,0 +1,5 @@
+pub mod Fabric
+pub mod Nets
+pub mod Parts
+pub mod Start
+pub mod Seats
