@@ -1,11 +1,11 @@
 -- What an access comes to, by what the parts say.
-use Rattle.std.proofs.Common.{◌≡◌, ℕ, ◌+◌, ◌<◌, ◌≤◌, Bool, true, false, cond, List, [], ◌∷◌, length, get_or, refl, sym, ap, ◌∙◌, subst, arith}
-use Rattle.std.specs.Prelude.{nat_lt, if◌then◌else◌, Option, Some, None}
+use Rattle.std.proofs.Common.{◌≡◌, ℕ, ◌+◌, ◌<◌, Bool, true, false, length, get_or, refl, sym, ap, ◌∙◌, subst, arith}
+use Rattle.std.specs.Prelude.{nat_lt, if◌then◌else◌}
 use Rattle.std.proofs.lemmas.List.{length-map}
 use Rattle.std.proofs.lemmas.Bool.Decides.{nat_tests}
 use Rattle.sn_base.specs.declared.config.Config.{Config}
 use Rattle.sn_base.specs.declared.event.Answer.{Answer}
-use Rattle.sn_base.specs.declared.event.Answer.TheVariants.{Retired, Missed, Waits, NeedsEvict, LogFull, NetFull}
+use Rattle.sn_base.specs.declared.event.Answer.TheVariants.{Missed, Waits, NetFull}
 use Rattle.log_buffer.specs.Log.{LogData}
 use Rattle.mosi_cache.specs.declared.step.Probe1.{Probe1}
 use Rattle.mosi_cache.specs.declared.step.Probe1.TheVariants.{Ready, Waits as HasToWait, Miss, NeedsEvict as HasNoFrame, LogFull as HasNoRoom}
@@ -14,12 +14,12 @@ use Rattle.mosi_cache.specs.Probe.{probe_by}
 use Rattle.mosi_cache.specs.Machine.{controller_at, log_at, access_by_probe}
 use Rattle.mosi_cache.proofs.Agrees.{probe-agrees}
 use Rattle.sn_model.specs.declared.cache.Need.{Need}
-use Rattle.sn_model.specs.Fabric.{Fabric, Node, Moved, node_at, answered, refused}
+use Rattle.sn_model.specs.Fabric.{Fabric, Node, Moved, node_at, refused}
 use Rattle.sn_model.specs.Net.{is_full}
 use Rattle.sn_model.specs.Access.{accessed, accesses, missed, has_miss}
 use Rattle.sn_fabric.specs.declared.node.Seat.{Seat}
 use Rattle.sn_fabric.specs.Nets.{flight_as}
-use Rattle.sn_fabric.specs.Parts.{Parts, fabric_as, node_as, seat_at, AreWhole, AreParts}
+use Rattle.sn_fabric.specs.Parts.{Parts, fabric_as, seat_at, AreWhole, AreParts}
 use Rattle.sn_fabric.specs.Seats.{access_answer}
 use Rattle.sn_fabric.proofs.Parts.{node-at, count-nodes, seat-read}
 

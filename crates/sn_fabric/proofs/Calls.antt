@@ -1,24 +1,24 @@
 -- What the calls that send nothing come to.
-use Rattle.std.proofs.Common.{◌≡◌, ℕ, ◌+◌, ◌-◌, ◌<◌, ◌≤◌, Bool, true, false, cond, not, Option, Some, None, List, [], length, get_or, set, refl, sym, ap, ◌∙◌, subst, arith}
-use Rattle.std.specs.Prelude.{nat_eq, is_some}
+use Rattle.std.proofs.Common.{◌≡◌, ℕ, ◌+◌, ◌<◌, Bool, true, false, cond, not, Option, Some, None, List, [], length, get_or, set, refl, sym, ap, ◌∙◌, subst}
+use Rattle.std.specs.Prelude.{is_some}
 use Rattle.sn_base.specs.declared.config.Config.{Config}
 use Rattle.sn_base.specs.declared.event.Answer.{Answer}
-use Rattle.sn_base.specs.declared.event.Answer.TheVariants.{Edged, CheckpointsFull}
+use Rattle.sn_base.specs.declared.event.Answer.TheVariants.{Edged}
 use Rattle.ckpt_clock.specs.Clock.{ClockData}
 use Rattle.switch_net.specs.declared.flight.Flight.{Flight as Carried}
 use Rattle.switch_net.specs.declared.answers.HopAnswer.{HopAnswer}
 use Rattle.switch_net.specs.Net.{NetData, find_flight, without, outside, moved, hop_answer, after_hop, has_arrived, next_switch}
 use Rattle.route_plan.specs.Distances.{Switches, is_dead}
 use Rattle.sn_model.specs.declared.net.Sent.{Sent}
-use Rattle.sn_model.specs.Fabric.{Fabric, Moved, with_node, node_at, answered, refused}
+use Rattle.sn_model.specs.Fabric.{Fabric, node_at, answered}
 use Rattle.sn_model.specs.FabricEvents.{moved_by, Hop, Lose, Kill, Edge}
 use Rattle.sn_model.specs.NetEvents.{hopped, lost, killed}
 use Rattle.std.proofs.lemmas.List.{set-get_or}
 use Rattle.sn_model.specs.NodeEvents as model
 use Rattle.fabric_coherence.specs.Flights.{Rising}
 use Rattle.sn_fabric.specs.declared.node.Seat.{Seat}
-use Rattle.sn_fabric.specs.Nets.{flight_as, hop_as, loss_as, kill_as}
-use Rattle.sn_fabric.specs.Parts.{Parts, fabric_as, node_as, seat_at, no_seat, IsSeat, AreWhole, AreParts}
+use Rattle.sn_fabric.specs.Nets.{hop_as, loss_as, kill_as}
+use Rattle.sn_fabric.specs.Parts.{Parts, fabric_as, node_as, seat_at, no_seat, IsSeat, AreParts}
 use Rattle.sn_fabric.specs.Seats as seat
 use Rattle.sn_fabric.proofs.Nets.{hop-is, loss-is, kill-is}
 use Rattle.sn_fabric.proofs.Parts.{node-at, count-nodes, routes-as, fabric-seat, whole-seat, whole-net, Comes, comes-as, seat-read}

@@ -1,11 +1,10 @@
 -- What an eviction comes to, by what the parts say.
-use Rattle.std.proofs.Common.{◌≡◌, ℕ, ◌+◌, ◌%◌, ◌<◌, ◌≤◌, Bool, true, false, List, [], ◌∷◌, length, get_or, set, refl, sym, ap, ◌∙◌, subst, arith, length-set}
+use Rattle.std.proofs.Common.{◌≡◌, ℕ, ◌+◌, ◌%◌, ◌<◌, Bool, true, false, List, [], ◌∷◌, length, get_or, set, refl, sym, ap, ◌∙◌, subst, length-set}
 use Rattle.std.specs.Prelude.{nat_lt, if◌then◌else◌, Option, Some, None}
 use Rattle.std.proofs.lemmas.List.{get_or-set_same}
-use Rattle.std.proofs.lemmas.Bool.Decides.{nat_tests}
 use Rattle.sn_base.specs.declared.config.Config.{Config}
 use Rattle.sn_base.specs.declared.event.Answer.{Answer}
-use Rattle.sn_base.specs.declared.event.Answer.TheVariants.{Evicted, PutBegun, NotCached, PutOpen, MissOpen, NetFull}
+use Rattle.sn_base.specs.declared.event.Answer.TheVariants.{Evicted, PutBegun, MissOpen, NetFull}
 use Rattle.sn_msg.specs.declared.Body.TheVariants.{PutReq}
 use Rattle.switch_net.specs.Net.{NetData}
 use Rattle.mosi_cache.specs.Controller.{CacheData}

@@ -1,19 +1,12 @@
 -- What the network's code does is what the machine's definitions say, once its words are read as the machine's.
-use Rattle.std.proofs.Common.{◌≡◌, ℕ, zero, suc, ◌+◌, ◌<◌, ◌≤◌, Bool, true, false, cond, not, Option, Some, None, List, [], ◌∷◌, ◌++◌, length, set, refl, sym, ap, ◌∙◌, subst, arith}
-use Rattle.std.specs.Prelude.{nat_eq, map, filter, find, if◌then◌else◌, is_some}
+use Rattle.std.proofs.Common.{◌≡◌, ℕ, ◌+◌, ◌<◌, Bool, true, false, cond, not, Option, Some, None, List, [], ◌∷◌, set, refl, sym, ap, ◌∙◌, arith}
+use Rattle.std.specs.Prelude.{nat_eq, map, filter, is_some}
 use Rattle.std.specs.Option.{option_map}
-use Rattle.std.proofs.lemmas.List.{length-map, map-append}
-use Rattle.std.proofs.lemmas.Bool.{cases_eq}
 use Rattle.std.proofs.lemmas.Bool.Decides.{nat_tests}
-use Rattle.sn_base.specs.declared.event.Answer.{Answer}
-use Rattle.sn_base.specs.declared.event.Answer.TheVariants.{Hopped, LostInDead, Arrived, NoMessage, Lost, Killed}
-use Rattle.sn_msg.specs.declared.Message.{Message}
+use Rattle.sn_base.specs.declared.event.Answer.TheVariants.{Hopped, LostInDead, Lost, Killed}
 use Rattle.switch_net.specs.declared.flight.Flight.{Flight as Carried}
-use Rattle.switch_net.specs.declared.answers.HopAnswer.{HopAnswer}
-use Rattle.switch_net.specs.declared.answers.HopAnswer.TheVariants as hop
-use Rattle.switch_net.specs.Net.{NetData, find_flight, without, outside, moved, hop_answer, after_hop, after_send, next_switch, has_arrived, or_else, entry_of}
-use Rattle.route_plan.specs.Distances.{Switches, is_dead}
-use Rattle.sn_model.specs.declared.net.Sent.{Sent}
+use Rattle.switch_net.specs.Net.{NetData, find_flight, without, outside, moved, hop_answer, after_hop, next_switch, has_arrived, or_else}
+use Rattle.route_plan.specs.Distances.{is_dead}
 use Rattle.sn_model.specs.Fabric as model
 use Rattle.sn_model.specs.Fabric.{Fabric, with_net, answered}
 use Rattle.sn_model.specs.Net as net

@@ -1,13 +1,11 @@
 -- What the parts say of the fabric that they stand for, and how they change.
-use Rattle.std.proofs.Common.{◌≡◌, ℕ, zero, suc, ◌<◌, ◌≤◌, List, [], ◌∷◌, length, get_or, set, refl, sym, ap, ◌∙◌, subst, arith, length-set, ⊎_elim}
+use Rattle.std.proofs.Common.{◌≡◌, ℕ, zero, suc, ◌<◌, List, [], ◌∷◌, length, get_or, set, refl, sym, ap, ◌∙◌, subst, arith, length-set, ⊎_elim}
 use Rattle.std.specs.Prelude.{map}
 use Rattle.std.proofs.lemmas.List.{length-map, map-set, get_or-set_same, get_or-set_other, get_or_read}
 use Rattle.std.proofs.lemmas.Bool.{cases_eq}
 use Rattle.sn_base.specs.declared.config.Config.{Config}
 use Rattle.sn_base.specs.declared.event.Answer.{Answer}
 use Rattle.switch_net.specs.Net.{NetData}
-use Rattle.home_directory.specs.Home.{HomeData}
-use Rattle.route_plan.specs.Distances.{Switches}
 use Rattle.sn_model.specs.declared.net.Sent.{Sent}
 use Rattle.sn_model.specs.declared.net.Told.{Told}
 use Rattle.std.specs.Prelude.{Option}
@@ -19,7 +17,7 @@ use Rattle.fabric_coherence.specs.Events.{MayBe}
 use Rattle.fabric_coherence.proofs.KeptEvents.{each_keeps}
 use Rattle.sn_fabric.specs.declared.node.Seat.{Seat}
 use Rattle.sn_fabric.specs.Fabric.{FabricData, IsAfter}
-use Rattle.sn_fabric.specs.Parts.{node_as, Parts, fabric_as, seat_at, home_at, no_seat, IsSeat, AreWhole, AreParts}
+use Rattle.sn_fabric.specs.Parts.{node_as, Parts, fabric_as, seat_at, no_seat, IsSeat, AreWhole, AreParts}
 
 at_map : {A B : Type 0} (f : A → B) (xs : List A) (n : ℕ) (d : A) (e : B) → n < length xs → get_or (map f xs) n e ≡ f (get_or xs n d)
 at_map f [] n d e l = absurd (omega arith)

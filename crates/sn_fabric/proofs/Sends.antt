@@ -1,5 +1,5 @@
 -- What the calls that send come to.
-use Rattle.std.proofs.Common.{◌≡◌, ℕ, ◌+◌, ◌%◌, ◌<◌, ◌≤◌, ◌^◌, List, [], ◌∷◌, ◌++◌, length, get_or, set, refl, sym, ap, ◌∙◌, subst, arith, length-set}
+use Rattle.std.proofs.Common.{◌≡◌, ℕ, ◌%◌, ◌<◌, List, [], ◌∷◌, length, get_or, set, refl, sym, ap, ◌∙◌, subst, length-set}
 use Rattle.std.specs.Prelude.{Option, None}
 use Rattle.std.proofs.lemmas.List.{get_or-set_same}
 use Rattle.sn_base.specs.declared.config.Config.{Config}
@@ -18,15 +18,15 @@ use Rattle.sn_model.specs.CacheRows.{send}
 use Rattle.sn_model.specs.Fabric as model
 use Rattle.sn_model.specs.Fabric.{Fabric, Node, Moved, node_at, with_node, home_node}
 use Rattle.sn_model.specs.FabricEvents.{FabricEvent, moved_by, Access}
-use Rattle.sn_model.specs.Net.{routes_of, posted, sent_by, sending}
+use Rattle.sn_model.specs.Net.{posted, sent_by, sending}
 use Rattle.sn_model.specs.Access.{accessed, missed, missing, request_for}
 use Rattle.fabric_coherence.specs.Events.{MayBe}
 use Rattle.sn_fabric.specs.declared.node.Seat.{Seat}
 use Rattle.sn_fabric.specs.Fabric.{FabricData, IsAfter}
 use Rattle.sn_fabric.specs.Nets.{net_as}
-use Rattle.sn_fabric.specs.Parts.{Parts, fabric_as, node_as, seat_at, no_seat, IsSeat, AreWhole, AreParts}
+use Rattle.sn_fabric.specs.Parts.{Parts, fabric_as, seat_at, no_seat, AreWhole, AreParts}
 use Rattle.sn_fabric.proofs.Parts.{node-at, count-nodes, routes-as, fabric-seat, whole-seat, whole-net, Comes, comes-as, seat-read}
-use Rattle.sn_fabric.proofs.Accessed.{IsMissing, missing as found_missing, unmissed}
+use Rattle.sn_fabric.proofs.Accessed.{missing as found_missing, unmissed}
 use Rattle.sn_fabric.proofs.FirstParts.{few-nodes}
 use Rattle.std.proofs.Math.Nat.{mod-lt}
 use Rattle.mosi_cache.specs.declared.step.Probe1.TheVariants.{Miss}

@@ -1,9 +1,8 @@
 -- A fabric as a value, and what a call makes of it.
-use Rattle.std.specs.Prelude.{◌≡◌, List, Option, None, length}
+use Rattle.std.specs.Prelude.{◌≡◌, List, length}
 use Rattle.sn_base.specs.declared.config.Config.{Config}
 use Rattle.sn_base.specs.declared.event.Answer.{Answer}
 use Rattle.sn_model.specs.declared.net.Sent.{Sent}
-use Rattle.sn_model.specs.declared.net.Told.{Told}
 use Rattle.switch_net.specs.Net.{NetData}
 use Rattle.sn_model.specs.Fabric.{Fabric, Moved}
 use Rattle.sn_fabric.specs.Nets.{net_as}

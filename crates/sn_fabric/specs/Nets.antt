@@ -1,5 +1,5 @@
 -- The network's code in the machine's words.
-use Rattle.std.specs.Prelude.{ℕ, Bool, true, false, List, map}
+use Rattle.std.specs.Prelude.{Bool, true, false, map}
 use Rattle.switch_net.specs.declared.flight.Flight.{Flight as Carried}
 use Rattle.sn_base.specs.declared.event.Answer.{Answer}
 use Rattle.sn_base.specs.declared.event.Answer.TheVariants.{Hopped, LostInDead, Arrived, NoMessage, Lost, Killed, AlreadyDead}

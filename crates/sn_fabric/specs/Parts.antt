@@ -1,11 +1,9 @@
 -- What a fabric is made of, and the fabric that it stands for.
-use Rattle.std.specs.Prelude.{◌≡◌, ℕ, ◌<◌, ◌≤◌, ◌%◌, true, List, [], length, map, slice_index_or}
+use Rattle.std.specs.Prelude.{◌≡◌, ℕ, ◌<◌, ◌%◌, true, List, [], length, map, slice_index_or}
 use Rattle.std.specs.List.{range_with_len}
 use Rattle.sn_base.specs.Config.{config_fits}
 use Rattle.sn_base.specs.declared.config.Config.{Config}
 use Rattle.switch_net.specs.Net.{NetData}
-use Rattle.mosi_cache.specs.Controller.{CacheData}
-use Rattle.log_buffer.specs.Log.{LogData}
 use Rattle.home_directory.specs.Home.{HomeData, IsHome, entry_of}
 use Rattle.sn_model.specs.Caches.{block_count, empty_cache}
 use Rattle.sn_model.specs.Homes.{HomeEntry}

@@ -1,5 +1,5 @@
 -- What a node's calls leave and answer, in its own words.
-use Rattle.std.specs.Prelude.{ℕ, ◌+◌, ◌-◌, Bool, nat_eq, if◌then◌else◌}
+use Rattle.std.specs.Prelude.{◌+◌, ◌-◌, Bool, nat_eq, if◌then◌else◌}
 use Rattle.sn_base.specs.declared.event.Answer.{Answer}
 use Rattle.sn_base.specs.declared.event.Answer.TheVariants.{Edged, CheckpointsFull, Retired, Waits, NeedsEvict, LogFull, NetFull, Missed, PutBegun}
 use Rattle.ckpt_clock.specs.Clock.{ClockData}

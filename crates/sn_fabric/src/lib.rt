@@ -6,6 +6,9 @@
 //! one writer, each delivered message has its row, and at each settled checkpoint each block has one holder. No call but
 //! `new` takes memory.
 //!
+//! Not here yet: reports, deliveries, the rise of the recovery point, recoveries, what is held at a cut, and the questions
+//! that foresee these.
+//!
 //! Source: SafetyNet (Sorin, Martin, Hill, Wood, ISCA 2002), over a MOSI directory protocol.
 #![tactic(auto)]
 

@@ -2,7 +2,7 @@ use Rattle.std.proofs.Common.{set, ◌∙◌, arith}
 use Rattle.sn_base.specs.declared.event.Answer.TheVariants.{Evicted}
 use Rattle.sn_model.specs.Fabric.{Fabric}
 use Rattle.sn_model.specs.NodeEvents.{evicted}
-use Rattle.sn_fabric.proofs.Evicted.{cache-says, dropping, drop-comes}
+use Rattle.sn_fabric.proofs.Evicted.{drop-comes}
 use Rattle.sn_fabric.proofs.Parts.{after-view}
 use Rattle.sn_fabric.proofs.Fabric.drop_shared.Goals as goal
 

@@ -1,4 +1,4 @@
-use Rattle.std.proofs.Common.{◌∙◌, arith}
+use Rattle.std.proofs.Common.{arith}
 use Rattle.sn_model.specs.Fabric.{Fabric}
 use Rattle.sn_model.specs.NetEvents.{killed}
 use Rattle.sn_fabric.proofs.Calls.{kill-comes}
