@@ -1,6 +1,6 @@
 -- What an eviction comes to, by what the parts say.
 use Rattle.std.proofs.Common.{◌≡◌, ℕ, ◌+◌, ◌%◌, ◌<◌, Bool, true, false, List, [], ◌∷◌, length, get_or, set, refl, sym, ap, ◌∙◌, subst, length-set}
-use Rattle.std.specs.Prelude.{nat_lt, if◌then◌else◌, Option, Some, None}
+use Rattle.std.specs.Prelude.{nat_eq, ◌&&◌, not, IfSome, nat_lt, if◌then◌else◌, Option, Some, None}
 use Rattle.std.proofs.lemmas.List.{get_or-set_same}
 use Rattle.sn_base.specs.declared.config.Config.{Config}
 use Rattle.sn_base.specs.declared.event.Answer.{Answer}
@@ -8,7 +8,7 @@ use Rattle.sn_base.specs.declared.event.Answer.TheVariants.{Evicted, PutBegun, M
 use Rattle.sn_msg.specs.declared.Body.TheVariants.{PutReq}
 use Rattle.switch_net.specs.Net.{NetData}
 use Rattle.mosi_cache.specs.Controller.{CacheData}
-use Rattle.mosi_cache.specs.Probe.{evict_by, evict_line, with_put}
+use Rattle.mosi_cache.specs.Probe.{evict_by, evict_line, with_put, lets_go, may_go}
 use Rattle.mosi_cache.specs.Machine.{evicted_by}
 use Rattle.mosi_cache.proofs.Agrees.{eviction-agrees}
 use Rattle.sn_model.specs.declared.cache.LineState.{LineState}
@@ -23,7 +23,7 @@ use Rattle.sn_model.specs.FabricEvents.{moved_by, Evict}
 use Rattle.sn_model.specs.Net.{is_full, posted, sent_by, sending}
 use Rattle.sn_model.specs.NodeEvents.{evicted, drops_copy, without_copy, with_put as putting}
 use Rattle.sn_fabric.specs.declared.node.Seat.{Seat}
-use Rattle.sn_fabric.specs.Fabric.{FabricData, IsAfter}
+use Rattle.sn_fabric.specs.Fabric.{FabricData, IsAfter, goes, can_go}
 use Rattle.sn_fabric.specs.Nets.{net_as}
 use Rattle.sn_fabric.specs.Parts.{Parts, fabric_as, node_as, seat_at, no_seat, AreWhole, AreParts}
 use Rattle.sn_fabric.specs.Seats.{evict_answer}
@@ -198,3 +198,38 @@ put-comes config p n place block now x cache out net sends k l b a ep ex en ec e
     (subst (λ (k : ℕ). n < k) (sym (length-set p.seats n y)) h) t er
     (subst (λ (z : Out). net_as net ≡ posted p.net.routes (net_as p.net) n now block (z ∷ [])) o ew)
     (subst (λ (z : Out). sends ≡ sent_by p.net.routes (net_as p.net) n now block (z ∷ [])) o es))
+
+-- which lines could go
+
+goes_put : (full : Bool) → lets_go (not full) PutBegun ≡ goes (evict_answer PutBegun full)
+goes_put true = refl
+goes_put false = refl
+
+goes_says : (m : Bool) (put : Option Put) (state : LineState) (full : Bool) → lets_go (not full) (cache_says m put state) ≡ goes (evict_answer (cache_says m put state) full)
+goes_says true put state full = refl
+goes_says false put Absent full = refl
+goes_says false put Shared full = refl
+goes_says false None Owned full = goes_put full
+goes_says false (Some p) Owned full = refl
+goes_says false None Modified full = goes_put full
+goes_says false (Some p) Modified full = refl
+goes_says false None Exclusive full = goes_put full
+goes_says false (Some p) Exclusive full = refl
+
+pub goes-is : (config : Config) (p : Parts) (n place block : ℕ) (x : Seat) (full : Bool) → AreWhole config p → n < length (fabric_as p).nodes → place ≡ n → x ≡ get_or p.seats place x → full ≡ nat_lt 1024 (length p.net.flights + 1) →
+    (b : ℕ) → may_go x.cache block (not full) b ≡ can_go config (fabric_as p) n block b
+goes-is config p n place block x full w l ep ex ef b =
+    let h : n < length p.seats = subst (λ (k : ℕ). n < k) (count-nodes p) l in
+    let i = w.seats n (subst (λ (k : ℕ). n < k) w.count h) in
+    let r : x ≡ seat_at p.seats n = seat-read p n place x l ep ex in
+    let y : Node = node_at (fabric_as p) n in
+    ap (λ (k : ℕ). nat_eq (b % k) (block % k) && lets_go (not full) (evict_by x.cache.cache b)) (ap (λ (z : Seat). z.cache.sets) r ∙ i.sets)
+    ∙ ap (λ (z : Node). nat_eq (b % config.sets) (block % config.sets) && lets_go (not full) (evict_by z.cache b)) (ap node_as r ∙ sym (node-at p n h))
+    ∙ ap (λ (c : Bool). nat_eq (b % config.sets) (block % config.sets) && c)
+    (goes_says (misses_on y.cache.miss b) y.cache.put (line_of y.cache b).state full
+    ∙ ap (λ (f : Bool). goes (evict_answer (evict_by y.cache b) f)) (ef ∙ sym (full-as p 1))
+    ∙ ap goes (sym (answer_is (fabric_as p) n b)))
+
+pub least_some : (o : Option ℕ) (f g : ℕ → Bool) → ((b : ℕ) → f b ≡ g b) → IfSome o (λ least. (f least ≡ true) × ((b : ℕ) → b < least → f b ≡ false)) → IfSome o (λ least. (g least ≡ true) × ((b : ℕ) → b < least → g b ≡ false))
+least_some None f g e h = h
+least_some (Some least) f g e h = (sym (e least) ∙ h.0, λ b l. sym (e b) ∙ h.1 b l)

@@ -6,3 +6,6 @@ pub mod Accessed
 pub mod Sends
 pub mod Evicted
 pub mod Stored
+pub mod Entries
+pub mod Reported
+pub mod Named

@@ -1,8 +1,10 @@
 //! An eviction.
-ghost use Rattle.std.specs.Prelude.{◌≡◌, ◌<◌, ◌≤◌, ◌^◌, length};
+ghost use Rattle.std.specs.Prelude.{◌≡◌, ℕ, ◌<◌, ◌≤◌, ◌^◌, true, false, length, IfSome, IsNone};
 ghost use Rattle.sn_base.specs.declared.event.Answer.TheVariants.{Evicted, PutBegun};
 ghost use Rattle.sn_model.specs.NodeEvents.{evicted};
 ghost use Rattle.sn_fabric.specs.Fabric.{IsAfter};
+ghost use Rattle.sn_model.specs.Caches.{block_count};
+ghost use Rattle.sn_fabric.specs.Fabric.{can_go};
 ghost use Rattle.sn_fabric.specs.Seats.{evict_answer};
 
 use crate::Fabric;
@@ -69,5 +71,17 @@ impl Fabric {
         let now = seat.clock.now();
         let out = seat.cache.begin_put(block, now);
         post(&mut self.net, &mut self.sent, node, now, block, &out);
+    }
+
+    /// The least block with a line in the set of a block that an eviction at the node would drop or put now. None where
+    /// there is none.
+    pub fn least_line(&self, node: NodeId, block: BlockNo) -> Option<BlockNo>
+        requires { node < length self.now.fabric.nodes }
+        ensures none { IsNone result → (b : ℕ) → b < block_count → can_go self.now.config self.now.fabric node block b ≡ false }
+        ensures some { IfSome result (λ least. (can_go self.now.config self.now.fabric node block least ≡ true) × ((b : ℕ) → b < least → can_go self.now.config self.now.fabric node block b ≡ false)) }
+    {
+        let is_net_full = lacks_room(&self.net, 1);
+        let seat = &self.seats[usize::from(node.number())];
+        seat.cache.least_line(block, !is_net_full)
     }
 }

@@ -6,8 +6,8 @@
 //! one writer, each delivered message has its row, and at each settled checkpoint each block has one holder. No call but
 //! `new` takes memory.
 //!
-//! Not here yet: reports, deliveries, the rise of the recovery point, recoveries, what is held at a cut, and the questions
-//! that foresee these.
+//! Not here yet: deliveries, the rise of the recovery point, recoveries, a block's content at a cut, and the questions that
+//! foresee these.
 //!
 //! Source: SafetyNet (Sorin, Martin, Hill, Wood, ISCA 2002), over a MOSI directory protocol.
 #![tactic(auto)]
@@ -18,11 +18,15 @@ ghost use Rattle.sn_model.specs.Fabric.{node_at};
 
 mod accesses;
 mod clocks;
+mod cuts;
 mod evictions;
 mod node;
+mod reports;
 mod sending;
 mod start;
 mod switches;
+#[cfg(test)]
+mod tests;
 
 use home_directory::Home;
 use node::Seat;
