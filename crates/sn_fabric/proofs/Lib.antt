@@ -9,3 +9,5 @@ pub mod Stored
 pub mod Entries
 pub mod Reported
 pub mod Named
+pub mod Posts
+pub mod Raised

@@ -3,3 +3,4 @@ pub mod Nets
 pub mod Parts
 pub mod Start
 pub mod Seats
+pub mod Points

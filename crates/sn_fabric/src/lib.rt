@@ -6,8 +6,7 @@
 //! one writer, each delivered message has its row, and at each settled checkpoint each block has one holder. No call but
 //! `new` takes memory.
 //!
-//! Not here yet: deliveries, the rise of the recovery point, recoveries, a block's content at a cut, and the questions that
-//! foresee these.
+//! Not here yet: deliveries, recoveries, a block's content at a cut, and the questions that foresee these.
 //!
 //! Source: SafetyNet (Sorin, Martin, Hill, Wood, ISCA 2002), over a MOSI directory protocol.
 #![tactic(auto)]
@@ -21,6 +20,7 @@ mod clocks;
 mod cuts;
 mod evictions;
 mod node;
+mod points;
 mod reports;
 mod sending;
 mod start;

@@ -36,6 +36,9 @@ pub fn post(
     ensures routes { net.new.routes ≡ net.old.routes }
     ensures sent { sent.new.items ≡ sent.old.items ++ sent_by net.old.routes (net_as net.old) from tag block (out.now ∷ []) }
     ensures capacity { vec_capacity sent.old ≤ vec_capacity sent.new }
+    ensures count { length sent.new.items ≡ length sent.old.items + 1 }
+    ensures flights { length net.new.flights ≤ length net.old.flights + 1 }
+    ensures next { net.new.next ≡ net.old.next + 1 }
 {
     let message = Message {
         id: net.next_id(),
