@@ -1,0 +1,13 @@
+pub mod Parts
+pub mod Nets
+pub mod Calls
+pub mod FirstParts
+pub mod Accessed
+pub mod Sends
+pub mod Evicted
+pub mod Stored
+pub mod Entries
+pub mod Reported
+pub mod Named
+pub mod Posts
+pub mod Raised

@@ -1,0 +1,6 @@
+pub mod Fabric
+pub mod Nets
+pub mod Parts
+pub mod Start
+pub mod Seats
+pub mod Points

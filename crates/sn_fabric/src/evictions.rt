@@ -1,0 +1,87 @@
+//! An eviction.
+ghost use Rattle.std.specs.Prelude.{◌≡◌, ℕ, ◌<◌, ◌≤◌, ◌^◌, true, false, length, IfSome, IsNone};
+ghost use Rattle.sn_base.specs.declared.event.Answer.TheVariants.{Evicted, PutBegun};
+ghost use Rattle.sn_model.specs.NodeEvents.{evicted};
+ghost use Rattle.sn_fabric.specs.Fabric.{IsAfter};
+ghost use Rattle.sn_model.specs.Caches.{block_count};
+ghost use Rattle.sn_fabric.specs.Fabric.{can_go};
+ghost use Rattle.sn_fabric.specs.Seats.{evict_answer};
+
+use crate::Fabric;
+use crate::sending::{lacks_room, post};
+use sn_base::{Answer, BlockNo, NodeId};
+
+fn evict_answer(answer: Answer, is_net_full: bool) -> Answer
+    ensures { result ≡ evict_answer answer is_net_full }
+{
+    match answer {
+        Answer::PutBegun if is_net_full => Answer::NetFull,
+        _ => answer,
+    }
+}
+
+impl Fabric {
+    /// The answer that `evict` would give now.
+    fn foresee_evict(&self, node: NodeId, block: BlockNo) -> Answer
+        requires { node < length self.now.fabric.nodes }
+        ensures { result ≡ (evicted self.now.fabric node block).answer }
+    {
+        let is_net_full = lacks_room(&self.net, 1);
+        let seat = &self.seats[usize::from(node.number())];
+        let answer = seat.cache.evict_answer(block);
+        evict_answer(answer, is_net_full)
+    }
+
+    /// A node's cache gives up a block: a Shared copy is dropped at once; of what it owns the home is asked first.
+    pub fn evict(&mut self, node: NodeId, block: BlockNo) -> Answer
+        requires here { node < length self.old.fabric.nodes }
+        requires numbers { self.old.fabric.net.next_id ≤ 2 ^ 63 }
+        ensures { IsAfter self.old self.new result (evicted self.old.fabric node block) }
+    {
+        let answer = self.foresee_evict(node, block);
+        match answer {
+            Answer::Evicted => self.drop_shared(node, block),
+            Answer::PutBegun => self.begin_put(node, block),
+            _ => self.send_nothing(),
+        }
+        answer
+    }
+
+    fn drop_shared(&mut self, node: NodeId, block: BlockNo)
+        requires here { node < length self.old.fabric.nodes }
+        requires drops { (evicted self.old.fabric node block).answer ≡ Evicted }
+        ensures { IsAfter self.old self.new Evicted (evicted self.old.fabric node block) }
+    {
+        let _number = block.number();
+        self.sent.clear();
+        let seat = &mut self.seats[usize::from(node.number())];
+        seat.cache.drop_shared(block);
+    }
+
+    fn begin_put(&mut self, node: NodeId, block: BlockNo)
+        requires here { node < length self.old.fabric.nodes }
+        requires numbers { self.old.fabric.net.next_id ≤ 2 ^ 63 }
+        requires puts { (evicted self.old.fabric node block).answer ≡ PutBegun }
+        ensures { IsAfter self.old self.new PutBegun (evicted self.old.fabric node block) }
+    {
+        let _number = block.number();
+        let _count = self.net.count();
+        self.sent.clear();
+        let seat = &mut self.seats[usize::from(node.number())];
+        let now = seat.clock.now();
+        let out = seat.cache.begin_put(block, now);
+        post(&mut self.net, &mut self.sent, node, now, block, &out);
+    }
+
+    /// The least block with a line in the set of a block that an eviction at the node would drop or put now. None where
+    /// there is none.
+    pub fn least_line(&self, node: NodeId, block: BlockNo) -> Option<BlockNo>
+        requires { node < length self.now.fabric.nodes }
+        ensures none { IsNone result → (b : ℕ) → b < block_count → can_go self.now.config self.now.fabric node block b ≡ false }
+        ensures some { IfSome result (λ least. (can_go self.now.config self.now.fabric node block least ≡ true) × ((b : ℕ) → b < least → can_go self.now.config self.now.fabric node block b ≡ false)) }
+    {
+        let is_net_full = lacks_room(&self.net, 1);
+        let seat = &self.seats[usize::from(node.number())];
+        seat.cache.least_line(block, !is_net_full)
+    }
+}

@@ -1,0 +1,93 @@
+//! The fabric: the nodes' clocks, caches, homes and logs, and the network between them, as one value.
+//!
+//! Each call is one event of the fabric of the machine's definitions, with that event's answer; what a call sends can be
+//! read until the next. The layer above knows no part of it: it sees the fabric of the definitions, the sizes and what was
+//! sent last. In the type are all sentences of the coherence theorem, so whatever is done in whatever order, each block has
+//! one writer, each delivered message has its row, and at each settled checkpoint each block has one holder. No call but
+//! `new` takes memory.
+//!
+//! Not here yet: deliveries, recoveries, a block's content at a cut, and the questions that foresee these.
+//!
+//! Source: SafetyNet (Sorin, Martin, Hill, Wood, ISCA 2002), over a MOSI directory protocol.
+#![tactic(auto)]
+
+ghost use Rattle.std.specs.Prelude.{◌≡◌, ◌<◌, ◌≤◌, [], length};
+ghost use Rattle.sn_model.specs.Access.{has_miss};
+ghost use Rattle.sn_model.specs.Fabric.{node_at};
+
+mod accesses;
+mod clocks;
+mod cuts;
+mod evictions;
+mod node;
+mod points;
+mod reports;
+mod sending;
+mod start;
+mod switches;
+#[cfg(test)]
+mod tests;
+
+use home_directory::Home;
+use node::Seat;
+use sn_base::{Config, Interval, NodeId};
+pub use sn_model::{Need, Owner, Sent, Told};
+use std::marker::Model;
+use switch_net::Net;
+
+/// The fabric of a machine. Contracts see its sizes, the fabric of the machine's definitions, and what the last call sent.
+#[derive(Drop)]
+pub struct Fabric {
+    config: Config,
+    seats: Vec<Seat>,
+    homes: Vec<Home>,
+    net: Net,
+    point: Interval,
+    sent: Vec<Sent>,
+}
+
+impl Model for Fabric {
+    ghost use Rattle.std.specs.Prelude.{◌≤◌, vec_capacity};
+    ghost use Rattle.sn_fabric.specs.Fabric.{FabricData};
+    ghost use Rattle.sn_fabric.specs.Parts.{fabric_as, AreParts};
+
+    ghost Value = { FabricData };
+
+    ghost view = { λ f. record { config = f.config; fabric = fabric_as (record { seats = f.seats.items; homes = f.homes.items; net = f.net; point = f.point }); sent = f.sent.items } };
+
+    ghost invariant = { λ f. AreParts f.config (record { seats = f.seats.items; homes = f.homes.items; net = f.net; point = f.point }) × (17 ≤ vec_capacity f.sent) };
+}
+
+impl Fabric {
+    /// The interval of a node.
+    pub fn now(&self, node: NodeId) -> Interval
+        requires { node < length self.now.fabric.nodes }
+        ensures { result ≡ (node_at self.now.fabric node).now }
+    {
+        self.seats[usize::from(node.number())].clock.now()
+    }
+
+    /// Whether the miss of a node is open.
+    pub fn miss_open(&self, node: NodeId) -> bool
+        requires { node < length self.now.fabric.nodes }
+        ensures { result ≡ has_miss (node_at self.now.fabric node).cache.miss }
+    {
+        self.seats[usize::from(node.number())]
+            .cache
+            .open_block()
+            .is_some()
+    }
+
+    /// What the last call sent, in order: at most 17 messages.
+    pub fn sent(&self) -> &[Sent]
+        ensures { result.now ≡ self.now.sent }
+    {
+        self.sent.as_slice()
+    }
+
+    fn send_nothing(&mut self)
+        ensures { self.new ≡ record self.old { sent = [] } }
+    {
+        self.sent.clear();
+    }
+}
