@@ -4,7 +4,7 @@
 //! read until the next. The layer above knows no part of it: it sees the fabric of the definitions, the sizes and what was
 //! sent last. In the type are all sentences of the coherence theorem, so whatever is done in whatever order, each block has
 //! one writer, each delivered message has its row, and at each settled checkpoint each block has one holder. No call but
-//! `new` takes memory.
+//! `new` fails for want of memory.
 //!
 //! Not here yet: deliveries, recoveries, a block's content at a cut, and the questions that foresee these.
 //!
