@@ -1,9 +1,17 @@
 //! Lines and their words, as another assembler writes them (LLVM's, for riscv32 with A).
 use crate::disassemble;
 use sn_base::Memory;
+use std::alloc::Global;
+
+fn has_line(alloc: Global, line: &str, word: u32) -> bool {
+    match disassemble(alloc, &[word]) {
+        Ok(text) => text.as_slice().strip_suffix(b"\n") == Some(line.as_bytes()),
+        Err(Memory) => false,
+    }
+}
 
 #[test]
-fn each_instruction_has_its_line(rt: HostRuntime) -> Result<(), Memory> {
+fn each_instruction_has_its_line(rt: HostRuntime) {
     let rows: [(&str, u32); 52] = [
         ("lui x5, 1048575", 0xffff_f2b7),
         ("auipc x31, 0", 0x0000_0f97),
@@ -59,10 +67,8 @@ fn each_instruction_has_its_line(rt: HostRuntime) -> Result<(), Memory> {
         ("amomaxu.w x3, x4, (x5)", 0xe042_a1af),
     ];
     for (line, word) in rows {
-        let text = disassemble(rt.alloc(), &[word])?;
-        assert_eq!(rt; text.as_slice().strip_suffix(b"\n"), Some(line.as_bytes()));
+        assert!(rt; has_line(rt.alloc(), line, word), "{line}");
     }
-    Ok(())
 }
 
 #[test]
