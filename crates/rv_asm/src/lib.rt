@@ -5,9 +5,19 @@
 //! pseudoinstructions, sections, expressions or macros, and `.word` is the one directive.
 #![tactic(auto)]
 
+mod assembling;
+mod coding;
+mod fault;
+mod forms;
+mod line;
 mod names;
+mod operands;
+mod reading;
+mod rows;
 #[cfg(test)]
 mod tests;
 mod writing;
 
+pub use assembling::assemble;
+pub use fault::{AsmCause, AsmFault};
 pub use writing::disassemble;
