@@ -1,1 +1,4 @@
 pub mod Lines
+pub mod Registers
+pub mod Found
+pub mod Passes

@@ -6,9 +6,19 @@
 //! Not here yet: the way back, from lines to words.
 #![tactic(auto)]
 
+mod assembling;
+mod coding;
+mod fault;
+mod forms;
+mod line;
 mod names;
+mod operands;
+mod reading;
+mod rows;
 #[cfg(test)]
 mod tests;
 mod writing;
 
+pub use assembling::assemble;
+pub use fault::{AsmCause, AsmFault};
 pub use writing::disassemble;

@@ -1,3 +1,4 @@
 //! Lines and their words.
 
+mod texts;
 mod words;

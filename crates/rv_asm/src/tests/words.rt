@@ -1,5 +1,5 @@
 //! Lines and their words, as another assembler writes them (LLVM's, for riscv32 with A).
-use crate::disassemble;
+use crate::{assemble, disassemble};
 use sn_base::Memory;
 use std::alloc::Global;
 
@@ -10,8 +10,15 @@ fn has_line(alloc: Global, line: &str, word: u32) -> bool {
     }
 }
 
+fn has_word(alloc: Global, line: &str, word: u32) -> bool {
+    match assemble(alloc, line.as_bytes()) {
+        Ok(words) => words.as_slice() == [word].as_slice(),
+        Err(_) => false,
+    }
+}
+
 #[test]
-fn each_instruction_has_its_line(rt: HostRuntime) {
+fn each_instruction_has_its_line_and_its_word(rt: HostRuntime) {
     let rows: [(&str, u32); 52] = [
         ("lui x5, 1048575", 0xffff_f2b7),
         ("auipc x31, 0", 0x0000_0f97),
@@ -68,6 +75,7 @@ fn each_instruction_has_its_line(rt: HostRuntime) {
     ];
     for (line, word) in rows {
         assert!(rt; has_line(rt.alloc(), line, word), "{line}");
+        assert!(rt; has_word(rt.alloc(), line, word), "{line}");
     }
 }
 

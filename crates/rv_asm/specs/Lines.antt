@@ -1,0 +1,42 @@
+-- The lines of a text, and the parts of one.
+use Rattle.std.specs.Prelude.{ℕ, ◌+◌, ◌-◌, Bool, ◌||◌, nat_eq, if◌then◌else◌, List, [], ◌∷◌, ◌++◌, length, take, drop, reverse, slice_index, Option, Some, None, option_map}
+use Rattle.std.specs.List.{position}
+
+-- a line that an LF ended, without the CR before the LF
+abbrev pub without_return : List ℕ → List ℕ
+without_return line = if nat_eq (slice_index line (length line - 1)) 13 then take (length line - 1) line else line
+
+-- the lines of a text, without their ends, where the first of them has begun
+unfoldable pub lines_from : List ℕ → List ℕ → List (List ℕ)
+lines_from begun [] = begun ∷ []
+lines_from begun (byte ∷ bytes) =
+    if nat_eq byte 10 then without_return begun ∷ lines_from [] bytes else lines_from (begun ++ byte ∷ []) bytes
+
+-- a blank or a tab
+abbrev pub is_blank : ℕ → Bool
+is_blank byte = nat_eq byte 32 || nat_eq byte 9
+
+-- without the blanks at its front
+abbrev pub skipped : List ℕ → List ℕ
+skipped [] = []
+skipped (byte ∷ text) = if is_blank byte then skipped text else byte ∷ text
+
+-- without the blanks at both ends
+unfoldable pub trimmed : List ℕ → List ℕ
+trimmed text = reverse (skipped (reverse (skipped text)))
+
+-- what stands before a place, and what stands after it
+abbrev pub cut_at : List ℕ → Option ℕ → Option (List ℕ × List ℕ)
+cut_at text place = option_map (λ i. (take i text, drop (i + 1) text)) place
+
+-- what stands before the first byte that passes the test, and what stands after it, where there is one
+unfoldable pub cut : (ℕ → Bool) → List ℕ → Option (List ℕ × List ℕ)
+cut test text = cut_at text (position test text)
+
+abbrev pub front_or : List ℕ → Option (List ℕ × List ℕ) → List ℕ
+front_or text None = text
+front_or text (Some parts) = parts.0
+
+-- a line without its comment and the blanks at its ends
+unfoldable pub bare : List ℕ → List ℕ
+bare line = trimmed (front_or line (cut (λ byte. nat_eq byte 35) line))

@@ -1,0 +1,71 @@
+//! Texts, what they are, and why some are refused.
+use crate::{AsmCause, AsmFault, assemble};
+use std::alloc::Global;
+
+fn is_text_of(alloc: Global, text: &[u8], words: &[u32]) -> bool {
+    match assemble(alloc, text) {
+        Ok(found) => found.as_slice() == words,
+        Err(_) => false,
+    }
+}
+
+fn is_refused(alloc: Global, text: &[u8], cause: AsmCause) -> bool {
+    match assemble(alloc, text) {
+        Err(AsmFault::Refused(found)) => found == cause,
+        _ => false,
+    }
+}
+
+#[test]
+fn a_counting_loop_jumps_back_to_its_label(rt: HostRuntime) {
+    let text = b"loop:\naddi t0, t0, 1\njal zero, loop\n";
+    assert!(rt; is_text_of(rt.alloc(), text, &[0x0012_8293, 0xffdf_f06f]));
+}
+
+#[test]
+fn a_program_that_puts_a_letter_out(rt: HostRuntime) {
+    let text = b"# 80000000\naddi x10, x0, 65\naddi x17, x0, 1\necall\naddi x17, x0, 93\necall";
+    let words = [
+        0x0410_0513,
+        0x0010_0893,
+        0x0000_0073,
+        0x05d0_0893,
+        0x0000_0073,
+    ];
+    assert!(rt; is_text_of(rt.alloc(), text, &words));
+}
+
+#[test]
+fn blanks_and_cases_of_numbers(rt: HostRuntime) {
+    let text = b"\t lw\ta0 ,\t-0x1 ( sp )";
+    assert!(rt; is_refused(rt.alloc(), text, AsmCause::BadLine(1)));
+    let text =
+        b"\t lw\ta0 ,\t-000000000004 ( sp )\t# \xff\r\n\r\nsw fp,0x7Ff(s0)\n.word 0xFFFFFFFF\n";
+    assert!(rt; is_text_of(rt.alloc(), text, &[0xffc1_2503, 0x7e84_2fa3, 0xffff_ffff]));
+}
+
+#[test]
+fn each_refusal_has_its_cause_and_its_line(rt: HostRuntime) {
+    let rows: [(&[u8], AsmCause); 14] = [
+        (b"addi x5, x5, 2048", AsmCause::OutOfRange(1)),
+        (b"jal x0, end", AsmCause::NoLabel(1)),
+        (
+            b"loop:\naddi t0, t0, 1\njal zero, loop\nloop:",
+            AsmCause::LabelTwice(4),
+        ),
+        (b"beq x0, x0, 3", AsmCause::OutOfRange(1)),
+        (b"beq x0, x0, 4096", AsmCause::OutOfRange(1)),
+        (b"jal x0, -1048578", AsmCause::OutOfRange(1)),
+        (b"slli x1, x1, 32", AsmCause::OutOfRange(1)),
+        (b"lui x1, 1048576", AsmCause::OutOfRange(1)),
+        (b".word 4294967296", AsmCause::OutOfRange(1)),
+        (b".word 0000000000001", AsmCause::BadLine(1)),
+        (b"addi,x1, x1, 1", AsmCause::BadLine(1)),
+        (b"nop\r", AsmCause::BadLine(1)),
+        (b"fence\r", AsmCause::BadLine(1)),
+        (b"jal x0, end\naddi x1, x1", AsmCause::BadLine(2)),
+    ];
+    for (text, cause) in rows {
+        assert!(rt; is_refused(rt.alloc(), text, cause), "{cause:?}");
+    }
+}
