@@ -1,9 +1,8 @@
-//! The disassembler of the machine's instructions.
+//! The assembler and the disassembler of the machine's instructions.
 //!
-//! A word becomes a line: an instruction by its mnemonic and its operands, and `.word` for what is no instruction's. The
-//! words themselves are `rv_decode`'s; nothing here knows a bit of them. There are no pseudoinstructions.
-//!
-//! Not here yet: the way back, from lines to words.
+//! A text has one statement a line: a label, or an instruction by its mnemonic and its operands. One table of mnemonics
+//! serves both directions. The words themselves are `rv_decode`'s; nothing here knows a bit of them. There are no
+//! pseudoinstructions, sections, expressions or macros, and `.word` is the one directive.
 #![tactic(auto)]
 
 mod assembling;
