@@ -295,4 +295,5 @@ def main():
         compare_steps(simulator, folder, reader, choose, steps)
 
 
-main()
+if __name__ == "__main__":
+    main()

@@ -1,0 +1,255 @@
+#!/usr/bin/env python3
+"""Compares the assembler and the disassembler with a reference simulator.
+
+    tests/compare_assembly.py SIMULATOR [WORDS] [TEXTS] [SEED]
+
+SIMULATOR is a reference simulator that takes `dis FILE` and `--main asm FILE`. WORDS random words (20,000) become lines by both,
+and the lines become words again here; then TEXTS random texts (3,000), half of them with a byte or two changed, are assembled by
+both: the words are the same, or the name of the cause is (the simulator doesn't tell the line). The crates are copied into a
+folder of their own, beside a small program that prints what they answer, and are built there without a proof (`rt try`); so `rt`
+has to be on the path.
+"""
+import random
+import re
+import shutil
+import subprocess
+import sys
+import tempfile
+from pathlib import Path
+
+import compare_instructions as instructions
+
+CRATES = {
+    "sn_base": "byteorder",
+    "rv_decode": "sn_base",
+    "rv_asm": "sn_base rv_decode itoa",
+    "reader": "rv_asm sn_base rv_decode itoa byteorder",
+}
+
+READER = """// A line is `dis` and words, or `asm` and bytes, all hexadecimal. It prints the words' lines, or the text's words or the cause
+// why there are none, and then `end`.
+#![tactic(auto)]
+
+use rv_asm::{AsmFault, assemble, disassemble};
+use std::alloc::Global;
+use std::io;
+
+fn words(alloc: Global, line: &str) -> Vec<u32> {
+    let mut words = Vec::new(alloc);
+    for text in line.split_whitespace() {
+        if text.len() == 8 {
+            if let Ok(word) = u32::from_str_radix(text, 16) {
+                words.push(word).ok();
+            }
+        }
+    }
+    words
+}
+
+fn bytes(alloc: Global, line: &str) -> Vec<u8> {
+    let mut bytes = Vec::new(alloc);
+    for text in line.split_whitespace() {
+        if text.len() == 2 {
+            if let Ok(byte) = u8::from_str_radix(text, 16) {
+                bytes.push(byte).ok();
+            }
+        }
+    }
+    bytes
+}
+
+fn main(rt: HostRuntime) -> io::Result<()> {
+    let alloc = rt.alloc();
+    for line in rt.lines(alloc) {
+        let line = line?;
+        if line.as_str().starts_with("dis") {
+            let words = words(alloc, line.as_str());
+            if let Ok(text) = disassemble(alloc, words.as_slice()) {
+                if let Ok(text) = str::from_utf8(text.as_slice()) {
+                    println!(rt; "{text}")?;
+                }
+            }
+        } else {
+            let bytes = bytes(alloc, line.as_str());
+            match assemble(alloc, bytes.as_slice()) {
+                Ok(words) => {
+                    for word in words.iter() {
+                        println!(rt; "{word:08x}")?;
+                    }
+                }
+                Err(AsmFault::Refused(cause)) => println!(rt; "{cause:?}")?,
+                Err(AsmFault::Memory) => println!(rt; "Memory")?,
+            }
+        }
+        println!(rt; "end")?;
+    }
+    Ok(())
+}
+"""
+
+USUAL = "zero ra sp gp tp t0 t1 t2 s0 s1 a0 a1 a2 a3 a4 a5 a6 a7 s2 s3 s4 s5 s6 s7 s8 s9 s10 s11 t3 t4 t5 t6 fp".split()
+LABELS = ["loop", "end", "_a", "L1", "x1", "x_2"]
+ODD_BYTES = b" \t,()#:.-_0x9aZ\n\r\xc3\x80"
+
+
+def build(folder):
+    """A repository of the crates and the reader; gives the reader's folder."""
+    here = Path(__file__).resolve().parent.parent
+    for name in CRATES:
+        if name != "reader":
+            for part in ["src", "specs", "proofs"]:
+                shutil.copytree(here / "crates" / name / part, folder / "crates" / name / part)
+    reader = folder / "crates" / "reader"
+    for part in ["src", "specs", "proofs"]:
+        (reader / part).mkdir(parents=True)
+    (reader / "src" / "main.rt").write_text(READER)
+    for part in ["specs", "proofs"]:
+        (reader / part / "Lib.antt").write_text("")
+    (folder / "crates.txt").write_text("".join(f"{name}: {needs}\n" for name, needs in CRATES.items()))
+    return reader
+
+
+def read(reader, lines):
+    """The reader's lines for each of its input's lines."""
+    done = subprocess.run(["rt", "try", "--seconds", "500"], cwd=reader, input="".join(line + "\n" for line in lines), capture_output=True, text=True)
+    said, answers = [], []
+    for line in done.stdout.splitlines():
+        if line == "end":
+            answers.append([part for part in said if part])
+            said = []
+        elif re.match(r"[a-z.]+( |$)|[0-9a-f]{8}$|[A-Z]\w+(\(\d+\))?$", line) or not line:
+            said.append(line)
+    if len(answers) != len(lines):
+        sys.exit(f"the reader answered {len(answers)} of {len(lines)}: " + done.stdout[-500:] + done.stderr[-2000:])
+    return answers
+
+
+def hexadecimal(text):
+    return "asm " + " ".join(f"{byte:02x}" for byte in text)
+
+
+def compare_words(simulator, folder, reader, choose, count):
+    words = [instructions.random_word(choose) for _ in range(count)]
+    if_written = [word if choose.random() < 0.2 else instructions.plainly_written(word) for word in words]
+    parts = [if_written[start : start + 50] for start in range(0, count, 50)]
+    here = [line for lines in read(reader, ["dis " + " ".join(f"{word:08x}" for word in part) for part in parts]) for line in lines]
+    there = instructions.disassembled(simulator, folder, if_written)
+    for word, mine, other in zip(if_written, here, there, strict=True):
+        if mine != other:
+            sys.exit(f"{word:08x}: here {mine}, there {other}")
+    texts = ["\n".join(here[start : start + 50]).encode() for start in range(0, count, 50)]
+    for part, back in zip(parts, read(reader, [hexadecimal(text) for text in texts]), strict=True):
+        if back != [f"{word:08x}" for word in part]:
+            sys.exit(f"the lines of {part} are other words: {back}")
+    print(f"{count} words have the same lines, {sum(not line.startswith('.word') for line in here)} of them instructions, and the lines give the words")
+
+
+def register(choose):
+    return choose.choice([f"x{choose.randrange(32)}", choose.choice(USUAL)])
+
+
+def number(choose, least, most):
+    value = choose.choice([choose.randint(least, most), choose.randint(least, most), least, most, least - 1, most + 1, 0])
+    if value >= 0 and choose.random() < 0.4:
+        return f"0x{value:x}" if choose.random() < 0.7 else f"0x{value:0{choose.choice([4, 12, 13])}X}"
+    return f"{value}" if choose.random() < 0.9 else f"{value:0{choose.choice([5, 12, 13])}d}"
+
+
+def spaced(choose, parts):
+    """The operands, with blanks and tabs around what parts them."""
+    blank = lambda: choose.choice(["", "", "", " ", "  ", "\t"])
+    return "".join(blank() + part + blank() if part in ",()" else part for part in parts)
+
+
+def operands(choose, name):
+    r = lambda: register(choose)
+    target = lambda reach: choose.choice(LABELS) if choose.random() < 0.4 else str(2 * choose.choice([choose.randint(-reach, reach), 0, -reach, reach - 1, reach]) + (choose.random() < 0.1))
+    if name in ("lui", "auipc"):
+        return [r(), ",", number(choose, 0, 1048575)]
+    if name == "jal":
+        return [r(), ",", target(524288)]
+    if name in instructions.BRANCHES:
+        return [r(), ",", r(), ",", target(2048)]
+    if name == "jalr" or name in instructions.LOADS or name in instructions.STORES:
+        return [r(), ",", number(choose, -2048, 2047), "(", r(), ")"]
+    if name in instructions.IMMEDIATES:
+        return [r(), ",", r(), ",", number(choose, 0, 31) if name in ("slli", "srli", "srai") else number(choose, -2048, 2047)]
+    if name in instructions.REGISTERS:
+        return [r(), ",", r(), ",", r()]
+    if name == "lr.w":
+        return [r(), ",", "(", r(), ")"]
+    if name.endswith(".w"):
+        return [r(), ",", r(), ",", "(", r(), ")"]
+    return [number(choose, 0, 2**32 - 1)] if name == ".word" else []
+
+
+NAMES = (
+    ["lui", "auipc", "jal", "jal", "jalr", "fence", "ecall", "ebreak", "lr.w", "sc.w", ".word"]
+    + instructions.BRANCHES + instructions.LOADS + list(instructions.STORES) + instructions.IMMEDIATES + instructions.REGISTERS
+    + [name + ".w" for name in instructions.ATOMICS]
+)
+
+
+def random_line(choose, labels):
+    kind = choose.random()
+    if kind < 0.08:
+        return choose.choice(["", " ", "\t# nothing", "# a comment: x1, (x2)"])
+    if kind < 0.2 and labels:
+        return labels.pop() + ":"
+    name = choose.choice(NAMES)
+    blank = choose.choice([" ", " ", "  ", "\t"])
+    comment = choose.choice(["", "", "", " # here", "#"])
+    return choose.choice(["", "", " ", "\t"]) + name + blank + spaced(choose, operands(choose, name)) + comment
+
+
+def random_text(choose):
+    labels = LABELS[:]
+    choose.shuffle(labels)
+    if choose.random() < 0.1:
+        labels.append(labels[0])
+    ended = choose.choice(["\n", "\n", "\r\n"])
+    text = ended.join([random_line(choose, labels) for _ in range(choose.randrange(1, 8))] + [label + ":" for label in labels if choose.random() < 0.8])
+    text = bytearray((text + choose.choice(["", ended])).encode())
+    for _ in range(choose.choice([0, 0, 1, 2])):
+        place = choose.randrange(len(text) + 1)
+        text[place : place + choose.randrange(2)] = bytes([choose.choice(ODD_BYTES)]) * choose.randrange(2)
+    return bytes(text)
+
+
+def assembled(simulator, folder, text):
+    """The simulator's words, or the cause's name."""
+    file = folder / "text.s"
+    file.write_bytes(text)
+    done = subprocess.run([simulator, "--main", "asm", str(file)], capture_output=True, text=True)
+    return done.stdout.split() if done.returncode == 0 else [done.stderr.split()[-1]]
+
+
+def compare_texts(simulator, folder, reader, choose, count):
+    texts = [random_text(choose) for _ in range(count)]
+    counts = {}
+    for text, here in zip(texts, read(reader, [hexadecimal(text) for text in texts]), strict=True):
+        cause = re.fullmatch(r"([A-Z]\w+)\(\d+\)", here[0]) if len(here) == 1 else None
+        mine = [cause[1].lower()] if cause else here
+        there = assembled(simulator, folder, text)
+        if mine != there:
+            sys.exit(f"{text!r}: here {here}, there {there}")
+        counts[cause[1] if cause else "words"] = counts.get(cause[1] if cause else "words", 0) + 1
+    print(f"{count} texts are the same: " + ", ".join(f"{name} {counts[name]}" for name in sorted(counts)))
+
+
+def main():
+    if len(sys.argv) < 2:
+        print(__doc__)
+        sys.exit(2)
+    simulator = str(Path(sys.argv[1]).resolve())
+    words, texts, seed = (int(text) for text in (sys.argv[2:] + ["20000", "3000", "1"][len(sys.argv) - 2 :])[:3])
+    choose = random.Random(seed)
+    with tempfile.TemporaryDirectory() as folder:
+        folder = Path(folder)
+        reader = build(folder)
+        compare_words(simulator, folder, reader, choose, words)
+        compare_texts(simulator, folder, reader, choose, texts)
+
+
+if __name__ == "__main__":
+    main()
