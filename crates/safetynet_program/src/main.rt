@@ -5,6 +5,9 @@
 //! number. Where that isn't Done it names the status on standard error. `--help` and `--version` are its own.
 #![tactic(auto)]
 
+ghost use Rattle.std.specs.Prelude.{◌≡◌, map, string_bytes};
+ghost use Rattle.safetynet_program.specs.Own.{asked_by, own_of};
+
 use safetynet_main::{Status, safetynet};
 use sn_io::{FileStore, StdSink};
 use std::env;
@@ -43,17 +46,38 @@ exit status:
       script isn't of the form above
 ";
 
-/// What the words ask of the program itself, before any command is done.
-fn own_answer(words: &[String]) -> Option<&'static str> {
-    let word = match words {
-        [_, word] => word,
-        [_, command, word] if command.as_str() == "replay" => word,
-        _ => return None,
-    };
-    match word.as_str() {
-        "--help" => Some(HELP),
-        "--version" => Some(VERSION),
+/// What the program answers itself.
+#[derive(Clone, Copy)]
+enum Own {
+    Help,
+    Version,
+}
+
+fn asked_by(word: &str) -> Option<Own>
+    ensures { result ≡ asked_by word.now }
+{
+    match word {
+        "--help" => Some(Own::Help),
+        "--version" => Some(Own::Version),
         _ => None,
+    }
+}
+
+/// What the words ask of the program itself, before any command is done.
+fn own_of(words: &[String]) -> Option<Own>
+    ensures { result ≡ own_of (map string_bytes words.now) }
+{
+    match words {
+        [_, word] => asked_by(word.as_str()),
+        [_, command, word] if command.as_str() == "replay" => asked_by(word.as_str()),
+        _ => None,
+    }
+}
+
+fn text_of(own: Own) -> &'static str {
+    match own {
+        Own::Help => HELP,
+        Own::Version => VERSION,
     }
 }
 
@@ -62,8 +86,8 @@ fn main(rt: HostRuntime) -> ExitCode {
     let status = match env::args(&rt) {
         Ok(given) => match given.collect::<Vec<String>>(alloc) {
             Ok(words) => {
-                if let Some(text) = own_answer(words.as_slice()) {
-                    let printed = print!(rt; "{text}");
+                if let Some(own) = own_of(words.as_slice()) {
+                    let printed = print!(rt; "{}", text_of(own));
                     return ExitCode::from(if printed.is_ok() {
                         0
                     } else {
