@@ -1,6 +1,6 @@
 //! Events and answers as text.
 ghost use Rattle.std.specs.Prelude.{◌≡◌, ◌+◌, ◌≤◌, ◌++◌, length};
-ghost use Rattle.safetynet_main.specs.Text.{named_number, switch_text, event_text, answer_text, event_line};
+ghost use Rattle.sn_text.specs.Text.{named_number, switch_text, event_text, answer_text, event_line};
 
 use crate::line::Line;
 use sn_base::{Answer, Event, NodeId, SwitchId};

@@ -1,6 +1,6 @@
 use Rattle.std.proofs.Common.{◌≡◌, ◌≤◌, ◌+◌, ◌*◌, ◌++◌, drop, length}
-use Rattle.safetynet_main.specs.Text.{sent_lines}
-use Rattle.safetynet_main.proofs.line.Line.all_sent.Given as goal
+use Rattle.sn_text.specs.Text.{sent_lines}
+use Rattle.sn_text.proofs.line.Line.all_sent.Given as goal
 
 abbrev pub invariant-messages : goal.invariant-messages
 invariant-messages l = record {

@@ -2,8 +2,8 @@
 use Rattle.std.proofs.Common.{◌≡◌, ℕ, ◌+◌, ◌<◌, ◌≤◌, List, ◌++◌, drop, length, get_or, sym, append_assoc, append-nil}
 use Rattle.std.specs.Prelude.{nat_eq, true, false}
 use Rattle.std.proofs.lemmas.List.{drop_more, drop_all}
-use Rattle.sn_machine.specs.declared.sent.Sent.{Sent}
-use Rattle.safetynet_main.specs.Text.{sent_line, sent_lines, register_text, registers_text}
+use Rattle.sn_model.specs.declared.net.Sent.{Sent}
+use Rattle.sn_text.specs.Text.{sent_line, sent_lines, register_text, registers_text}
 
 pub sent_lines-more : (text : List ℕ) (sent : List Sent) (i : ℕ) (other : Sent) → i < length sent → text ++ sent_lines (drop i sent) ≡ (text ++ sent_line (get_or sent i other)) ++ sent_lines (drop (i + 1) sent)
 unfolding sent_lines

@@ -1,7 +1,7 @@
 use Rattle.std.proofs.Common.{arith, sym, ap, ◌∙◌, ◌++◌, drop, ◌+◌}
-use Rattle.safetynet_main.specs.Text.{sent_line, sent_lines}
-use Rattle.safetynet_main.proofs.Texts.{sent_lines-more, sent_lines-end}
-use Rattle.safetynet_main.proofs.line.Line.all_sent.Goals as goal
+use Rattle.sn_text.specs.Text.{sent_line, sent_lines}
+use Rattle.sn_text.proofs.Texts.{sent_lines-more, sent_lines-end}
+use Rattle.sn_text.proofs.line.Line.all_sent.Goals as goal
 
 pub messages-preserved : goal.messages-preserved
 messages-preserved c = record {

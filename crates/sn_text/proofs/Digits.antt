@@ -3,7 +3,7 @@ use Rattle.std.proofs.Common.{inl, inr, ◌≡◌, ℕ, ◌+◌, ◌-◌, ◌*�
 use Rattle.std.proofs.lemmas.Bool.Decides.{nat_tests}
 use Rattle.std.specs.Prelude.{◌⊎◌, Option, Some, None, Bool, true, false, nat_eq, nat_lt, ◌&&◌, if◌then◌else◌}
 use Rattle.std.proofs.lemmas.List.{drop_more, drop_all}
-use Rattle.safetynet_main.specs.Digits.{is_digit, number_from, if_below, number_of}
+use Rattle.sn_text.specs.Digits.{is_digit, number_from, if_below, number_of}
 
 number_from-digit : (n : ℕ) (text : List ℕ) (i : ℕ) → i < length text → is_digit (get_or text i 0) ≡ true → number_from n (drop i text) ≡ number_from (10 * n + (get_or text i 0 - 48)) (drop (i + 1) text)
 number_from-digit n text i b digit = rw (drop_more text i 0 b, digit)

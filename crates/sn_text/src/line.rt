@@ -1,13 +1,13 @@
 //! Lines of the report.
 ghost use Rattle.std.specs.Prelude.{◌≡◌, ℕ, ◌+◌, ◌<◌, ◌≤◌, ◌++◌, [], length, decimal, codes, IfOk};
-ghost use Rattle.safetynet_main.specs.Text.{word_text, byte_text, named_number, count_line, hex_digit};
+ghost use Rattle.sn_text.specs.Text.{word_text, byte_text, named_number, count_line, hex_digit};
 
 use itoa::Buffer;
 use sn_base::Memory;
 use std::alloc::Global;
 use std::marker::Model;
 
-/// The bytes that a line has room for: enough for the group of any one event.
+/// The bytes that a line has room for: enough for the group of any one event, a recovery of 16 nodes among them.
 const ROOM: usize = 8192;
 
 /// The text of one event's group. It has all its room from the start and takes no memory after `new`. Contracts see the
@@ -84,6 +84,27 @@ impl Line {
         self.text(name);
         self.text(" ");
         self.number(number);
+    }
+
+    /// A number below 256, which has three digits at most.
+    pub fn small(&mut self, number: u8)
+        requires { length self.old + 3 ≤ 8192 }
+        ensures text { self.new ≡ self.old ++ decimal number }
+        ensures short { length self.new ≤ length self.old + 3 }
+    {
+        let mut buffer = Buffer::new();
+        self.text(buffer.format(number));
+    }
+
+    /// A name, a blank and such a number.
+    pub fn named_small(&mut self, name: &str, number: u8)
+        requires { length self.old + length name.now + 4 ≤ 8192 }
+        ensures text { self.new ≡ self.old ++ named_number name.now number }
+        ensures short { length self.new ≤ length self.old + length name.now + 4 }
+    {
+        self.text(name);
+        self.text(" ");
+        self.small(number);
     }
 
     /// A byte as two hexadecimal digits.

@@ -1,11 +1,11 @@
 //! Messages and cores as text.
 ghost use Rattle.std.specs.Prelude.{◌≡◌, ◌+◌, ◌*◌, ◌≤◌, ◌++◌, [], length, drop, codes, if◌then◌else◌};
-ghost use Rattle.safetynet_main.specs.Text.{body_name, body_place, body_fields, message_head, message_route, lost_mark, sent_line, sent_lines, cause_text, end_text, register_text, registers_text, core_head, core_line};
+ghost use Rattle.sn_text.specs.Text.{body_name, body_place, body_fields, message_head, message_route, lost_mark, sent_line, sent_lines, cause_text, end_text, register_text, registers_text, core_head, core_line};
 
 use crate::line::Line;
 use rv_core::{Cause, CoreState, End};
 use sn_base::{BlockNo, NodeId};
-use sn_machine::Sent;
+use sn_model::Sent;
 use sn_msg::{Body, Message};
 
 /// The name of a message's body.
@@ -159,38 +159,38 @@ impl Line {
         }
     }
 
-    fn register(&mut self, number: u64, value: u32)
-        requires { length self.old + 32 ≤ 8192 }
+    fn register(&mut self, number: u8, value: u32)
+        requires { length self.old + 14 ≤ 8192 }
         ensures text { self.new ≡ self.old ++ register_text number value }
-        ensures short { length self.new ≤ length self.old + 32 }
+        ensures short { length self.new ≤ length self.old + 14 }
     {
         self.text(" x");
-        self.number(number);
+        self.small(number);
         self.text("=");
         self.word(value);
     }
 
     fn registers(&mut self, values: &[u32])
         requires few { length values.now ≤ 31 }
-        requires room { length self.old + 992 ≤ 8192 }
+        requires room { length self.old + 434 ≤ 8192 }
         ensures text { self.new ≡ self.old ++ registers_text 1 values.now }
-        ensures short { length self.new ≤ length self.old + 992 }
+        ensures short { length self.new ≤ length self.old + 434 }
     {
         'registers: for (i, value) in values.iter().enumerate() {
             if *value != 0 {
-                self.register(i as u64 + 1, *value);
+                self.register(i as u8 + 1, *value);
             }
         }
     }
 
     fn core_head(&mut self, before: &str, node: NodeId, pc: u32)
-        requires room { length self.old + 64 ≤ 8192 }
+        requires room { length self.old + 19 ≤ 8192 }
         requires before_short { length before.now ≤ 2 }
         ensures text { self.new ≡ self.old ++ core_head before.now node pc }
-        ensures short { length self.new ≤ length self.old + 64 }
+        ensures short { length self.new ≤ length self.old + 19 }
     {
         self.text(before);
-        self.named("core", u64::from(node.number()));
+        self.named_small("core", node.number());
         self.text(" ");
         self.word(pc);
     }
@@ -198,10 +198,10 @@ impl Line {
     /// The line of a core: its program counter, its end and the registers that aren't 0.
     #[tactic(auto, unfolding(crate::specs::Text::core_line))]
     pub fn core(&mut self, before: &str, node: NodeId, core: &CoreState)
-        requires room { length self.old + 1088 ≤ 8192 }
+        requires room { length self.old + 488 ≤ 8192 }
         requires before_short { length before.now ≤ 2 }
         ensures text { self.new ≡ self.old ++ core_line before.now node core.now }
-        ensures short { length self.new ≤ length self.old + 1088 }
+        ensures short { length self.new ≤ length self.old + 488 }
     {
         self.core_head(before, node, core.pc);
         self.text(" ");

@@ -12,7 +12,7 @@ use Rattle.rv_core.specs.declared.state.Cause.TheVariants.{Illegal, FetchFault, 
 use Rattle.sn_msg.specs.declared.Message.{Message}
 use Rattle.sn_msg.specs.declared.Body.{Body}
 use Rattle.sn_msg.specs.declared.Body.TheVariants.{GetS, GetM, FwdGetS, FwdGetM, Inv, DataS, DataM, DataE, UpgOk, InvAck, Unblock, PutReq, PutGo, PutData, PutDone, Ready, Advance}
-use Rattle.sn_machine.specs.declared.sent.Sent.{Sent}
+use Rattle.sn_model.specs.declared.net.Sent.{Sent}
 
 abbrev pub hex_digit : ℕ → ℕ
 hex_digit digit = if nat_lt digit 10 then 48 + digit else 87 + digit

@@ -1,9 +1,9 @@
 use Rattle.std.proofs.Common.{arith, sym, ap, ◌∙◌, ◌++◌, ◌+◌, drop}
 use Rattle.std.proofs.lemmas.Bool.Decides.{nat_tests}
-use Rattle.safetynet_main.specs.Text.{registers_text}
-use Rattle.safetynet_main.proofs.Texts.{registers-more, registers-skip, registers-end}
-use Rattle.safetynet_main.proofs.line.Line.registers.Goals as goal
-use Rattle.safetynet_main.proofs.line.Line.registers.Goals.{then-value-ne0, else-value-ne0}
+use Rattle.sn_text.specs.Text.{registers_text}
+use Rattle.sn_text.proofs.Texts.{registers-more, registers-skip, registers-end}
+use Rattle.sn_text.proofs.line.Line.registers.Goals as goal
+use Rattle.sn_text.proofs.line.Line.registers.Goals.{then-value-ne0, else-value-ne0}
 
 pub registers-preserved : goal.registers-preserved
 registers-preserved c =

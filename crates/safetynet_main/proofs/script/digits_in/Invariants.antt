@@ -1,9 +1,0 @@
-use Rattle.std.proofs.Common.{◌≡◌, ◌<◌, ◌^◌, drop}
-use Rattle.safetynet_main.specs.Digits.{number_from, if_below}
-use Rattle.safetynet_main.proofs.script.digits_in.Given as goal
-
-abbrev pub invariant-digits : goal.invariant-digits
-invariant-digits l = record {
-  same : if_below (2 ^ 64) (number_from l.number (drop l.byte-index l.text)) ≡ if_below (2 ^ 64) (number_from 0 l.text);
-  fits : l.number < 2 ^ 64;
-}

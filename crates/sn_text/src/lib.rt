@@ -1,0 +1,12 @@
+//! All texts of the product: scripts that are read, and the lines of a report that are written.
+//!
+//! A `Line` is a buffer with the room for the text of any one event; each of its calls appends one line, or a part of one,
+//! and takes no memory. `read_script` gives the events of a script, or the first cause for which it isn't one. What a text
+//! means stands in specs/: `event_of` and `script_of` for what is read, `event_line` and its like for what is written.
+#![tactic(auto)]
+
+mod event_text;
+mod line;
+mod state_text;
+
+pub use line::Line;
