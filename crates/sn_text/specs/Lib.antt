@@ -1,2 +1,4 @@
 pub mod Text
 pub mod Digits
+pub mod Items
+pub mod Script

@@ -5,8 +5,15 @@
 //! means stands in specs/: `event_of` and `script_of` for what is read, `event_line` and its like for what is written.
 #![tactic(auto)]
 
+mod cause;
 mod event_text;
+mod items;
 mod line;
+mod numbers;
+mod operands;
+mod script;
 mod state_text;
 
+pub use cause::{Fault, ScriptCause, ScriptFault};
 pub use line::Line;
+pub use script::read_script;

@@ -37,3 +37,17 @@ line-last text e = whole [] text (λ k h. fails_before_first is_line_feed text k
 -- what is left of a text after a place
 pub rest-is : (text : List ℕ) (i : ℕ) → take (length text - i) (drop i text) ≡ drop i text
 rest-is text i = take_all (length text - i) (drop i text) (omega (arith, length-drop i text))
+
+longer_by_one : (b : Bool) (begun : List ℕ) (more others : List (List ℕ)) (n : ℕ) → length more ≤ n + 1 → length others ≤ n + 1 → length (cond b (begun ∷ more) others) ≤ suc n + 1
+longer_by_one true begun more others n l m = omega (arith, l)
+longer_by_one false begun more others n l m = omega (arith, m)
+
+count_lines : (begun text : List ℕ) → length (lines_from begun text) ≤ length text + 1
+unfolding lines_from
+count_lines begun [] = omega arith
+count_lines begun (x ∷ xs) =
+    longer_by_one (is_line_feed x) (without_return begun) (lines_from [] xs) (lines_from (begun ++ x ∷ []) xs) (length xs) (count_lines [] xs) (count_lines (begun ++ x ∷ []) xs)
+
+-- a text has a line more than LFs, at most
+pub lines-few : (text : List ℕ) → length (lines_from [] text) ≤ length text + 1
+lines-few text = count_lines [] text

@@ -5,7 +5,7 @@
 //! lines that are left. Nothing here takes memory, and each byte is looked at once.
 #![tactic(auto)]
 
-ghost use Rattle.std.specs.Prelude.{◌≡◌, ◌∷◌, [], IfSome, IsNone};
+ghost use Rattle.std.specs.Prelude.{◌≡◌, ◌+◌, ◌≤◌, ◌∷◌, [], length, IfSome, IsNone};
 ghost use Rattle.std.specs.List.{position};
 ghost use Rattle.text_lines.specs.Lines.{is_line_feed, without_return, lines_of};
 
@@ -45,7 +45,8 @@ fn end_of_line(text: &[u8]) -> Option<usize>
 
 /// The lines of a text, from its first.
 pub fn lines_of(text: &[u8]) -> Lines<'_>
-    ensures { result ≡ lines_of text.now }
+    ensures all { result ≡ lines_of text.now }
+    ensures few { length result ≤ length text.now + 1 }
 {
     Lines {
         rest: text,
