@@ -1,6 +1,7 @@
 -- Hexadecimal images: a text whose lines are words of eight digits.
-use Rattle.std.specs.Prelude.{ℕ, ◌+◌, ◌*◌, ◌-◌, true, false, ◌&&◌, nat_eq, nat_le, if◌then◌else◌, List, [], ◌∷◌, ◌++◌, length, get_or, take, Option, Some, None, Result, Ok, Err}
+use Rattle.std.specs.Prelude.{ℕ, ◌+◌, ◌*◌, ◌-◌, true, false, ◌&&◌, nat_eq, nat_le, if◌then◌else◌, List, [], ◌∷◌, ◌++◌, length, Option, Some, None, Result, Ok, Err}
 use Rattle.byteorder.specs.Endian.{little_bytes}
+use Rattle.text_lines.specs.Lines.{lines_of}
 use Rattle.sn_base.specs.Blocks.{ram_start, ram_size}
 use Rattle.sn_base.specs.Image.{ImageData}
 use Rattle.elf_load.specs.declared.fault.LoadCause.{LoadCause}
@@ -34,20 +35,6 @@ abbrev pub line_of : List ℕ → Line
 line_of [] = Skipped
 line_of (byte ∷ text) = if nat_eq byte 35 then Skipped else word_line (word_of (byte ∷ text))
 
--- a line that an LF ended, without the CR before the LF
-abbrev pub without_return : List ℕ → List ℕ
-without_return [] = []
-without_return (byte ∷ text) =
-    let line = byte ∷ text in
-    let last = length line - 1 in
-    if nat_eq (get_or line last 0) 13 then take last line else line
-
--- the lines of a text, without their ends, where the first of them has begun
-unfoldable pub lines_from : List ℕ → List ℕ → List (List ℕ)
-lines_from begun [] = begun ∷ []
-lines_from begun (byte ∷ bytes) =
-    if nat_eq byte 10 then without_return begun ∷ lines_from [] bytes else lines_from (begun ++ byte ∷ []) bytes
-
 -- the code that lines add to the code before them, or the refusal of the first line that is refused
 unfoldable pub code_from : ℕ → List ℕ → List (List ℕ) → Result (List ℕ) LoadCause
 code_from number code [] = Ok code
@@ -72,4 +59,4 @@ begun_with (Ok (byte ∷ code)) = Ok (code_image (byte ∷ code))
 
 -- the image that a text is
 abbrev pub hexadecimal_image : List ℕ → Result ImageData LoadCause
-hexadecimal_image text = begun_with (code_from 1 [] (lines_from [] text))
+hexadecimal_image text = begun_with (code_from 1 [] (lines_of text))

@@ -1,11 +1,13 @@
 //! Hexadecimal images: a text whose lines are words of eight digits.
 ghost use Rattle.std.specs.Prelude.{◌≡◌, ℕ, ◌+◌, ◌<◌, ◌≤◌, ◌%◌, ◌^◌, List, [], ◌∷◌, length, vec_len, IfOk, IfErr, OnOk, IfSome, slice_index};
-ghost use Rattle.elf_load.specs.Hexadecimal.{digit_of, word_of, line_of, without_return, lines_from, code_from, hexadecimal_image};
+ghost use Rattle.elf_load.specs.Hexadecimal.{digit_of, word_of, line_of, code_from, hexadecimal_image};
+ghost use Rattle.text_lines.specs.Lines.{lines_of};
 ghost use Rattle.elf_load.specs.Loading.{IsRefusedAs};
 
 use crate::fault::{LoadCause, LoadFault};
 use sn_base::{Image, Segment};
 use std::alloc::Global;
+use text_lines::lines_of;
 
 const RAM_START: u32 = 0x8000_0000;
 
@@ -59,15 +61,6 @@ fn line_in(text: &[u8]) -> Line
     }
 }
 
-fn without_return(text: &[u8]) -> &[u8]
-    ensures { result.now ≡ without_return text.entry.now }
-{
-    match text.last() {
-        Some(b'\r') => &text[..text.len() - 1],
-        _ => text,
-    }
-}
-
 #[tactic(auto, unfolding(crate::specs::Hexadecimal::code_from))]
 /// Adds the code of a line, whose number is counted from 1, to that of the lines before it.
 fn add_line(code: &mut Vec<u8>, number: u64, text: &[u8]) -> Result<(), LoadFault>
@@ -92,22 +85,20 @@ fn add_line(code: &mut Vec<u8>, number: u64, text: &[u8]) -> Result<(), LoadFaul
 
 /// The code of a text's words.
 fn code_of(alloc: Global, text: &[u8]) -> Result<Vec<u8>, LoadFault>
-    ensures ok { IfOk result (λ code. code_from 1 [] (lines_from [] text.now) ≡ Ok code.items) }
+    ensures ok { IfOk result (λ code. code_from 1 [] (lines_of text.now) ≡ Ok code.items) }
     ensures whole { IfOk result (λ code. vec_len code % 4 ≡ 0) }
     ensures small { IfOk result (λ code. vec_len code ≤ 4194304) }
-    ensures refused { IfErr result (λ fault. IsRefusedAs (code_from 1 [] (lines_from [] text.now)) fault) }
+    ensures refused { IfErr result (λ fault. IsRefusedAs (code_from 1 [] (lines_of text.now)) fault) }
 {
     let mut code = Vec::new(alloc);
     let mut number = 1u64;
-    let mut start = 0usize;
-    'bytes: for (i, byte) in text.iter().enumerate() {
-        if *byte == b'\n' {
-            add_line(&mut code, number, without_return(&text[start..i]))?;
-            number += 1;
-            start = i + 1;
+    let mut lines = lines_of(text);
+    'lines: while let Some(line) = lines.next_line() {
+        if let Err(fault) = add_line(&mut code, number, line) {
+            return Err(fault);
         }
+        number += 1;
     }
-    add_line(&mut code, number, &text[start..])?;
     Ok(code)
 }
 

@@ -17,3 +17,6 @@ mod state_text;
 pub use cause::{Fault, ScriptCause, ScriptFault};
 pub use line::Line;
 pub use script::read_script;
+
+#[cfg(test)]
+mod tests;

@@ -59,14 +59,14 @@ impl Line {
         self.text.as_slice()
     }
 
-    pub fn text(&mut self, text: &str)
+    pub(crate) fn text(&mut self, text: &str)
         requires { length self.old + length text.now ≤ 8192 }
         ensures { self.new ≡ self.old ++ text.now }
     {
         self.text.extend_from_slice(text.as_bytes()).unwrap();
     }
 
-    pub fn number(&mut self, number: u64)
+    pub(crate) fn number(&mut self, number: u64)
         requires { length self.old + 20 ≤ 8192 }
         ensures text { self.new ≡ self.old ++ decimal number }
         ensures short { length self.new ≤ length self.old + 20 }
@@ -76,7 +76,7 @@ impl Line {
     }
 
     /// A name, a blank and a number.
-    pub fn named(&mut self, name: &str, number: u64)
+    pub(crate) fn named(&mut self, name: &str, number: u64)
         requires { length self.old + length name.now + 21 ≤ 8192 }
         ensures text { self.new ≡ self.old ++ named_number name.now number }
         ensures short { length self.new ≤ length self.old + length name.now + 21 }
@@ -87,7 +87,7 @@ impl Line {
     }
 
     /// A number below 256, which has three digits at most.
-    pub fn small(&mut self, number: u8)
+    pub(crate) fn small(&mut self, number: u8)
         requires { length self.old + 3 ≤ 8192 }
         ensures text { self.new ≡ self.old ++ decimal number }
         ensures short { length self.new ≤ length self.old + 3 }
@@ -97,7 +97,7 @@ impl Line {
     }
 
     /// A name, a blank and such a number.
-    pub fn named_small(&mut self, name: &str, number: u8)
+    pub(crate) fn named_small(&mut self, name: &str, number: u8)
         requires { length self.old + length name.now + 4 ≤ 8192 }
         ensures text { self.new ≡ self.old ++ named_number name.now number }
         ensures short { length self.new ≤ length self.old + length name.now + 4 }
@@ -109,7 +109,7 @@ impl Line {
 
     /// A byte as two hexadecimal digits.
     #[tactic(auto, unfolding(crate::specs::Text::byte_text))]
-    pub fn byte(&mut self, byte: u8)
+    pub(crate) fn byte(&mut self, byte: u8)
         requires { length self.old + 2 ≤ 8192 }
         ensures text { self.new ≡ self.old ++ byte_text byte }
         ensures short { length self.new ≡ length self.old + 2 }
@@ -121,7 +121,7 @@ impl Line {
 
     /// A word as eight hexadecimal digits.
     #[tactic(auto, unfolding(crate::specs::Text::word_text))]
-    pub fn word(&mut self, word: u32)
+    pub(crate) fn word(&mut self, word: u32)
         requires { length self.old + 8 ≤ 8192 }
         ensures text { self.new ≡ self.old ++ word_text word }
         ensures short { length self.new ≡ length self.old + 8 }

@@ -1,12 +1,15 @@
-use Rattle.std.proofs.Common.{◌≡◌, ◌≤◌, ◌+◌, ◌%◌, [], drop, vec_len, slice_range}
-use Rattle.elf_load.specs.Hexadecimal.{code_from, lines_from}
+use Rattle.std.proofs.Common.{◌≡◌, ◌≤◌, ◌+◌, ◌%◌, [], length, vec_len}
+use Rattle.text_lines.specs.Lines.{lines_of}
+use Rattle.elf_load.specs.Hexadecimal.{code_from}
 use Rattle.elf_load.proofs.hexadecimal.code_of.Given as goal
 
-abbrev pub invariant-bytes : goal.invariant-bytes
-invariant-bytes l = record {
-  same : code_from l.number l.code.items (lines_from (slice_range l.text l.start l.i) (drop l.i l.text)) ≡ code_from 1 [] (lines_from [] l.text);
-  started : l.start ≤ l.i;
-  numbered : l.number ≤ l.i + 1;
+abbrev pub invariant-lines : goal.invariant-lines
+invariant-lines l = record {
+  same : code_from l.number l.code.items l.lines ≡ code_from 1 [] (lines_of l.text);
+  numbered : l.number + length l.lines ≤ length l.text + 2;
   whole : vec_len l.code % 4 ≡ 0;
   small : vec_len l.code ≤ 4194304;
 }
+
+abbrev pub decreases-lines : goal.decreases-lines
+decreases-lines l = length l.lines
