@@ -3,3 +3,5 @@ pub mod Opens
 pub mod Bytes
 pub mod Starts
 pub mod Agrees
+pub mod Restored
+pub mod PutBack

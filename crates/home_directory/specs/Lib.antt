@@ -2,3 +2,4 @@ pub mod Home
 pub mod Receipt
 pub mod Serving
 pub mod Open
+pub mod Restored

@@ -19,6 +19,7 @@ mod entry;
 mod laws;
 mod open;
 mod receive;
+mod restore;
 mod rows;
 mod start;
 mod step;
@@ -26,7 +27,7 @@ mod step;
 mod tests;
 
 use entry::Entry;
-pub use laws::outcome_is_the_machines;
+pub use laws::{outcome_is_the_machines, restore_is_the_machines};
 use log_buffer::LogBuffer;
 use open::Open;
 use sn_base::{Block, BlockNo, Image, Interval, Memory, NodeId};

@@ -1,5 +1,6 @@
 //! Each row of the protocol's table and each refusal once, at one block; and whole exchanges about the blocks of a home.
 mod exchanges;
+mod restoring;
 mod rows;
 
 ghost use Rattle.std.specs.Prelude.{◌≡◌, true};

@@ -9,3 +9,7 @@ pub mod Stores
 pub mod Least
 pub mod Agrees
 pub mod Logs
+pub mod Within
+pub mod Unshared
+pub mod Held
+pub mod Restored

@@ -58,7 +58,7 @@ taken-more c d sets x y h = more_below block_count c d sets (y % sets) x h
 
 -- a block that only the other takes
 
-strict_step : (n x sets i j : ℕ) (t u : Bool) → i ≤ j → (x < n → i + 1 ≤ j) → x < suc n → (t ≡ true → u ≡ true) → (n ≡ x → u ≡ true) → (n ≡ x → t ≡ false) →
+pub strict_step : (n x sets i j : ℕ) (t u : Bool) → i ≤ j → (x < n → i + 1 ≤ j) → x < suc n → (t ≡ true → u ≡ true) → (n ≡ x → u ≡ true) → (n ≡ x → t ≡ false) →
     (i + (if nat_eq (n % sets) (x % sets) && t then 1 else 0)) + 1 ≤ j + (if nat_eq (n % sets) (x % sets) && u then 1 else 0)
 strict_step n x sets i j t u h l m k v w = ⊎_elim
     (λ (e : n ≡ x). rw (e, w e, v e) (let q : nat_eq (x % sets) (x % sets) ≡ true = grind (arith, nat_tests) in rw q (omega arith)))

@@ -1,17 +1,22 @@
 //! That the words of this layer are those of the whole machine's definitions.
-ghost use Rattle.std.specs.Prelude.{◌≡◌, ℕ, Option};
+ghost use Rattle.std.specs.Prelude.{◌≡◌, ℕ, false, List, length, Option};
 ghost use Rattle.sn_base.specs.declared.block.Write.{Write};
 ghost use Rattle.sn_base.specs.declared.config.Config.{Config};
+ghost use Rattle.sn_base.specs.declared.log.LogEntry.{LogEntry};
 ghost use Rattle.sn_msg.specs.declared.Message.{Message};
+ghost use Rattle.rollback.specs.Unwound.{unwound};
 ghost use Rattle.sn_model.specs.declared.cache.Need.{Need};
-ghost use Rattle.sn_model.specs.Caches.{Miss, Put};
+ghost use Rattle.sn_model.specs.Caches.{Miss, Put, block_count};
 ghost use Rattle.sn_model.specs.Fabric.{Fabric, node_at};
 ghost use Rattle.sn_model.specs.Access.{prepared, with_write, missing, missed, accesses};
 ghost use Rattle.sn_model.specs.NodeEvents.{evicted, with_put as putting, issued_by, put_issued_by};
 ghost use Rattle.sn_model.specs.NetEvents.{logged_at, outcome_of, AtCache};
+ghost use Rattle.sn_model.specs.PointEvents.{restored_cache};
+ghost use Rattle.mosi_cache.specs.Controller.{CacheData, FitsSets};
 ghost use Rattle.mosi_cache.specs.Rows.{row_of, MeetsRow};
 ghost use Rattle.mosi_cache.specs.Probe.{log_with, probe_by, with_miss, with_put, stored, evict_by, least_open_of};
 ghost use Rattle.mosi_cache.specs.Machine.{controller_at, log_at, access_by_probe, evicted_by, at_most};
+ghost use Rattle.mosi_cache.specs.Restored.{begun_restore, held_of, HeldFits, StaysAsItIs};
 
 /// A message that has a row comes to just what its delivery in the machine comes to.
 pub fn row_is_the_machines()
@@ -39,4 +44,11 @@ pub fn changes_are_the_machines()
 /// What a controller has open counts in a report as the machine's definitions say.
 pub fn least_open_is_the_machines()
     ensures { (now : ℕ) (miss : Option Miss) (put : Option Put) → put_issued_by (issued_by now miss) put ≡ at_most now (least_open_of miss put) }
+{}
+
+/// What begin_restore and the unwinding of the log to checkpoint k leave of a controller is what a recovery leaves of its cache;
+/// and the unwinding may be done where that cache fits.
+pub fn restore_is_the_machines()
+    ensures cache { (c d e : CacheData) (log : List LogEntry) (k : ℕ) → d ≡ record c { cache = begun_restore c.cache } → ((b : ℕ) → held_of e b ≡ unwound log false k (held_of d) b) → StaysAsItIs d e → e ≡ record c { cache = restored_cache log k c.cache } }
+    ensures fits { (c d : CacheData) (log : List LogEntry) (k : ℕ) → d ≡ record c { cache = begun_restore c.cache } → length c.cache.lines ≡ block_count → FitsSets (restored_cache log k c.cache) c.sets c.ways → HeldFits d (unwound log false k (held_of d)) }
 {}

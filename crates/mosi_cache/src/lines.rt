@@ -8,6 +8,8 @@ ghost use Rattle.cache_array.specs.Slots.{FrameSlots};
 ghost use Rattle.sn_model.specs.Caches.{no_line, empty_lines, is_present, block_count, frames_taken};
 ghost use Rattle.mosi_cache.specs.Frames.{LinesData, HasRoom, closed, line_at, line_kept, completed, is_spared, may_leave, leaves, lesser_of, leaving_at, IsLeastLeaving};
 
+mod restore;
+
 use cache_array::Frames;
 use sn_base::{Block, BlockNo, Memory};
 use sn_model::{LineState, Need};

@@ -22,7 +22,8 @@ use sn_base::{BlockNo, Entries, Interval, LogEntry, Old};
 /// What a log is unwound into: a cache, or a home.
 ///
 /// Its meaning is a map from block to what it holds (`Old::NotOwned` where it holds nothing of the block), on one of
-/// the two sides, and a fact that says which maps fit it, as by its sets and ways.
+/// the two sides, and a fact that says which maps fit it, as by its sets and ways. What else it has, as its number and its
+/// sizes, an unwinding leaves as it is, and the trait's relation says so of two values of it.
 pub trait Restore {
     ghost use Rattle.std.specs.Prelude.{◌≡◌, ℕ, Bool};
     ghost use Rattle.rollback.specs.Unwound.{Old, forgotten, restored, IsPart, IsBetween};
@@ -34,19 +35,28 @@ pub trait Restore {
 
     ghost fits: { Self → (ℕ → Old) → Type 0 };
 
+    // that between two values of it only what is held has changed
+    ghost stays: { Self → Self → Type 0 };
+
     /// Forgets what is held of a block that has such an entry: a cache drops the block, a home does nothing. An entry of
     /// the other side is passed over.
     fn forget(&mut self, block: BlockNo, old: &Old)
         ensures held { (b : ℕ) → holds self.new b ≡ forgotten home_side (holds self.old) block old.now b }
         ensures fits { fits self.new (holds self.new) }
-        ensures room { (map : ℕ → Old) → fits self.old map → fits self.new map };
+        ensures room { (map : ℕ → Old) → fits self.old map → fits self.new map }
+        ensures stays { stays self.old self.new };
 
     /// Holds a block as such an entry says. An entry of the other side is passed over.
     fn put_back(&mut self, block: BlockNo, old: &Old)
         requires { fits self.old (restored home_side (holds self.old) block old.now) }
         ensures held { (b : ℕ) → holds self.new b ≡ restored home_side (holds self.old) block old.now b }
         ensures fits { fits self.new (holds self.new) }
-        ensures room { (map : ℕ → Old) → fits self.old map → fits self.new map };
+        ensures room { (map : ℕ → Old) → fits self.old map → fits self.new map }
+        ensures stays { stays self.old self.new };
+
+    ghost stays_refl: { (s : Self) → stays s s };
+
+    ghost stays_trans: { (r s t : Self) → stays r s → stays s t → stays r t };
 
     // a part of a map that fits, fits
     ghost part: { (s : Self) (part whole : ℕ → Old) → fits s whole → IsPart part whole → fits s part };
@@ -63,6 +73,7 @@ pub fn unwind<E: Entries, T: Restore>(log: &E, k: Interval, target: &mut T) -> u
     requires fits { T.fits target.old (unwound (E.entries log.now) T.home_side k (T.holds target.old)) }
     ensures held { (b : ℕ) → T.holds target.new b ≡ unwound (E.entries log.now) T.home_side k (T.holds target.old) b }
     ensures room { (map : ℕ → Old) → T.fits target.old map → T.fits target.new map }
+    ensures stays { T.stays target.old target.new }
     ensures count { result ≡ min (length (entries_from k (E.entries log.now))) (2 ^ 32 - 1) }
 {
     forget_all(log, k, target);
@@ -74,6 +85,7 @@ fn forget_all<E: Entries, T: Restore>(log: &E, k: Interval, target: &mut T)
     ensures held { (b : ℕ) → T.holds target.new b ≡ all_forgotten (E.entries log.now) T.home_side k (T.holds target.old) b }
     ensures fits { (i : ℕ) (d : LogEntry) → i < length (E.entries log.now) → k ≤ (slice_index_or (E.entries log.now) i d).interval → T.fits target.new (T.holds target.new) }
     ensures room { (map : ℕ → Old) → T.fits target.old map → T.fits target.new map }
+    ensures stays { T.stays target.old target.new }
 {
     'places: for place in 0..log.count() {
         let entry = log.entry(place);
@@ -90,6 +102,7 @@ fn put_back_oldest<E: Entries, T: Restore>(log: &E, k: Interval, target: &mut T)
     requires last { T.fits target.old (unwound (E.entries log.now) T.home_side k (T.holds target.old)) }
     ensures held { (b : ℕ) → T.holds target.new b ≡ unwound (E.entries log.now) T.home_side k (T.holds target.old) b }
     ensures room { (map : ℕ → Old) → T.fits target.old map → T.fits target.new map }
+    ensures stays { T.stays target.old target.new }
 {
     'places: for place in 0..log.count() {
         let entry = log.entry(place);

@@ -1,5 +1,5 @@
 //! A log unwound into a cache with room for two blocks.
-ghost use Rattle.std.specs.Prelude.{◌≡◌, ◌≢◌, ℕ, ◌⊎◌, nat_eq, if◌then◌else◌, false};
+ghost use Rattle.std.specs.Prelude.{◌≡◌, ◌≢◌, ℕ, ◌⊎◌, nat_eq, if◌then◌else◌, false, refl};
 ghost use Rattle.std.proofs.Common.{◌∙◌, inl, inr};
 ghost use Rattle.rollback.specs.Unwound.{Old};
 ghost use Rattle.sn_base.specs.declared.log.Old.TheVariants.{NotOwned};
@@ -9,9 +9,10 @@ use log_buffer::LogBuffer;
 use sn_base::{Block, BlockNo, Old};
 use std::test::Fail;
 
-// A cache with room for two blocks.
+// A cache with room for two blocks, and the node that it belongs to.
 #[derive(Drop)]
 struct Pair {
+    node: u8,
     first: BlockNo,
     first_held: Old,
     second: BlockNo,
@@ -37,6 +38,8 @@ impl Restore for Pair {
     ghost holds = { λ p b. if nat_eq b p.first then p.first_held else (if nat_eq b p.second then p.second_held else NotOwned) };
 
     ghost fits = { λ p m. (x : ℕ) × (y : ℕ) × ((b : ℕ) → b ≢ x → b ≢ y → m b ≡ NotOwned) };
+
+    ghost stays = { λ p q. p.node ≡ q.node };
 
     fn forget(&mut self, block: BlockNo, old: &Old) {
         if is_home_side(old) {
@@ -68,6 +71,10 @@ impl Restore for Pair {
         }
     }
 
+    ghost stays_refl = { λ p. refl };
+
+    ghost stays_trans = { λ p q r h i. h ∙ i };
+
     ghost part = { λ s p w h i. (h.0, h.1, λ b m n. elim (i b) [ inl e ↦ e ∙ h.2 b m n | inr e ↦ e ]) };
 
     ghost way = { λ s f l m h i j. (i.0, i.1, λ b k n. elim (j b) [ inl e ↦ e ∙ i.2 b k n | inr e ↦ e ]) };
@@ -81,12 +88,14 @@ fn what_was_let_go_makes_room_for_what_is_put_back(rt: HostRuntime) -> Result<()
     log.note(0, w, Old::NotOwned);
     log.note(0, z, Old::Owned(Block::zero()));
     let mut pair = Pair {
+        node: 5,
         first: w,
         first_held: Old::Owned(Block::zero()),
         second: x,
         second_held: Old::Owned(Block::zero()),
     };
     assert_eq!(rt; unwind(&log, 0, &mut pair), 3);
+    assert_eq!(rt; pair.node, 5);
     assert_eq!(rt; pair.held(w), Old::NotOwned);
     assert_eq!(rt; pair.held(x), Old::Owned(Block::zero()));
     assert_eq!(rt; pair.held(z), Old::Owned(Block::zero()));

@@ -46,7 +46,7 @@ pub hop-comes : (config : Config) (p : Parts) (id : ℕ) (net : NetData) (r : Ho
     net ≡ after_hop p.net id (find_flight p.net.flights id) → r ≡ hop_answer p.net (find_flight p.net.flights id) → said ≡ hop_as r → sends ≡ [] →
     Comes config p (record p { net = net }) sends said (hopped (fabric_as p) id)
 hop-comes config p id net r said sends k n a s e =
-    comes-as config p (record p { net = net }) sends said None (Hop id) (hopped (fabric_as p) id) k tt (hop_is_moved config (fabric_as p) id)
+    comes-as config p (record p { net = net }) sends said None (Hop id) (hopped (fabric_as p) id) k tt tt (hop_is_moved config (fabric_as p) id)
     (whole-net config p net k.whole (ap (λ (x : NetData). x.routes.nodes) n ∙ ap (λ (x : Switches). x.nodes) (hop_routes p.net id (find_flight p.net.flights id))))
     (rw (n, s, a, e) (hop-is p id (routes-as config p k.whole) (rising config p k)))
 
@@ -60,7 +60,7 @@ pub loss-comes : (config : Config) (p : Parts) (id : ℕ) (net : NetData) (b : B
     b ≡ is_some (find_flight p.net.flights id) → net ≡ record p.net { flights = without p.net.flights id } → (b ≡ false → net ≡ p.net) → said ≡ loss_as b → sends ≡ [] →
     Comes config p (record p { net = net }) sends said (lost (fabric_as p) id)
 loss-comes config p id net b said sends k there after absent s e =
-    comes-as config p (record p { net = net }) sends said None (Lose id) (lost (fabric_as p) id) k tt (loss_is_moved config (fabric_as p) id)
+    comes-as config p (record p { net = net }) sends said None (Lose id) (lost (fabric_as p) id) k tt tt (loss_is_moved config (fabric_as p) id)
     (whole-net config p net k.whole (ap (λ (x : NetData). x.routes.nodes) after))
     (rw (s, e) (loss-is p id net b there after absent))
 
@@ -78,7 +78,7 @@ pub kill-comes : (config : Config) (p : Parts) (switch : ℕ) (net : NetData) (b
     b ≡ not (is_dead p.net.dead switch) → (b ≡ true → net ≡ record p.net { dead = set p.net.dead switch true; flights = outside p.net.flights switch }) → (b ≡ false → net ≡ p.net) →
     said ≡ kill_as b → sends ≡ [] → Comes config p (record p { net = net }) sends said (killed (fabric_as p) switch)
 kill-comes config p switch net b said sends k there after already s e =
-    comes-as config p (record p { net = net }) sends said None (Kill switch) (killed (fabric_as p) switch) k tt (kill_is_moved config (fabric_as p) switch)
+    comes-as config p (record p { net = net }) sends said None (Kill switch) (killed (fabric_as p) switch) k tt tt (kill_is_moved config (fabric_as p) switch)
     (whole-net config p net k.whole (kill_routes p.net net switch b after already))
     (rw (s, e) (kill-is p switch net b there after already))
 
@@ -103,7 +103,7 @@ edge-comes config p n place x clock said sends k l ep ex ec es e =
     let h : n < length p.seats = subst (λ (k : ℕ). n < k) (count-nodes p) l in
     rw (ec, es, seat-read p n place x l ep ex, ep, e)
     (comes-as config p (record p { seats = set p.seats n (record (seat_at p.seats n) { clock = seat.edged (seat_at p.seats n).clock }) }) [] (seat.edge_answer (seat_at p.seats n).clock) None
-    (Edge n) (model.edged (fabric_as p) n) k l (edge_is_moved config (fabric_as p) n)
+    (Edge n) (model.edged (fabric_as p) n) k l tt (edge_is_moved config (fabric_as p) n)
     (whole-seat config p n (record (seat_at p.seats n) { clock = seat.edged (seat_at p.seats n).clock }) k.whole h
     (same_seat config n (seat_at p.seats n) (seat.edged (seat_at p.seats n).clock) (k.whole.seats n (subst (λ (k : ℕ). n < k) k.whole.count h))))
     (edge_step p n (seat.is_full (seat_at p.seats n).clock) refl (node-at p n h)))

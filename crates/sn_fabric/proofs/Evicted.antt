@@ -156,7 +156,7 @@ drop-comes config p n place block x cache sends k l b a ep ex ec es =
     let y : Seat = record (seat_at p.seats n) { cache = record (seat_at p.seats n).cache { cache = without_line (seat_at p.seats n).cache.cache block } } in
     let c : record x { cache = cache } ≡ y = ap (λ (d : CacheData). record x { cache = d }) ec ∙ ap (λ (z : Seat). record z { cache = record z.cache { cache = without_line z.cache.cache block } }) r in
     rw (c, ep, es)
-    (seat-comes config p n y Evicted (Some (LostCopy n block)) (Evict n block) (evicted (fabric_as p) n block) k (l, b) (evict_is_moved config (fabric_as p) n block) h
+    (seat-comes config p n y Evicted (Some (LostCopy n block)) (Evict n block) (evicted (fabric_as p) n block) k (l, b) tt (evict_is_moved config (fabric_as p) n block) h
     (record { node = i.node; nodes = i.nodes; sets = i.sets; ways = i.ways; limit = i.limit })
     ((dropping (fabric_as p) n block a).1
     ∙ ap (λ (z : Node). record { fabric = with_node (fabric_as p) n (without_copy z block); answer = Evicted; sent = []; told = Some (LostCopy n block) }) (node-at p n h)))
@@ -193,7 +193,7 @@ put-comes config p n place block now x cache out net sends k l b a ep ex en ec e
     let t : now ≡ (seat_at (set p.seats n y) n).clock.interval = en ∙ ap (λ (z : Seat). z.clock.interval) (r ∙ sym (ap (λ (z : Seat). record (seat_at p.seats n) { clock = z.clock }) (get_or-set_same p.seats n y no_seat h))) in
     rw (c, ep)
     (sends-come config p (record p { seats = set p.seats n y }) net n block now (send (block % (seat_at p.seats n).cache.nodes) PutReq ∷ []) PutBegun sends None (Evict n block)
-    (evicted (fabric_as p) n block) k (l, b) (evict_is_moved config (fabric_as p) n block) (putting-is config p n block k.whole h a)
+    (evicted (fabric_as p) n block) k (l, b) tt (evict_is_moved config (fabric_as p) n block) (putting-is config p n block k.whole h a)
     (whole-seat config p n y k.whole h (record { node = i.node; nodes = i.nodes; sets = i.sets; ways = i.ways; limit = i.limit }))
     (subst (λ (k : ℕ). n < k) (sym (length-set p.seats n y)) h) t er
     (subst (λ (z : Out). net_as net ≡ posted p.net.routes (net_as p.net) n now block (z ∷ [])) o ew)

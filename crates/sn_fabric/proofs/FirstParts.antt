@@ -19,9 +19,10 @@ use Rattle.sn_model.specs.Caches.{block_count}
 use Rattle.sn_model.specs.Homes.{HomeEntry}
 use Rattle.sn_model.specs.Fabric as model
 use Rattle.sn_model.specs.Fabric.{Fabric, Node, first_home, first_homes, first_node, first_fabric, no_entry}
-use Rattle.fabric_coherence.specs.Coherent.{Keeps}
 use Rattle.fabric_coherence.specs.Start.{first_beside}
 use Rattle.fabric_coherence.proofs.KeptStart.{start-kept}
+use Rattle.fabric_bounds.specs.Bounds.{KeepsBounds}
+use Rattle.fabric_bounds.proofs.Runs.{start_bounded}
 use Rattle.sn_fabric.specs.declared.node.Seat.{Seat}
 use Rattle.sn_fabric.specs.Parts.{node_as, Parts, fabric_as, seat_at, home_at, no_seat, no_home, homes_as, entry_at, IsSeat, IsHomeOf, AreWhole, AreParts}
 use Rattle.sn_fabric.specs.Start.{first_seat, seats_below, homes_below}
@@ -157,5 +158,5 @@ fabric-start config image f =
 pub parts-start : (config : Config) (image : ImageData) → config_fits config ≡ true → AreParts config (first_parts config image (first_net config))
 parts-start config image f = record {
   whole = whole-start config image (first_net config) f refl;
-  keeps = subst Keeps (sym (fabric-start config image f)) (first_beside, start-kept image config.nodes (few-nodes config f).some (few-nodes config f).few);
+  keeps = subst (KeepsBounds config) (sym (fabric-start config image f)) (first_beside, start-kept image config.nodes (few-nodes config f).some (few-nodes config f).few, start_bounded image config config.nodes);
 }

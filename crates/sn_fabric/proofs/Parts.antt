@@ -12,9 +12,9 @@ use Rattle.std.specs.Prelude.{Option}
 use Rattle.sn_model.specs.Fabric.{Fabric, Node, Moved, first_node, node_at, with_node}
 use Rattle.sn_model.specs.Net.{routes_of}
 use Rattle.sn_model.specs.FabricEvents.{FabricEvent, moved_by}
-use Rattle.fabric_coherence.specs.Coherent.{Keeps}
 use Rattle.fabric_coherence.specs.Events.{MayBe}
-use Rattle.fabric_coherence.proofs.KeptEvents.{each_keeps}
+use Rattle.fabric_bounds.specs.Bounds.{HasRoom, KeepsBounds}
+use Rattle.fabric_bounds.proofs.Runs.{each_keeps_bounds}
 use Rattle.sn_fabric.specs.declared.node.Seat.{Seat}
 use Rattle.sn_fabric.specs.Fabric.{FabricData, IsAfter}
 use Rattle.sn_fabric.specs.Parts.{node_as, Parts, fabric_as, seat_at, no_seat, IsSeat, AreWhole, AreParts}
@@ -65,12 +65,12 @@ pub record Comes (config : Config) (p q : Parts) (sends : List Sent) (said : Ans
   pub answer : said ≡ moved.answer
 
 -- whole parts that stand for what an event comes to are parts as they may be
-pub comes : (config : Config) (p q : Parts) (sends : List Sent) (said : Answer) (event : FabricEvent) (moved : Moved) → AreParts config p → MayBe (fabric_as p) event →
+pub comes : (config : Config) (p q : Parts) (sends : List Sent) (said : Answer) (event : FabricEvent) (moved : Moved) → AreParts config p → MayBe (fabric_as p) event → HasRoom config (fabric_as p) event →
     moved_by config (fabric_as p) event ≡ moved → AreWhole config q → fabric_as q ≡ moved.fabric → sends ≡ moved.sent → said ≡ moved.answer → Comes config p q sends said moved
-comes config p q sends said event moved k m e w f s a = record {
+comes config p q sends said event moved k m r e w f s a = record {
   parts = record {
     whole = w;
-    keeps = subst Keeps (ap (λ (x : Moved). x.fabric) e ∙ sym f) (each_keeps config (fabric_as p) event k.keeps m);
+    keeps = subst (KeepsBounds config) (ap (λ (x : Moved). x.fabric) e ∙ sym f) (each_keeps_bounds config (fabric_as p) event k.keeps m r);
   };
   fabric = f;
   sent = s;
@@ -85,10 +85,10 @@ after-comes config p q before sends said moved c = record {
 }
 
 -- the same where what the event comes to is known whole
-pub comes-as : (config : Config) (p q : Parts) (sends : List Sent) (said : Answer) (told : Option Told) (event : FabricEvent) (moved : Moved) → AreParts config p → MayBe (fabric_as p) event →
+pub comes-as : (config : Config) (p q : Parts) (sends : List Sent) (said : Answer) (told : Option Told) (event : FabricEvent) (moved : Moved) → AreParts config p → MayBe (fabric_as p) event → HasRoom config (fabric_as p) event →
     moved_by config (fabric_as p) event ≡ moved → AreWhole config q → moved ≡ record { fabric = fabric_as q; answer = said; sent = sends; told = told } → Comes config p q sends said moved
-comes-as config p q sends said told event moved k m e w h =
-    comes config p q sends said event moved k m e w (sym (ap (λ (x : Moved). x.fabric) h)) (sym (ap (λ (x : Moved). x.sent) h)) (sym (ap (λ (x : Moved). x.answer) h))
+comes-as config p q sends said told event moved k m r e w h =
+    comes config p q sends said event moved k m r e w (sym (ap (λ (x : Moved). x.fabric) h)) (sym (ap (λ (x : Moved). x.sent) h)) (sym (ap (λ (x : Moved). x.answer) h))
 
 -- read through the view
 pub after-view : (config : Config) (p q : Parts) (before sends : List Sent) (said : Answer) (f : Fabric → Moved) (d : FabricData) → data_of config p before ≡ d → Comes config p q sends said (f (fabric_as p)) →
@@ -107,9 +107,9 @@ pub after-whole : (config : Config) (p q : Parts) (before sends : List Sent) (sa
 after-whole config p q before sends said f d v c = subst (λ (x : FabricData). IsAfter x (data_of config q sends) said (f x)) v (after-comes config p q before sends said (f (data_of config p before)) c)
 
 -- a node that changes but for its place
-pub seat-comes : (config : Config) (p : Parts) (n : ℕ) (y : Seat) (said : Answer) (told : Option Told) (event : FabricEvent) (moved : Moved) → AreParts config p → MayBe (fabric_as p) event →
+pub seat-comes : (config : Config) (p : Parts) (n : ℕ) (y : Seat) (said : Answer) (told : Option Told) (event : FabricEvent) (moved : Moved) → AreParts config p → MayBe (fabric_as p) event → HasRoom config (fabric_as p) event →
     moved_by config (fabric_as p) event ≡ moved → n < length p.seats → IsSeat config n y → moved ≡ record { fabric = with_node (fabric_as p) n (node_as y); answer = said; sent = []; told = told } →
     Comes config p (record p { seats = set p.seats n y }) [] said moved
-seat-comes config p n y said told event moved k m e l i h =
-    comes-as config p (record p { seats = set p.seats n y }) [] said told event moved k m e (whole-seat config p n y k.whole l i)
+seat-comes config p n y said told event moved k m r e l i h =
+    comes-as config p (record p { seats = set p.seats n y }) [] said told event moved k m r e (whole-seat config p n y k.whole l i)
     (h ∙ ap (λ (s : Fabric). record { fabric = s; answer = said; sent = []; told = told }) (sym (fabric-seat p n y)))

@@ -37,7 +37,7 @@ point-comes config p now k x net sends a next finished f ex en er ew es =
     let l : 0 < length (fabric_as p).nodes = omega (arith, c, some) in
     let h : 0 < length p.seats = omega (arith, w.count, some) in
     let o : tellings k config.nodes ≡ advances k 0 (fabric_as p).nodes = ap (tellings k) (sym c) ∙ tellings-are k (fabric_as p).nodes in
-    sends-come config p (record p { point = k }) net 0 0 now (advances k 0 (fabric_as p).nodes) (Validated k) sends None (Advance k) (advanced (fabric_as p) k) a (next, finished)
+    sends-come config p (record p { point = k }) net 0 0 now (advances k 0 (fabric_as p).nodes) (Validated k) sends None (Advance k) (advanced (fabric_as p) k) a (next, finished) tt
     (advance_is_moved config (fabric_as p) k)
     (ap (λ (b : Bool). if b then refused (fabric_as p) NetFull else sending (record (fabric_as p) { point = k }) 0 0 (advances k 0 (fabric_as p).nodes) (Validated k)) f)
     (whole_point config p k w) h (en ∙ ap (λ (y : Seat). y.clock.interval) (seat-read p 0 0 x l refl ex)) er

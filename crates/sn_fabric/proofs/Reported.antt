@@ -46,7 +46,7 @@ pub report-comes : (config : Config) (p : Parts) (n place now ready : ℕ) (x : 
     Comes config p (record p { net = net }) sends (Reported ready) (reported (fabric_as p) n)
 report-comes config p n place now ready x net sends k l f e ep ex en er ew es =
     let h : n < length p.seats = subst (λ (k : ℕ). n < k) (count-nodes p) l in
-    sends-come config p p net n 0 now (send 0 (Ready ready) ∷ []) (Reported ready) sends None (Report n) (reported (fabric_as p) n) k l (report_is_moved config (fabric_as p) n)
+    sends-come config p p net n 0 now (send 0 (Ready ready) ∷ []) (Reported ready) sends None (Report n) (reported (fabric_as p) n) k l tt (report_is_moved config (fabric_as p) n)
     (ap (λ (b : Bool). if b then refused (fabric_as p) NetFull else sending (fabric_as p) n 0 (send 0 (Ready (ready_of (fabric_as p) n)) ∷ []) (Reported (ready_of (fabric_as p) n))) f
     ∙ ap (λ (j : ℕ). sending (fabric_as p) n 0 (send 0 (Ready j) ∷ []) (Reported j)) (sym e))
     k.whole h (en ∙ ap (λ (y : Seat). y.clock.interval) (seat-read p n place x l ep ex)) er ew es

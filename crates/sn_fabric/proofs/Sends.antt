@@ -21,6 +21,7 @@ use Rattle.sn_model.specs.FabricEvents.{FabricEvent, moved_by, Access}
 use Rattle.sn_model.specs.Net.{posted, sent_by, sending}
 use Rattle.sn_model.specs.Access.{accessed, missed, missing, request_for}
 use Rattle.fabric_coherence.specs.Events.{MayBe}
+use Rattle.fabric_bounds.specs.Bounds.{HasRoom}
 use Rattle.sn_fabric.specs.declared.node.Seat.{Seat}
 use Rattle.sn_fabric.specs.Fabric.{FabricData, IsAfter}
 use Rattle.sn_fabric.specs.Nets.{net_as}
@@ -43,12 +44,12 @@ sending-is config p n block outs said w l =
 
 -- an event by which a node changes and then sends
 pub sends-come : (config : Config) (p q : Parts) (net : NetData) (n block now : ℕ) (outs : List Out) (said : Answer) (sends : List Sent) (told : Option Told) (event : FabricEvent) (moved : Moved) →
-    AreParts config p → MayBe (fabric_as p) event → moved_by config (fabric_as p) event ≡ moved → moved ≡ record (sending (fabric_as q) n block outs said) { told = told } →
+    AreParts config p → MayBe (fabric_as p) event → HasRoom config (fabric_as p) event → moved_by config (fabric_as p) event ≡ moved → moved ≡ record (sending (fabric_as q) n block outs said) { told = told } →
     AreWhole config q → n < length q.seats → now ≡ (seat_at q.seats n).clock.interval → net.routes ≡ q.net.routes →
     net_as net ≡ posted q.net.routes (net_as q.net) n now block outs → sends ≡ sent_by q.net.routes (net_as q.net) n now block outs →
     Comes config p (record q { net = net }) sends said moved
-sends-come config p q net n block now outs said sends told event moved k m e h w l en er ep es =
-    comes-as config p (record q { net = net }) sends said told event moved k m e (whole-net config q net w (ap (λ (r : Switches). r.nodes) er))
+sends-come config p q net n block now outs said sends told event moved k m r e h w l en er ep es =
+    comes-as config p (record q { net = net }) sends said told event moved k m r e (whole-net config q net w (ap (λ (r : Switches). r.nodes) er))
     (h
     ∙ ap (λ (x : Moved). record x { told = told }) (sending-is config q n block outs said w l)
     ∙ ap (λ (i : ℕ). sent_moved (fabric_as q) q.net.routes (net_as q.net) n i block outs said told) (sym en)
@@ -89,7 +90,7 @@ miss-comes config p n place block now need x cache out net sends k l b a ep ex e
     let t : now ≡ (seat_at (set p.seats n y) n).clock.interval = en ∙ ap (λ (z : Seat). z.clock.interval) (r ∙ sym (ap (λ (z : Seat). record (seat_at p.seats n) { clock = z.clock }) (get_or-set_same p.seats n y no_seat h))) in
     rw (c, ep)
     (sends-come config p (record p { seats = set p.seats n y }) net n block now (send (block % (seat_at p.seats n).cache.nodes) (request_for need) ∷ []) Missed sends None (Access n block need)
-    (accessed config (fabric_as p) n block need) k (l, b) (access_is_moved config (fabric_as p) n block need) (m.misses ∙ missing-is config p n block need k.whole h)
+    (accessed config (fabric_as p) n block need) k (l, b) tt (access_is_moved config (fabric_as p) n block need) (m.misses ∙ missing-is config p n block need k.whole h)
     (whole-seat config p n y k.whole h (record { node = i.node; nodes = i.nodes; sets = i.sets; ways = i.ways; limit = i.limit }))
     (subst (λ (k : ℕ). n < k) (sym (length-set p.seats n y)) h) t er
     (subst (λ (z : Out). net_as net ≡ posted p.net.routes (net_as p.net) n now block (z ∷ [])) o ew)

@@ -52,9 +52,9 @@ module _ (config : Config) (p : Parts) (n place now : ℕ) (w : Written) (x : Se
       subst (λ (y : Node). logged_to y.log false (block_of w.address) ≤ y.now + 1) read ((k.keeps.1.blocks (block_of w.address) can.line.block).logs.own n) in
       omega (arith, h, en)
 
-  pub store-comes : (cache : CacheData) (log : LogData) (sends : List Sent) → cache ≡ cache_stored x.cache w → log ≡ record x.log { entries = log_with x.cache x.log.entries (block_of w.address) now } → sends ≡ [] →
+  pub store-comes : (cache : CacheData) (log : LogData) (sends : List Sent) → lacks_room config (node_at (fabric_as p) n) (block_of w.address) ToWrite ≡ false → cache ≡ cache_stored x.cache w → log ≡ record x.log { entries = log_with x.cache x.log.entries (block_of w.address) now } → sends ≡ [] →
       Comes config p (record p { seats = set p.seats place (record x { cache = cache; log = log }) }) sends Retired (answered (stored (fabric_as p) n w) Retired)
-  store-comes cache log sends ec el es =
+  store-comes cache log sends room ec el es =
       let r : x ≡ seat_at p.seats n = seat-read p n place x can.line.node ep ex in
       let i = k.whole.seats n (subst (λ (k : ℕ). n < k) k.whole.count inside) in
       let y : Seat = record x { cache = cache_stored x.cache w; log = record x.log { entries = log_with x.cache x.log.entries (block_of w.address) x.clock.interval } } in
@@ -62,7 +62,7 @@ module _ (config : Config) (p : Parts) (n place now : ℕ) (w : Written) (x : Se
       ap (λ (d : CacheData). record x { cache = d; log = log }) ec
       ∙ ap (λ (d : LogData). record x { cache = cache_stored x.cache w; log = d }) (el ∙ ap (λ (j : ℕ). record x.log { entries = log_with x.cache x.log.entries (block_of w.address) j }) en) in
       rw (c, ep, es)
-      (seat-comes config p n y Retired None (Write n w) (answered (stored (fabric_as p) n w) Retired) k can (write_is_moved config (fabric_as p) n w) inside
+      (seat-comes config p n y Retired None (Write n w) (answered (stored (fabric_as p) n w) Retired) k can room (write_is_moved config (fabric_as p) n w) inside
       (record {
         node = ap (λ (z : Seat). z.cache.node) r ∙ i.node;
         nodes = ap (λ (z : Seat). z.cache.nodes) r ∙ i.nodes;

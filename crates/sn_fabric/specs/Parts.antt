@@ -8,7 +8,7 @@ use Rattle.home_directory.specs.Home.{HomeData, IsHome, entry_of}
 use Rattle.sn_model.specs.Caches.{block_count, empty_cache}
 use Rattle.sn_model.specs.Homes.{HomeEntry}
 use Rattle.sn_model.specs.Fabric.{Fabric, Node}
-use Rattle.fabric_coherence.specs.Coherent.{Keeps}
+use Rattle.fabric_bounds.specs.Bounds.{KeepsBounds}
 use Rattle.sn_fabric.specs.declared.node.Seat.{Seat}
 use Rattle.sn_fabric.specs.Nets.{net_as}
 
@@ -75,7 +75,7 @@ pub record AreWhole (config : Config) (p : Parts) : Type 0 where
   pub seats : (n : ℕ) → n < config.nodes → IsSeat config n (seat_at p.seats n)
   pub homes : (n : ℕ) → n < config.nodes → IsHomeOf config n (home_at p.homes n)
 
--- parts as they may be: all sentences of the coherence theorem hold of the fabric that they stand for
+-- parts as they may be: all sentences of the coherence theorem hold of the fabric that they stand for, and so do its bounds
 pub record AreParts (config : Config) (p : Parts) : Type 0 where
   pub whole : AreWhole config p
-  pub keeps : Keeps (fabric_as p)
+  pub keeps : KeepsBounds config (fabric_as p)

@@ -28,12 +28,12 @@ fn image(alloc: Global) -> Result<Image, AllocError> {
 
 /// The home of node 0 of so many, and the log of that node.
 #[derive(Drop)]
-struct AtHome {
-    home: Home,
-    log: LogBuffer,
+pub struct AtHome {
+    pub home: Home,
+    pub log: LogBuffer,
 }
 
-fn start(rt: &impl Abort, alloc: Global, nodes: u8) -> Result<AtHome, Fail>
+pub fn start(rt: &impl Abort, alloc: Global, nodes: u8) -> Result<AtHome, Fail>
     requires some { 1 ≤ nodes }
     requires few { nodes ≤ 16 }
 {
@@ -44,7 +44,7 @@ fn start(rt: &impl Abort, alloc: Global, nodes: u8) -> Result<AtHome, Fail>
 }
 
 /// Whether the notes of a side and block are all of interval 0, so that none is younger than another.
-fn notes_last(log: &LogBuffer, home_side: bool, block: BlockNo) -> bool
+pub fn notes_last(log: &LogBuffer, home_side: bool, block: BlockNo) -> bool
     ensures { result ≡ true → logged_to log.now.entries home_side block ≤ 1 }
 {
     log.old_at(home_side, block, 1).is_none()
@@ -66,7 +66,7 @@ fn serve(at: &mut AtHome, message: &Message, now: Interval) -> Option<Answer> {
 
 /// A message that comes to the home in an interval, and the answer.
 #[derive(Clone, Copy)]
-struct Arrival {
+pub struct Arrival {
     message: Message,
     now: Interval,
     answer: Answer,
@@ -94,7 +94,7 @@ fn sends_one(to: NodeId, body: Body, r: NodeId) -> Answer {
 }
 
 /// A request to write that the home's own block answers.
-fn takes(rt: &impl Abort, r: NodeId) -> Arrival {
+pub fn takes(rt: &impl Abort, r: NodeId) -> Arrival {
     let data = Body::DataM(Block::zero(), 0);
     arrives(rt, r, Body::GetM, sends_one(r, data, r))
 }
@@ -105,27 +105,27 @@ fn reads_alone(rt: &impl Abort, r: NodeId) -> Arrival {
     arrives(rt, r, Body::GetS, sends_one(r, data, r))
 }
 
-fn reads_at_owner(rt: &impl Abort, r: NodeId, owner: NodeId) -> Arrival {
+pub fn reads_at_owner(rt: &impl Abort, r: NodeId, owner: NodeId) -> Arrival {
     arrives(rt, r, Body::GetS, sends_one(owner, Body::FwdGetS(r), r))
 }
 
-fn moves(rt: &impl Abort, r: NodeId, owner: NodeId) -> Arrival {
+pub fn moves(rt: &impl Abort, r: NodeId, owner: NodeId) -> Arrival {
     let forward = Body::FwdGetM(r, 0);
     arrives(rt, r, Body::GetM, sends_one(owner, forward, r))
 }
 
-fn unblocks(rt: &impl Abort, r: NodeId) -> Arrival {
+pub fn unblocks(rt: &impl Abort, r: NodeId) -> Arrival {
     arrives(rt, r, Body::Unblock(0), silent(r))
 }
 
-fn plays(rt: &impl Abort, at: &mut AtHome, arrivals: &[Arrival]) {
+pub fn plays(rt: &impl Abort, at: &mut AtHome, arrivals: &[Arrival]) {
     'arrivals: for (place, arrival) in arrivals.iter().enumerate() {
         let answer = serve(at, &arrival.message, arrival.now);
         assert_eq!(rt; answer, Some(arrival.answer), "message {place}");
     }
 }
 
-fn owner_of(home: &Home, block: BlockNo) -> Option<Owner> {
+pub fn owner_of(home: &Home, block: BlockNo) -> Option<Owner> {
     let (node, nodes) = (home.node, home.nodes);
     if block.home(nodes) != node {
         return None;
@@ -134,7 +134,7 @@ fn owner_of(home: &Home, block: BlockNo) -> Option<Owner> {
 }
 
 /// The first word of a block that the home itself owns.
-fn word_of(home: &Home, block: BlockNo) -> Option<u32> {
+pub fn word_of(home: &Home, block: BlockNo) -> Option<u32> {
     let (node, nodes) = (home.node, home.nodes);
     if block.home(nodes) != node || home.owner(block) != Owner::Home {
         return None;

@@ -33,6 +33,7 @@ places-preserved g c =
         held = λ b. back_more es c.places.place c.args.k e s b first now (g.T.Restore.holds w.put_back.new.self) l c.entry-entry.ensures c.requires.growing w.if-entry-k.true
             (was_false _ _ w.is_oldest.ensures w.if-is_oldest.true) (c.places.invariant.held b) (w.put_back.ensures.held b);
         room = λ map h. w.put_back.ensures.room map (c.places.invariant.room map h);
+        stays = g.met.T.Restore.stays_trans c.args.target.now c.places.target w.put_back.new.self c.places.invariant.stays w.put_back.ensures.stays;
       })
       | else-entry-k w ↦ rw w.target-is (record {
         held = λ b. back_over es c.places.place c.args.k e s b first now l c.entry-entry.ensures
@@ -42,6 +43,7 @@ places-preserved g c =
             ])
             (c.places.invariant.held b);
         room = c.places.invariant.room;
+        stays = c.places.invariant.stays;
       })
     ]
 

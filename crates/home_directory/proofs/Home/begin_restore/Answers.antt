@@ -1,0 +1,18 @@
+use Rattle.std.proofs.Common.{◌≡◌, length, sym, ap, ◌∙◌, arith}
+use Rattle.home_directory.specs.Open.{opens_from}
+use Rattle.home_directory.proofs.Restored.{length-settled}
+use Rattle.home_directory.proofs.PutBack.{opens-settled}
+use Rattle.home_directory.proofs.Home.begin_restore.Goals as goal
+
+-- nothing is open
+pub invariant_of-self : goal.invariant_of-self
+invariant_of-self c =
+    let e : length c.settle.new.entries.items ≡ length c.self.inside.entries.items = ap length c.settle.ensures ∙ length-settled c.self.inside.entries.items in (
+      record {
+        inside = c.self.invariant.0.inside;
+        few = c.self.invariant.0.few;
+        filled = e ∙ c.self.invariant.0.filled;
+      },
+      c.clear.ensures.items ∙ sym (ap (opens_from 0) c.settle.ensures ∙ opens-settled c.self.inside.entries.items 0),
+      omega (arith, e, c.self.invariant.2, c.clear.ensures.capacity),
+    )

@@ -1,0 +1,84 @@
+//! A home is put back to a checkpoint: its transactions end, and each block is held as the log says.
+ghost use Rattle.std.specs.Prelude.{◌≡◌, ◌/◌, ◌%◌, ◌<◌, true, length, map};
+ghost use Rattle.sn_model.specs.Homes.{Itself, OfCache};
+ghost use Rattle.home_directory.specs.Restored.{settled, begun_restore, had, CanHave, Stays, with_holder};
+
+use crate::Home;
+use crate::entry::Entry;
+use rollback::Restore;
+use sn_base::{Block, BlockNo, NodeId, NodeSet, Old};
+use sn_model::Owner;
+
+/// Nobody shares a block, and nothing is open.
+fn settle(entries: &mut Vec<Entry>)
+    ensures { entries.new.items ≡ map settled entries.old.items }
+{
+    'entries: for entry in entries.iter_mut() {
+        entry.sharers = NodeSet::empty();
+        entry.transaction = None;
+    }
+}
+
+impl Home {
+    /// Begins to put the home back to a checkpoint: all transactions are closed, and nobody shares a block. Who holds the
+    /// blocks stays, for `rollback::unwind` to put back.
+    pub fn begin_restore(&mut self)
+        ensures { self.new ≡ begun_restore self.old }
+    {
+        settle(&mut self.entries);
+        self.opens.clear();
+    }
+
+    fn put_home(&mut self, block: BlockNo, content: &Block)
+        requires { block % self.old.nodes ≡ self.old.node }
+        ensures put { self.new ≡ with_holder self.old block (Itself content.now) }
+        ensures inside { block / self.old.nodes < length self.old.entries }
+    {
+        let place = self.place(block);
+        let entry = &mut self.entries[place];
+        entry.owner = Owner::Home;
+        entry.memory = *content;
+    }
+
+    fn put_cache(&mut self, block: BlockNo, node: NodeId)
+        requires { block % self.old.nodes ≡ self.old.node }
+        ensures put { self.new ≡ with_holder self.old block (OfCache node) }
+        ensures inside { block / self.old.nodes < length self.old.entries }
+    {
+        let place = self.place(block);
+        let entry = &mut self.entries[place];
+        entry.owner = Owner::Cache(node);
+    }
+}
+
+/// A home holds of each of its blocks who owns it, and nothing of blocks of other homes.
+impl Restore for Home {
+    ghost use Rattle.std.specs.Prelude.{refl};
+    ghost use Rattle.std.proofs.Common.{◌∙◌, inl, inr};
+
+    ghost home_side = { true };
+
+    ghost holds = { had };
+
+    ghost fits = { CanHave };
+
+    ghost stays = { Stays };
+
+    fn forget(&mut self, _block: BlockNo, _old: &Old) {}
+
+    fn put_back(&mut self, block: BlockNo, old: &Old) {
+        match old {
+            Old::WasHome(content) => self.put_home(block, content),
+            Old::WasCache(node) => self.put_cache(block, *node),
+            Old::NotOwned | Old::Owned(_) => {}
+        }
+    }
+
+    ghost stays_refl = { λ h. record { node = refl; nodes = refl; count = refl; sharers = λ p. refl; transactions = λ p. refl } };
+
+    ghost stays_trans = { λ f g h a b. record { node = b.node ∙ a.node; nodes = b.nodes ∙ a.nodes; count = b.count ∙ a.count; sharers = λ p. b.sharers p ∙ a.sharers p; transactions = λ p. b.transactions p ∙ a.transactions p } };
+
+    ghost part = { λ h part whole can is b other. elim (is b) [ inl e ↦ e ∙ can b other | inr e ↦ e ] };
+
+    ghost way = { λ h before after between first last is b other. elim (is b) [ inl e ↦ e ∙ last b other | inr e ↦ e ∙ first b other ] };
+}

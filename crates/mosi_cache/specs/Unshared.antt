@@ -1,0 +1,26 @@
+-- The frames while a recovery begins: those whose lines are Shared are freed, and each line that is left is Modified.
+use Rattle.std.specs.Prelude.{◌≡◌, ℕ, ◌<◌, ◌≤◌, List, Option, None}
+use Rattle.cache_array.specs.Slots.{FrameSlots, AreSlots, block_at}
+use Rattle.sn_model.specs.declared.cache.LineState.{LineState}
+use Rattle.sn_model.specs.declared.cache.LineState.TheVariants.{Absent, Shared, Owned, Modified, Exclusive}
+use Rattle.mosi_cache.specs.Frames.{Kept, kept_at}
+
+-- a slot once it is freed where the line in it is Shared
+abbrev pub unshared : LineState → Option ℕ → Option ℕ
+unshared Absent slot = slot
+unshared Shared slot = None
+unshared Owned slot = slot
+unshared Modified slot = slot
+unshared Exclusive slot = slot
+
+-- frames after others: those before the end are freed where what they keep is Shared, and the rest are as they were
+pub record AreUnshared (before after : FrameSlots) (kept : List Kept) (end : ℕ) : Type 0 where
+  pub slots : AreSlots after
+  pub sets : after.sets ≡ before.sets
+  pub ways : after.ways ≡ before.ways
+  pub done : (frame : ℕ) → frame < end → block_at after frame ≡ unshared (kept_at kept frame).state (block_at before frame)
+  pub rest : (frame : ℕ) → end ≤ frame → block_at after frame ≡ block_at before frame
+
+-- what a frame keeps, as Modified
+abbrev pub modified : Kept → Kept
+modified kept = record kept { state = Modified }
