@@ -11,3 +11,13 @@ pub mod Reported
 pub mod Named
 pub mod Posts
 pub mod Raised
+pub mod Come
+pub mod GoingTo
+pub mod Outs
+pub mod Looks
+pub mod Given
+pub mod ToCache
+pub mod HomesAfter
+pub mod ToHome
+pub mod ToNode
+pub mod Delivered

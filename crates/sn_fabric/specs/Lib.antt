@@ -4,3 +4,4 @@ pub mod Parts
 pub mod Start
 pub mod Seats
 pub mod Points
+pub mod Deliveries

@@ -6,7 +6,7 @@
 //! one writer, each delivered message has its row, and at each settled checkpoint each block has one holder. No call but
 //! `new` fails for want of memory.
 //!
-//! Not here yet: deliveries, recoveries, a block's content at a cut, and the questions that foresee these.
+//! Not here yet: recoveries, a block's content at a cut, and the questions that foresee these.
 //!
 //! Source: SafetyNet (Sorin, Martin, Hill, Wood, ISCA 2002), over a MOSI directory protocol.
 #![tactic(auto)]
@@ -18,9 +18,12 @@ ghost use Rattle.sn_model.specs.Fabric.{node_at};
 mod accesses;
 mod clocks;
 mod cuts;
+mod deliveries;
 mod evictions;
 mod node;
 mod points;
+mod receiver;
+mod replies;
 mod reports;
 mod sending;
 mod start;
