@@ -6,17 +6,17 @@ use Rattle.sn_base.specs.declared.event.Event.{Event}
 use Rattle.sn_io.specs.Outside.{Found, File, TooLong, Missing, Rose, found_in}
 use Rattle.elf_load.specs.declared.fault.LoadCause.{LoadCause}
 use Rattle.elf_load.specs.Loading.{image_of}
-use Rattle.safetynet_main.specs.Runnable.{is_runnable}
+use Rattle.sn_text.specs.Script.{script_of}
+use Rattle.sn_text.specs.declared.cause.ScriptCause.{ScriptCause}
+use Rattle.sn_text.specs.declared.cause.ScriptCause.TheVariants.{TooLong as ScriptTooLong}
 use Rattle.safetynet_main.specs.Program.{program_limit, if_loaded}
-use Rattle.safetynet_main.specs.Script.{events_of}
 use Rattle.safetynet_main.specs.Pieces.{Ends}
 use Rattle.safetynet_main.specs.Request.{Request}
-use Rattle.safetynet_main.specs.Call.{script_limit, or_not_built, program_in, script_in, Fetches, with_program, with_script, Loads, due_of, Follows, Comes}
+use Rattle.safetynet_main.specs.Call.{script_limit, if_read, program_in, script_in, Fetches, with_program, with_script, Loads, due_of, Follows, Comes}
 use Rattle.safetynet_main.specs.declared.call.Job.{Job}
-use Rattle.safetynet_main.specs.declared.status.Part.TheVariants.{Program, Script}
 use Rattle.safetynet_main.specs.declared.status.ProgramCause.TheVariants.{TooLong as ProgramTooLong}
 use Rattle.safetynet_main.specs.declared.status.Status.{Status}
-use Rattle.safetynet_main.specs.declared.status.Status.TheVariants.{Done, Usage, StoreFault, BadProgram, SinkFault, Memory, NotBuilt}
+use Rattle.safetynet_main.specs.declared.status.Status.TheVariants.{Done, Usage, StoreFault, BadProgram, BadScript, SinkFault, Memory}
 
 if_some-at : {T : Type 0} (o : Option T) (x : T) (P : T → Type 0) → o ≡ Some x → IfSome o P → P x
 if_some-at o x P e h = subst (λ t. IfSome t P) e h
@@ -38,18 +38,18 @@ fetches-sure files sure faults gave old new name limit held TooLong h s e =
 fetches-sure files sure faults gave old new name limit held (File bytes) h s e =
     if_some-at (files old) held (λ t. (File bytes ≡ Missing → ⊥) → File bytes ≡ found_in (t name) limit) e h.told (λ no. cc)
 
-script-sure : {S : Type 0} (files : S → Option (List ℕ → Option (List ℕ))) (sure : S → Type 0) (faults : S → ℕ) (gave : S → List ℕ → Found → S → Type 0) (mid new : S) (name : List ℕ) (held : List ℕ → Option (List ℕ)) (program : Result ImageData Status) (job : Result Job Status) → sure mid → files mid ≡ Some held
-    → MatchResult program (λ image. (script : Found) × Fetches files sure faults gave mid name script_limit script new × (job ≡ with_program image (script_in script))) (λ status. (new ≡ mid) × (job ≡ Err status))
-    → job ≡ with_script program (found_in (held name) script_limit)
-script-sure files sure faults gave mid new name held (Ok image) job s e h =
-    h.2 ∙ ap (λ f. with_program image (script_in f)) (fetches-sure files sure faults gave mid new name script_limit held h.0 h.1 s e)
-script-sure files sure faults gave mid new name held (Err status) job s e h = h.1
+script-sure : {S : Type 0} (files : S → Option (List ℕ → Option (List ℕ))) (sure : S → Type 0) (faults : S → ℕ) (gave : S → List ℕ → Found → S → Type 0) (mid new : S) (nodes : ℕ) (name : List ℕ) (held : List ℕ → Option (List ℕ)) (program : Result ImageData Status) (job : Result Job Status) → sure mid → files mid ≡ Some held
+    → MatchResult program (λ image. (script : Found) × Fetches files sure faults gave mid name script_limit script new × (job ≡ with_program nodes image (script_in nodes script))) (λ status. (new ≡ mid) × (job ≡ Err status))
+    → job ≡ with_script nodes program (found_in (held name) script_limit)
+script-sure files sure faults gave mid new nodes name held (Ok image) job s e h =
+    h.2 ∙ ap (λ f. with_program nodes image (script_in nodes f)) (fetches-sure files sure faults gave mid new name script_limit held h.0 h.1 s e)
+script-sure files sure faults gave mid new nodes name held (Err status) job s e h = h.1
 
 -- over a sure store both files are read as they are held
 loads-sure : {S : Type 0} (files : S → Option (List ℕ → Option (List ℕ))) (sure : S → Type 0) (faults : S → ℕ) (gave : S → List ℕ → Found → S → Type 0) (old new : S) (request : Request) (held : List ℕ → Option (List ℕ)) (job : Result Job Status) → Loads (Fetches files sure faults gave) request job old new → sure old → files old ≡ Some held → job ≡ due_of held (Some request)
 loads-sure files sure faults gave old new request held job h s e =
-    script-sure files sure faults gave h.1 new request.script held (program_in h.0) job (h.2.stays_sure s) (h.2.same_files ∙ e) h.3
-    ∙ ap (λ f. with_script (program_in f) (found_in (held request.script) script_limit)) (fetches-sure files sure faults gave old h.1 request.program program_limit held h.0 h.2 s e)
+    script-sure files sure faults gave h.1 new request.nodes request.script held (program_in h.0) job (h.2.stays_sure s) (h.2.same_files ∙ e) h.3
+    ∙ ap (λ f. with_script request.nodes (program_in f) (found_in (held request.script) script_limit)) (fetches-sure files sure faults gave old h.1 request.program program_limit held h.0 h.2 s e)
 
 -- over a sure store a call does what is due
 comes-sure : {S : Type 0} (files : S → Option (List ℕ → Option (List ℕ))) (sure : S → Type 0) (faults : S → ℕ) (gave : S → List ℕ → Found → S → Type 0) (old new : S) (ask : Option Request) (held : List ℕ → Option (List ℕ)) (status : Status) (before behind : Ends) → Comes (Fetches files sure faults gave) ask status old new before behind → sure old → files old ≡ Some held → Follows (due_of held ask) status before behind
@@ -61,19 +61,15 @@ comes-sure files sure faults gave old new (Some request) held status before behi
 abbrev IsOfBytes : Status → Type 0
 IsOfBytes status = (status ≡ StoreFault → ⊥) × (status ≡ Usage → ⊥)
 
-refused-image : (image : ImageData) (runs : Bool) (status : Status) → (if runs then Ok image else Err (NotBuilt Program)) ≡ Err status → IsOfBytes status
-refused-image image true status e = cc
-refused-image image false status e = (λ s. cc, λ u. cc)
-
 refused-loaded : (loaded : Result ImageData LoadCause) (long : Bool) (status : Status) → (if long then Err (BadProgram ProgramTooLong) else if_loaded loaded) ≡ Err status → IsOfBytes status
 refused-loaded loaded true status e = (λ s. cc, λ u. cc)
 refused-loaded (Err cause) false status e = (λ s. cc, λ u. cc)
-refused-loaded (Ok image) false status e = refused-image image (is_runnable image) status e
+refused-loaded (Ok image) false status e = cc
 
-refused-events : (events : Option (List Event)) (long : Bool) (status : Status) → (if long then Err (NotBuilt Script) else or_not_built events) ≡ Err status → IsOfBytes status
+refused-events : (events : Result (List Event) ScriptCause) (long : Bool) (status : Status) → (if long then Err (BadScript ScriptTooLong) else if_read events) ≡ Err status → IsOfBytes status
 refused-events events true status e = (λ s. cc, λ u. cc)
-refused-events None false status e = (λ s. cc, λ u. cc)
-refused-events (Some list) false status e = cc
+refused-events (Err cause) false status e = (λ s. cc, λ u. cc)
+refused-events (Ok list) false status e = cc
 
 -- a refusal of a file is a fault of the store, or its bytes'
 abbrev IsOfFile : Found → Status → Type 0
@@ -84,10 +80,10 @@ refused-program Missing status e = inl (refl, cc)
 refused-program TooLong status e = inr (λ s. cc, λ u. cc)
 refused-program (File bytes) status e = inr (refused-loaded (image_of bytes) (nat_lt program_limit (length bytes)) status e)
 
-refused-events_file : (found : Found) (status : Status) → script_in found ≡ Err status → IsOfFile found status
-refused-events_file Missing status e = inl (refl, cc)
-refused-events_file TooLong status e = inr (λ s. cc, λ u. cc)
-refused-events_file (File bytes) status e = inr (refused-events (events_of bytes) (nat_lt script_limit (length bytes)) status e)
+refused-events_file : (nodes : ℕ) (found : Found) (status : Status) → script_in nodes found ≡ Err status → IsOfFile found status
+refused-events_file nodes Missing status e = inl (refl, cc)
+refused-events_file nodes TooLong status e = inr (λ s. cc, λ u. cc)
+refused-events_file nodes (File bytes) status e = inr (refused-events (script_of nodes bytes) (nat_lt script_limit (length bytes)) status e)
 
 -- the status of a job that is refused is its refusal
 refused-job : (status refusal : Status) (job : Result Job Status) (before behind : Ends) → Follows job status before behind → status ≡ refusal → (refusal ≡ StoreFault) ⊎ (refusal ≡ Usage) → job ≡ Err refusal
@@ -97,9 +93,9 @@ refused-job status refusal (Ok job) before behind (inl h) e (inr w) = cc
 refused-job status refusal (Ok job) before behind (inr h) e (inl w) = cc
 refused-job status refusal (Ok job) before behind (inr h) e (inr w) = cc
 
-refused-script : (image : ImageData) (script : Result (List Event) Status) (refusal : Status) → with_program image script ≡ Err refusal → script ≡ Err refusal
-refused-script image (Ok events) refusal e = cc
-refused-script image (Err status) refusal e = cc
+refused-script : (nodes : ℕ) (image : ImageData) (script : Result (List Event) Status) (refusal : Status) → with_program nodes image script ≡ Err refusal → script ≡ Err refusal
+refused-script nodes image (Ok events) refusal e = cc
+refused-script nodes image (Err status) refusal e = cc
 
 -- either file's store fault was a fault
 file-rose : {S : Type 0} (files : S → Option (List ℕ → Option (List ℕ))) (sure : S → Type 0) (faults : S → ℕ) (gave : S → List ℕ → Found → S → Type 0) (old new : S) (name : List ℕ) (limit : ℕ) (found : Found) → Fetches files sure faults gave old name limit found new → IsOfFile found StoreFault → Rose (faults old) (faults new)
@@ -107,11 +103,11 @@ file-rose files sure faults gave old new name limit found h (inl m) = h.rose m.0
 file-rose files sure faults gave old new name limit found h (inr e) = absurd (e.0 refl)
 
 loads-rose : {S : Type 0} (files : S → Option (List ℕ → Option (List ℕ))) (sure : S → Type 0) (faults : S → ℕ) (gave : S → List ℕ → Found → S → Type 0) (old mid new : S) (request : Request) (found : Found) (program : Result ImageData Status) → program_in found ≡ program → (job : Result Job Status) → Fetches files sure faults gave old request.program program_limit found mid
-    → MatchResult program (λ image. (script : Found) × Fetches files sure faults gave mid request.script script_limit script new × (job ≡ with_program image (script_in script))) (λ status. (new ≡ mid) × (job ≡ Err status))
+    → MatchResult program (λ image. (script : Found) × Fetches files sure faults gave mid request.script script_limit script new × (job ≡ with_program request.nodes image (script_in request.nodes script))) (λ status. (new ≡ mid) × (job ≡ Err status))
     → job ≡ Err StoreFault → Rose (faults old) (faults new)
 loads-rose files sure faults gave old mid new request found (Ok image) is job f h e =
     Rose-before (faults old) (faults mid) (faults new) f.later
-    (file-rose files sure faults gave mid new request.script script_limit h.0 h.1 (refused-events_file h.0 StoreFault (refused-script image (script_in h.0) StoreFault (sym h.2 ∙ e))))
+    (file-rose files sure faults gave mid new request.script script_limit h.0 h.1 (refused-events_file request.nodes h.0 StoreFault (refused-script request.nodes image (script_in request.nodes h.0) StoreFault (sym h.2 ∙ e))))
 loads-rose files sure faults gave old mid new request found (Err s) is job f h e =
     let same : s ≡ StoreFault = cc (sym h.1 ∙ e) in
     subst (λ t. Rose (faults old) (faults t)) (sym h.0)
@@ -127,12 +123,12 @@ no_usage-file : (found : Found) → IsOfFile found Usage → ⊥
 no_usage-file found (inl m) = let e = m.1 in cc
 no_usage-file found (inr e) = e.1 refl
 
-no_usage : {S : Type 0} (F : List ℕ → Found → S → Type 0) (mid new : S) (found : Found) (program : Result ImageData Status) → program_in found ≡ program → (name : List ℕ) (job : Result Job Status)
-    → MatchResult program (λ image. (script : Found) × F name script new × (job ≡ with_program image (script_in script))) (λ status. (new ≡ mid) × (job ≡ Err status))
+no_usage : {S : Type 0} (F : List ℕ → Found → S → Type 0) (mid new : S) (found : Found) (program : Result ImageData Status) → program_in found ≡ program → (nodes : ℕ) (name : List ℕ) (job : Result Job Status)
+    → MatchResult program (λ image. (script : Found) × F name script new × (job ≡ with_program nodes image (script_in nodes script))) (λ status. (new ≡ mid) × (job ≡ Err status))
     → job ≡ Err Usage → ⊥
-no_usage F mid new found (Ok image) is name job h e =
-    no_usage-file h.0 (refused-events_file h.0 Usage (refused-script image (script_in h.0) Usage (sym h.2 ∙ e)))
-no_usage F mid new found (Err s) is name job h e =
+no_usage F mid new found (Ok image) is nodes name job h e =
+    no_usage-file h.0 (refused-events_file nodes h.0 Usage (refused-script nodes image (script_in nodes h.0) Usage (sym h.2 ∙ e)))
+no_usage F mid new found (Err s) is nodes name job h e =
     let same : s ≡ Usage = cc (sym h.1 ∙ e) in
     no_usage-file found (refused-program found Usage (is ∙ ap (λ t. Err t) same))
 
@@ -140,7 +136,7 @@ pub comes-usage : {S : Type 0} (files : S → Option (List ℕ → Option (List 
 comes-usage files sure faults gave old new None status before behind h e = refl
 comes-usage files sure faults gave old new (Some request) status before behind h e =
     let l = h.1 in
-    absurd (no_usage (λ name found t. Fetches files sure faults gave l.1 name script_limit found t) l.1 new l.0 (program_in l.0) refl request.script h.0 l.3 (refused-job status Usage h.0 before behind h.2 e (inr refl)))
+    absurd (no_usage (λ name found t. Fetches files sure faults gave l.1 name script_limit found t) l.1 new l.0 (program_in l.0) refl request.nodes request.script h.0 l.3 (refused-job status Usage h.0 before behind h.2 e (inr refl)))
 
 is_memory : (status : Status) → (status ≡ Memory) ⊎ (status ≡ Memory → ⊥)
 is_memory Memory = inl refl
@@ -148,7 +144,7 @@ is_memory Done = inr (λ e. cc)
 is_memory Usage = inr (λ e. cc)
 is_memory StoreFault = inr (λ e. cc)
 is_memory (BadProgram cause) = inr (λ e. cc)
-is_memory (NotBuilt part) = inr (λ e. cc)
+is_memory (BadScript cause) = inr (λ e. cc)
 is_memory SinkFault = inr (λ e. cc)
 
 done-or_fault : (due : Result Job Status) (status : Status) (before behind : Ends) (R : Type 0) → IsOk due → Follows due status before behind → (status ≡ SinkFault → R) → (R → ⊥) → status ≡ Done
@@ -177,28 +173,28 @@ fetches-told : {S : Type 0} (files : S → Option (List ℕ → Option (List ℕ
 fetches-told files sure faults gave old new name limit held found h e there =
     if_some-at (files old) held (λ t. (found ≡ Missing → ⊥) → found ≡ found_in (t name) limit) e h.told there
 
-missing-stops : (found : Found) (image : ImageData) (job : Result Job Status) → job ≡ with_program image (script_in found) → (job ≡ Err StoreFault → ⊥) → found ≡ Missing → ⊥
-missing-stops found image job is fine missing = fine (is ∙ ap (λ f. with_program image (script_in f)) missing)
+missing-stops : (nodes : ℕ) (found : Found) (image : ImageData) (job : Result Job Status) → job ≡ with_program nodes image (script_in nodes found) → (job ≡ Err StoreFault → ⊥) → found ≡ Missing → ⊥
+missing-stops nodes found image job is fine missing = fine (is ∙ ap (λ f. with_program nodes image (script_in nodes f)) missing)
 
-script-told : {S : Type 0} (files : S → Option (List ℕ → Option (List ℕ))) (sure : S → Type 0) (faults : S → ℕ) (gave : S → List ℕ → Found → S → Type 0) (mid new : S) (name : List ℕ) (held : List ℕ → Option (List ℕ)) (program : Result ImageData Status) (job : Result Job Status) → (job ≡ Err StoreFault → ⊥) → files mid ≡ Some held
-    → MatchResult program (λ image. (script : Found) × Fetches files sure faults gave mid name script_limit script new × (job ≡ with_program image (script_in script))) (λ status. (new ≡ mid) × (job ≡ Err status))
-    → job ≡ with_script program (found_in (held name) script_limit)
-script-told files sure faults gave mid new name held (Ok image) job fine e h =
-    h.2 ∙ ap (λ f. with_program image (script_in f)) (fetches-told files sure faults gave mid new name script_limit held h.0 h.1 e (missing-stops h.0 image job h.2 fine))
-script-told files sure faults gave mid new name held (Err status) job fine e h = h.1
+script-told : {S : Type 0} (files : S → Option (List ℕ → Option (List ℕ))) (sure : S → Type 0) (faults : S → ℕ) (gave : S → List ℕ → Found → S → Type 0) (mid new : S) (nodes : ℕ) (name : List ℕ) (held : List ℕ → Option (List ℕ)) (program : Result ImageData Status) (job : Result Job Status) → (job ≡ Err StoreFault → ⊥) → files mid ≡ Some held
+    → MatchResult program (λ image. (script : Found) × Fetches files sure faults gave mid name script_limit script new × (job ≡ with_program nodes image (script_in nodes script))) (λ status. (new ≡ mid) × (job ≡ Err status))
+    → job ≡ with_script nodes program (found_in (held name) script_limit)
+script-told files sure faults gave mid new nodes name held (Ok image) job fine e h =
+    h.2 ∙ ap (λ f. with_program nodes image (script_in nodes f)) (fetches-told files sure faults gave mid new name script_limit held h.0 h.1 e (missing-stops nodes h.0 image job h.2 fine))
+script-told files sure faults gave mid new nodes name held (Err status) job fine e h = h.1
 
-program-stops : {S : Type 0} (F : List ℕ → Found → S → Type 0) (mid new : S) (name : List ℕ) (found : Found) (job : Result Job Status) → found ≡ Missing
-    → MatchResult (program_in found) (λ image. (script : Found) × F name script new × (job ≡ with_program image (script_in script))) (λ status. (new ≡ mid) × (job ≡ Err status))
+program-stops : {S : Type 0} (F : List ℕ → Found → S → Type 0) (mid new : S) (nodes : ℕ) (name : List ℕ) (found : Found) (job : Result Job Status) → found ≡ Missing
+    → MatchResult (program_in found) (λ image. (script : Found) × F name script new × (job ≡ with_program nodes image (script_in nodes script))) (λ status. (new ≡ mid) × (job ≡ Err status))
     → job ≡ Err StoreFault
-program-stops F mid new name Missing job m h = h.1
-program-stops F mid new name TooLong job m h = absurd cc
-program-stops F mid new name (File bytes) job m h = absurd cc
+program-stops F mid new nodes name Missing job m h = h.1
+program-stops F mid new nodes name TooLong job m h = absurd cc
+program-stops F mid new nodes name (File bytes) job m h = absurd cc
 
 loads-told : {S : Type 0} (files : S → Option (List ℕ → Option (List ℕ))) (sure : S → Type 0) (faults : S → ℕ) (gave : S → List ℕ → Found → S → Type 0) (old new : S) (request : Request) (held : List ℕ → Option (List ℕ)) (job : Result Job Status) → Loads (Fetches files sure faults gave) request job old new → files old ≡ Some held → (job ≡ Err StoreFault → ⊥) → job ≡ due_of held (Some request)
 loads-told files sure faults gave old new request held job h e fine =
-    script-told files sure faults gave h.1 new request.script held (program_in h.0) job fine (h.2.same_files ∙ e) h.3
-    ∙ ap (λ f. with_script (program_in f) (found_in (held request.script) script_limit)) (fetches-told files sure faults gave old h.1 request.program program_limit held h.0 h.2 e
-    (λ m. fine (program-stops (λ name found t. Fetches files sure faults gave h.1 name script_limit found t) h.1 new request.script h.0 job m h.3)))
+    script-told files sure faults gave h.1 new request.nodes request.script held (program_in h.0) job fine (h.2.same_files ∙ e) h.3
+    ∙ ap (λ f. with_script request.nodes (program_in f) (found_in (held request.script) script_limit)) (fetches-told files sure faults gave old h.1 request.program program_limit held h.0 h.2 e
+    (λ m. fine (program-stops (λ name found t. Fetches files sure faults gave h.1 name script_limit found t) h.1 new request.nodes request.script h.0 job m h.3)))
 
 store_fault-status : (status : Status) (job : Result Job Status) (before behind : Ends) → Follows job status before behind → job ≡ Err StoreFault → status ≡ StoreFault
 store_fault-status status (Err s) before behind h e = h.0 ∙ cc

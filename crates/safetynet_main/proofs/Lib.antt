@@ -1,7 +1,8 @@
-pub mod Digits
-pub mod Lines
-pub mod Scan
-pub mod Texts
+pub mod Scripts
+pub mod Fits
+pub mod Releases
+pub mod Recoveries
+pub mod Groups
 pub mod PieceLaws
 pub mod SoFar
 pub mod Shown

@@ -1,11 +1,7 @@
 pub mod Status
-pub mod Lines
-pub mod Digits
-pub mod Runnable
 pub mod Program
-pub mod Script
-pub mod Text
 pub mod Pieces
+pub mod Played
 pub mod Shown
 pub mod Request
 pub mod Call

@@ -2,19 +2,21 @@
 use Rattle.std.specs.Prelude.{ℕ, List, ◌++◌, codes}
 use Rattle.elf_load.specs.declared.fault.LoadCause.{LoadCause}
 use Rattle.elf_load.specs.declared.fault.LoadCause.TheVariants.{Empty, BadHexLine, TooManyWords, Truncated, WrongField, Compressed, TooManySegments, FileLargerThanMemory, Outside, Overlap, WritableCode, BadEntry}
+use Rattle.sn_text.specs.declared.cause.ScriptCause.{ScriptCause}
+use Rattle.sn_text.specs.declared.cause.ScriptCause.TheVariants.{TooLong as ScriptTooLong, BadLine, OutOfRange, TooMany}
 use Rattle.safetynet_main.specs.declared.status.ProgramCause.{ProgramCause}
 use Rattle.safetynet_main.specs.declared.status.ProgramCause.TheVariants.{TooLong, Load}
 use Rattle.safetynet_main.specs.declared.status.Status.{Status}
-use Rattle.safetynet_main.specs.declared.status.Status.TheVariants.{Done, Usage, StoreFault, BadProgram, SinkFault, Memory, NotBuilt}
+use Rattle.safetynet_main.specs.declared.status.Status.TheVariants.{Done, Usage, StoreFault, BadProgram, BadScript, SinkFault, Memory}
 
 abbrev pub number_of : Status → ℕ
 number_of Done = 0
 number_of Usage = 1
 number_of StoreFault = 2
 number_of (BadProgram cause) = 3
+number_of (BadScript cause) = 4
 number_of SinkFault = 5
 number_of Memory = 7
-number_of (NotBuilt part) = 11
 
 -- the name of a cause, in lower case and without its fields
 abbrev pub load_name : LoadCause → List ℕ
@@ -35,11 +37,17 @@ abbrev pub program_name : ProgramCause → List ℕ
 program_name TooLong = codes "toolong"
 program_name (Load cause) = load_name cause
 
+abbrev pub script_name : ScriptCause → List ℕ
+script_name ScriptTooLong = codes "toolong"
+script_name (BadLine line) = codes "badline"
+script_name (OutOfRange line) = codes "outofrange"
+script_name TooMany = codes "toomany"
+
 abbrev pub word_of : Status → List ℕ
 word_of Done = codes "done"
 word_of Usage = codes "usage"
 word_of StoreFault = codes "store"
 word_of (BadProgram cause) = codes "program " ++ program_name cause
+word_of (BadScript cause) = codes "script " ++ script_name cause
 word_of SinkFault = codes "sink"
 word_of Memory = codes "memory"
-word_of (NotBuilt part) = codes "notbuilt"

@@ -1,29 +1,28 @@
 //! The call: words, program, script, memory, events, in this order.
-ghost use Rattle.std.specs.Prelude.{◌≡◌, ◌≢◌, ◌↔◌, ℕ, List, [], ◌≤◌, ◌⊎◌, map, length, Option, Some, None, Ok, Err, IfSome, IsOk, string_bytes};
+ghost use Rattle.std.specs.Prelude.{◌≡◌, ◌≢◌, ◌↔◌, ℕ, List, [], ◌≤◌, ◌⊎◌, true, map, length, Option, Some, None, Ok, Err, IfSome, IfOk, IsOk, string_bytes};
+ghost use Rattle.sn_base.specs.Config.{config_fits};
 ghost use Rattle.sn_io.specs.Outside.{Rose, Found};
+ghost use Rattle.consistent_cuts.specs.Runs.{AllFit};
 ghost use Rattle.safetynet_main.specs.Pieces.{ends};
-ghost use Rattle.safetynet_main.specs.Request.{Request, ask_of};
-ghost use Rattle.safetynet_main.specs.Call.{Fetches, Loads, Follows, Comes, script_of, program_in, script_in, due_of, found_by, IsReady};
+ghost use Rattle.safetynet_main.specs.Request.{Request, sizes_of, ask_of};
+ghost use Rattle.safetynet_main.specs.Call.{Fetches, Loads, Follows, Comes, program_in, script_in, due_of, found_by, IsRead, IsReady};
 
-use crate::line::Line;
 use crate::play::play;
-use crate::program::{PROGRAM_LIMIT, Program, read_program};
-use crate::refusal::Refusal;
-use crate::script::{Script, read_script};
-use crate::status::{Part, ProgramCause, Status};
+use crate::program::{PROGRAM_LIMIT, read_program};
+use crate::script::{SCRIPT_LIMIT, Script, read_script};
+use crate::status::{ProgramCause, Status};
 use crate::words::read_words;
-use sn_base::Config;
+use sn_base::{Config, Image};
 use sn_io::{Fetched, Sink, Store, StoreFault};
 use sn_machine::Machine;
+use sn_text::{Line, ScriptCause};
 use std::alloc::Global;
 
-/// The most bytes of a script's file.
-const SCRIPT_LIMIT: usize = 33_554_432;
-
-/// A program, and the events to apply to it.
+/// A program, the number of nodes to run it on, and the events to apply.
 #[derive(Drop)]
 struct Job {
-    program: Program,
+    nodes: u8,
+    program: Image,
     script: Script,
 }
 
@@ -51,20 +50,7 @@ fn fetch_file<S: Store>(
     }
 }
 
-fn judge_script(alloc: Global, bytes: &[u8]) -> Result<Script, Status>
-    ensures { result ≢ Err Status.Memory → result ≡ script_of bytes.now }
-{
-    if bytes.len() > SCRIPT_LIMIT {
-        return Err(Status::NotBuilt(Part::Script));
-    }
-    match read_script(alloc, bytes) {
-        Ok(script) => Ok(script),
-        Err(Refusal::NotOfForm) => Err(Status::NotBuilt(Part::Script)),
-        Err(Refusal::Memory) => Err(Status::Memory),
-    }
-}
-
-fn fetch_program<S: Store>(alloc: Global, store: &mut S, name: &str) -> Result<Program, Status>
+fn fetch_program<S: Store>(alloc: Global, store: &mut S, name: &str) -> Result<Image, Status>
     ensures { result ≢ Err Status.Memory → (found : Found) × Fetches S.files S.sure S.faults S.gave store.old name.now 16777216 found store.new × (result ≡ program_in found) }
 {
     match fetch_file(alloc, store, name, PROGRAM_LIMIT) {
@@ -75,42 +61,64 @@ fn fetch_program<S: Store>(alloc: Global, store: &mut S, name: &str) -> Result<P
     }
 }
 
-fn fetch_script<S: Store>(alloc: Global, store: &mut S, name: &str) -> Result<Script, Status>
-    ensures { result ≢ Err Status.Memory → (found : Found) × Fetches S.files S.sure S.faults S.gave store.old name.now 33554432 found store.new × (result ≡ script_in found) }
+fn fetch_script<S: Store>(
+    alloc: Global,
+    store: &mut S,
+    name: &str,
+    nodes: u8,
+) -> Result<Script, Status>
+    requires { nodes ≤ 16 }
+    ensures found { result ≢ Err Status.Memory → (found : Found) × Fetches S.files S.sure S.faults S.gave store.old name.now 33554432 found store.new × (result ≡ script_in nodes found) }
+    ensures fit { IfOk result (λ script. AllFit nodes script) }
+    ensures few { IfOk result (λ script. length script ≤ 1000000) }
 {
     match fetch_file(alloc, store, name, SCRIPT_LIMIT) {
-        Ok(bytes) => judge_script(alloc, bytes.as_slice()),
+        Ok(bytes) => read_script(alloc, bytes.as_slice(), nodes),
         Err(Unread::Missing) => Err(Status::StoreFault),
-        Err(Unread::TooLong) => Err(Status::NotBuilt(Part::Script)),
+        Err(Unread::TooLong) => Err(Status::BadScript(ScriptCause::TooLong)),
         Err(Unread::Memory) => Err(Status::Memory),
     }
 }
 
-fn load<S: Store>(alloc: Global, store: &mut S, program: &str, script: &str) -> Result<Job, Status>
-    ensures { result ≢ Err Status.Memory → Loads (Fetches S.files S.sure S.faults S.gave) (record { program = program.now; script = script.now }) result store.old store.new }
+fn load<S: Store>(
+    alloc: Global,
+    store: &mut S,
+    nodes: u8,
+    program: &str,
+    script: &str,
+) -> Result<Job, Status>
+    requires some { 1 ≤ nodes }
+    requires few { nodes ≤ 16 }
+    ensures loads { result ≢ Err Status.Memory → Loads (Fetches S.files S.sure S.faults S.gave) (record { nodes = nodes; program = program.now; script = script.now }) result store.old store.new }
+    ensures read { IfOk result IsRead }
 {
     let program = match fetch_program(alloc, store, program) {
         Ok(program) => program,
         Err(status) => return Err(status),
     };
-    match fetch_script(alloc, store, script) {
-        Ok(script) => Ok(Job { program, script }),
+    match fetch_script(alloc, store, script, nodes) {
+        Ok(script) => Ok(Job {
+            nodes,
+            program,
+            script,
+        }),
         Err(status) => Err(status),
     }
 }
 
-// A machine of one node at the start of the program, with room for so many events.
-fn machine_for(alloc: Global, program: Program, events: u32) -> Option<Machine>
-    requires { events ≤ 1000000 }
-    ensures { IfSome result (λ m. IsReady m program events) }
+// A machine of so many nodes at the start of the program, with room for so many events.
+fn machine_for(alloc: Global, program: Image, nodes: u8, events: u32) -> Option<Machine>
+    requires sizes { config_fits (sizes_of nodes) ≡ true }
+    requires few { events ≤ 1000000 }
+    ensures { IfSome result (λ m. IsReady m program nodes events) }
 {
     let config = Config {
-        nodes: 1,
+        nodes,
         sets: 16,
         ways: 4,
         log: 256,
     };
-    let Ok(mut machine) = Machine::new(alloc, program.into_image(), config) else {
+    let Ok(mut machine) = Machine::new(alloc, program, config) else {
         return None;
     };
     match machine.reserve(events) {
@@ -120,17 +128,21 @@ fn machine_for(alloc: Global, program: Program, events: u32) -> Option<Machine>
 }
 
 // Takes all memory, and then plays.
-#[tactic(auto, unfolding(crate::specs::Pieces::pieces_of))]
 fn perform<C: Sink, R: Sink>(alloc: Global, job: Job, console: &mut C, report: &mut R) -> Status
+    requires { IsRead job }
     ensures follows { result ≢ Status.Memory → Follows (Ok job) result
         (ends (C.written console.old) (R.written report.old)) (ends (C.written console.new) (R.written report.new)) }
     ensures nothing { result ≡ Status.Memory → (console.new ≡ console.old) × (report.new ≡ report.old) }
     ensures cause { result ≡ Status.SinkFault → Rose (C.faults console.old) (C.faults console.new) ⊎ Rose (R.faults report.old) (R.faults report.new) }
     ensures only { (result ≡ Status.Done) ⊎ (result ≡ Status.SinkFault) ⊎ (result ≡ Status.Memory) }
 {
-    let Job { program, script } = job;
+    let Job {
+        nodes,
+        program,
+        script,
+    } = job;
     let events = script.events();
-    let Some(mut machine) = machine_for(alloc, program, events.len() as u32) else {
+    let Some(mut machine) = machine_for(alloc, program, nodes, events.len() as u32) else {
         return Status::Memory;
     };
     let Ok(mut line) = Line::new(alloc) else {
@@ -155,10 +167,10 @@ fn answer<S: Store, C: Sink, R: Sink>(
     ensures sink_fault { result ≡ Status.SinkFault → Rose (C.faults console.old) (C.faults console.new) ⊎ Rose (R.faults report.old) (R.faults report.new) }
     ensures usage { (ask_of (map string_bytes words.now) ≡ None) → result ≡ Status.Usage }
 {
-    let Some(names) = read_words(words) else {
+    let Some(asked) = read_words(words) else {
         return Status::Usage;
     };
-    match load(alloc, store, names.program, names.script) {
+    match load(alloc, store, asked.nodes, asked.program, asked.script) {
         Ok(job) => perform(alloc, job, console, report),
         Err(status) => status,
     }

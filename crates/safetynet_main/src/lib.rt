@@ -8,19 +8,14 @@
 #![tactic(auto)]
 
 mod call;
-mod event_text;
-mod line;
 mod play;
 mod program;
-mod refusal;
-mod runnable;
 mod script;
-mod state_text;
 mod status;
 mod words;
 
 pub use call::safetynet;
-pub use status::{Part, ProgramCause, Status};
+pub use status::{ProgramCause, Status};
 
 #[cfg(test)]
 mod tests;

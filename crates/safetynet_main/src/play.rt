@@ -1,14 +1,16 @@
 //! Events one after another: what each releases goes to the console, and its group of lines to the report.
-ghost use Rattle.std.specs.Prelude.{◌≡◌, ℕ, List, [], ◌∷◌, ◌+◌, ◌<◌, ◌≤◌, ◌++◌, ◌⊎◌, length, drop, All, Option, OnOk, OnErr};
-ghost use Rattle.sn_io.specs.Outside.{Rose, followed_by};
-ghost use Rattle.sn_machine.specs.Step.{step_of};
-ghost use Rattle.sn_machine.specs.Run.{IsTaken};
-ghost use Rattle.safetynet_main.specs.Pieces.{Report, ends, after, Breaks, console_piece, flat_at, core_lines, recovered_lines, group_of, summary_of, turn_pieces, pieces_from, IsNext};
+ghost use Rattle.std.specs.Prelude.{◌≡◌, ℕ, List, [], ◌∷◌, ◌+◌, ◌≤◌, ◌++◌, ◌⊎◌, true, length, drop, Option, OnOk, OnErr};
+ghost use Rattle.sn_base.specs.Events.{event_fits};
+ghost use Rattle.sn_io.specs.Outside.{Rose};
+ghost use Rattle.sn_machine.specs.Machine.{flat_of};
+ghost use Rattle.consistent_cuts.specs.Runs.{AllFit};
+ghost use Rattle.safetynet_main.specs.Pieces.{Report, ends, after, Breaks, console_piece, core_lines};
+ghost use Rattle.safetynet_main.specs.Played.{after_event, group_now, summary_now, turn_now, pieces_left, IsAlone};
 
-use crate::line::Line;
 use sn_base::{Answer, Event, NodeId};
 use sn_io::{Failed, Sink};
 use sn_machine::Machine;
+use sn_text::Line;
 
 // What was released since there were so many bytes.
 fn fresh(released: &[u8], had: usize) -> &[u8]
@@ -46,48 +48,35 @@ fn put_report<R: Sink>(report: &mut R, text: &[u8]) -> Result<(), Failed>
     Ok(())
 }
 
-// The lines of the cores at the recovery point.
+// The lines of all cores at the recovery point.
 fn write_cores(line: &mut Line, before: &str, machine: &Machine)
-    requires one { machine.now.config.nodes ≡ 1 }
-    requires room { length line.old + 1088 ≤ 8192 }
+    requires room { length line.old + 7808 ≤ 8192 }
     requires before_short { length before.now ≤ 2 }
-    ensures { line.new ≡ line.old ++ core_lines before.now (flat_at machine.now.image 1 machine.now.state) 1 }
+    ensures { line.new ≡ line.old ++ core_lines before.now (flat_of machine.now) machine.now.config.nodes }
 {
-    let Some(node) = NodeId::new(0) else {
-        return;
-    };
     let view = machine.recovered();
-    line.core(before, node, view.core(node));
-}
-
-// After a recovery the cores stand below the event.
-fn write_recovered(line: &mut Line, answer: &Answer, machine: &Machine)
-    requires one { machine.now.config.nodes ≡ 1 }
-    requires room { length line.old + 1088 ≤ 8192 }
-    ensures { line.new ≡ line.old ++ recovered_lines machine.now.image 1 answer.now machine.now.state }
-{
-    match answer {
-        Answer::Recovered(_) => write_cores(line, "  ", machine),
-        _ => {}
+    'cores: for number in 0..machine.config().nodes {
+        let node = NodeId::new(number).unwrap();
+        line.core(before, node, view.core(node));
     }
 }
 
-// The group of one event, which was the machine's last.
-#[tactic(auto, unfolding(crate::specs::Pieces::group_of))]
-fn write_group(line: &mut Line, place: u64, event: &Event, answer: &Answer, machine: &Machine)
-    requires one { machine.now.config.nodes ≡ 1 }
-    ensures { line.new ≡ group_of machine.now.image 1 place event.now (record { state = machine.now.state; answer = answer.now; sent = machine.now.sent }) }
+// The group of one event, which was the machine's last. A recovery sends nothing, and the cores stand below it.
+fn write_group(line: &mut Line, event: &Event, answer: &Answer, machine: &Machine)
+    requires alone { IsAlone answer.now machine.now.sent }
+    ensures { line.new ≡ group_now machine.now event.now answer.now }
 {
     line.clear();
-    line.event(place, event, answer);
-    line.all_sent(machine.sent());
-    write_recovered(line, answer, machine);
+    line.event(u64::from(machine.applied()), event, answer);
+    match answer {
+        Answer::Recovered(_) => write_cores(line, "  ", machine),
+        _ => line.all_sent(machine.sent()),
+    }
 }
 
 #[tactic(auto, unfolding(crate::specs::Pieces::summary_of))]
 fn write_summary(line: &mut Line, machine: &Machine)
-    requires one { machine.now.config.nodes ≡ 1 }
-    ensures { line.new ≡ summary_of machine.now.image 1 machine.now.applied machine.now.state }
+    ensures { line.new ≡ summary_now machine.now }
 {
     let view = machine.recovered();
     line.clear();
@@ -106,19 +95,13 @@ fn turn<C: Sink, R: Sink>(
     console: &mut C,
     report: &mut R,
 ) -> Result<(), Failed>
-    requires one { machine.old.config.nodes ≡ 1 }
-    requires taken { IsTaken event.now }
+    requires fits { event_fits machine.old.config.nodes event.now ≡ true }
     requires room { 1 ≤ machine.old.spare }
-    ensures next { IsNext machine.old.image machine.new.image machine.old.applied machine.new.applied machine.old.state machine.new.state event.now }
-    ensures sizes { machine.new.config ≡ machine.old.config }
-    ensures spare { machine.new.spare + 1 ≡ machine.old.spare }
+    ensures next { machine.new ≡ after_event machine.old event.now }
     ensures ok { OnOk result (ends (C.written console.new) (R.written report.new)
-        ≡ after (ends (C.written console.old) (R.written report.old)) (turn_pieces machine.old.image 1 (machine.old.applied + 1) machine.old.state event.now)) }
-    ensures err { OnErr result (Breaks (turn_pieces machine.old.image 1 (machine.old.applied + 1) machine.old.state event.now)
+        ≡ after (ends (C.written console.old) (R.written report.old)) (turn_now machine.old event.now)) }
+    ensures err { OnErr result (Breaks (turn_now machine.old event.now)
         (ends (C.written console.old) (R.written report.old)) (ends (C.written console.new) (R.written report.new))) }
-    // Before and after each event the console has what is released.
-    ensures released { OnOk result ((base : Option (List ℕ)) → C.written console.old ≡ followed_by base machine.old.state.released
-        → C.written console.new ≡ followed_by base machine.new.state.released) }
     ensures console_later { C.faults console.old ≤ C.faults console.new }
     ensures report_later { R.faults report.old ≤ R.faults report.new }
     ensures cause { OnErr result (Rose (C.faults console.old) (C.faults console.new) ⊎ Rose (R.faults report.old) (R.faults report.new)) }
@@ -127,7 +110,7 @@ fn turn<C: Sink, R: Sink>(
     let answer = machine.apply(*event);
     let view = machine.recovered();
     put_released(console, fresh(view.released(), had))?;
-    write_group(line, u64::from(machine.applied()), event, &answer, machine);
+    write_group(line, event, &answer, machine);
     put_report(report, line.bytes())?;
     Ok(())
 }
@@ -140,15 +123,12 @@ pub fn play<C: Sink, R: Sink>(
     console: &mut C,
     report: &mut R,
 ) -> Result<(), Failed>
-    requires one { machine.old.config.nodes ≡ 1 }
-    requires taken { All IsTaken events.now }
+    requires fit { AllFit machine.old.config.nodes events.now }
     requires room { length events.now ≤ machine.old.spare }
-    requires fresh { machine.old.state.released ≡ [] }
     ensures ok { OnOk result (ends (C.written console.new) (R.written report.new)
-        ≡ after (ends (C.written console.old) (R.written report.old)) (pieces_from machine.old.image 1 machine.old.applied machine.old.state events.now)) }
-    ensures err { OnErr result (Breaks (pieces_from machine.old.image 1 machine.old.applied machine.old.state events.now)
+        ≡ after (ends (C.written console.old) (R.written report.old)) (pieces_left machine.old events.now)) }
+    ensures err { OnErr result (Breaks (pieces_left machine.old events.now)
         (ends (C.written console.old) (R.written report.old)) (ends (C.written console.new) (R.written report.new))) }
-    ensures released { OnOk result (C.written console.new ≡ followed_by (C.written console.old) machine.new.state.released) }
     ensures console_later { C.faults console.old ≤ C.faults console.new }
     ensures report_later { R.faults report.old ≤ R.faults report.new }
     ensures cause { OnErr result (Rose (C.faults console.old) (C.faults console.new) ⊎ Rose (R.faults report.old) (R.faults report.new)) }

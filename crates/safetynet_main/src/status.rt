@@ -1,15 +1,9 @@
 //! How a call ends.
 ghost use Rattle.std.specs.Prelude.{◌≡◌, ◌++◌, codes};
-ghost use Rattle.safetynet_main.specs.Status.{number_of, load_name, program_name, word_of};
+ghost use Rattle.safetynet_main.specs.Status.{number_of, load_name, program_name, script_name, word_of};
 
 use elf_load::LoadCause;
-
-/// A file that this program can't run yet.
-#[derive(Clone, Copy, PartialEq, Eq, Debug)]
-pub enum Part {
-    Program,
-    Script,
-}
+use sn_text::ScriptCause;
 
 /// Why a program's file is refused.
 #[derive(Clone, Copy, PartialEq, Eq, Debug)]
@@ -31,12 +25,12 @@ pub enum Status {
     StoreFault,
     /// The program's file is too long, or neither an ELF file nor a hexadecimal image that can be loaded.
     BadProgram(ProgramCause),
+    /// The script's file is too long, or isn't a list of events for so many nodes.
+    BadScript(ScriptCause),
     /// A sink failed: what was written is a prefix of the text.
     SinkFault,
     /// Memory was wanted and not given. Nothing is written.
     Memory,
-    /// The program has an instruction that needs memory, or the script isn't of the form that is built so far.
-    NotBuilt(Part),
 }
 
 // The word `program`, and the name of the loader's cause.
@@ -69,6 +63,18 @@ fn program_word(cause: ProgramCause) -> &'static str
     }
 }
 
+// The word `script`, and the name of the cause.
+fn script_word(cause: ScriptCause) -> &'static str
+    ensures { result.now ≡ codes "script " ++ script_name cause }
+{
+    match cause {
+        ScriptCause::TooLong => "script toolong",
+        ScriptCause::BadLine(_) => "script badline",
+        ScriptCause::OutOfRange(_) => "script outofrange",
+        ScriptCause::TooMany => "script toomany",
+    }
+}
+
 impl Status {
     /// The program's exit status.
     pub fn number(self) -> u8
@@ -79,13 +85,13 @@ impl Status {
             Status::Usage => 1,
             Status::StoreFault => 2,
             Status::BadProgram(_) => 3,
+            Status::BadScript(_) => 4,
             Status::SinkFault => 5,
             Status::Memory => 7,
-            Status::NotBuilt(_) => 11,
         }
     }
 
-    /// The word that names it; a program's cause is a second word.
+    /// The word that names it; the cause of a file's refusal is a second word.
     pub fn word(self) -> &'static str
         ensures { result.now ≡ word_of self }
     {
@@ -94,9 +100,9 @@ impl Status {
             Status::Usage => "usage",
             Status::StoreFault => "store",
             Status::BadProgram(cause) => program_word(cause),
+            Status::BadScript(cause) => script_word(cause),
             Status::SinkFault => "sink",
             Status::Memory => "memory",
-            Status::NotBuilt(_) => "notbuilt",
         }
     }
 }

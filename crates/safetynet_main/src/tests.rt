@@ -1,7 +1,8 @@
-//! The worked runs, whose texts come from the rules and not from this program, and each way in which a call ends.
-use crate::{Part, ProgramCause, Status, safetynet};
+//! Runs whose texts come from the rules and not from this program, and each way in which a call ends.
+use crate::{ProgramCause, Status, safetynet};
 use elf_load::{LoadCause, load, write_elf};
 use sn_io::{MemSink, MemStore};
+use sn_text::ScriptCause;
 use std::alloc::Global;
 use std::process::Abort;
 use std::test::Fail;
@@ -9,14 +10,39 @@ use std::test::Fail;
 /// Puts `A` and ends with code 65.
 const PUTS_A: &str = "04100513\n00100893\n00000073\n05d00893\n00000073\n";
 
+/// Adds 1 to a word of block 64, and ends with the core's number.
+const COUNTS: &str = "800012b7\n00100313\n0062a3af\n05d00893\n00000073\n";
+
 const VALIDATED: &str = "step 0\nstep 0\nstep 0\nedge 0\nreport 0\ndeliver 1\nvalidate\n";
 
 const RECOVERED: &str = "step 0\nstep 0\nstep 0\nedge 0\nreport 0\nrecover\n";
 
-const FULL: &str = "edge 0\nedge 0\nedge 0\nedge 0\nedge 0\n";
+/// Node 1 takes the word's block and a checkpoint between request and grant; then the machine goes back to that checkpoint.
+const ACROSS: &str = "\
+# two instructions and a miss
+step 1
+step 1
+step 1
+hop 1
+deliver 1
+edge 1
+hop 2
+deliver 2
+hop 3
+deliver 3
+edge 0
+deliver 3
 
-const TWICE: &str =
-    "step 0\nstep 0\nstep 0\nrecover\nrecover\nstep 0\nstep 0\nstep 0\nedge 0\nreport 0\ndeliver 1\nvalidate\n";
+# both are ready
+report 0
+deliver 4
+report 1
+hop 5
+deliver 5
+validate
+recover
+step 1
+";
 
 const VALIDATED_EVENTS: &str = "\
 1 step 0: retired
@@ -69,41 +95,42 @@ released 0
 core 0 80000000 running
 ";
 
-const FULL_REPORT: &str = "\
-1 edge 0: edged 1
-2 edge 0: edged 2
-3 edge 0: edged 3
-4 edge 0: edged 4
-5 edge 0: checkpointsfull
-events 5
-point 0
-committed 0
+const ACROSS_REPORT: &str = "\
+1 step 1: retired
+2 step 1: retired
+3 step 1: missed
+  msg 1 getm 1 0 0 64
+4 hop 1: hopped
+5 deliver 1: delivered
+  msg 2 datam 0 1 0 64 acks 0
+6 edge 1: edged 1
+7 hop 2: hopped
+8 deliver 2: delivered
+  msg 3 unblock 1 0 1 64 fixed 0
+9 hop 3: hopped
+10 deliver 3: held
+11 edge 0: edged 1
+12 deliver 3: delivered
+13 report 0: reported 1
+  msg 4 ready 0 0 1 1
+14 deliver 4: delivered
+15 report 1: reported 1
+  msg 5 ready 1 0 1 1
+16 hop 5: hopped
+17 deliver 5: delivered
+18 validate: validated 1
+  msg 6 advance 0 0 1 1
+  msg 7 advance 0 1 1 1
+19 recover: recovered 1 undone 0 dropped 2
+  core 0 80000000 running
+  core 1 80000008 running x5=80001000 x6=00000001 x10=00000001
+20 step 1: retired
+events 20
+point 1
+committed 2
 released 0
 core 0 80000000 running
-";
-
-const TWICE_REPORT: &str = "\
-1 step 0: retired
-2 step 0: retired
-3 step 0: retired
-4 recover: recovered 0 undone 0 dropped 0
-  core 0 80000000 running
-5 recover: recovered 0 undone 0 dropped 0
-  core 0 80000000 running
-6 step 0: retired
-7 step 0: retired
-8 step 0: retired
-9 edge 0: edged 1
-10 report 0: reported 1
-  msg 1 ready 0 0 1 1
-11 deliver 1: delivered
-12 validate: validated 1
-  msg 2 advance 0 0 1 1
-events 12
-point 1
-committed 3
-released 1
-core 0 8000000c running x10=00000041 x17=00000001
+core 1 80000008 running x5=80001000 x6=00000001 x10=00000001
 ";
 
 const WORDS: &str = "safetynet replay --nodes 1 a.hex a.script";
@@ -152,7 +179,7 @@ fn call(
     store.fail_call(faults.store)?;
     let mut console = MemSink::with_room(alloc, 100)?;
     console.fail_call(faults.console)?;
-    let mut report = MemSink::with_room(alloc, 1000)?;
+    let mut report = MemSink::with_room(alloc, 2000)?;
     report.fail_call(faults.report)?;
     let status = safetynet(
         alloc,
@@ -219,8 +246,16 @@ fn a_replay_puts_what_was_validated_and_reports_each_event(rt: HostRuntime) -> R
     check_replay(&rt, alloc, program, VALIDATED, "A", VALIDATED_REPORT)?;
     check_replay(&rt, alloc, program, RECOVERED, "", RECOVERED_REPORT)?;
     check_replay(&rt, alloc, program, "", "", EMPTY_REPORT)?;
-    check_replay(&rt, alloc, program, FULL, "", FULL_REPORT)?;
-    check_replay(&rt, alloc, program, TWICE, "A", TWICE_REPORT)?;
+    Ok(())
+}
+
+#[test]
+fn a_recovery_shows_the_core_of_each_node(rt: HostRuntime) -> Result<(), Fail> {
+    let words = "safetynet replay --nodes 2 a.hex a.script";
+    let left = call(rt.alloc(), words, COUNTS.as_bytes(), ACROSS, NO_FAULT)?;
+    assert_eq!(rt; left.status, Status::Done);
+    assert!(rt; left.console.is_empty());
+    assert_eq!(rt; left.report.as_slice(), ACROSS_REPORT.as_bytes());
     Ok(())
 }
 
@@ -230,7 +265,11 @@ fn words_that_are_no_command_are_usage(rt: HostRuntime) -> Result<(), Fail> {
     for words in [
         "safetynet",
         "safetynet fly",
-        "safetynet replay --nodes 2 a.hex a.script",
+        "safetynet replay --nodes 0 a.hex a.script",
+        "safetynet replay --nodes 17 a.hex a.script",
+        "safetynet replay --nodes 01 a.hex a.script",
+        "safetynet replay --nodes 1f a.hex a.script",
+        "safetynet replay --nodes 016 a.hex a.script",
         "safetynet replay --nodes 1 a.hex a.script more",
     ] {
         check_refusal(
@@ -249,8 +288,8 @@ fn words_that_are_no_command_are_usage(rt: HostRuntime) -> Result<(), Fail> {
 fn a_file_that_is_lacking_is_a_store_fault(rt: HostRuntime) -> Result<(), Fail> {
     let alloc = rt.alloc();
     for words in [
-        "safetynet replay --nodes 1 b.hex a.script",
-        "safetynet replay --nodes 1 a.hex b.script",
+        "safetynet replay --nodes 16 b.hex a.script",
+        "safetynet replay --nodes 9 a.hex b.script",
     ] {
         check_refusal(
             &rt,
@@ -265,24 +304,19 @@ fn a_file_that_is_lacking_is_a_store_fault(rt: HostRuntime) -> Result<(), Fail> 
 }
 
 #[test]
-fn a_script_of_another_form_is_not_built(rt: HostRuntime) -> Result<(), Fail> {
+fn a_script_that_isnt_one_is_refused_by_its_first_cause(rt: HostRuntime) -> Result<(), Fail> {
     let alloc = rt.alloc();
-    // Another node, a blank, a leading zero, 2^64, no end of the line.
-    for script in [
-        "step 1\n",
-        " step 0\n",
-        "deliver 01\n",
-        "deliver 18446744073709551616\n",
-        "validate",
+    for (script, cause) in [
+        ("step 1\n", ScriptCause::OutOfRange(1)),
+        (" step 0\n", ScriptCause::BadLine(1)),
+        (
+            "# one\r\n\nstep 0\nkill b1\nfly\n",
+            ScriptCause::OutOfRange(4),
+        ),
+        ("deliver 18446744073709551616", ScriptCause::BadLine(1)),
     ] {
-        check_refusal(
-            &rt,
-            alloc,
-            WORDS,
-            PUTS_A.as_bytes(),
-            script,
-            Status::NotBuilt(Part::Script),
-        )?;
+        let want = Status::BadScript(cause);
+        check_refusal(&rt, alloc, WORDS, PUTS_A.as_bytes(), script, want)?;
     }
     Ok(())
 }
@@ -303,14 +337,6 @@ fn a_program_that_cant_be_loaded_is_refused_by_its_cause(rt: HostRuntime) -> Res
         let want = Status::BadProgram(ProgramCause::Load(cause));
         check_program(&rt, alloc, program.as_bytes(), want)?;
     }
-    Ok(())
-}
-
-#[test]
-fn a_program_with_a_load_is_not_built(rt: HostRuntime) -> Result<(), Fail> {
-    let alloc = rt.alloc();
-    let program = b"00000013\n0000a283\n";
-    check_program(&rt, alloc, program, Status::NotBuilt(Part::Program))?;
     Ok(())
 }
 
@@ -380,9 +406,14 @@ fn a_status_has_its_number_and_word(rt: HostRuntime) {
         (Status::Usage, 1, "usage"),
         (Status::StoreFault, 2, "store"),
         (Status::BadProgram(line), 3, "program badhexline"),
+        (Status::BadScript(ScriptCause::TooLong), 4, "script toolong"),
+        (
+            Status::BadScript(ScriptCause::BadLine(2)),
+            4,
+            "script badline",
+        ),
         (Status::SinkFault, 5, "sink"),
         (Status::Memory, 7, "memory"),
-        (Status::NotBuilt(Part::Script), 11, "notbuilt"),
     ] {
         assert_eq!(rt; status.number(), number);
         assert_eq!(rt; status.word(), word);
