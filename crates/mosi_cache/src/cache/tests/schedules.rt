@@ -170,6 +170,7 @@ fn the_interval_of_atomicity_is_the_tag(rt: HostRuntime) -> Result<(), Fail> {
         (1, Act::Take(2, owning(0)), Came::Done(false)),
         (2, Act::Take(2, owning(0)), sends(home, Body::Unblock(2))),
         (2, Act::OldAt(2), had_nothing()),
+        (2, Act::OldAt(3), Came::Had(None)),
     ];
     assert!(rt; plays(rt.alloc(), here, 4, &rows)?);
     Ok(())
