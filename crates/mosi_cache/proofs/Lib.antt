@@ -13,3 +13,4 @@ pub mod Within
 pub mod Unshared
 pub mod Held
 pub mod Restored
+pub mod Two

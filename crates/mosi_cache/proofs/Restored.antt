@@ -54,7 +54,7 @@ fits-begun c sets ways f =
 
 -- what is held, as a content
 
-abbrev content_of : Old → Option (List ℕ)
+abbrev pub content_of : Old → Option (List ℕ)
 content_of NotOwned = None
 content_of (Owned content) = Some content
 content_of (WasHome content) = None
@@ -132,15 +132,15 @@ unwound-restored c d e log k q h s =
 
 -- what is unwound fits where the cache that is left does
 
-holding_restored : (o : Option (List ℕ)) (h : Old) → line_holding (restored_line o) h ≡ restored_line (content_of h)
-holding_restored None NotOwned = refl
-holding_restored None (Owned content) = refl
-holding_restored None (WasHome content) = refl
-holding_restored None (WasCache node) = refl
-holding_restored (Some x) NotOwned = refl
-holding_restored (Some x) (Owned content) = refl
-holding_restored (Some x) (WasHome content) = refl
-holding_restored (Some x) (WasCache node) = refl
+pub holding-restored : (o : Option (List ℕ)) (h : Old) → line_holding (restored_line o) h ≡ restored_line (content_of h)
+holding-restored None NotOwned = refl
+holding-restored None (Owned content) = refl
+holding-restored None (WasHome content) = refl
+holding-restored None (WasCache node) = refl
+holding-restored (Some x) NotOwned = refl
+holding-restored (Some x) (Owned content) = refl
+holding-restored (Some x) (WasHome content) = refl
+holding-restored (Some x) (WasCache node) = refl
 
 line_wanted : (c : CacheData) (log : List LogEntry) (k b : ℕ) → b < block_count → length c.cache.lines ≡ block_count →
     line_at (lines_holding (map begun_line c.cache.lines) (unwound log false k (held_of (begun c)))) b ≡ line_at (restored_lines log k 0 c.cache.lines) b
@@ -149,7 +149,7 @@ line_wanted c log k b l n =
     let m = unwound log false k (held_of (begun c)) in
     holding-at (map begun_line c.cache.lines) m b l
     ∙ ap (λ (y : Line). line_holding y (m b)) (begun-at c.cache.lines b)
-    ∙ holding_restored (owned_content x x.state) (m b)
+    ∙ holding-restored (owned_content x x.state) (m b)
     ∙ ap restored_line (content_then c log k b)
     ∙ sym (restored_at log k 0 b b c.cache.lines (omega (arith, n)) (omega arith))
 

@@ -9,6 +9,7 @@ ghost use Rattle.mosi_cache.specs.Controller.{logged};
 ghost use Rattle.mosi_cache.specs.Rows.{MeetsRow, NotesLast, noted_in};
 
 mod access;
+mod restore;
 mod rows;
 mod schedules;
 

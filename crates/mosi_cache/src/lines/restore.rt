@@ -51,3 +51,12 @@ impl Lines {
         make_modified(&mut self.kept);
     }
 }
+
+#[cfg(test)]
+impl Lines {
+    pub fn ways(&self) -> u8
+        ensures { result ≡ self.now.ways }
+    {
+        self.ways
+    }
+}

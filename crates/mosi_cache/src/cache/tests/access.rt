@@ -138,12 +138,18 @@ fn evicts(alloc: Global, here: NodeId, steps: &[Step]) -> Result<Option<Answer>,
 
 #[test]
 fn what_an_eviction_comes_to(rt: HostRuntime) -> Result<(), Fail> {
-    let (here, r) = (node(&rt, 1), node(&rt, 0));
-    let [write, data] = modified();
-    let put = [write, data, Step::Put];
+    let here = node(&rt, 1);
     assert!(rt; evicts(rt.alloc(), here, &[])? == Some(Answer::NotCached));
     assert!(rt; evicts(rt.alloc(), here, &reading())? == Some(Answer::MissOpen));
     assert!(rt; evicts(rt.alloc(), here, &shared())? == Some(Answer::Evicted));
+    Ok(())
+}
+
+#[test]
+fn an_owner_is_evicted_by_a_put(rt: HostRuntime) -> Result<(), Fail> {
+    let (here, r) = (node(&rt, 1), node(&rt, 0));
+    let [write, data] = modified();
+    let put = [write, data, Step::Put];
     assert!(rt; evicts(rt.alloc(), here, &owned(r))? == Some(Answer::PutBegun));
     assert!(rt; evicts(rt.alloc(), here, &modified())? == Some(Answer::PutBegun));
     assert!(rt; evicts(rt.alloc(), here, &exclusive())? == Some(Answer::PutBegun));
