@@ -11,3 +11,9 @@ pub mod Reported
 pub mod Named
 pub mod Posts
 pub mod Raised
+pub mod LogRows
+pub mod LogEvents
+pub mod Recovered
+pub mod Foreseen
+pub mod Restoring
+pub mod HeldAt

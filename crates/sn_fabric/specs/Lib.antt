@@ -4,3 +4,5 @@ pub mod Parts
 pub mod Start
 pub mod Seats
 pub mod Points
+pub mod Logs
+pub mod Recovery

@@ -17,10 +17,13 @@ ghost use Rattle.sn_model.specs.Fabric.{node_at};
 
 mod accesses;
 mod clocks;
+mod contents;
 mod cuts;
 mod evictions;
+mod foresight;
 mod node;
 mod points;
+mod recovery;
 mod reports;
 mod sending;
 mod start;
