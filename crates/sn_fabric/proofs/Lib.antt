@@ -17,3 +17,13 @@ pub mod Recovered
 pub mod Foreseen
 pub mod Restoring
 pub mod HeldAt
+pub mod Come
+pub mod GoingTo
+pub mod Outs
+pub mod Looks
+pub mod Given
+pub mod ToCache
+pub mod HomesAfter
+pub mod ToHome
+pub mod ToNode
+pub mod Delivered

@@ -6,3 +6,5 @@ pub mod Seats
 pub mod Points
 pub mod Logs
 pub mod Recovery
+pub mod Deliveries
+pub mod Foresight

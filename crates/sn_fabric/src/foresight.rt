@@ -1,4 +1,4 @@
-//! What each event but a delivery would be answered now.
+//! What each event but an instruction and an input would be answered now.
 ghost use Rattle.std.specs.Prelude.{◌≡◌, ◌+◌, ◌*◌, ◌<◌, ◌≤◌, ◌^◌, length, is_some, ℕ};
 ghost use Rattle.std.specs.List.{sum_by};
 ghost use Rattle.sn_model.specs.Fabric.{node_at};
@@ -7,6 +7,8 @@ ghost use Rattle.sn_model.specs.NetEvents.{hopped, lost, killed};
 ghost use Rattle.sn_model.specs.PointEvents.{advanced, recovered};
 ghost use Rattle.switch_net.specs.Net.{find_flight};
 ghost use Rattle.log_buffer.specs.Log.{entries_from};
+ghost use Rattle.sn_model.specs.FabricEvents.{moved_by};
+ghost use Rattle.sn_fabric.specs.Foresight.{fabric_event, CanForesee};
 ghost use Rattle.sn_fabric.specs.Parts.{seat_at};
 ghost use Rattle.sn_fabric.specs.Recovery.{undone_of};
 ghost use Rattle.sn_fabric.specs.Seats as seat;
@@ -16,7 +18,7 @@ use crate::node::Seat;
 use crate::switches::hop_answer;
 use ckpt_clock::Clock;
 use log_buffer::LogBuffer;
-use sn_base::{Answer, Entries, Interval, MsgId, NodeId, SwitchId, Undo};
+use sn_base::{Answer, Entries, Event, Interval, MsgId, NodeId, SwitchId, Undo};
 use switch_net::{Net, TakeFault};
 
 fn edge_answer(clock: &Clock) -> Answer
@@ -69,6 +71,27 @@ fn count_all_undone(seats: &[Seat], k: Interval) -> u32
 }
 
 impl Fabric {
+    /// The answer that the call of an event would give now, under that call's conditions: with k as what `advance` is given
+    /// for Validate, and `recover` for Recover. Of an instruction and of an input the fabric knows nothing.
+    #[tactic(auto, unfolding(sn_model::specs::FabricEvents::moved_by))]
+    pub fn foresee(&self, event: Event, k: Interval) -> Answer
+        requires { CanForesee self.now.fabric event k }
+        ensures { result ≡ (moved_by self.now.config self.now.fabric (fabric_event event k)).answer }
+    {
+        match event {
+            Event::Evict(node, block) => self.foresee_evict(node, block),
+            Event::Edge(node) => self.foresee_edge(node),
+            Event::Hop(id) => self.foresee_hop(id),
+            Event::Deliver(id) => self.foresee_deliver(id),
+            Event::Lose(id) => self.foresee_lose(id),
+            Event::Kill(switch) => self.foresee_kill(switch),
+            Event::Report(node) => self.foresee_report(node),
+            Event::Validate => self.foresee_advance(k),
+            Event::Recover => self.foresee_recover(k),
+            Event::Step(_) | Event::Input(_, _) => unreachable!(),
+        }
+    }
+
     fn foresee_edge(&self, node: NodeId) -> Answer
         requires here { node < length self.now.fabric.nodes }
         requires numbers { (node_at self.now.fabric node).now + 1 < 2 ^ 32 }

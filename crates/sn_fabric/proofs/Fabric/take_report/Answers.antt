@@ -1,0 +1,25 @@
+use Rattle.std.proofs.Common.{◌≡◌, refl, subst, arith}
+use Rattle.std.specs.Prelude.{Some}
+use Rattle.sn_base.specs.declared.event.Answer.TheVariants.{Delivered}
+use Rattle.sn_model.specs.declared.net.Told.TheVariants.{Ready}
+use Rattle.sn_model.specs.NetEvents.{delivered}
+use Rattle.sn_fabric.specs.Fabric.{FabricData}
+use Rattle.sn_fabric.proofs.Parts.{after-whole}
+use Rattle.sn_fabric.proofs.ToNode.{report-tells, report-taken}
+use Rattle.sn_fabric.proofs.Fabric.take_report.Goals as goal
+
+pub invariant_of-self : goal.invariant_of-self
+invariant_of-self c = (
+  (report-taken c.self.inside.config (record { seats = c.self.inside.seats.items; homes = c.self.inside.homes.items; net = c.self.inside.net; point = c.self.inside.point }) c.self.invariant.0 c.args.message.now (rw (← c.self.view_is) at c.requires.come) c.args.k (rw (← c.self.view_is) at c.requires.delivers) c.requires.receiver c.lose.new.self c.clear.new.self.items c.lose.ensures.lost c.clear.ensures.items).parts,
+  omega (arith, c.self.invariant.1, c.clear.ensures.capacity),
+)
+
+pub returns-clause-after : goal.returns-clause-after
+returns-clause-after c =
+    after-whole c.self.inside.config (record { seats = c.self.inside.seats.items; homes = c.self.inside.homes.items; net = c.self.inside.net; point = c.self.inside.point }) (record { seats = c.self.inside.seats.items; homes = c.self.inside.homes.items; net = c.lose.new.self; point = c.self.inside.point }) c.self.inside.sent.items c.clear.new.self.items Delivered (λ (d : FabricData). delivered d.config d.fabric c.args.message.now.id) c.args.self.now c.self.view_is
+    (report-taken c.self.inside.config (record { seats = c.self.inside.seats.items; homes = c.self.inside.homes.items; net = c.self.inside.net; point = c.self.inside.point }) c.self.invariant.0 c.args.message.now (rw (← c.self.view_is) at c.requires.come) c.args.k (rw (← c.self.view_is) at c.requires.delivers) c.requires.receiver c.lose.new.self c.clear.new.self.items c.lose.ensures.lost c.clear.ensures.items)
+
+pub returns-clause-told : goal.returns-clause-told
+returns-clause-told c =
+    subst (λ (d : FabricData). Some (Ready c.args.message.now.from c.args.k) ≡ (delivered d.config d.fabric c.args.message.now.id).told) c.self.view_is
+    (report-tells c.self.inside.config (record { seats = c.self.inside.seats.items; homes = c.self.inside.homes.items; net = c.self.inside.net; point = c.self.inside.point }) c.self.invariant.0 c.args.message.now (rw (← c.self.view_is) at c.requires.come) c.args.k (rw (← c.self.view_is) at c.requires.delivers) c.requires.receiver (Ready c.args.message.now.from c.args.k) refl)

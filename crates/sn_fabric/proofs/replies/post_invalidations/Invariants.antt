@@ -1,0 +1,17 @@
+use Rattle.std.proofs.Common.{◌≡◌, ◌+◌, ◌≤◌, ◌++◌, length}
+use Rattle.std.specs.Prelude.{vec_capacity}
+use Rattle.sn_model.specs.Net.{posted, sent_by}
+use Rattle.sn_fabric.specs.Deliveries.{invalidations_below}
+use Rattle.sn_fabric.specs.Nets.{net_as}
+use Rattle.sn_fabric.proofs.replies.post_invalidations.Given as goal
+
+abbrev pub invariant-nodes : goal.invariant-nodes
+invariant-nodes l = record {
+  net : net_as l.net ≡ posted l.initial.net.routes (net_as l.initial.net) l.from l.tag l.block (invalidations_below l.set l.r l.number);
+  routes : l.net.routes ≡ l.initial.net.routes;
+  sent : l.sent.items ≡ l.initial.sent.items ++ sent_by l.initial.net.routes (net_as l.initial.net) l.from l.tag l.block (invalidations_below l.set l.r l.number);
+  count : length l.sent.items ≤ length l.initial.sent.items + l.number;
+  flights : length l.net.flights ≤ length l.initial.net.flights + length (invalidations_below l.set l.r l.number);
+  next : l.net.next ≤ l.initial.net.next + l.number;
+  capacity : vec_capacity l.initial.sent ≤ vec_capacity l.sent;
+}

@@ -1,0 +1,238 @@
+//! A delivery: a message that has arrived is taken by its receiver's cache or home, or heard of by the layer above.
+ghost use Rattle.std.specs.Prelude.{◌≡◌, ◌+◌, ◌<◌, ◌≤◌, ◌^◌, Some, None};
+ghost use Rattle.sn_base.specs.declared.event.Answer.TheVariants.{Delivered};
+ghost use Rattle.sn_model.specs.Fabric.{node_at};
+ghost use Rattle.sn_model.specs.NetEvents.{delivered};
+ghost use Rattle.fabric_coherence.specs.Met.{answer_to};
+ghost use Rattle.mosi_cache.specs.Controller.{logged};
+ghost use Rattle.mosi_cache.specs.Rows.{row_of, MeetsRow, NotesLast, noted_in, step_by};
+ghost use Rattle.sn_fabric.specs.Fabric.{IsAfter};
+ghost use Rattle.sn_fabric.specs.Deliveries.{receiver_of, HasCome, fault_as, look_answer, seat_after};
+
+use crate::node::Seat;
+use crate::receiver::{Receiver, receiver_of};
+use crate::replies::{lost_by, out_of, post_one, post_step};
+use crate::{Fabric, Told};
+use mosi_cache::CacheStep;
+use sn_base::{Answer, Interval, MsgId};
+use sn_model::Look;
+use sn_msg::Message;
+use switch_net::TakeFault;
+
+fn fault_answer(fault: TakeFault) -> Answer
+    ensures { result ≡ fault_as fault }
+{
+    match fault {
+        TakeFault::NoMessage => Answer::NoMessage,
+        TakeFault::NotArrived => Answer::NotArrived,
+    }
+}
+
+/// The answer by what the receiver says beforehand. The message itself leaves the network, so there may be one more.
+fn look_answer(look: Look, flights: usize) -> Answer
+    requires { flights ≤ 1024 }
+    ensures { result ≡ look_answer look flights }
+{
+    match look {
+        Look::Sends(more) if flights + usize::from(more) > 1025 => Answer::NetFull,
+        Look::Sends(_) => Answer::Delivered,
+        Look::HomeBusy => Answer::HomeBusy,
+        Look::LogFull => Answer::LogFull,
+    }
+}
+
+/// A node's cache does the row of a message that has come to it.
+fn receive(seat: &mut Seat, message: &Message, now: Interval) -> CacheStep
+    requires here { message.now.to ≡ seat.old.cache.node }
+    requires come { message.now.tag ≤ now }
+    requires row { MeetsRow (logged seat.old.cache seat.old.log.entries) message.now.block message.now.body }
+    requires last { NotesLast seat.old.log.entries message.now.block (noted_in now message.now.tag message.now.body) }
+    ensures answer { result ≡ step_by seat.old.log (row_of seat.old.cache seat.old.log now message.now) }
+    ensures seat { seat.new ≡ seat_after seat.old (row_of seat.old.cache seat.old.log now message.now) }
+{
+    let Seat {
+        clock: _,
+        cache,
+        log,
+    } = seat;
+    cache.receive(message, now, log)
+}
+
+impl Fabric {
+    /// The answer that `deliver` would give now.
+    pub fn foresee_deliver(&self, id: MsgId) -> Answer
+        ensures { result ≡ (delivered self.now.config self.now.fabric id).answer }
+    {
+        match self.net.look(id) {
+            Ok(message) => self.foresee_message(message),
+            Err(fault) => fault_answer(fault),
+        }
+    }
+
+    fn foresee_message(&self, message: &Message) -> Answer
+        requires { HasCome self.now.fabric message.now }
+        ensures { result ≡ (delivered self.now.config self.now.fabric message.now.id).answer }
+    {
+        let seat = &self.seats[usize::from(message.to.number())];
+        if seat.clock.held(message.tag) {
+            return Answer::Held;
+        }
+        match receiver_of(&message.body) {
+            Receiver::Cache => self.foresee_at_cache(message),
+            Receiver::Home => self.foresee_at_home(message),
+            Receiver::Controller(_) => Answer::Delivered,
+            Receiver::Clock(_) => Answer::Delivered,
+        }
+    }
+
+    fn foresee_at_cache(&self, message: &Message) -> Answer
+        requires come { HasCome self.now.fabric message.now }
+        requires reached { message.now.tag ≤ (node_at self.now.fabric message.now.to).now }
+        requires receiver { receiver_of message.now.body ≡ Receiver.Cache }
+        ensures { result ≡ answer_to self.now.config self.now.fabric message.now }
+    {
+        let seat = &self.seats[usize::from(message.to.number())];
+        let now = seat.clock.now();
+        let look = seat.cache.look(message, now, &seat.log);
+        look_answer(look, self.net.count())
+    }
+
+    fn foresee_at_home(&self, message: &Message) -> Answer
+        requires come { HasCome self.now.fabric message.now }
+        requires reached { message.now.tag ≤ (node_at self.now.fabric message.now.to).now }
+        requires receiver { receiver_of message.now.body ≡ Receiver.Home }
+        ensures { result ≡ answer_to self.now.config self.now.fabric message.now }
+    {
+        let place = usize::from(message.to.number());
+        let seat = &self.seats[place];
+        let now = seat.clock.now();
+        let look = self.homes[place].look(message, now, &seat.log);
+        look_answer(look, self.net.count())
+    }
+
+    /// Delivers a message that has arrived: its receiver takes it out of the network and does its row, and sends what that
+    /// says. The layer above is told of a copy that was lost, of a report to the service controller, and of a recovery point
+    /// of which a node has heard. What has no such number (`NoMessage`), is under way (`NotArrived`), comes from a later
+    /// interval than the receiver's (`Held`), or is a request about a block with an open transaction (`HomeBusy`) stays where
+    /// it is, and so does what the log (`LogFull`) or the network (`NetFull`) has no room for.
+    pub fn deliver(&mut self, id: MsgId) -> (Answer, Option<Told>)
+        requires numbers { self.old.fabric.net.next_id ≤ 2 ^ 63 }
+        ensures after { IsAfter self.old self.new result.0 (delivered self.old.config self.old.fabric id) }
+        ensures told { result.1 ≡ (delivered self.old.config self.old.fabric id).told }
+    {
+        let answer = self.foresee_deliver(id);
+        match answer {
+            Answer::Delivered => {
+                let told = self.take(id);
+                (answer, told)
+            }
+            _ => {
+                self.send_nothing();
+                (answer, None)
+            }
+        }
+    }
+
+    fn take(&mut self, id: MsgId) -> Option<Told>
+        requires numbers { self.old.fabric.net.next_id ≤ 2 ^ 63 }
+        requires delivers { (delivered self.old.config self.old.fabric id).answer ≡ Delivered }
+        ensures after { IsAfter self.old self.new Delivered (delivered self.old.config self.old.fabric id) }
+        ensures told { result ≡ (delivered self.old.config self.old.fabric id).told }
+    {
+        match self.net.look(id) {
+            Ok(message) => {
+                let message: Message = *message;
+                self.give(&message)
+            }
+            Err(_) => unreachable!(),
+        }
+    }
+
+    /// Gives a message to who takes it.
+    fn give(&mut self, message: &Message) -> Option<Told>
+        requires come { HasCome self.old.fabric message.now }
+        requires numbers { self.old.fabric.net.next_id ≤ 2 ^ 63 }
+        requires delivers { (delivered self.old.config self.old.fabric message.now.id).answer ≡ Delivered }
+        ensures after { IsAfter self.old self.new Delivered (delivered self.old.config self.old.fabric message.now.id) }
+        ensures told { result ≡ (delivered self.old.config self.old.fabric message.now.id).told }
+    {
+        match receiver_of(&message.body) {
+            Receiver::Cache => self.give_to_cache(message),
+            Receiver::Home => {
+                self.give_to_home(message);
+                None
+            }
+            Receiver::Controller(k) => Some(self.take_report(message, k)),
+            Receiver::Clock(k) => Some(self.learn(message, k)),
+        }
+    }
+
+    fn give_to_cache(&mut self, message: &Message) -> Option<Told>
+        requires come { HasCome self.old.fabric message.now }
+        requires receiver { receiver_of message.now.body ≡ Receiver.Cache }
+        requires numbers { self.old.fabric.net.next_id ≤ 2 ^ 63 }
+        requires delivers { (delivered self.old.config self.old.fabric message.now.id).answer ≡ Delivered }
+        ensures after { IsAfter self.old self.new Delivered (delivered self.old.config self.old.fabric message.now.id) }
+        ensures told { result ≡ (delivered self.old.config self.old.fabric message.now.id).told }
+    {
+        self.sent.clear();
+        self.net.lose(message.id);
+        let (to, block) = (message.to, message.block);
+        let seat = &mut self.seats[usize::from(to.number())];
+        let now = seat.clock.now();
+        let step = receive(seat, message, now);
+        let out = out_of(&step);
+        post_one(&mut self.net, &mut self.sent, to, now, block, out);
+        lost_by(to, &step)
+    }
+
+    /// Of what a home does the layer above hears nothing.
+    fn give_to_home(&mut self, message: &Message)
+        requires come { HasCome self.old.fabric message.now }
+        requires receiver { receiver_of message.now.body ≡ Receiver.Home }
+        requires numbers { self.old.fabric.net.next_id ≤ 2 ^ 63 }
+        requires delivers { (delivered self.old.config self.old.fabric message.now.id).answer ≡ Delivered }
+        ensures after { IsAfter self.old self.new Delivered (delivered self.old.config self.old.fabric message.now.id) }
+        ensures told { (delivered self.old.config self.old.fabric message.now.id).told ≡ None }
+    {
+        self.sent.clear();
+        self.net.lose(message.id);
+        let (to, block) = (message.to, message.block);
+        let place = usize::from(to.number());
+        let seat = &mut self.seats[place];
+        let now = seat.clock.now();
+        let home = &mut self.homes[place];
+        let step = home.receive(message, now, &mut seat.log);
+        post_step(&mut self.net, &mut self.sent, to, now, block, step);
+    }
+
+    /// A node's report leaves the network, for the service controller.
+    fn take_report(&mut self, message: &Message, k: Interval) -> Told
+        requires come { HasCome self.old.fabric message.now }
+        requires receiver { receiver_of message.now.body ≡ Receiver.Controller k }
+        requires delivers { (delivered self.old.config self.old.fabric message.now.id).answer ≡ Delivered }
+        ensures after { IsAfter self.old self.new Delivered (delivered self.old.config self.old.fabric message.now.id) }
+        ensures told { Some result ≡ (delivered self.old.config self.old.fabric message.now.id).told }
+    {
+        self.sent.clear();
+        self.net.lose(message.id);
+        Told::Ready(message.from, k)
+    }
+
+    /// A node hears of a recovery point, and frees its log's entries below it.
+    fn learn(&mut self, message: &Message, k: Interval) -> Told
+        requires come { HasCome self.old.fabric message.now }
+        requires receiver { receiver_of message.now.body ≡ Receiver.Clock k }
+        requires delivers { (delivered self.old.config self.old.fabric message.now.id).answer ≡ Delivered }
+        ensures after { IsAfter self.old self.new Delivered (delivered self.old.config self.old.fabric message.now.id) }
+        ensures told { Some result ≡ (delivered self.old.config self.old.fabric message.now.id).told }
+    {
+        self.sent.clear();
+        self.net.lose(message.id);
+        let to = message.to;
+        let seat = &mut self.seats[usize::from(to.number())];
+        seat.clock.learn(k);
+        seat.log.free_below(k);
+        Told::Advance(to, k)
+    }
+}
