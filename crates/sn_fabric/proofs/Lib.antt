@@ -21,3 +21,4 @@ pub mod HomesAfter
 pub mod ToHome
 pub mod ToNode
 pub mod Delivered
+pub mod Finished
