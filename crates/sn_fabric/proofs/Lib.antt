@@ -27,3 +27,4 @@ pub mod HomesAfter
 pub mod ToHome
 pub mod ToNode
 pub mod Delivered
+pub mod Finished
