@@ -5,7 +5,7 @@ mod Replies
 mod Misses
 mod Deliveries
 pub mod Events
-mod Cuts
+pub mod Cuts
 pub mod Runs
 pub mod Numbers
 mod Finds

@@ -21,6 +21,9 @@ use Rattle.sn_model.specs.Fabric as model
 use Rattle.sn_model.specs.Fabric.{Fabric, Node, first_home, first_homes, first_node, first_fabric, no_entry}
 use Rattle.fabric_coherence.specs.Start.{first_beside}
 use Rattle.fabric_coherence.proofs.KeptStart.{start-kept}
+use Rattle.fabric_coherence.proofs.Recovery.{replicated}
+use Rattle.log_buffer.specs.Log.{logged_to}
+use Rattle.sn_fabric.specs.Logs.{AreOwnLogs}
 use Rattle.fabric_bounds.specs.Bounds.{KeepsBounds}
 use Rattle.fabric_bounds.proofs.Runs.{start_bounded}
 use Rattle.sn_fabric.specs.declared.node.Seat.{Seat}
@@ -155,8 +158,12 @@ fabric-start config image f =
     ap (λ (nodes : List Node). record (fabric_as (first_parts config image (first_net config))) { nodes = nodes }) (nodes-start config.nodes config)
     ∙ ap (λ (homes : List HomeEntry). record (first_fabric image config.nodes) { homes = homes }) (homes-start config.nodes image (few-nodes config f).some)
 
+logs-start : (image : ImageData) (nodes : ℕ) → AreOwnLogs (first_fabric image nodes)
+logs-start image nodes n l block other = ap (λ (x : Node). logged_to x.log true block) (replicated nodes n first_node)
+
 pub parts-start : (config : Config) (image : ImageData) → config_fits config ≡ true → AreParts config (first_parts config image (first_net config))
 parts-start config image f = record {
   whole = whole-start config image (first_net config) f refl;
   keeps = subst (KeepsBounds config) (sym (fabric-start config image f)) (first_beside, start-kept image config.nodes (few-nodes config f).some (few-nodes config f).few, start_bounded image config config.nodes);
+  logs = subst AreOwnLogs (sym (fabric-start config image f)) (logs-start image config.nodes);
 }

@@ -44,7 +44,7 @@ taken-room config p m log sends outs net h r eo en =
 
 module _ (config : Config) (p : Parts) (a : AreParts config p) (m : Message) (h : HasCome (fabric_as p) m) where
   pub in-flight : IsInFlight (fabric_as p) m
-  in-flight = come-in-flight (fabric_as p) m a.keeps h
+  in-flight = come-in-flight (fabric_as p) m (a.keeps.0, a.keeps.1) h
 
   pub inside : m.to < length p.seats
   inside = subst (λ (k : ℕ). m.to < k) (count-nodes p) in-flight.to

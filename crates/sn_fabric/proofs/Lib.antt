@@ -11,6 +11,12 @@ pub mod Reported
 pub mod Named
 pub mod Posts
 pub mod Raised
+pub mod LogRows
+pub mod LogEvents
+pub mod Recovered
+pub mod Foreseen
+pub mod Restoring
+pub mod HeldAt
 pub mod Come
 pub mod GoingTo
 pub mod Outs
@@ -21,3 +27,4 @@ pub mod HomesAfter
 pub mod ToHome
 pub mod ToNode
 pub mod Delivered
+pub mod Finished

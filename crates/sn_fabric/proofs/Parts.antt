@@ -17,6 +17,8 @@ use Rattle.fabric_bounds.specs.Bounds.{HasRoom, KeepsBounds}
 use Rattle.fabric_bounds.proofs.Runs.{each_keeps_bounds}
 use Rattle.sn_fabric.specs.declared.node.Seat.{Seat}
 use Rattle.sn_fabric.specs.Fabric.{FabricData, IsAfter}
+use Rattle.sn_fabric.specs.Logs.{AreOwnLogs}
+use Rattle.sn_fabric.proofs.LogEvents.{each-keeps-logs}
 use Rattle.sn_fabric.specs.Parts.{node_as, Parts, fabric_as, seat_at, no_seat, IsSeat, AreWhole, AreParts}
 
 at_map : {A B : Type 0} (f : A → B) (xs : List A) (n : ℕ) (d : A) (e : B) → n < length xs → get_or (map f xs) n e ≡ f (get_or xs n d)
@@ -71,6 +73,7 @@ comes config p q sends said event moved k m r e w f s a = record {
   parts = record {
     whole = w;
     keeps = subst (KeepsBounds config) (ap (λ (x : Moved). x.fabric) e ∙ sym f) (each_keeps_bounds config (fabric_as p) event k.keeps m r);
+    logs = subst AreOwnLogs (ap (λ (x : Moved). x.fabric) e ∙ sym f) (each-keeps-logs config (fabric_as p) k.keeps.0 event k.keeps.1 m k.logs);
   };
   fabric = f;
   sent = s;

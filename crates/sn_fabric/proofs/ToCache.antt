@@ -121,7 +121,7 @@ module _ (config : Config) (p : Parts) (a : AreParts config p) (m : Message) (h 
         cache-room = taken-room config p m reply.after.log reply.sends (outs_of out) net h room outs_are et
 
         pub cache-goes : GoTo (outs_of out) net.routes.nodes
-        cache-goes = goes-there config p a m h (outs_of out) reply.sends net (cache-sends-go config s m reply a.keeps undead_done) outs_are et
+        cache-goes = goes-there config p a m h (outs_of out) reply.sends net (cache-sends-go config s m reply (a.keeps.0, a.keeps.1) undead_done) outs_are et
 
         abbrev left : Seat
         left = record x { cache = record x.cache { cache = reply.after.cache }; log = record x.log { entries = reply.after.log } }
@@ -150,7 +150,7 @@ module _ (config : Config) (p : Parts) (a : AreParts config p) (m : Message) (h 
             let e : y ≡ left =
             ey ∙ ap (λ (b : Bool). record x { cache = if b then x.cache else record x.cache { cache = reply.after.cache }; log = if b then x.log else record x.log { entries = reply.after.log } }) within in
             rw (e, ep)
-            (sends-come config p between after m.to m.block now reply.sends Delivered sends (copy_lost m.to reply) (Deliver m.id) (delivered config s m.id) a tt (deliver_is_moved config s m.id)
+            (sends-come config p between after m.to m.block now reply.sends Delivered sends (copy_lost m.to reply) (Deliver m.id) (delivered config s m.id) a tt tt (deliver_is_moved config s m.id)
             (done ∙ ap (λ (z : Fabric). record (sending z m.to m.block reply.sends Delivered) { told = copy_lost m.to reply }) fabric_between)
             whole
             (subst (λ (k : ℕ). m.to < k) (sym (length-set p.seats m.to left)) (inside config p a m h))

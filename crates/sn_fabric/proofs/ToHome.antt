@@ -147,7 +147,7 @@ module _ (config : Config) (p : Parts) (a : AreParts config p) (m : Message) (h 
         ∙ ap (λ (b : Bool). if b then LacksRoom else Does reply) row.room.entries
 
     goes : GoTo reply.sends (length s.nodes)
-    goes = home-sends-go config s m reply a.keeps undead_done
+    goes = home-sends-go config s m reply (a.keeps.0, a.keeps.1) undead_done
 
     module _ (step : HomeStep) (es : Tells step (received home x.log now m).verdict) (net : NetData) (et : net ≡ taken p m.id) where
       outs_are : home_outs step ≡ reply.sends
@@ -196,7 +196,7 @@ module _ (config : Config) (p : Parts) (a : AreParts config p) (m : Message) (h 
           (subst
           (λ (j : ℕ). Comes config p (record p { seats = set p.seats j seat_left; homes = set p.homes j (with_entry (home_at p.homes m.to) m.block reply.after.entry); net = after }) sends Delivered (delivered config s m.id))
           (sym ep)
-          (sends-come config p between after m.to m.block now reply.sends Delivered sends None (Deliver m.id) (delivered config s m.id) a tt (deliver_is_moved config s m.id)
+          (sends-come config p between after m.to m.block now reply.sends Delivered sends None (Deliver m.id) (delivered config s m.id) a tt tt (deliver_is_moved config s m.id)
           (done ∙ ap (λ (z : Fabric). sending z m.to m.block reply.sends Delivered) fabric_between)
           whole
           (subst (λ (k : ℕ). m.to < k) (sym (length-set p.seats m.to seat_left)) (inside config p a m h))

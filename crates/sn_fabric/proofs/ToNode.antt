@@ -50,7 +50,7 @@ module _ (config : Config) (p : Parts) (a : AreParts config p) (m : Message) (h 
     pub report-taken : (net : NetData) (sends : List Sent) → net ≡ taken p m.id → sends ≡ [] → Comes config p (record p { net = net }) sends Delivered (delivered config s m.id)
     report-taken net sends en es =
         rw (en, es)
-        (comes-as config p (record p { net = taken p m.id }) [] Delivered (Some (told.Ready m.from k)) (Deliver m.id) (delivered config s m.id) a tt (deliver_is_moved config s m.id)
+        (comes-as config p (record p { net = taken p m.id }) [] Delivered (Some (told.Ready m.from k)) (Deliver m.id) (delivered config s m.id) a tt tt (deliver_is_moved config s m.id)
         (whole-net config p (taken p m.id) a.whole refl)
         (report_done ∙ ap (λ (n : Net). record (heard s m s (told.Ready m.from k)) { fabric = record s { net = n } }) (sym (taken-as p m.id))))
 
@@ -67,7 +67,7 @@ module _ (config : Config) (p : Parts) (a : AreParts config p) (m : Message) (h 
 
     -- after it the node's known point is at most the recovery point, which its interval has reached
     keeps_after : Keeps (heard s m knowing (told.Advance m.to k)).fabric
-    keeps_after = subst Keeps (ap (λ (y : Moved). y.fabric) (deliver_is_moved config s m.id ∙ advance_done)) (each_keeps config s (Deliver m.id) a.keeps tt)
+    keeps_after = subst Keeps (ap (λ (y : Moved). y.fabric) (deliver_is_moved config s m.id ∙ advance_done)) (each_keeps config s (Deliver m.id) (a.keeps.0, a.keeps.1) tt)
 
     there : m.to < length s.nodes
     there = (in-flight config p a m h).to
@@ -114,7 +114,7 @@ module _ (config : Config) (p : Parts) (a : AreParts config p) (m : Message) (h 
           net ≡ taken p m.id → sends ≡ [] → Comes config p (record p { seats = set p.seats place (record x { clock = clock; log = log }); net = net }) sends Delivered (delivered config s m.id)
       advance-learned clock log net sends ec el en es =
           rw (ec, el, ep, en, es)
-          (comes-as config p after [] Delivered (Some (told.Advance m.to k)) (Deliver m.id) (delivered config s m.id) a tt (deliver_is_moved config s m.id)
+          (comes-as config p after [] Delivered (Some (told.Advance m.to k)) (Deliver m.id) (delivered config s m.id) a tt tt (deliver_is_moved config s m.id)
           (whole-net config (record p { seats = set p.seats m.to left }) (taken p m.id)
           (whole-seat config p m.to left a.whole (inside config p a m h) (record { node = is.node; nodes = is.nodes; sets = is.sets; ways = is.ways; limit = is.limit })) refl)
           (advance_done ∙ ap (λ (z : Fabric). record (heard s m knowing (told.Advance m.to k)) { fabric = z }) fabric_after))

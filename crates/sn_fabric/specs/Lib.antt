@@ -4,4 +4,7 @@ pub mod Parts
 pub mod Start
 pub mod Seats
 pub mod Points
+pub mod Logs
+pub mod Recovery
 pub mod Deliveries
+pub mod Foresight

@@ -10,6 +10,7 @@ use Rattle.sn_model.specs.Homes.{HomeEntry}
 use Rattle.sn_model.specs.Fabric.{Fabric, Node}
 use Rattle.fabric_bounds.specs.Bounds.{KeepsBounds}
 use Rattle.sn_fabric.specs.declared.node.Seat.{Seat}
+use Rattle.sn_fabric.specs.Logs.{AreOwnLogs}
 use Rattle.sn_fabric.specs.Nets.{net_as}
 
 -- a node: its clock's numbers, its cache and its log
@@ -75,7 +76,9 @@ pub record AreWhole (config : Config) (p : Parts) : Type 0 where
   pub seats : (n : ℕ) → n < config.nodes → IsSeat config n (seat_at p.seats n)
   pub homes : (n : ℕ) → n < config.nodes → IsHomeOf config n (home_at p.homes n)
 
--- parts as they may be: all sentences of the coherence theorem hold of the fabric that they stand for, and so do its bounds
+-- parts as they may be: all sentences of the coherence theorem hold of the fabric that they stand for, and so do its bounds;
+-- and no log has an entry of another node's home
 pub record AreParts (config : Config) (p : Parts) : Type 0 where
   pub whole : AreWhole config p
   pub keeps : KeepsBounds config (fabric_as p)
+  pub logs : AreOwnLogs (fabric_as p)

@@ -1,5 +1,5 @@
 -- What a node's calls leave and answer, in its own words.
-use Rattle.std.specs.Prelude.{◌+◌, ◌-◌, Bool, nat_eq, if◌then◌else◌, Option, Some, None}
+use Rattle.std.specs.Prelude.{ℕ, ◌+◌, ◌-◌, Bool, nat_eq, if◌then◌else◌, List, Option, Some, None}
 use Rattle.sn_base.specs.declared.event.Answer.{Answer}
 use Rattle.sn_base.specs.declared.event.Answer.TheVariants.{Edged, CheckpointsFull, Retired, Waits, NeedsEvict, LogFull, NetFull, Missed, PutBegun}
 use Rattle.sn_base.specs.declared.log.Old.{Old}
@@ -41,3 +41,11 @@ owner_by (Some NotOwned) owner = owner
 owner_by (Some (Owned content)) owner = owner
 owner_by (Some (WasHome content)) owner = Home
 owner_by (Some (WasCache node)) owner = Cache node
+
+-- the content that a home noted, where an old content is one
+abbrev pub noted_content : Option Old → Option (List ℕ)
+noted_content None = None
+noted_content (Some NotOwned) = None
+noted_content (Some (Owned content)) = None
+noted_content (Some (WasHome content)) = Some content
+noted_content (Some (WasCache node)) = None

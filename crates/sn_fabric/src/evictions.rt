@@ -22,7 +22,7 @@ fn evict_answer(answer: Answer, is_net_full: bool) -> Answer
 
 impl Fabric {
     /// The answer that `evict` would give now.
-    fn foresee_evict(&self, node: NodeId, block: BlockNo) -> Answer
+    pub(super) fn foresee_evict(&self, node: NodeId, block: BlockNo) -> Answer
         requires { node < length self.now.fabric.nodes }
         ensures { result ≡ (evicted self.now.fabric node block).answer }
     {

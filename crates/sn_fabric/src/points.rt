@@ -63,7 +63,7 @@ impl Fabric {
     }
 
     /// Whether the network has no room for a message to each node.
-    fn lacks_room_for_all(&self) -> bool
+    pub(super) fn lacks_room_for_all(&self) -> bool
         ensures { result ≡ is_full self.now.fabric (length self.now.fabric.nodes) }
     {
         lacks_room(&self.net, usize::from(self.config.nodes))

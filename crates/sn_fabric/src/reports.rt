@@ -59,7 +59,7 @@ impl Fabric {
     }
 
     /// Whether the network holds as many messages as it may.
-    fn is_full(&self) -> bool
+    pub(super) fn is_full(&self) -> bool
         ensures { result ≡ is_full self.now.fabric 1 }
     {
         lacks_room(&self.net, 1)

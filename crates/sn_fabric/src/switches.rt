@@ -8,7 +8,7 @@ use crate::Fabric;
 use sn_base::{Answer, MsgId, SwitchId};
 use switch_net::{HopAnswer, Net};
 
-fn hop_answer(answer: HopAnswer) -> Answer
+pub fn hop_answer(answer: HopAnswer) -> Answer
     ensures { result ≡ hop_as answer }
 {
     match answer {

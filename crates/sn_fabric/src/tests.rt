@@ -1,11 +1,20 @@
 //! The worked rows of the specification as far as the calls that are here go, by hand on a fabric.
 ghost use Rattle.std.specs.Prelude.{◌≡◌, ◌*◌, ◌<◌, ◌≤◌, ◌^◌, ◌+◌, true, length};
 ghost use Rattle.sn_base.specs.Config.{config_fits};
+ghost use Rattle.sn_base.specs.declared.event.Answer.TheVariants.{Retired};
+ghost use Rattle.sn_model.specs.Access.{accessed};
 ghost use Rattle.sn_model.specs.Fabric.{node_at};
+ghost use Rattle.fabric_coherence.specs.Coherent.{IsFinished};
 
-use crate::{Fabric, Need, Owner, Sent};
-use sn_base::{Answer, BlockNo, Config, Image, NodeId, Segment, SwitchId};
-use sn_msg::{Body, Message};
+mod calls;
+mod deliveries;
+mod validations;
+
+use crate::{Fabric, Need, Sent, Told};
+use sn_base::{
+    Answer, BlockNo, Config, Image, Interval, MsgId, NodeId, Segment, SwitchId, Width, Write,
+};
+use sn_msg::Message;
 use std::alloc::{AllocError, Global};
 use std::process::Abort;
 use std::test::Fail;
@@ -91,36 +100,6 @@ fn sends(fabric: &Fabric, message: Message) -> bool {
             }
 }
 
-#[test]
-fn a_write_asks_the_home_for_the_block(rt: HostRuntime) -> Result<(), Fail> {
-    let mut fabric = start(&rt, rt.alloc(), 2)?;
-    let (first, second) = (node(&rt, 0), node(&rt, 1));
-    let block = BlockNo::new(64);
-    assert!(rt; access(&rt, &mut fabric, first, block, Need::Write) == Answer::Missed);
-    let request = Message {
-        id: 1,
-        from: first,
-        to: first,
-        tag: 0,
-        block,
-        body: Body::GetM,
-    };
-    assert!(rt; sends(&fabric, request));
-    assert!(rt; is_here(&fabric, first));
-    assert!(rt; fabric.miss_open(first));
-    assert!(rt; access(&rt, &mut fabric, first, block, Need::Write) == Answer::Waits);
-    assert!(rt; fabric.sent().is_empty());
-    assert!(rt; evict(&rt, &mut fabric, first, block) == Answer::MissOpen);
-    assert!(rt; evict(&rt, &mut fabric, second, block) == Answer::NotCached);
-    assert!(rt; fabric.hop(1) == Answer::Arrived);
-    assert!(rt; access(&rt, &mut fabric, second, block, Need::Read) == Answer::Missed);
-    assert!(rt; fabric.net().count() == 2);
-    assert!(rt; fabric.hop(2) == Answer::Hopped);
-    assert!(rt; fabric.lose(2) == Answer::Lost);
-    assert!(rt; fabric.lose(2) == Answer::NoMessage);
-    Ok(())
-}
-
 fn report(rt: &impl Abort, fabric: &mut Fabric, node: NodeId) -> Answer {
     assert!(rt; is_here(fabric, node));
     assert!(rt; has_numbers(fabric));
@@ -138,52 +117,85 @@ fn is_switch(fabric: &Fabric, switch: SwitchId) -> bool
     usize::from(switch.number()) < 2 * usize::from(fabric.config.nodes)
 }
 
-#[test]
-fn a_dead_switch_loses_what_comes_to_it(rt: HostRuntime) -> Result<(), Fail> {
-    let mut fabric = start(&rt, rt.alloc(), 4)?;
-    let (first, second) = (node(&rt, 0), node(&rt, 1));
-    assert!(rt; report(&rt, &mut fabric, second) == Answer::Reported(0));
-    let told = Message {
-        id: 1,
-        from: second,
-        to: first,
-        tag: 0,
-        block: BlockNo::new(0),
-        body: Body::Ready(0),
+/// Moves a message on to its receiver: a path has at most eight links.
+fn carry(fabric: &mut Fabric, id: MsgId) {
+    for _ in 0..8 {
+        if fabric.hop(id) != Answer::Hopped {
+            return;
+        }
+    }
+}
+
+fn deliver(rt: &impl Abort, fabric: &mut Fabric, id: MsgId) -> (Answer, Option<Told>) {
+    assert!(rt; has_numbers(fabric));
+    let foreseen = fabric.foresee_deliver(id);
+    let (answer, told) = fabric.deliver(id);
+    assert!(rt; answer == foreseen);
+    (answer, told)
+}
+
+/// Carries a message to its receiver, which takes it.
+fn bring(rt: &impl Abort, fabric: &mut Fabric, id: MsgId) -> Option<Told> {
+    carry(fabric, id);
+    let (answer, told) = deliver(rt, fabric, id);
+    assert!(rt; answer == Answer::Delivered);
+    told
+}
+
+/// Whether a line of the node serves an access now.
+fn is_served(fabric: &Fabric, node: NodeId, block: BlockNo, need: Need) -> bool
+    requires { node < length fabric.now.fabric.nodes }
+    ensures { result ≡ true → (accessed fabric.now.config fabric.now.fabric node block need).answer ≡ Retired }
+{
+    fabric.foresee_access(node, block, need) == Answer::Retired
+}
+
+fn load(rt: &impl Abort, fabric: &Fabric, node: NodeId, address: u32) -> u32 {
+    let block = BlockNo::of(address).expect(rt, "an address of memory");
+    let _number = block.number();
+    assert!(rt; is_here(fabric, node));
+    assert!(rt; is_served(fabric, node, block, Need::Read));
+    fabric.load(node, address)
+}
+
+fn store(rt: &impl Abort, fabric: &mut Fabric, node: NodeId, address: u32, value: u32) {
+    let block = BlockNo::of(address).expect(rt, "an address of memory");
+    let _number = block.number();
+    assert!(rt; address % 4 == 0);
+    assert!(rt; is_here(fabric, node));
+    assert!(rt; is_served(fabric, node, block, Need::Write));
+    let write = Write {
+        address,
+        width: Width::Word,
+        value,
     };
-    assert!(rt; sends(&fabric, told));
-    assert!(rt; kill(&rt, &mut fabric, SwitchId::a(first)) == Answer::Killed);
-    assert!(rt; fabric.hop(1) == Answer::LostInDead);
-    assert!(rt; report(&rt, &mut fabric, first) == Answer::Reported(0));
-    let sent = fabric.sent();
-    assert!(rt; sent.len() == 1 && sent[0].lost);
-    assert!(rt; kill(&rt, &mut fabric, SwitchId::a(first)) == Answer::AlreadyDead);
-    Ok(())
+    fabric.store(node, &write);
 }
 
-#[test]
-fn a_report_names_the_interval_of_the_open_miss(rt: HostRuntime) -> Result<(), Fail> {
-    let mut fabric = start(&rt, rt.alloc(), 2)?;
-    let second = node(&rt, 1);
-    let block = BlockNo::new(64);
-    assert!(rt; edge(&rt, &mut fabric, second) == Answer::Edged(1));
-    assert!(rt; access(&rt, &mut fabric, second, block, Need::Read) == Answer::Missed);
-    assert!(rt; edge(&rt, &mut fabric, second) == Answer::Edged(2));
-    assert!(rt; report(&rt, &mut fabric, second) == Answer::Reported(1));
-    assert!(rt; is_here(&fabric, second));
-    assert!(rt; fabric.least_line(second, block).is_none());
-    assert!(rt; fabric.owner_at(block, 0) == Owner::Home);
-    Ok(())
+/// Whether every node is ready for a checkpoint.
+fn is_finished(fabric: &Fabric, k: Interval) -> bool
+    ensures { result ≡ true → IsFinished fabric.now.fabric k }
+{
+    'nodes: for number in 0..fabric.config.nodes {
+        let Some(node) = NodeId::new(number) else {
+            return false;
+        };
+        if fabric.ready(node) < k {
+            return false;
+        }
+    }
+    true
 }
 
-#[test]
-fn four_edges_and_no_fifth(rt: HostRuntime) -> Result<(), Fail> {
-    let mut fabric = start(&rt, rt.alloc(), 1)?;
-    let only = node(&rt, 0);
-    assert!(rt; edge(&rt, &mut fabric, only) == Answer::Edged(1));
-    assert!(rt; edge(&rt, &mut fabric, only) == Answer::Edged(2));
-    assert!(rt; edge(&rt, &mut fabric, only) == Answer::Edged(3));
-    assert!(rt; edge(&rt, &mut fabric, only) == Answer::Edged(4));
-    assert!(rt; edge(&rt, &mut fabric, only) == Answer::CheckpointsFull);
-    Ok(())
+fn is_next(fabric: &Fabric, k: Interval) -> bool
+    ensures { result ≡ true → k ≡ fabric.now.fabric.point + 1 }
+{
+    fabric.point.checked_add(1) == Some(k)
+}
+
+fn advance(rt: &impl Abort, fabric: &mut Fabric, k: Interval) -> Answer {
+    assert!(rt; is_next(fabric, k));
+    assert!(rt; is_finished(fabric, k));
+    assert!(rt; has_numbers(fabric));
+    fabric.advance(k)
 }

@@ -193,6 +193,14 @@ impl Cache {
         self.lines.content(block).load(place, Width::Word)
     }
 
+    /// The content of a block that has a line.
+    pub fn content(&self, block: BlockNo) -> Block
+        requires { is_present (line_of self.now.cache block).state ≡ true }
+        ensures { result ≡ (line_of self.now.cache block).content }
+    {
+        self.lines.content(block)
+    }
+
     /// Writes into a line that may be written: its old content is noted, once per interval, and the line is Modified.
     pub fn store(&mut self, write: &Write, now: Interval, log: &mut LogBuffer)
         requires low { ram_start ≤ write.now.address }

@@ -1,0 +1,98 @@
+-- What the rows note on the home's side: those of a cache nothing, those of a home what is of their own block.
+use Rattle.std.proofs.Common.{◌≡◌, ◌≢◌, ℕ, ◌%◌, ◌<◌, Bool, true, false, List, refl, sym, ap, ◌∙◌, subst, arith}
+use Rattle.std.specs.Prelude.{nat_eq, ◌&&◌, if◌then◌else◌, Option, Some, None}
+use Rattle.std.proofs.lemmas.Bool.Decides.{nat_tests}
+use Rattle.sn_base.specs.declared.log.Old.{Old}
+use Rattle.sn_base.specs.declared.log.Old.TheVariants.{NotOwned, Owned, WasHome, WasCache}
+use Rattle.log_buffer.specs.Log.{LogEntry, is_of_side, noted, entries_from, logged_to}
+use Rattle.log_buffer.proofs.Laws.{logged_to-noted_other, logged_to-from}
+use Rattle.sn_model.specs.declared.home.Kind.{Kind}
+use Rattle.sn_model.specs.declared.home.Kind.TheVariants.{Read, Take, Move, Upgrade, Put}
+use Rattle.sn_model.specs.Caches.{Miss}
+use Rattle.sn_model.specs.CacheRows.{Logged, completed, waiting, settled_by, settled}
+use Rattle.sn_model.specs.Homes.{Holder, Itself, OfCache, Transaction, is_owner}
+use Rattle.sn_model.specs.HomeRows.{Kept, count_others, noted_owner, unblock_of, unblock, grant_exclusive, read_at_home, upgrade, move_ownership, put_begins, put_is_stale, put_data}
+use Rattle.sn_model.specs.NetEvents.{get_shared, get_modified, put_request}
+use Rattle.sn_fabric.specs.Logs.{IsOwnLog}
+
+and_false : (p q : Bool) → q ≡ false → (p && q) ≡ false
+and_false true q e = e
+and_false false q e = refl
+
+module _ (nodes n : ℕ) where
+  -- a note of the cache's side, of nothing and of a content
+  pub nothing-own : (log : List LogEntry) (i b : ℕ) → IsOwnLog nodes n log → IsOwnLog nodes n (noted log i b NotOwned)
+  nothing-own log i b own c other = logged_to-noted_other log i b NotOwned true c refl ∙ own c other
+
+  pub content-own : (log : List LogEntry) (i b : ℕ) (content : List ℕ) → IsOwnLog nodes n log → IsOwnLog nodes n (noted log i b (Owned content))
+  content-own log i b content own c other = logged_to-noted_other log i b (Owned content) true c refl ∙ own c other
+
+  -- a note of a block of the node's home
+  apart : (b c : ℕ) → b % nodes ≡ n → c % nodes ≢ n → nat_eq b c ≡ false
+  apart b c here other = by_test (nat_eq b c) refl
+    where
+      by_test : (t : Bool) → nat_eq b c ≡ t → t ≡ false
+      by_test false e = refl
+      by_test true e = let q : b ≡ c = grind (arith, nat_tests) in absurd (other (ap (λ (k : ℕ). k % nodes) (sym q) ∙ here))
+
+  home-own : (log : List LogEntry) (i b : ℕ) (old : Old) → b % nodes ≡ n → IsOwnLog nodes n log → IsOwnLog nodes n (noted log i b old)
+  home-own log i b old here own c other = logged_to-noted_other log i b old true c (and_false (is_of_side true old) (nat_eq b c) (apart b c here other)) ∙ own c other
+
+  pub from-own : (log : List LogEntry) (k : ℕ) → IsOwnLog nodes n log → IsOwnLog nodes n (entries_from k log)
+  from-own log k own c other = let l = logged_to-from log k true c in let z = own c other in omega arith
+
+  -- the rows of a home
+  module _ (at : Kept) (block : ℕ) (here : block % nodes ≡ n) (own : IsOwnLog nodes n at.log) where
+    pub get-shared-own : (now r : ℕ) (holder : Holder) → IsOwnLog nodes n (get_shared at block now r holder).after.log
+    get-shared-own now r (Itself content) = by_test (nat_eq (count_others at.entry.sharers r) 0)
+      where
+        by_test : (t : Bool) → IsOwnLog nodes n (if t then grant_exclusive at block now r content else read_at_home at now r content).after.log
+        by_test true = home-own at.log now block (WasHome content) here own
+        by_test false = own
+    get-shared-own now r (OfCache owner) = own
+
+    pub get-modified-own : (now r : ℕ) (holder : Holder) → IsOwnLog nodes n (get_modified at block now r holder).after.log
+    get-modified-own now r (Itself content) = home-own at.log now block (WasHome content) here own
+    get-modified-own now r (OfCache owner) = by_test (nat_eq owner r)
+      where
+        by_test : (t : Bool) → IsOwnLog nodes n (if t then upgrade at now r else move_ownership at now r owner).after.log
+        by_test true = own
+        by_test false = own
+
+    pub put-request-own : (now r : ℕ) → IsOwnLog nodes n (put_request at now r).after.log
+    put-request-own now r = by_test (is_owner at.entry.holder r)
+      where
+        by_test : (t : Bool) → IsOwnLog nodes n (if t then put_begins at now r else put_is_stale at r).after.log
+        by_test true = own
+        by_test false = own
+
+    owner-own : (fixed : ℕ) (holder : Holder) → IsOwnLog nodes n (noted_owner at.log fixed block holder)
+    owner-own fixed (Itself content) = own
+    owner-own fixed (OfCache owner) = home-own at.log fixed block (WasCache owner) here own
+
+    kind-own : (fixed r : ℕ) (kind : Kind) → IsOwnLog nodes n (unblock_of at block fixed kind r).log
+    kind-own fixed r Move = owner-own fixed at.entry.holder
+    kind-own fixed r Read = own
+    kind-own fixed r Take = own
+    kind-own fixed r Upgrade = own
+    kind-own fixed r Put = own
+
+    pub unblock-own : (fixed : ℕ) (open_one : Option Transaction) → IsOwnLog nodes n (unblock at block fixed open_one).after.log
+    unblock-own fixed None = own
+    unblock-own fixed (Some transaction) = kind-own fixed transaction.requester transaction.kind
+
+    pub put-data-own : (tag r : ℕ) (content : List ℕ) → IsOwnLog nodes n (put_data at block tag r content).after.log
+    put-data-own tag r content = home-own at.log tag block (WasCache r) here own
+
+-- a miss that completes notes nothing
+settled-by-log : (at : Logged) (home : ℕ) (miss : Miss) (fixed : Option ℕ) → (settled_by at home miss fixed).after.log ≡ at.log
+settled-by-log at home miss None = refl
+settled-by-log at home miss (Some fixed) = by_test (nat_eq miss.acks miss.due)
+  where
+    by_test : (t : Bool) → (if t then completed at home miss fixed else waiting at miss).after.log ≡ at.log
+    by_test true = refl
+    by_test false = refl
+
+pub settled-log : (at : Logged) (home : ℕ) (o : Option Miss) → (settled at home o).after.log ≡ at.log
+settled-log at home None = refl
+settled-log at home (Some miss) = settled-by-log at home miss miss.fixed

@@ -1,0 +1,81 @@
+//! A recovery: the whole fabric goes back to the recovery point.
+ghost use Rattle.std.specs.Prelude.{◌≡◌, ℕ, ◌<◌, ◌≤◌, length, map, None};
+ghost use Rattle.std.specs.List.{sum_by};
+ghost use Rattle.route_plan.specs.Routes.{first_cut_off};
+ghost use Rattle.sn_base.specs.declared.event.Answer.TheVariants.{Recovered};
+ghost use Rattle.sn_model.specs.PointEvents.{living_switches, recovered};
+ghost use Rattle.sn_fabric.specs.Fabric.{IsAfter};
+ghost use Rattle.sn_fabric.specs.Parts.{seat_at, home_at};
+ghost use Rattle.sn_fabric.specs.Recovery.{CanRestore, restored_seat, IsRestoredHome, AreRestoredHomes, undone_of};
+
+use crate::Fabric;
+use crate::node::Seat;
+use home_directory::Home;
+use rollback::unwind;
+use sn_base::{Answer, Interval, Undo};
+
+/// Puts a node and its home back to checkpoint k, which it knows as the recovery point then. The answer is how many
+/// entries of its log are undone.
+fn restore_node(seat: &mut Seat, home: &mut Home, k: Interval) -> u32
+    requires { CanRestore k seat.old home.old }
+    ensures seat { seat.new ≡ restored_seat k seat.old }
+    ensures home { IsRestoredHome seat.old.log.entries k home.old home.new }
+    ensures undone { result ≡ undone_of k seat.old }
+{
+    let _room = seat.log.room();
+    seat.cache.begin_restore();
+    unwind(&seat.log, k, &mut seat.cache);
+    home.begin_restore();
+    let undone = unwind(&seat.log, k, home);
+    seat.log.clear();
+    seat.clock.back_to(k);
+    undone
+}
+
+/// Puts each node and its home back to checkpoint k. The answer is how many log entries are undone.
+fn restore_nodes(seats: &mut [Seat], homes: &mut [Home], k: Interval) -> u32
+    requires count { length homes.old ≡ length seats.old }
+    requires few { length seats.old ≤ 16 }
+    requires can { (n : ℕ) → n < length seats.old → CanRestore k (seat_at seats.old n) (home_at homes.old n) }
+    ensures seats { seats.new ≡ map (restored_seat k) seats.old }
+    ensures homes { AreRestoredHomes seats.old k homes.old homes.new }
+    ensures undone { result ≡ sum_by (undone_of k) seats.old }
+{
+    let mut undone = 0;
+    'nodes: for place in 0..seats.len() {
+        undone += restore_node(&mut seats[place], &mut homes[place], k);
+    }
+    undone
+}
+
+impl Fabric {
+    /// The fabric goes back to the recovery point k: each cache owns what it owned there, each home names whom it named,
+    /// nothing is in flight, and routes are made anew. It is refused where no path of living switches joins two nodes.
+    pub fn recover(&mut self, k: Interval) -> Answer
+        requires { k ≡ self.old.fabric.point }
+        ensures { IsAfter self.old self.new result (recovered self.old.fabric k) }
+    {
+        match self.net.cut_off() {
+            Some((first, second)) => {
+                self.send_nothing();
+                Answer::CutOff(first, second)
+            }
+            None => Answer::Recovered(self.restore(k)),
+        }
+    }
+
+    fn restore(&mut self, k: Interval) -> Undo
+        requires point { k ≡ self.old.fabric.point }
+        requires joined { first_cut_off (living_switches self.old.fabric) ≡ None }
+        ensures { IsAfter self.old self.new (Recovered result) (recovered self.old.fabric k) }
+    {
+        self.sent.clear();
+        let undone = restore_nodes(self.seats.as_mut_slice(), self.homes.as_mut_slice(), k);
+        let dropped = self.net.recover().unwrap();
+        Undo {
+            to: k,
+            undone,
+            dropped,
+        }
+    }
+}
