@@ -1,11 +1,11 @@
 -- A map of two blocks fits a cache of two ways whose recovery has begun.
-use Rattle.std.proofs.Common.{◌≡◌, ℕ, zero, suc, ◌+◌, ◌<◌, ◌≤◌, ◌%◌, Bool, true, false, ◌&&◌, ◌||◌, List, sym, ap, ◌∙◌, subst, arith, ⊎_elim, refl}
+use Rattle.std.proofs.Common.{◌≡◌, ℕ, zero, suc, ◌+◌, ◌<◌, ◌≤◌, ◌%◌, Bool, true, false, ◌&&◌, ◌||◌, sym, ap, ◌∙◌, subst, arith, ⊎_elim}
 use Rattle.std.specs.Prelude.{nat_eq, nat_lt, if◌then◌else◌}
 use Rattle.std.proofs.lemmas.Bool.{cases_eq}
 use Rattle.std.proofs.lemmas.Bool.Decides.{nat_tests}
 use Rattle.sn_base.specs.declared.log.Old.{Old}
 use Rattle.sn_base.specs.declared.log.Old.TheVariants.{NotOwned}
-use Rattle.sn_model.specs.Caches.{Line, Cache, no_line, line_of, is_present, misses_on, takes_frame, block_count, frames_below, frames_taken}
+use Rattle.sn_model.specs.Caches.{Line, Cache, no_line, line_of, is_present, takes_frame, block_count, frames_below, frames_taken}
 use Rattle.sn_model.specs.Cuts.{owned_content}
 use Rattle.mosi_cache.specs.Controller.{CacheData}
 use Rattle.mosi_cache.specs.Restored.{line_holding, cache_holding, HeldFits}
