@@ -27,10 +27,11 @@ mod step;
 mod tests;
 
 use entry::Entry;
+pub use entry::Transaction;
 pub use laws::{outcome_is_the_machines, restore_is_the_machines};
 use log_buffer::LogBuffer;
 use open::Open;
-use sn_base::{Block, BlockNo, Image, Interval, Memory, NodeId};
+use sn_base::{Block, BlockNo, Image, Interval, Memory, NodeId, NodeSet};
 pub use sn_model::{Look, Out, Owner};
 use sn_msg::Message;
 use std::alloc::Global;
@@ -136,6 +137,24 @@ impl Home {
     {
         let place = self.place(block);
         &self.entries[place].memory
+    }
+
+    /// Which nodes share a block of this home.
+    pub fn sharers(&self, block: BlockNo) -> NodeSet
+        requires { block % self.now.nodes ≡ self.now.node }
+        ensures { result ≡ (entry_of self.now block).sharers }
+    {
+        let place = self.place(block);
+        self.entries[place].sharers
+    }
+
+    /// The transaction that is open on a block of this home, if there is one.
+    pub fn transaction(&self, block: BlockNo) -> Option<Transaction>
+        requires { block % self.now.nodes ≡ self.now.node }
+        ensures { result ≡ (entry_of self.now block).transaction }
+    {
+        let place = self.place(block);
+        self.entries[place].transaction
     }
 
     /// The least interval in which one of the open transactions was begun. None where none is open.

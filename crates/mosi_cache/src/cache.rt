@@ -10,6 +10,7 @@ ghost use Rattle.mosi_cache.specs.Controller.{CacheData, logged};
 ghost use Rattle.mosi_cache.specs.Rows.{row_by, row_of, MeetsRow, NotesLast, noted_in, is_over, step_by, look_by, cache_by, log_by, IsDone};
 
 mod access;
+mod looks;
 mod restore;
 mod rows;
 #[cfg(test)]

@@ -14,6 +14,7 @@
 mod cache;
 mod laws;
 mod lines;
+mod looks;
 mod step;
 
 pub use cache::Cache;
@@ -21,5 +22,6 @@ pub use laws::{
     changes_are_the_machines, eviction_is_the_machines, least_open_is_the_machines,
     probe_is_the_machines, restore_is_the_machines, row_is_the_machines,
 };
+pub use looks::{Line, OpenMiss, OpenPut};
 pub use sn_model::{LineState, Look, Need, Out};
 pub use step::{CacheStep, Probe1};

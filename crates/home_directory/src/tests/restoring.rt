@@ -3,9 +3,9 @@ use super::exchanges::{
     AtHome, moves, notes_last, owner_of, plays, reads_at_owner, start, takes, unblocks, word_of,
 };
 use super::node;
-use crate::Owner;
+use crate::{Home, Owner};
 use rollback::unwind;
-use sn_base::{Block, BlockNo, Interval, Old};
+use sn_base::{Block, BlockNo, Interval, NodeId, Old};
 use std::test::Fail;
 
 /// Puts the home back to checkpoint k, and answers how many entries of its log are undone. None where other homes are there,
@@ -37,6 +37,30 @@ fn an_open_transaction_is_undone(rt: HostRuntime) -> Result<(), Fail> {
     assert_eq!(rt; at.home.least_open(), None);
     assert_eq!(rt; owner_of(&at.home, block), Some(Owner::Home));
     assert_eq!(rt; word_of(&at.home, block), Some(0));
+    Ok(())
+}
+
+/// How many nodes share a block, and who asked for what is open on it. None where the block has another home.
+fn shown(home: &Home, block: BlockNo) -> Option<(u8, Option<NodeId>)> {
+    if block.home(home.nodes) != home.node {
+        return None;
+    }
+    let asked = home.transaction(block).map(|open| open.requester);
+    Some((home.sharers(block).count(), asked))
+}
+
+#[test]
+fn a_look_shows_sharers_and_what_is_open(rt: HostRuntime) -> Result<(), Fail> {
+    let (zero, two, block) = (node(&rt, 0), node(&rt, 2), BlockNo::new(64));
+    let mut at = start(&rt, rt.alloc(), 1)?;
+    assert_eq!(rt; shown(&at.home, block), Some((0, None)));
+    let arrivals = [
+        takes(&rt, zero),
+        unblocks(&rt, zero),
+        reads_at_owner(&rt, two, zero),
+    ];
+    plays(&rt, &mut at, &arrivals);
+    assert_eq!(rt; shown(&at.home, block), Some((1, Some(two))));
     Ok(())
 }
 

@@ -54,6 +54,33 @@ fn a_copy_and_its_miss_are_given_up(rt: HostRuntime) -> Result<(), Fail> {
     Ok(())
 }
 
+/// What a look shows after these steps: the state of the block's line, the interval of the open miss on the block, and that of
+/// the open put. None where one of them can't be.
+fn shown(
+    alloc: Global,
+    here: NodeId,
+    steps: &[Step],
+) -> Result<Option<(Option<LineState>, Option<Interval>, Option<Interval>)>, Memory> {
+    let Some(cache) = cache_after(alloc, here, steps)? else {
+        return Ok(None);
+    };
+    let line = cache.line(block()).map(|line| line.state);
+    let miss = cache.miss().map(|miss| miss.issued);
+    let put = cache.put().map(|put| put.issued);
+    Ok(Some((line, miss, put)))
+}
+
+#[test]
+fn a_look_shows_line_miss_and_put(rt: HostRuntime) -> Result<(), Fail> {
+    let here = node(&rt, 1);
+    let [read, data] = shared();
+    let copy = shown(rt.alloc(), here, &[read, data, Step::Miss(Need::Write)])?;
+    assert!(rt; copy == Some((Some(LineState::Shared), Some(2), None)));
+    let empty = shown(rt.alloc(), here, &[])?;
+    assert!(rt; empty == Some((None, None, None)));
+    Ok(())
+}
+
 #[test]
 fn an_owner_may_write(rt: HostRuntime) -> Result<(), Fail> {
     let (here, reader) = (node(&rt, 1), node(&rt, 0));
