@@ -11,7 +11,7 @@ ghost use Rattle.sn_fabric.specs.Deliveries.{receiver_of, HasCome, fault_as, loo
 
 use crate::node::Seat;
 use crate::receiver::{Receiver, receiver_of};
-use crate::replies::{lost_by, out_of, post_one, post_step};
+use crate::replies::{lost_by, out_of, post_one, post_step, take_out};
 use crate::{Fabric, Told};
 use mosi_cache::CacheStep;
 use sn_base::{Answer, Interval, MsgId};
@@ -175,8 +175,7 @@ impl Fabric {
         ensures after { IsAfter self.old self.new Delivered (delivered self.old.config self.old.fabric message.now.id) }
         ensures told { result ≡ (delivered self.old.config self.old.fabric message.now.id).told }
     {
-        self.sent.clear();
-        self.net.lose(message.id);
+        take_out(&mut self.net, &mut self.sent, message);
         let (to, block) = (message.to, message.block);
         let seat = &mut self.seats[usize::from(to.number())];
         let now = seat.clock.now();
@@ -195,8 +194,7 @@ impl Fabric {
         ensures after { IsAfter self.old self.new Delivered (delivered self.old.config self.old.fabric message.now.id) }
         ensures told { (delivered self.old.config self.old.fabric message.now.id).told ≡ None }
     {
-        self.sent.clear();
-        self.net.lose(message.id);
+        take_out(&mut self.net, &mut self.sent, message);
         let (to, block) = (message.to, message.block);
         let place = usize::from(to.number());
         let seat = &mut self.seats[place];
@@ -214,8 +212,7 @@ impl Fabric {
         ensures after { IsAfter self.old self.new Delivered (delivered self.old.config self.old.fabric message.now.id) }
         ensures told { Some result ≡ (delivered self.old.config self.old.fabric message.now.id).told }
     {
-        self.sent.clear();
-        self.net.lose(message.id);
+        take_out(&mut self.net, &mut self.sent, message);
         Told::Ready(message.from, k)
     }
 
@@ -227,8 +224,7 @@ impl Fabric {
         ensures after { IsAfter self.old self.new Delivered (delivered self.old.config self.old.fabric message.now.id) }
         ensures told { Some result ≡ (delivered self.old.config self.old.fabric message.now.id).told }
     {
-        self.sent.clear();
-        self.net.lose(message.id);
+        take_out(&mut self.net, &mut self.sent, message);
         let to = message.to;
         let seat = &mut self.seats[usize::from(to.number())];
         seat.clock.learn(k);
