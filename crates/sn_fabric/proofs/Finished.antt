@@ -3,9 +3,9 @@ use Rattle.std.proofs.Common.{◌≡◌, ◌≢◌, ℕ, zero, suc, ◌+◌, ◌
 use Rattle.std.specs.Prelude.{if◌then◌else◌, slice_index_or}
 use Rattle.std.proofs.Math.Nat.{mod-lt}
 use Rattle.std.proofs.lemmas.Bool.Decides.{nat_tests}
-use Rattle.sn_model.specs.Caches.{Miss, Put, block_count}
+use Rattle.sn_model.specs.Caches.{Miss, Put}
 use Rattle.sn_model.specs.Homes.{HomeEntry, Transaction}
-use Rattle.sn_model.specs.Fabric.{Fabric, node_at, home_of, no_entry}
+use Rattle.sn_model.specs.Fabric.{Fabric, node_at, no_entry}
 use Rattle.sn_model.specs.NodeEvents.{ready_of, least_begun, begun_by, issued_by, put_issued_by}
 use Rattle.sn_coherence.specs.Block as block
 use Rattle.fabric_coherence.specs.Coherent.{Keeps, IsFinished}
