@@ -1,18 +1,23 @@
 -- What a block has at a cut: the content of its one holder.
-use Rattle.std.proofs.Common.{◌≡◌, ℕ, ◌%◌, ◌<◌, ◌≤◌, true, false, List, length, get_or, refl, sym, ap, ◌∙◌, subst, Option, Some, None}
+use Rattle.std.proofs.Common.{◌≡◌, ℕ, ◌%◌, ◌<◌, ◌≤◌, true, false, List, length, get_or, refl, sym, ap, ◌∙◌, subst, arith, Option, Some, None}
+use Rattle.std.proofs.lemmas.Bool.Decides.{nat_tests}
 use Rattle.std.specs.Prelude.{is_some}
 use Rattle.sn_base.specs.declared.config.Config.{Config}
 use Rattle.sn_base.specs.declared.log.Old.{Old}
 use Rattle.sn_base.specs.declared.log.Old.TheVariants.{NotOwned, Owned, WasHome, WasCache}
 use Rattle.log_buffer.specs.Log.{old_at}
 use Rattle.home_directory.specs.Home.{HomeData, entry_of, owner_of}
+use Rattle.sn_model.specs.declared.home.Kind.{Kind}
+use Rattle.sn_model.specs.declared.home.Kind.TheVariants as kind
 use Rattle.sn_model.specs.declared.home.Owner.TheVariants.{Home, Cache}
 use Rattle.sn_model.specs.Caches.{block_count}
 use Rattle.sn_model.specs.Cuts.{named_by, names_at, holds_at, transaction_before}
 use Rattle.sn_model.specs.Fabric.{Fabric, home_of}
-use Rattle.sn_model.specs.Homes.{Holder, Itself, OfCache}
+use Rattle.sn_model.specs.Homes.{Holder, Itself, OfCache, Transaction}
 use Rattle.sn_model.specs.RecoveryPoint.{IsHeld}
+use Rattle.sn_coherence.specs.Block as block
 use Rattle.fabric_coherence.specs.Holders.{HasHolder}
+use Rattle.fabric_coherence.specs.View.{kind_seen, kind_open, begun_of}
 use Rattle.fabric_coherence.proofs.Holders.{coherent}
 use Rattle.sn_fabric.specs.declared.node.Seat.{Seat}
 use Rattle.sn_fabric.specs.Parts.{Parts, fabric_as, AreParts}
@@ -39,6 +44,22 @@ kept-name config p a place block home e eh x old cut low ex eo none names =
 
 pub holder-at : (config : Config) (p : Parts) (k b : ℕ) → AreParts config p → b < block_count → (fabric_as p).point ≤ k → transaction_before (home_of (fabric_as p) b).transaction k ≡ false → HasHolder (fabric_as p) b k
 holder-at config p k b a low from settled = (coherent (fabric_as p) a.keeps.0 a.keeps.1 b low).holder k from settled
+
+-- at the recovery point nothing is open that was begun before it
+
+not_idle : (k : Kind) → kind_seen k ≡ block.Idle → ⊥
+not_idle kind.Read e = absurd (cc)
+not_idle kind.Take e = absurd (cc)
+not_idle kind.Move e = absurd (cc)
+not_idle kind.Upgrade e = absurd (cc)
+not_idle kind.Put e = absurd (cc)
+
+nothing_before : (t : Option Transaction) (point : ℕ) → ((kind_open t ≡ block.Idle → ⊥) → point ≤ begun_of t) → transaction_before t point ≡ false
+nothing_before None point h = refl
+nothing_before (Some t) point h = let l : point ≤ t.begun = h (not_idle t.kind) in grind (arith, nat_tests)
+
+pub settled-at-point : (config : Config) (p : Parts) (b : ℕ) → AreParts config p → b < block_count → transaction_before (home_of (fabric_as p) b).transaction (fabric_as p).point ≡ false
+settled-at-point config p b a low = nothing_before (home_of (fabric_as p) b).transaction p.point (a.keeps.1.blocks b low).clocks.begun_point
 
 of_cache : (holder : Holder) (n : ℕ) → owner_of holder ≡ Cache n → holder ≡ OfCache n
 of_cache (Itself content) n e = cc

@@ -1,14 +1,13 @@
 -- No event brings an entry of another home into a node's log.
-use Rattle.std.proofs.Common.{◌≡◌, ◌≢◌, ℕ, ◌+◌, ◌-◌, ◌%◌, ◌<◌, ◌≤◌, Bool, true, false, not, List, [], ◌∷◌, length, get_or, set, map, refl, sym, ap, ◌∙◌, subst, arith, ⊎_elim, get_or-set_same, get_or-set_other}
+use Rattle.std.proofs.Common.{◌≡◌, ℕ, ◌+◌, ◌-◌, ◌%◌, ◌<◌, Bool, true, false, not, List, length, get_or, set, refl, sym, subst, arith, ⊎_elim, get_or-set_same, get_or-set_other}
 use Rattle.std.specs.Prelude.{nat_eq, nat_lt, nat_le, ◌&&◌, if◌then◌else◌, Option, Some, None}
 use Rattle.std.proofs.lemmas.Bool.{cases_eq}
 use Rattle.sn_base.specs.declared.block.Write.{Write as Written}
 use Rattle.sn_base.specs.declared.config.Config.{Config}
-use Rattle.sn_base.specs.declared.event.Answer.TheVariants.{Missed, Waits, NeedsEvict, LogFull, NetFull, PutOpen, PutBegun, NotCached, MissOpen, Edged, CheckpointsFull, Arrived, NotArrived, Held, HomeBusy, Delivered, AlreadyDead, Retired, CutOff}
-use Rattle.sn_msg.specs.declared.Message.{Message}
+use Rattle.sn_base.specs.declared.event.Answer.TheVariants.{Waits, NeedsEvict, LogFull, NetFull, PutOpen, MissOpen, CheckpointsFull, Arrived, NotArrived, Held, AlreadyDead, Retired}
 use Rattle.sn_msg.specs.declared.Body.{Body}
 use Rattle.sn_msg.specs.declared.Body.TheVariants.{GetS, GetM, FwdGetS, FwdGetM, Inv, DataS, DataM, DataE, UpgOk, InvAck, Unblock, PutReq, PutGo, PutData, PutDone, Ready, Advance}
-use Rattle.log_buffer.specs.Log.{LogEntry, logged_to}
+use Rattle.log_buffer.specs.Log.{LogEntry}
 use Rattle.rv_core.specs.Core.{block_of}
 use Rattle.route_plan.specs.Distances.{is_dead}
 use Rattle.route_plan.specs.Routes.{first_cut_off}
@@ -17,16 +16,16 @@ use Rattle.sn_model.specs.declared.cache.LineState.TheVariants as state
 use Rattle.sn_model.specs.declared.cache.Need.{Need}
 use Rattle.sn_model.specs.Access.{missing, missed, misses, has_miss, serves, lacks_room, with_write, stored, accesses, accessed}
 use Rattle.sn_model.specs.Caches.{line_of, is_present, misses_on, puts_on, frames_taken, with_line}
-use Rattle.sn_model.specs.CacheRows.{Logged, CacheReply, content_of, taken_over, forward_read, forward_write, invalidate, put_go, put_done, data_shared, data_modified, data_exclusive, upgrade_granted, acknowledge, fixed_at, acknowledged, settled}
+use Rattle.sn_model.specs.CacheRows.{Logged, CacheReply, content_of, taken_over, forward_read, forward_write, invalidate, put_go, put_done, data_shared, data_modified, data_exclusive, upgrade_granted, acknowledge, fixed_at, acknowledged}
 use Rattle.sn_model.specs.Homes.{Transaction}
 use Rattle.sn_model.specs.HomeRows.{HomeReply, put_data, unblock}
 use Rattle.sn_model.specs.Fabric.{Fabric, Flight, Node, Moved, first_node, node_at, home_of, home_node, refused, answered}
 use Rattle.sn_model.specs.FabricEvents.{FabricEvent, Access, Write, Evict, Edge, Hop, Deliver, Lose, Kill, Report, Advance as Advances, Recover, moved_by}
 use Rattle.sn_model.specs.Net.{net_limit, routes_of, flight_of, is_there, is_full, next_switch}
-use Rattle.sn_model.specs.NodeEvents.{without_copy, drops_copy, has_put, with_put, begins_put, evicts, evicted, after_edge, checkpoint_limit, edged, reported}
-use Rattle.sn_model.specs.NetEvents.{AtCache, AtHome, logged_at, kept_at, unless_busy, outcome_of, node_after, learned, delivers, delivers_flight, hops, hops_to, loses, killed, get_shared, get_modified, put_request}
-use Rattle.sn_model.specs.PointEvents.{advanced, restored, restored_node, recovers, living_switches}
-use Rattle.fabric_coherence.specs.Coherent.{IsKept, Keeps}
+use Rattle.sn_model.specs.NodeEvents.{without_copy, has_put, with_put, begins_put, evicts, evicted, after_edge, checkpoint_limit, edged, reported}
+use Rattle.sn_model.specs.NetEvents.{AtCache, AtHome, logged_at, kept_at, unless_busy, outcome_of, node_after, learned, delivers, delivers_flight, hops, hops_to, loses, killed}
+use Rattle.sn_model.specs.PointEvents.{advanced, restored, recovers, living_switches}
+use Rattle.fabric_coherence.specs.Coherent.{IsKept}
 use Rattle.fabric_coherence.specs.Events.{MayBe}
 use Rattle.fabric_coherence.specs.Met.{comes_to_home}
 use Rattle.fabric_coherence.specs.Steps.{IsInFlight}

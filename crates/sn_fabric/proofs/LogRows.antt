@@ -1,10 +1,10 @@
 -- What the rows note on the home's side: those of a cache nothing, those of a home what is of their own block.
-use Rattle.std.proofs.Common.{◌≡◌, ◌≢◌, ℕ, ◌%◌, ◌<◌, Bool, true, false, List, refl, sym, ap, ◌∙◌, subst, arith}
+use Rattle.std.proofs.Common.{◌≡◌, ◌≢◌, ℕ, ◌%◌, Bool, true, false, List, refl, sym, ap, ◌∙◌, arith}
 use Rattle.std.specs.Prelude.{nat_eq, ◌&&◌, if◌then◌else◌, Option, Some, None}
 use Rattle.std.proofs.lemmas.Bool.Decides.{nat_tests}
 use Rattle.sn_base.specs.declared.log.Old.{Old}
 use Rattle.sn_base.specs.declared.log.Old.TheVariants.{NotOwned, Owned, WasHome, WasCache}
-use Rattle.log_buffer.specs.Log.{LogEntry, is_of_side, noted, entries_from, logged_to}
+use Rattle.log_buffer.specs.Log.{LogEntry, is_of_side, noted, entries_from}
 use Rattle.log_buffer.proofs.Laws.{logged_to-noted_other, logged_to-from}
 use Rattle.sn_model.specs.declared.home.Kind.{Kind}
 use Rattle.sn_model.specs.declared.home.Kind.TheVariants.{Read, Take, Move, Upgrade, Put}

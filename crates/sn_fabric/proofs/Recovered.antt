@@ -1,6 +1,6 @@
 -- What a recovery comes to, by what the parts say.
-use Rattle.std.proofs.Common.{◌≡◌, ◌≢◌, ℕ, zero, suc, ◌+◌, ◌%◌, ◌<◌, ◌≤◌, ◌^◌, Bool, true, false, List, [], ◌∷◌, length, get_or, map, refl, sym, ap, ◌∙◌, subst, arith}
-use Rattle.std.specs.Prelude.{nat_eq, Option, Some, None}
+use Rattle.std.proofs.Common.{◌≡◌, ◌≢◌, ℕ, suc, ◌+◌, ◌%◌, ◌<◌, ◌≤◌, ◌^◌, true, false, List, [], ◌∷◌, length, get_or, map, refl, sym, ap, ◌∙◌, subst, arith}
+use Rattle.std.specs.Prelude.{None}
 use Rattle.std.specs.List.{sum_by}
 use Rattle.std.proofs.Math.Nat.{mod-lt}
 use Rattle.std.proofs.lemmas.Bool.Decides.{nat_tests}
@@ -14,18 +14,17 @@ use Rattle.sn_base.specs.declared.event.Answer.TheVariants.{Recovered}
 use Rattle.log_buffer.specs.Log.{LogEntry, entries_from, old_at}
 use Rattle.log_buffer.proofs.Laws.{old_at-above}
 use Rattle.rollback.specs.Unwound.{unwound}
-use Rattle.route_plan.specs.Distances.{Switches}
 use Rattle.route_plan.specs.Routes.{first_cut_off}
 use Rattle.switch_net.specs.Net.{NetData, living_now}
 use Rattle.sn_model.specs.declared.net.Sent.{Sent}
-use Rattle.sn_model.specs.Caches.{Cache, block_count}
+use Rattle.sn_model.specs.Caches.{block_count}
 use Rattle.sn_model.specs.Homes.{HomeEntry}
 use Rattle.sn_model.specs.Fabric as model
 use Rattle.sn_model.specs.Fabric.{Fabric, Node, Moved, node_at, home_of, no_entry, answered}
 use Rattle.sn_model.specs.FabricEvents.{moved_by, Recover}
-use Rattle.sn_model.specs.PointEvents.{restored_cache, restored_node, log_of_home, restored_homes, restored, undone, living_switches, recovers, recovered}
+use Rattle.sn_model.specs.PointEvents.{restored_node, log_of_home, restored_homes, restored, undone, living_switches, recovers, recovered}
 use Rattle.mosi_cache.specs.Controller.{FitsSets}
-use Rattle.home_directory.specs.Home.{HomeData, IsHome, entry_of, places_of}
+use Rattle.home_directory.specs.Home.{HomeData, entry_of, places_of}
 use Rattle.home_directory.specs.Restored.{begun_restore, had, is_here, Stays}
 use Rattle.home_directory.proofs.Restored.{length-settled, restored-is}
 use Rattle.fabric_bounds.specs.Bounds.{Fits, cache_at}

@@ -3,7 +3,6 @@ use Rattle.std.proofs.Common.{◌≡◌, ◌≢◌, ℕ, ◌+◌, ◌-◌, ◌<�
 use Rattle.std.proofs.lemmas.Bool.{cases_eq}
 use Rattle.std.proofs.lemmas.List.{length-map, length-take-le, get_or-append_right, get_or-drop, get_or_default, get_or_read}
 use Rattle.std.proofs.lemmas.List.Edits.{map_over_more}
-use Rattle.log_buffer.specs.Log.{LogEntry}
 use Rattle.home_directory.specs.Home.{HomeData}
 use Rattle.sn_fabric.specs.declared.node.Seat.{Seat}
 use Rattle.sn_fabric.specs.Parts.{no_seat, seat_at, no_home, home_at}

@@ -1,5 +1,5 @@
 -- What a recovery asks of a node with its home, and what it leaves of them.
-use Rattle.std.specs.Prelude.{◌≡◌, ℕ, ◌≤◌, ◌<◌, ◌^◌, true, false, List, [], length, None}
+use Rattle.std.specs.Prelude.{◌≡◌, ℕ, ◌<◌, ◌^◌, true, false, List, [], length, None}
 use Rattle.log_buffer.specs.Log.{LogEntry, old_at, entries_from}
 use Rattle.rollback.specs.Unwound.{unwound}
 use Rattle.sn_model.specs.Caches.{block_count}

@@ -8,6 +8,7 @@ ghost use Rattle.fabric_coherence.specs.Coherent.{IsFinished};
 
 mod calls;
 mod deliveries;
+mod recoveries;
 mod validations;
 
 use crate::{Fabric, Need, Sent, Told};

@@ -1,4 +1,4 @@
-use Rattle.std.proofs.Common.{◌≡◌, ℕ, ◌*◌, ◌^◌, ◌<◌, ◌≤◌, ◌++◌, length, map, take, drop}
+use Rattle.std.proofs.Common.{◌≡◌, ℕ, ◌*◌, ◌^◌, ◌<◌, ◌≤◌, ◌++◌, map, take, drop}
 use Rattle.std.specs.List.{sum_by}
 use Rattle.sn_fabric.specs.Parts.{seat_at, home_at}
 use Rattle.sn_fabric.specs.Recovery.{restored_seat, IsRestoredHome, undone_of}
