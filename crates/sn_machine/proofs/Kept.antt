@@ -1,242 +1,199 @@
--- Each event keeps what the type of a machine keeps.
-use Rattle.std.proofs.Common.{◌≡◌, ℕ, ◌+◌, ◌-◌, ◌<◌, ◌≤◌, Bool, true, false, nat_eq, nat_lt, nat_le, cond, max, [], ◌∷◌, length, slice_index, slice_set, Option, Some, None, IfSome, arith, refl, sym, ap, ◌∙◌, subst}
+-- What holds of a machine's parts is enough for each event, and each event keeps it.
+use Rattle.std.proofs.Common.{◌≡◌, ℕ, suc, ◌+◌, ◌-◌, ◌<◌, ◌≤◌, ◌^◌, Bool, true, false, cond, List, [], ◌∷◌, ◌++◌, length, Option, Some, None, refl, sym, ap, ◌∙◌, subst, arith}
+use Rattle.std.specs.Prelude.{nat_le, flat_map, max}
+use Rattle.std.specs.List.{All}
 use Rattle.std.proofs.lemmas.Bool.Decides.{nat_tests}
-use Rattle.std.proofs.lemmas.List.Elements.{All-push, All-drop, All-nil}
+use Rattle.std.proofs.lemmas.List.Elements.{All-nil, All-cons, All-map}
+use Rattle.sn_base.specs.Config.{config_fits}
 use Rattle.sn_base.specs.Image.{ImageData}
-use Rattle.sn_base.specs.Events.{event_fits}
-use Rattle.sn_base.specs.declared.event.Event.{Event}
-use Rattle.sn_base.specs.declared.event.Event.TheVariants.{Step, Evict, Edge, Hop, Deliver, Lose, Kill, Report, Validate, Recover, Input}
-use Rattle.rv_core.specs.declared.state.CoreState.{CoreState}
-use Rattle.rv_core.specs.Core.{bare, is_running, is_access, is_input}
-use Rattle.rv_core.specs.Step.{want_of, next_of}
-use Rattle.rv_core.specs.Plain.{IsPlain}
-use Rattle.rv_core.proofs.Plain.{plain-wants, aligned-next}
-use Rattle.sn_msg.specs.declared.Message.{Message}
-use Rattle.sn_msg.specs.declared.Body.{Body}
-use Rattle.sn_msg.specs.declared.Body.TheVariants.{Ready, Advance}
-use Rattle.sn_machine.specs.State.{State, node_at, checkpoint_of}
-use Rattle.sn_machine.specs.Step.{Stepped, step_of, is_scripted, stepped, step_reading, next_byte, edged, delivered, delivered_to, message_in, without, told, learned, reported_by, unready_node, validated, validated_unless, recovered}
 use Rattle.sn_base.specs.declared.config.Config.{Config}
 use Rattle.sn_base.specs.declared.event.Answer.{Answer}
-use Rattle.sn_machine.specs.Parts.{Parts, HardwareData, Does, state_of, parts_of}
-use Rattle.sn_machine.specs.Kept.{IsOrdered, IsPlainNode, IsPlainCore, IsKept, IsYoung, IsMachine, IsLocal, SaysKnown}
-use Rattle.sn_machine.proofs.Lists.{All-find}
-use Rattle.sn_machine.proofs.Cases.{next_byte-none, by_test}
-use Rattle.sn_machine.proofs.OneCore.{did, next_keeps_reservation}
-use Rattle.sn_machine.proofs.Ordered.{retire, ordered-retire, with_edge, ordered-edge, with_net, ordered-take, ordered-ready, ordered-advance, with_sent, ordered-send, with_point, ordered-point, ordered-recovery}
-use Rattle.sn_machine.proofs.Traced.{traced-retire, traced-edge, traced-advance, traced-point, traced-recovery}
+use Rattle.sn_base.specs.declared.event.Event.{Event}
+use Rattle.sn_model.specs.Fabric.{Fabric, first_fabric}
+use Rattle.sn_model.specs.Machine.{State, Retirement, HeldByte}
+use Rattle.sn_model.specs.Instructions.{held_in}
+use Rattle.sn_model.specs.Refusals.{is_refusal}
+use Rattle.sn_model.specs.Step.{step_of}
+use Rattle.sn_model.specs.Trace.{Entry as Retired, traced}
+use Rattle.sn_model.proofs.Refusals.{refusal-changes_nothing}
+use Rattle.sn_coherence.specs.Kept.{Clocks}
+use Rattle.sn_coherence.specs.Records.{Records}
+use Rattle.sn_consistency.specs.Entries.{Entry}
+use Rattle.fabric_coherence.specs.Coherent.{IsKept, IsInTime}
+use Rattle.fabric_coherence.specs.Start.{first_beside}
+use Rattle.fabric_coherence.specs.View.{Beside, block_of}
+use Rattle.fabric_coherence.proofs.KeptStart.{start-kept}
+use Rattle.fabric_bounds.specs.Counts.{CountsTo}
+use Rattle.fabric_bounds.proofs.Numbers.{start_counts, counts_from_the_start, far_from_the_end}
+use Rattle.consistent_cuts.specs.Headline.{IsStepOfRun}
+use Rattle.consistent_cuts.specs.Joined.{IsJoined, Holds}
+use Rattle.consistent_cuts.specs.Lists.{retirement_of, held_of, not_validated}
+use Rattle.consistent_cuts.specs.OfFabric.{GoesBy}
+use Rattle.consistent_cuts.specs.Runs.{Fits}
+use Rattle.consistent_cuts.proofs.FabricRuns.{event_goes, goes_then, served_run}
+use Rattle.consistent_cuts.proofs.Run.{step_holds, start_holds, holds_consistent, holds_next}
+use Rattle.sn_machine.specs.declared.hardware.Hardware.{Hardware}
+use Rattle.sn_machine.specs.Kept.{IsMachine}
+use Rattle.sn_machine.specs.Machine.{MachineData, IsApplied, IsConsistentNow}
+use Rattle.sn_machine.specs.Parts.{state_of, sent_of, HasRoom, Does}
+use Rattle.sn_machine.specs.Sound.{IsSound}
+use Rattle.sn_machine.specs.Start.{IsFirst, IsRoomier}
+use Rattle.sn_machine.proofs.Sends.{ready_advances, event_few}
 
--- what an event makes of a machine of one node
-pub record Goes (image : ImageData) (p : Parts) (s : State) : Type 0 where
-  pub kept : IsKept image (parts_of s)
-  pub interval : (node_at s 0).interval ≤ p.node.interval + 1
-  pub next_id : s.next_id ≤ p.net.next_id + 1
-  pub one : state_of (parts_of s) ≡ s
+-- what waits is of no interval below the point
 
-pub goes-nowhere : (image : ImageData) (p : Parts) → IsKept image p → Goes image p (state_of p)
-goes-nowhere image p k = record { kept = k; interval = omega arith; next_id = omega arith; one = refl }
+late_cons : (point : ℕ) (e : Retired) (es : List Retired) → All (λ (x : Retired). point ≤ x.interval) es → (b : Bool) → nat_le point e.interval ≡ b → All (λ (x : Retired). point ≤ x.interval) (cond b (e ∷ es) es)
+late_cons point e es h true is = let l : point ≤ e.interval = grind (arith, nat_tests, is) in All-cons (λ (x : Retired). point ≤ x.interval) e es l h
+late_cons point e es h false is = h
 
--- step
+late : (point : ℕ) (trace : List Retired) → All (λ (x : Retired). point ≤ x.interval) (not_validated point trace)
+late point [] = All-nil (λ (x : Retired). point ≤ x.interval)
+late point (e ∷ trace) = late_cons point e (not_validated point trace) (late point trace) (nat_le point e.interval) refl
 
-plain-retire : (image : ImageData) (p : Parts) → is_access (want_of image p.node.core) ≡ false → IsPlainNode p → IsPlainNode (retire p (next_of image p.node.core 0 false None).core did (next_of image p.node.core 0 false None).effect.out)
-plain-retire image p plain h = record {
-  core = record {
-    aligned = aligned-next image p.node.core 0 false None h.core.aligned;
-    free = next_keeps_reservation image p.node.core 0 false None plain ∙ h.core.free;
-  };
-  checkpoints = h.checkpoints;
-  given = h.given;
+held_one : (point interval : ℕ) (out : Option ℕ) (rest : List HeldByte) → point ≤ interval → All (λ (b : HeldByte). point ≤ b.interval) rest → All (λ (b : HeldByte). point ≤ b.interval) (held_in interval out ++ rest)
+held_one point interval None rest l h = h
+held_one point interval (Some byte) rest l h = All-cons (λ (b : HeldByte). point ≤ b.interval) (record { interval = interval; byte = byte }) rest l h
+
+held_late : (point : ℕ) (es : List Retired) → All (λ (x : Retired). point ≤ x.interval) es → All (λ (b : HeldByte). point ≤ b.interval) (flat_map held_of es)
+held_late point [] h = All-nil (λ (b : HeldByte). point ≤ b.interval)
+held_late point (e ∷ es) h = held_one point e.interval e.out (flat_map held_of es) (h 0 e (omega arith)) (held_late point es (λ k d l. h (suc k) d (omega arith)))
+
+-- the numbers
+
+some_nodes : (config : Config) → config_fits config ≡ true → 1 ≤ config.nodes
+some_nodes config fits = grind (arith, nat_tests)
+
+few_nodes : (config : Config) → config_fits config ≡ true → config.nodes ≤ 16
+few_nodes config fits = grind (arith, nat_tests)
+
+more : (s : Fabric) (m n : ℕ) → m ≤ n → CountsTo m s → CountsTo n s
+more s m n l c = record {
+  numbers = let a = c.numbers in omega (arith, a, l);
+  nows = λ k h. let a = c.nows k h in omega (arith, a, l);
+  point = let a = c.point in omega (arith, a, l);
 }
 
-abbrev after_retire : ImageData → Parts → Parts
-after_retire image p = retire p (next_of image p.node.core 0 false None).core did (next_of image p.node.core 0 false None).effect.out
+counts : (image : ImageData) (config : Config) (s : Fabric) (applied : ℕ) → config_fits config ≡ true → GoesBy config (first_fabric image config.nodes) s applied → CountsTo applied s
+counts image config s applied fits goes = more s (length goes.events) applied goes.few
+    (subst (CountsTo (length goes.events)) goes.after
+    (counts_from_the_start config (first_fabric image config.nodes) goes.events (first_beside, start-kept image config.nodes (some_nodes config fits) (few_nodes config fits)) (start_counts image config.nodes)
+    (served_run config (first_fabric image config.nodes) goes.events goes.served)))
 
-goes-retire : (image : ImageData) (p : Parts) → IsKept image p → is_running p.node.core.end ≡ true → is_access (want_of image p.node.core) ≡ false → is_input (want_of image p.node.core) ≡ false → Goes image p (state_of (after_retire image p))
-goes-retire image p k runs plain quiet = record {
-  kept = record {
-    ordered = ordered-retire p _ did _ k.ordered;
-    plain = plain-retire image p plain k.plain;
-    traced = traced-retire image p k.ordered k.traced runs plain quiet;
-  };
-  interval = omega arith;
-  next_id = omega arith;
-  one = refl;
+far : (next : ℕ) → next < 9223372036854775808 → next ≤ 2 ^ 63
+far next h = omega (arith, h)
+
+in_time : (s : Fabric) (t : Beside) → IsKept s t → (n : ℕ) → n < length s.nodes → IsInTime s n
+in_time s t k n l =
+    let clocks : Clocks (length s.nodes) (block_of s t 0) = (k.blocks 0 (omega arith)).clocks in
+    record { known = clocks.known_point n l; reached = clocks.point_now n l; few = clocks.now_known n l }
+
+joined_sound : (image : ImageData) (config : Config) (s : State) (r : ℕ → Records) (list : ℕ → List Entry) (trace : List Retired) (j : IsJoined image s r list trace) (applied : ℕ) → CountsTo applied s.fabric → applied ≤ 4000000000 → IsSound s
+joined_sound image config s r list trace j applied c few = record {
+  numbers = far s.fabric.net.next_id (far_from_the_end s.fabric applied c few);
+  nows = λ n l. let a = c.nows n l in omega (arith, a, few);
+  keeps = (j.fabric.0, j.fabric.1);
+  shape = j.shape;
+  times = in_time s.fabric j.fabric.0 j.fabric.1;
+  pending = rw j.traced.pending (All-map (λ (x : Retirement). s.fabric.point ≤ x.interval) retirement_of (not_validated s.fabric.point trace) (late s.fabric.point trace));
+  held = rw j.traced.held (held_late s.fabric.point (not_validated s.fabric.point trace) (late s.fabric.point trace));
+  finished = λ e. (ready_advances image config s r list trace j e).1;
 }
 
-goes-input : (image : ImageData) (p : Parts) → IsKept image p → Goes image p (step_reading image (state_of p) 0 (next_byte (state_of p) 0)).state
-goes-input image p k = rw (next_byte-none p k.plain.given) (goes-nowhere image p k)
-
-goes-stepped : (image : ImageData) (p : Parts) → IsPlain image → IsKept image p → Goes image p (stepped image (state_of p) 0).state
-goes-stepped image p program k =
-    let plain = plain-wants image p.node.core program k.plain.core.aligned in
-    by_test (λ (t : Stepped). Goes image p t.state) (is_running p.node.core.end) _ _
-    (λ runs. by_test (λ (t : Stepped). Goes image p t.state) (is_input (want_of image p.node.core)) _ _
-    (λ wants. goes-input image p k)
-    (λ quiet. rw plain (goes-retire image p k runs plain quiet)))
-    (λ ended. goes-nowhere image p k)
-
--- edge
-
-bare-free : (core : CoreState) → IsPlainCore core → bare core ≡ core
-bare-free core h = ap (λ (r : Option ℕ). record core { reservation = r }) (sym h.free)
-
-plain-edge : (p : Parts) → IsPlainNode p → IsPlainNode (with_edge p)
-plain-edge p h =
-    let core : IsPlainCore (bare p.node.core) = record { aligned = h.core.aligned; free = refl } in
-    record { core = core; checkpoints = All-push IsPlainCore p.node.checkpoints (bare p.node.core) h.checkpoints core; given = h.given }
-
-goes-edged : (image : ImageData) (p : Parts) → IsKept image p → Goes image p (edged (state_of p) 0).state
-goes-edged image p k =
-    by_test (λ (t : Stepped). Goes image p t.state) (nat_eq (p.node.interval - p.node.known) 4) _ _
-    (λ full. goes-nowhere image p k)
-    (λ room. record {
-      kept = record {
-        ordered = ordered-edge p room k.ordered;
-        plain = plain-edge p k.plain;
-        traced = traced-edge image p k.ordered (bare-free p.node.core k.plain.core) k.traced;
-      };
-      interval = omega arith;
-      next_id = omega arith;
-      one = refl;
-    })
-
--- deliver
-
-kept-take : (image : ImageData) (p : Parts) (id : ℕ) → IsKept image p → IsKept image (with_net p (without p.net.messages id))
-kept-take image p id k = record { ordered = ordered-take p id k.ordered; plain = record { core = k.plain.core; checkpoints = k.plain.checkpoints; given = k.plain.given }; traced = record { executes = k.traced.executes; core = k.traced.core; checkpoints = k.traced.checkpoints; puts_out = k.traced.puts_out; reads = k.traced.reads } }
-
-kept-ready : (image : ImageData) (p : Parts) (k : ℕ) → k ≤ p.node.interval → IsKept image p → IsKept image (record p { reported = max p.reported k })
-kept-ready image p k reached h = record { ordered = ordered-ready p k reached h.ordered; plain = record { core = h.plain.core; checkpoints = h.plain.checkpoints; given = h.plain.given }; traced = record { executes = h.traced.executes; core = h.traced.core; checkpoints = h.traced.checkpoints; puts_out = h.traced.puts_out; reads = h.traced.reads } }
-
-kept-advance : (image : ImageData) (p : Parts) (k : ℕ) → k ≤ p.point → IsKept image p → IsKept image (record p { node = learned p.node k })
-kept-advance image p k there h = record {
-  ordered = ordered-advance p k there h.ordered;
-  plain = record { core = h.plain.core; checkpoints = All-drop IsPlainCore (max p.node.known k - p.node.known) p.node.checkpoints h.plain.checkpoints; given = h.plain.given };
-  traced = traced-advance image p k there h.traced;
-}
-
-goes-ready : (image : ImageData) (p q : Parts) (m : Message) (k : ℕ) → IsKept image q → q.node.interval ≤ p.node.interval + 1 → q.net.next_id ≤ p.net.next_id + 1 → m.from ≡ 0 → k ≤ q.node.interval → Goes image p (told (state_of q) m (Ready k))
-goes-ready image p q m k h i n from reached =
-    subst (λ (f : ℕ). Goes image p (record (state_of q) { reported = slice_set (q.reported ∷ []) f (max (slice_index (q.reported ∷ []) f) k) })) (sym from)
-    (record { kept = kept-ready image q k reached h; interval = i; next_id = n; one = refl })
-
-goes-advance : (image : ImageData) (p q : Parts) (m : Message) (k : ℕ) → IsKept image q → q.node.interval ≤ p.node.interval + 1 → q.net.next_id ≤ p.net.next_id + 1 → m.to ≡ 0 → k ≤ q.point → Goes image p (told (state_of q) m (Advance k))
-goes-advance image p q m k h i n to there =
-    subst (λ (t : ℕ). Goes image p (record (state_of q) { nodes = slice_set (q.node ∷ []) t (learned (node_at (state_of q) t) k) })) (sym to)
-    (record { kept = kept-advance image q k there h; interval = i; next_id = n; one = refl })
-
-goes-told : (image : ImageData) (p q : Parts) (m : Message) (body : Body) → IsKept image q → q.node.interval ≤ p.node.interval + 1 → q.net.next_id ≤ p.net.next_id + 1 → m.from ≡ 0 → m.to ≡ 0 → SaysKnown q.node.interval q.point body → Goes image p (told (state_of q) m body)
-goes-told image p q m (Ready k) h i n from to says = goes-ready image p q m k h i n from says
-goes-told image p q m (Advance k) h i n from to says = goes-advance image p q m k h i n to says
-goes-told image p q m _ h i n from to says = record { kept = h; interval = i; next_id = n; one = refl }
-
-goes-found : (image : ImageData) (p : Parts) (m : Message) → IsKept image p → IsLocal p.node.interval p.point m → Goes image p (delivered_to (state_of p) (Some m)).state
-goes-found image p m k local =
-    by_test (λ (t : Stepped). Goes image p t.state) (nat_lt (node_at (state_of p) m.to).interval m.tag) _ _
-    (λ early. goes-nowhere image p k)
-    (λ due. goes-told image p (with_net p (without p.net.messages m.id)) m m.body (kept-take image p m.id k) (omega arith) (omega arith) local.from local.to local.says)
-
-goes-delivered : (image : ImageData) (p : Parts) (id : ℕ) → IsKept image p → Goes image p (delivered (state_of p) id).state
-goes-delivered image p id k = go (message_in p.net.messages id) (All-find (IsLocal p.node.interval p.point) (λ m. nat_eq m.id id) p.net.messages k.ordered.net)
+pub sound : (image : ImageData) (config : Config) (h : Hardware) (applied spare : ℕ) → IsMachine image config h applied spare → IsSound (state_of h)
+sound image config h applied spare m = go m.holds
   where
-    go : (found : Option Message) → IfSome found (IsLocal p.node.interval p.point) → Goes image p (delivered_to (state_of p) found).state
-    go None local = goes-nowhere image p k
-    go (Some m) local = goes-found image p m k local
+    go : Holds image config.nodes (state_of h) m.trace → IsSound (state_of h)
+    go (count, (r, list, j)) = joined_sound image config (state_of h) r list m.trace j applied (counts image config h.fabric.fabric applied m.fits m.goes) (let a = m.life in omega (arith, a))
 
--- report
-
-kept-send : (image : ImageData) (p : Parts) (body : Body) → SaysKnown p.node.interval p.point body → IsKept image p → IsKept image (with_sent p body)
-kept-send image p body says k = record { ordered = ordered-send p body says k.ordered; plain = record { core = k.plain.core; checkpoints = k.plain.checkpoints; given = k.plain.given }; traced = record { executes = k.traced.executes; core = k.traced.core; checkpoints = k.traced.checkpoints; puts_out = k.traced.puts_out; reads = k.traced.reads } }
-
-goes-reported : (image : ImageData) (p : Parts) → IsKept image p → Goes image p (reported_by (state_of p) 0).state
-goes-reported image p k =
-    by_test (λ (t : Stepped). Goes image p t.state) (nat_le 1024 (length p.net.messages)) _ _
-    (λ full. goes-nowhere image p k)
-    (λ room. record { kept = kept-send image p (Ready p.node.interval) (omega arith) k; interval = omega arith; next_id = omega arith; one = refl })
-
--- validate
-
-kept-point : (image : ImageData) (p : Parts) → p.point < p.reported → IsKept image p → IsKept image (with_point p)
-kept-point image p ready k = record {
-  ordered = ordered-point p ready k.ordered;
-  plain = record { core = k.plain.core; checkpoints = k.plain.checkpoints; given = k.plain.given };
-  traced = traced-point image p ready k.ordered k.traced;
+-- the start
+pub starts : (image : ImageData) (config : Config) (h : Hardware) → config_fits config ≡ true → IsFirst h image config → IsMachine image config h 0 0
+starts image config h fits first = record {
+  fits = fits;
+  sizes = first.sizes;
+  whole = first.whole;
+  room = record { records = omega arith; bytes = omega arith; given = λ n l. omega arith };
+  life = omega arith;
+  sent = rw first.sent (omega arith);
+  trace = [];
+  holds = subst (λ s. Holds image config.nodes s []) (sym first.state) (start_holds image config.nodes (some_nodes config fits) (few_nodes config fits));
+  goes = subst (λ s. GoesBy config (first_fabric image config.nodes) s.fabric 0) (sym first.state) (record { events = []; few = omega arith; served = tt; after = refl });
 }
 
-unready_is : (p : Parts) (unready : Bool) → nat_le p.reported p.point ≡ unready → unready_node (state_of p) ≡ cond unready (Some 0) None
-unready_is p true is = rw is refl
-unready_is p false is = rw is refl
+-- more room
+pub reserves : (image : ImageData) (config : Config) (h g : Hardware) (applied spare events : ℕ) → IsMachine image config h applied spare → IsRoomier h g → HasRoom events g → applied + events ≤ 4000000000 → IsMachine image config g applied (max spare events)
+reserves image config h g applied spare events m roomier room few = record {
+  fits = m.fits;
+  sizes = roomier.sizes ∙ m.sizes;
+  whole = roomier.whole m.whole;
+  room = record {
+    records = let a = (roomier.room spare m.room).records in let b = room.records in omega (arith, a, b);
+    bytes = let a = (roomier.room spare m.room).bytes in let b = room.bytes in omega (arith, a, b);
+    given = λ n l. let a = (roomier.room spare m.room).given n l in let b = room.given n l in omega (arith, a, b);
+  };
+  life = let a = m.life in omega (arith, a, few);
+  sent = rw roomier.sent m.sent;
+  trace = m.trace;
+  holds = subst (λ s. Holds image config.nodes s m.trace) (sym roomier.state) m.holds;
+  goes = subst (λ s. GoesBy config (first_fabric image config.nodes) s.fabric applied) (sym roomier.state) m.goes;
+}
 
-goes-validated : (image : ImageData) (p : Parts) → IsKept image p → Goes image p (validated (state_of p)).state
-goes-validated image p k = rw (unready_is p (nat_le p.reported p.point) refl) (go (nat_le p.reported p.point) refl)
-  where
-    go : (unready : Bool) → nat_le p.reported p.point ≡ unready → Goes image p (validated_unless (state_of p) (cond unready (Some 0) None)).state
-    go true is = goes-nowhere image p k
-    go false is =
-        by_test (λ (t : Stepped). Goes image p t.state) (nat_lt 1024 (length p.net.messages + 1)) _ _
-        (λ full. goes-nowhere image p k)
-        (λ room. record {
-          kept = kept-send image (with_point p) (Advance (p.point + 1)) (omega arith) (kept-point image p (grind (arith, nat_tests, is)) k);
-          interval = omega arith;
-          next_id = omega arith;
-          one = refl;
-        })
+pub keeps_room : (image : ImageData) (config : Config) (h g : Hardware) (applied spare : ℕ) → IsMachine image config h applied spare → IsRoomier h g → IsMachine image config g applied spare
+keeps_room image config h g applied spare m roomier = record {
+  fits = m.fits;
+  sizes = roomier.sizes ∙ m.sizes;
+  whole = roomier.whole m.whole;
+  room = roomier.room spare m.room;
+  life = m.life;
+  sent = rw roomier.sent m.sent;
+  trace = m.trace;
+  holds = subst (λ s. Holds image config.nodes s m.trace) (sym roomier.state) m.holds;
+  goes = subst (λ s. GoesBy config (first_fabric image config.nodes) s.fabric applied) (sym roomier.state) m.goes;
+}
 
--- recover
+-- an event
 
-checkpoint-plain : (p : Parts) → IsOrdered p → IsPlainNode p → IsPlainCore (checkpoint_of p.node p.point)
-checkpoint-plain p o h = h.checkpoints (p.point - p.node.known) p.node.core (omega (arith, o.copies, o.reached, o.known))
+module _ (image : ImageData) (config : Config) (h g : Hardware) (applied spare : ℕ) (event : Event) (said : Answer) (m : IsMachine image config h applied spare) (some : 1 ≤ spare)
+    (fits : Fits config.nodes event) (does : Does h g said (step_of image config (state_of h) event)) where
+  few : length (step_of image config (state_of h) event).sent ≤ 17
+  few = go m.holds
+    where
+      go : Holds image config.nodes (state_of h) m.trace → length (step_of image config (state_of h) event).sent ≤ 17
+      go (count, (r, list, j)) = event_few image config (state_of h) r list m.trace j event (subst (λ n. Fits n event) (sym count) fits)
 
-goes-recovered : (image : ImageData) (p : Parts) → IsKept image p → Goes image p (recovered (state_of p)).state
-goes-recovered image p k =
-    let core = checkpoint-plain p k.ordered k.plain in
-    record {
-      kept = record {
-        ordered = ordered-recovery p;
-        plain = record { core = core; checkpoints = All-push IsPlainCore [] _ (All-nil IsPlainCore) core; given = k.plain.given };
-        traced = traced-recovery image p k.ordered k.traced;
-      };
-      interval = omega (arith, k.ordered.reached);
-      next_id = omega arith;
-      one = refl;
-    }
+  goes : GoesBy config (first_fabric image config.nodes) (step_of image config (state_of h) event).state.fabric (applied + 1)
+  goes = go m.holds
+    where
+      go : Holds image config.nodes (state_of h) m.trace → GoesBy config (first_fabric image config.nodes) (step_of image config (state_of h) event).state.fabric (applied + 1)
+      go (count, (r, list, j)) = goes_then config (first_fabric image config.nodes) h.fabric.fabric (step_of image config (state_of h) event).state.fabric applied 1 (applied + 1) m.goes
+          (event_goes image config (state_of h) r list m.trace j event (subst (λ n. Fits n event) (sym count) fits)) (omega arith)
 
--- every event
+  pub applies : IsMachine image config g (applied + 1) (spare - 1)
+  applies = record {
+    fits = m.fits;
+    sizes = does.sizes ∙ m.sizes;
+    whole = does.whole;
+    room = does.room (spare - 1) (let e : spare - 1 + 1 ≡ spare = omega (arith, some) in rw e m.room);
+    life = let a = m.life in omega (arith, a, some);
+    sent = rw does.sent few;
+    trace = traced image (state_of h) event (step_of image config (state_of h) event).answer m.trace;
+    holds = subst (λ s. Holds image config.nodes s (traced image (state_of h) event (step_of image config (state_of h) event).answer m.trace)) (sym does.state) (step_holds image config config.nodes (state_of h) m.trace event m.holds fits);
+    goes = subst (λ s. GoesBy config (first_fabric image config.nodes) s.fabric (applied + 1)) (sym does.state) goes;
+  }
 
-pub first : (n : ℕ) → nat_lt n 1 ≡ true → n ≡ 0
-first n fits = grind (arith, nat_tests, fits)
+-- through the view
 
-pub goes-step : (image : ImageData) (p : Parts) (event : Event) → IsPlain image → event_fits 1 event ≡ true → is_scripted event ≡ true → IsKept image p → Goes image p (step_of image (state_of p) event).state
-unfolding step_of
-goes-step image p (Step n) program fits scripted k = subst (λ (t : ℕ). Goes image p (stepped image (state_of p) t).state) (sym (first n fits)) (goes-stepped image p program k)
-goes-step image p (Edge n) program fits scripted k = subst (λ (t : ℕ). Goes image p (edged (state_of p) t).state) (sym (first n fits)) (goes-edged image p k)
-goes-step image p (Deliver id) program fits scripted k = goes-delivered image p id k
-goes-step image p (Report n) program fits scripted k = subst (λ (t : ℕ). Goes image p (reported_by (state_of p) t).state) (sym (first n fits)) (goes-reported image p k)
-goes-step image p Validate program fits scripted k = goes-validated image p k
-goes-step image p Recover program fits scripted k = goes-recovered image p k
-goes-step image p (Evict n b) program fits scripted k = goes-nowhere image p k
-goes-step image p (Hop id) program fits scripted k = goes-nowhere image p k
-goes-step image p (Lose id) program fits scripted k = goes-nowhere image p k
-goes-step image p (Kill s) program fits scripted k = goes-nowhere image p k
-goes-step image p (Input n v) program fits scripted k = goes-nowhere image p k
+abbrev pub data_of : ImageData → Config → Hardware → ℕ → ℕ → MachineData
+data_of image config h applied spare = record { image = image; config = config; state = state_of h; sent = sent_of h; applied = applied; spare = spare }
 
--- the parts after an event, where they went through its step
-pub kept-after : (image : ImageData) (p q : Parts) (event : Event) → IsPlain image → event_fits 1 event ≡ true → is_scripted event ≡ true → IsKept image p → state_of q ≡ (step_of image (state_of p) event).state → IsKept image q
-kept-after image p q event program fits scripted k is = subst (λ (s : State). IsKept image (parts_of s)) (sym is) (goes-step image p event program fits scripted k).kept
+module _ (image : ImageData) (config : Config) (h g : Hardware) (applied spare : ℕ) (event : Event) (said : Answer) (does : Does h g said (step_of image config (state_of h) event)) where
+  pub is-applied : IsApplied (data_of image config h applied spare) (data_of image config g (applied + 1) (spare - 1)) event said
+  is-applied = record { answer = does.says; left = rw (does.state, does.sent) refl }
 
-pub young-after : (image : ImageData) (p q : Parts) (event : Event) (events : ℕ) → IsPlain image → event_fits 1 event ≡ true → is_scripted event ≡ true → IsKept image p → IsYoung p events → state_of q ≡ (step_of image (state_of p) event).state → IsYoung q (events + 1)
-young-after image p q event events program fits scripted k young is =
-    let goes = subst (λ (s : State). Goes image p s) (sym is) (goes-step image p event program fits scripted k) in
-    record { interval = omega (arith, goes.interval, young.interval); next_id = omega (arith, goes.next_id, young.next_id) }
+  pub refused-same : is_refusal said ≡ true → state_of g ≡ state_of h
+  refused-same is = does.state ∙ (refusal-changes_nothing image config (state_of h) event).unchanged (ap is_refusal (sym does.says) ∙ is)
 
-pub machine-after : (image : ImageData) (config : Config) (old new : HardwareData) (applied spare : ℕ) (event : Event) (answer : Answer) → IsMachine image config old applied spare → event_fits config.nodes event ≡ true → is_scripted event ≡ true → 1 ≤ spare → Does old new answer (step_of image (state_of old.parts) event) → IsMachine image config new (applied + 1) (spare - 1)
-machine-after image config old new applied spare event answer m fits scripted more does =
-    let fits_one = rw m.one at fits in
-    record {
-      one = m.one;
-      program = m.program;
-      room = omega (arith, m.room, does.room, more);
-      life = omega (arith, m.life, more);
-      young = young-after image old.parts new.parts event applied m.program fits_one scripted m.kept m.young does.state;
-      kept = kept-after image old.parts new.parts event m.program fits_one scripted m.kept does.state;
-    }
+pub step-of-run : (image : ImageData) (config : Config) (h : Hardware) (applied spare : ℕ) (event : Event) → IsMachine image config h applied spare → Fits config.nodes event → IsStepOfRun image config (state_of h) event (step_of image config (state_of h) event)
+step-of-run image config h applied spare event m fits = holds_next image config (state_of h) m.trace event m.holds fits
+
+pub consistent-now : (image : ImageData) (config : Config) (h : Hardware) (applied spare : ℕ) → IsMachine image config h applied spare → IsConsistentNow (data_of image config h applied spare)
+consistent-now image config h applied spare m = (m.trace, holds_consistent image config.nodes (state_of h) m.trace m.holds)

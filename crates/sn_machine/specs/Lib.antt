@@ -1,7 +1,10 @@
-pub mod State
-pub mod Step
-pub mod Trace
-pub mod Cut
-pub mod Run
-pub mod Parts
+pub mod Hearing
+pub mod Input
 pub mod Kept
+pub mod Looks
+pub mod Machine
+pub mod Parts
+pub mod Restored
+pub mod Sound
+pub mod Start
+pub mod Turns

@@ -1,101 +1,71 @@
--- The parts of a machine of one node, as the private layers below the machine keep them.
-use Rattle.std.specs.Prelude.{◌≡◌, ℕ, ◌+◌, ◌≤◌, List, [], ◌∷◌, slice_index}
+-- What a machine is made of, and the state that it stands for.
+use Rattle.std.specs.Prelude.{◌≡◌, ℕ, ◌+◌, ◌<◌, ◌≤◌, if◌then◌else◌, List, [], length, map, slice_index_or}
 use Rattle.sn_base.specs.declared.event.Answer.{Answer}
-use Rattle.rv_core.specs.declared.step.Record.{Record}
-use Rattle.sn_msg.specs.declared.Message.{Message}
-use Rattle.sn_msg.specs.declared.Body.{Body}
-use Rattle.sn_machine.specs.declared.sent.Sent.{Sent}
-use Rattle.sn_machine.specs.declared.held.Retirement.{Retirement}
-use Rattle.sn_machine.specs.declared.held.HeldByte.{HeldByte}
-use Rattle.sn_machine.specs.State.{State, Node, node_at, first_node}
-use Rattle.sn_machine.specs.Step.{Stepped}
+use Rattle.rv_core.specs.Core.{start_of as start_core}
+use Rattle.sn_history.specs.declared.Pending.{Pending}
+use Rattle.output_commit.specs.declared.HeldByte.{HeldByte as Held}
+use Rattle.sn_model.specs.declared.net.Sent.{Sent}
+use Rattle.sn_model.specs.Fabric.{node_at}
+use Rattle.sn_model.specs.Machine.{State, Processor, Retirement, HeldByte}
+use Rattle.sn_model.specs.Instructions.{Stepped}
+use Rattle.sn_machine.specs.declared.processor.Processor.{Processor as Seat}
+use Rattle.sn_machine.specs.declared.hardware.Hardware.{Hardware}
 
--- the messages in flight, and the number of the next one
-pub record NetData : Type 0 where
-  pub messages : List Message
-  pub next_id : ℕ
+-- a processor: its core, its register checkpoints and the bytes that it was given
+abbrev pub processor_as : Seat → Processor
+processor_as x = record { core = x.core; checkpoints = x.checkpoints.cores; given = x.input.given }
 
--- the records that wait, those that are committed, and for how many more there is room
-pub record HistoryData : Type 0 where
-  pub pending : List Retirement
-  pub committed : List Record
-  pub spare : ℕ
+abbrev pub retirement_as : Pending → Retirement
+retirement_as p = record { interval = p.interval; did = p.taken }
 
--- the bytes that are held, those that are released, and for how many more there is room
-pub record OutputData : Type 0 where
-  pub held : List HeldByte
-  pub released : List ℕ
-  pub spare : ℕ
+abbrev pub held_as : Held → HeldByte
+held_as h = record { interval = h.interval; byte = h.byte }
 
--- the state of a machine of one node, by its parts
-pub record Parts : Type 0 where
-  pub node : Node
-  pub net : NetData
-  pub point : ℕ
-  pub reported : ℕ
-  pub pending : List Retirement
-  pub committed : List Record
-  pub held : List HeldByte
-  pub released : List ℕ
-
--- these parts, what the last event sent, and for how many more instructions there is room
-pub record HardwareData : Type 0 where
-  pub parts : Parts
-  pub sent : List Sent
-  pub spare : ℕ
-
-abbrev pub state_of : Parts → State
-state_of p = record {
-  nodes = p.node ∷ [];
-  net = p.net.messages;
-  point = p.point;
-  reported = p.reported ∷ [];
-  pending = p.pending;
-  committed = p.committed;
-  held = p.held;
-  released = p.released;
-  next_id = p.net.next_id;
+-- the state that the parts stand for
+abbrev pub state_of : Hardware → State
+state_of h = record {
+  fabric = h.fabric.fabric;
+  processors = map processor_as h.processors.items;
+  reported = h.controller.reported;
+  pending = map retirement_as h.history.pending;
+  committed = h.history.committed;
+  held = map held_as h.output.held;
+  released = h.output.released;
 }
 
--- the parts of a machine of one node
-abbrev pub parts_of : State → Parts
-parts_of s = record {
-  node = node_at s 0;
-  net = record { messages = s.net; next_id = s.next_id };
-  point = s.point;
-  reported = slice_index s.reported 0;
-  pending = s.pending;
-  committed = s.committed;
-  held = s.held;
-  released = s.released;
+-- what the last event sent: nothing, where it wasn't one of the fabric
+abbrev pub sent_of : Hardware → List Sent
+sent_of h = if h.is_carried then h.fabric.sent else []
+
+-- a processor by its number; past the end one that is nobody's
+abbrev pub no_seat : Seat
+no_seat = record {
+  core = start_core 0 0;
+  checkpoints = record { first = 0; cores = [] };
+  input = record { given = []; room = 0 };
 }
 
--- the parts at the start of a program
-abbrev pub first_parts : ℕ → Parts
-first_parts entry = record {
-  node = first_node 0 entry;
-  net = record { messages = []; next_id = 1 };
-  point = 0;
-  reported = 0;
-  pending = [];
-  committed = [];
-  held = [];
-  released = [];
-}
+abbrev pub seat_at : List Seat → ℕ → Seat
+seat_at seats n = slice_index_or seats n no_seat
 
--- the next message, from the node to itself
-abbrev pub self_message : Parts → Body → Message
-self_message p body = record { id = p.net.next_id; from = 0; to = 0; tag = p.node.interval; block = 0; body = body }
+-- parts that belong together: a processor for each node, whose checkpoints begin at the recovery point that its node knows;
+-- and the controller stands at the fabric's recovery point
+pub record IsWhole (h : Hardware) : Type 0 where
+  pub count : length h.processors.items ≡ length h.fabric.fabric.nodes
+  pub known : (n : ℕ) → n < length h.processors.items → (seat_at h.processors.items n).checkpoints.first ≡ (node_at h.fabric.fabric n).known
+  pub point : h.controller.point ≡ h.fabric.fabric.point
 
--- the same parts, with room for as many instructions or more
-pub record HasMoreRoom (old new : HardwareData) : Type 0 where
-  pub parts : new.parts ≡ old.parts
-  pub sent : new.sent ≡ old.sent
-  pub room : old.spare ≤ new.spare
+-- room for so many events: each adds at most one record, one byte put out, and one byte given
+pub record HasRoom (events : ℕ) (h : Hardware) : Type 0 where
+  pub records : events ≤ h.history.room
+  pub bytes : events ≤ h.output.room
+  pub given : (n : ℕ) → n < length h.processors.items → events ≤ (seat_at h.processors.items n).input.room
 
--- the parts went through this step, which took the room of at most one instruction
-pub record Does (old new : HardwareData) (answer : Answer) (step : Stepped) : Type 0 where
-  pub state : state_of new.parts ≡ step.state
-  pub answer_is : answer ≡ step.answer
-  pub sent : new.sent ≡ step.sent
-  pub room : old.spare ≤ new.spare + 1
+-- the parts went through this step, and it took the room of one event at most
+pub record Does (old new : Hardware) (answer : Answer) (step : Stepped) : Type 0 where
+  pub state : state_of new ≡ step.state
+  pub says : answer ≡ step.answer
+  pub sent : sent_of new ≡ step.sent
+  pub sizes : new.fabric.config ≡ old.fabric.config
+  pub whole : IsWhole new
+  pub room : (events : ℕ) → HasRoom (events + 1) old → HasRoom events new

@@ -1,46 +1,42 @@
 //! The machine: its program and sizes, its parts, and the life that it has.
-ghost use Rattle.std.specs.Prelude.{◌≡◌, ℕ, ◌+◌, ◌<◌, ◌≤◌, ◌++◌, max, Bool, true, List, [], length, IfOk, OnOk, OnErr};
+ghost use Rattle.std.specs.Prelude.{◌≡◌, ◌+◌, ◌≤◌, max, true, [], length, IfOk, OnOk, OnErr};
 ghost use Rattle.sn_base.specs.Config.{config_fits};
 ghost use Rattle.sn_base.specs.Events.{event_fits};
-ghost use Rattle.rv_core.specs.Plain.{IsPlain};
-ghost use Rattle.rv_core.specs.Execution.{IsExecution, end_of, out_of};
-ghost use Rattle.sn_machine.specs.Cut.{IsCut, IsRestoredAfter, HasReadFirst};
-ghost use Rattle.sn_machine.specs.Trace.{newly_committed, newly_released};
-ghost use Rattle.sn_machine.specs.State.{start_of};
-ghost use Rattle.sn_machine.specs.Step.{step_of, is_scripted};
-
-mod view;
+ghost use Rattle.sn_model.specs.Machine.{start_of};
+ghost use Rattle.sn_model.specs.Refusals.{is_refusal};
+ghost use Rattle.consistent_cuts.specs.Headline.{IsStepOfRun};
+ghost use Rattle.sn_machine.specs.Machine.{IsApplied, IsConsistentNow, next_of};
 
 use crate::hardware::Hardware;
-use crate::sent::Sent;
+use crate::view::View;
 use sn_base::{Answer, Config, Event, Image, Memory};
+use sn_model::Sent;
 use std::alloc::Global;
 use std::marker::Model;
-pub use view::View;
 
-/// A machine. Contracts see its program, its sizes, its state, what the last event sent, how many events were applied
-/// to it and for how many more it has room.
+/// A machine. Contracts see its program, its sizes, its state, what the last event sent, how many events were applied to it
+/// and for how many more it has room.
 #[derive(Drop)]
 pub struct Machine {
-    image: Image,
-    config: Config,
-    hardware: Hardware,
+    pub(crate) image: Image,
+    pub(crate) config: Config,
+    pub(crate) hardware: Hardware,
     applied: u32,
     spare: u32,
 }
 
 impl Model for Machine {
-    ghost use Rattle.sn_machine.specs.State.{MachineData};
-    ghost use Rattle.sn_machine.specs.Parts.{state_of};
     ghost use Rattle.sn_machine.specs.Kept.{IsMachine};
+    ghost use Rattle.sn_machine.specs.Machine.{MachineData};
+    ghost use Rattle.sn_machine.specs.Parts.{state_of, sent_of};
 
     ghost Value = { MachineData };
 
     ghost view = { λ m. record {
       image = m.image;
       config = m.config;
-      state = state_of m.hardware.parts;
-      sent = m.hardware.sent;
+      state = state_of m.hardware;
+      sent = sent_of m.hardware;
       applied = m.applied;
       spare = m.spare;
     } };
@@ -49,11 +45,9 @@ impl Model for Machine {
 }
 
 impl Machine {
-    /// A machine at the start of a program, with room for no event. The program's instructions want no memory.
+    /// A machine of these sizes at the start of a program, with room for no event.
     pub fn new(alloc: Global, image: Image, config: Config) -> Result<Machine, Memory>
-        requires one { config.nodes ≡ 1 }
         requires fits { config_fits config ≡ true }
-        requires plain { IsPlain image }
         ensures { IfOk result (λ m. m ≡ record {
           image = image;
           config = config;
@@ -63,7 +57,7 @@ impl Machine {
           spare = 0;
         }) }
     {
-        let hardware = Hardware::new(alloc, image.entry())?;
+        let hardware = Hardware::new(alloc, &image, config)?;
         Ok(Machine {
             image,
             config,
@@ -102,27 +96,19 @@ impl Machine {
     /// The answer that `apply` would give now.
     pub fn foresee(&self, event: Event) -> Answer
         requires fits { event_fits self.now.config.nodes event ≡ true }
-        requires scripted { is_scripted event ≡ true }
-        ensures { result ≡ (step_of self.now.image self.now.state event).answer }
+        ensures { result ≡ (next_of self.now event).answer }
     {
         self.hardware.foresee(&self.image, event)
     }
 
-    /// Applies an event. It takes no memory.
+    /// Applies an event. It takes no memory, and an event that is refused leaves the machine as it was but for the count of
+    /// events.
     pub fn apply(&mut self, event: Event) -> Answer
         requires fits { event_fits self.old.config.nodes event ≡ true }
-        requires scripted { is_scripted event ≡ true }
         requires room { 1 ≤ self.old.spare }
-        ensures state { self.new.state ≡ (step_of self.old.image self.old.state event).state }
-        ensures answer { result ≡ (step_of self.old.image self.old.state event).answer }
-        ensures sent { self.new.sent ≡ (step_of self.old.image self.old.state event).sent }
-        ensures program { self.new.image ≡ self.old.image }
-        ensures sizes { self.new.config ≡ self.old.config }
-        ensures spare { self.new.spare + 1 ≡ self.old.spare }
-        ensures applied { self.new.applied ≡ self.old.applied + 1 }
-        ensures commits { self.new.state.committed ≡ self.old.state.committed ++ newly_committed self.old.state result }
-        ensures releases { self.new.state.released ≡ self.old.state.released ++ newly_released self.old.state result }
-        ensures restored { IsRestoredAfter result self.new.state (end_of self.old.image self.old.config.nodes self.new.state.committed) }
+        ensures applied { IsApplied self.old self.new event result }
+        ensures run { IsStepOfRun self.old.image self.old.config self.old.state event (next_of self.old event) }
+        ensures refused { is_refusal result ≡ true → self.new.state ≡ self.old.state }
     {
         let answer = self.hardware.apply(&self.image, event);
         self.applied += 1;
@@ -138,22 +124,27 @@ impl Machine {
         self.hardware.sent()
     }
 
+    /// The program.
+    pub fn image(&self) -> &Image
+        ensures { result.now ≡ self.now.image }
+    {
+        &self.image
+    }
+
+    /// The sizes.
+    pub fn config(&self) -> &Config
+        ensures same { result.now ≡ self.now.config }
+        ensures fits { config_fits self.now.config ≡ true }
+    {
+        &self.config
+    }
+
     /// The cut at the recovery point.
     pub fn recovered(&self) -> View<'_>
         ensures shown { result ≡ self.now }
-        ensures execution { IsExecution self.now.image self.now.config.nodes self.now.state.committed }
-        ensures cut { IsCut self.now.state self.now.state.point (end_of self.now.image self.now.config.nodes self.now.state.committed) }
-        ensures output { self.now.state.released ≡ out_of self.now.image self.now.config.nodes self.now.state.committed }
-        ensures input { HasReadFirst self.now.state }
-        ensures nodes { length self.now.state.nodes ≡ self.now.config.nodes }
+        ensures consistent { IsConsistentNow self.now }
     {
         let _ = &self.image;
         View { machine: self }
-    }
-
-    pub fn config(&self) -> &Config
-        ensures { result.now ≡ self.now.config }
-    {
-        &self.config
     }
 }

@@ -1,24 +1,24 @@
-use Rattle.std.proofs.Common.{sym, ◌∙◌, arith, refl}
-use Rattle.sn_machine.specs.Parts.{Parts}
-use Rattle.sn_machine.proofs.Cases.{delivered-found, does, told-same}
+use Rattle.std.proofs.Common.{refl, sym, ◌∙◌, subst}
+use Rattle.sn_model.specs.NetEvents.{delivered}
+use Rattle.sn_machine.specs.Hearing.{CanHear}
+use Rattle.sn_machine.specs.Parts.{state_of}
+use Rattle.sn_machine.proofs.Deliveries.{rightly, can-hear, hears-does}
+use Rattle.sn_machine.proofs.Seats.{hearing-none}
 use Rattle.sn_machine.proofs.hardware.Hardware.deliver.Goals as goal
 
-pub returns : goal.returns
-returns c =
-    let found = sym c.message.ensures ∙ c.in-Some.is in
-    let required = rw (sym c.self.view_is) at c.requires.found in
-    let local = rw found at required in
-    let parts : Parts = record {
-      node = c.self.inside.node;
-      net = c.self.inside.net;
-      point = c.self.inside.point;
-      reported = c.self.inside.reported;
-      pending = c.self.inside.history.pending;
-      committed = c.self.inside.history.committed;
-      held = c.self.inside.output.held;
-      released = c.self.inside.output.released;
-    } in
-    rw (sym c.self.view_is)
-    (does _ _ _ _ _
-    (delivered-found _ c.args.id c.in-Some.message found local.to (omega (arith, c.interval.ensures, c.if-message-interval.false)))
-    (record { state = told-same parts _ _ c.in-Some.message _ c.tell.ensures.state c.take.ensures; answer_is = refl; sent = c.tell.ensures.sent ∙ c.clear.ensures.items; room = omega (arith, c.tell.ensures.room) }))
+pub hear-requires : goal.hear-requires
+hear-requires c =
+    subst (CanHear c.args.self.now.processors.items c.args.self.now.controller) (sym c.deliver-delivery.ensures.told ∙ c.in-Some.is)
+    (can-hear c.args.self.now (delivered c.args.self.now.fabric.config c.args.self.now.fabric.fabric c.args.id).fabric (delivered c.args.self.now.fabric.config c.args.self.now.fabric.fabric c.args.id).told c.requires.whole c.requires.sound
+    (rightly c.args.self.now.fabric.config (state_of c.args.self.now) c.args.id c.requires.sound))
+
+pub returns-in-Some : goal.returns-in-Some
+returns-in-Some c =
+    hears-does c.args.self.now _ c.deliver-delivery.result.0 (delivered c.args.self.now.fabric.config c.args.self.now.fabric.fabric c.args.id) c.in-Some.told c.requires.whole c.deliver-delivery.ensures.after
+    (rightly c.args.self.now.fabric.config (state_of c.args.self.now) c.args.id c.requires.sound) (sym c.deliver-delivery.ensures.told ∙ c.in-Some.is) c.hear.ensures refl refl refl
+
+pub returns-in_default : goal.returns-in_default
+returns-in_default c =
+    hearing-none c.args.self.now _ c.deliver-delivery.result.0 (delivered c.args.self.now.fabric.config c.args.self.now.fabric.fabric c.args.id) c.requires.whole c.deliver-delivery.ensures.after
+    (rightly c.args.self.now.fabric.config (state_of c.args.self.now) c.args.id c.requires.sound) (sym c.deliver-delivery.ensures.told ∙ c.in_default.is)
+    (record { processors = refl; controller = refl; history = refl; output = refl }) refl

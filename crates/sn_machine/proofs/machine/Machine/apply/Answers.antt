@@ -1,19 +1,30 @@
-use Rattle.std.proofs.Common.{sym}
-use Rattle.sn_machine.proofs.Kept.{machine-after}
-use Rattle.sn_machine.proofs.Laws.{machine-commits, machine-releases, machine-restored}
+use Rattle.std.proofs.Common.{ap, ◌∙◌, subst}
+use Rattle.sn_base.specs.declared.config.Config.{Config}
+use Rattle.sn_model.specs.Step.{step_of}
+use Rattle.consistent_cuts.specs.Headline.{IsStepOfRun}
+use Rattle.sn_machine.specs.Machine.{MachineData, next_of}
+use Rattle.sn_machine.specs.Parts.{state_of, Does}
+use Rattle.sn_machine.proofs.Kept.{sound, applies, refused-same, step-of-run}
 use Rattle.sn_machine.proofs.machine.Machine.apply.Goals as goal
+
+pub apply-answer-requires-clause-sound : goal.apply-answer-requires-clause-sound
+apply-answer-requires-clause-sound c =
+    sound c.self.inside.image c.self.inside.config c.self.inside.hardware c.self.inside.applied c.self.inside.spare c.self.invariant
 
 pub invariant_of-self : goal.invariant_of-self
 invariant_of-self c =
-    let fits = rw (sym c.self.view_is) at c.requires.fits in
-    let room = rw (sym c.self.view_is) at c.requires.room in
-    machine-after c.self.inside.image c.self.inside.config c.self.inside.hardware _ c.self.inside.applied c.self.inside.spare c.args.event _ c.self.invariant fits c.requires.scripted room c.apply-answer.ensures
+    applies c.self.inside.image c.self.inside.config c.self.inside.hardware c.apply-answer.new.self c.self.inside.applied c.self.inside.spare c.args.event c.apply-answer.result c.self.invariant (rw (← c.self.view_is) at c.requires.room)
+    (record { numbers = rw (← c.self.view_is) at c.requires.fits; block = c.apply-answer.ensures.block })
+    (subst (λ (config : Config). Does c.self.inside.hardware c.apply-answer.new.self c.apply-answer.result (step_of c.self.inside.image config (state_of c.self.inside.hardware) c.args.event)) c.self.invariant.sizes c.apply-answer.ensures.done)
 
-pub returns-clause-commits : goal.returns-clause-commits
-returns-clause-commits c = rw (sym c.self.view_is) (machine-commits c.self.inside.image c.self.inside.hardware _ c.args.event _ c.apply-answer.ensures)
+pub returns-clause-run : goal.returns-clause-run
+returns-clause-run c =
+    subst (λ (d : MachineData). IsStepOfRun d.image d.config d.state c.args.event (next_of d c.args.event)) c.self.view_is
+    (step-of-run c.self.inside.image c.self.inside.config c.self.inside.hardware c.self.inside.applied c.self.inside.spare c.args.event c.self.invariant
+    (record { numbers = rw (← c.self.view_is) at c.requires.fits; block = c.apply-answer.ensures.block }))
 
-pub returns-clause-releases : goal.returns-clause-releases
-returns-clause-releases c = rw (sym c.self.view_is) (machine-releases c.self.inside.image c.self.inside.hardware _ c.args.event _ c.apply-answer.ensures)
-
-pub returns-clause-restored : goal.returns-clause-restored
-returns-clause-restored c = rw (sym c.self.view_is) (machine-restored c.self.inside.image c.self.inside.config c.self.inside.hardware _ c.self.inside.applied c.self.inside.spare c.args.event _ c.self.invariant c.apply-answer.ensures)
+pub returns-clause-refused : goal.returns-clause-refused
+returns-clause-refused c = λ is.
+    refused-same c.self.inside.image c.self.inside.config c.self.inside.hardware c.apply-answer.new.self c.self.inside.applied c.self.inside.spare c.args.event c.apply-answer.result
+    (subst (λ (config : Config). Does c.self.inside.hardware c.apply-answer.new.self c.apply-answer.result (step_of c.self.inside.image config (state_of c.self.inside.hardware) c.args.event)) c.self.invariant.sizes c.apply-answer.ensures.done) is
+    ∙ ap (λ (d : MachineData). d.state) c.self.view_is

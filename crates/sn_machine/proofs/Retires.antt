@@ -1,0 +1,107 @@
+-- An instruction that retires: what its core and its line need, and what it comes to.
+use Rattle.std.proofs.Common.{◌≡◌, ℕ, ◌+◌, ◌-◌, ◌<◌, ◌≤◌, Bool, true, false, [], ◌∷◌, ◌++◌, get_or, Option, Some, None, refl, sym, ap, ◌∙◌, subst, arith}
+use Rattle.std.specs.Prelude.{◌%◌}
+use Rattle.std.proofs.lemmas.List.{map-append, map-set}
+use Rattle.sn_base.specs.Blocks.{ram_start, ram_size, bytes_of}
+use Rattle.sn_base.specs.Image.{ImageData}
+use Rattle.sn_base.specs.declared.block.Width.{Width}
+use Rattle.sn_base.specs.declared.block.Width.TheVariants.{Byte, Half, Word}
+use Rattle.sn_base.specs.declared.block.Write.{Write}
+use Rattle.sn_base.specs.declared.config.Config.{Config}
+use Rattle.sn_base.specs.declared.event.Answer.TheVariants.{Retired}
+use Rattle.rv_core.specs.declared.state.CoreState.{CoreState}
+use Rattle.rv_core.specs.declared.step.Effect.{Effect}
+use Rattle.rv_core.specs.declared.step.Record.{Record}
+use Rattle.rv_core.specs.declared.step.Want.{Want}
+use Rattle.rv_core.specs.declared.step.Want.TheVariants as want
+use Rattle.rv_core.specs.Core.{block_of}
+use Rattle.rv_core.specs.Step.{want_of, next_of}
+use Rattle.rv_core.specs.Wanted.{WriteFits}
+use Rattle.rv_core.proofs.CoreLaws.{write_fits}
+use Rattle.fabric_coherence.specs.Events.{CanUse}
+use Rattle.sn_model.specs.declared.cache.Need.TheVariants as need
+use Rattle.sn_model.specs.Fabric.{node_at}
+use Rattle.sn_model.specs.Machine.{State, Processor, processor_at}
+use Rattle.sn_model.specs.Instructions.{found_at, next_with, record_with, retired, written_by}
+use Rattle.consistent_cuts.specs.Accesses.{CanServe, CanServeWant, CanRetire}
+use Rattle.consistent_cuts.proofs.Places.{same_length, same_known, same_point}
+use Rattle.sn_machine.specs.declared.processor.Processor.{Processor as Seat}
+use Rattle.sn_machine.specs.declared.hardware.Hardware.{Hardware}
+use Rattle.sn_machine.specs.Parts.{processor_as, state_of, seat_at, IsWhole, Does}
+use Rattle.sn_machine.specs.Turns.{CanBeWritten, CanWriteAny, PutsOut}
+use Rattle.sn_machine.proofs.Parts.{processor-at, is_here, seat-read}
+use Rattle.sn_machine.proofs.Seats.{HasSeat, KeepsKnown, seat-whole, seat-room, seat_placed}
+
+-- what it writes can be written
+
+inside : (a : ℕ) (width : Width) → a + bytes_of width ≤ ram_start + ram_size → a < ram_start + ram_size
+inside a Byte l = omega (arith, l)
+inside a Half l = omega (arith, l)
+inside a Word l = omega (arith, l)
+
+module _ (config : Config) (s : State) (n : ℕ) where
+  writes : (a : ℕ) (x : Write) → x.address ≡ a → ram_start ≤ x.address → x.address + bytes_of x.width ≤ ram_start + ram_size → x.address % bytes_of x.width ≡ 0 →
+      CanServe config s.fabric n (block_of a) need.Write → CanBeWritten config s.fabric n x
+  writes a x e low high aligned can = record {
+    low = low;
+    high = inside x.address x.width high;
+    aligned = aligned;
+    can = record { line = subst (λ b. CanUse s.fabric n (block_of b)) (sym e) can.line; writable = rw e can.serving };
+    room = rw e can.room;
+  }
+
+  writes_wanting : (w : Want) (done : Bool) (x : Option Write) → WriteFits w done x → CanServeWant w done config s n → CanWriteAny config s.fabric n x
+  writes_wanting w done None fits can = tt
+  writes_wanting want.Nothing done (Some x) fits can = absurd (let h = fits.0 in cc)
+  writes_wanting want.Input done (Some x) fits can = absurd (let h = fits.0 in cc)
+  writes_wanting (want.Load a) done (Some x) fits can = absurd (let h = fits.0 in cc)
+  writes_wanting (want.Lr a) done (Some x) fits can = absurd (let h = fits.0 in cc)
+  writes_wanting (want.Store a) done (Some x) fits can = writes a x fits.1 fits.2 fits.3 fits.4 can
+  writes_wanting (want.Amo a) done (Some x) fits can = writes a x fits.1 fits.2 fits.3 fits.4 can
+  writes_wanting (want.Sc a) true (Some x) fits can = writes a x fits.1 fits.2 fits.3 fits.4 can
+  writes_wanting (want.Sc a) false (Some x) fits can = absurd (let h = fits.0 in cc)
+
+pub can-write : (image : ImageData) (h : Hardware) (n : ℕ) (did : Record) (core : CoreState) (effect : Effect) → IsWhole h → CanRetire image h.fabric.config (state_of h) n → did ≡ record_with n (found_at image (state_of h) n) →
+    core ≡ (seat_at h.processors.items n).core → effect ≡ (next_of image core did.seen did.sc_done did.read).effect → CanWriteAny h.fabric.config h.fabric.fabric n effect.write
+can-write image h n did core effect w can found is does =
+    let p = processor-at h n (is_here h n w can.node) in
+    let e : effect ≡ (next_with image (processor_at (state_of h) n) (found_at image (state_of h) n)).effect = does ∙ rw (is, found, p) refl in
+    rw e (writes_wanting h.fabric.config (state_of h) n (want_of image (processor_at (state_of h) n).core) (found_at image (state_of h) n).sc_done _
+    (write_fits image (processor_at (state_of h) n).core (found_at image (state_of h) n).seen (found_at image (state_of h) n).sc_done (found_at image (state_of h) n).read) can.served)
+
+-- what it comes to
+
+pub retire-does : (image : ImageData) (h g : Hardware) (n place interval : ℕ) (did : Record) (x : Seat) (core : CoreState) (effect : Effect) → IsWhole h → CanRetire image h.fabric.config (state_of h) n → did ≡ record_with n (found_at image (state_of h) n) →
+    interval ≡ (node_at h.fabric.fabric n).now → place ≡ n → x ≡ get_or h.processors.items place x → core ≡ (next_of image x.core did.seen did.sc_done did.read).core → effect ≡ (next_of image x.core did.seen did.sc_done did.read).effect →
+    g.fabric.fabric ≡ written_by h.fabric.fabric n effect.write → g.fabric.config ≡ h.fabric.config → HasSeat h (record g { history = h.history; output = h.output }) place (record x { core = core }) →
+    g.history ≡ record h.history { pending = h.history.pending ++ record { interval = interval; taken = did } ∷ []; room = h.history.room - 1 } → PutsOut h.output g.output interval effect.out → g.is_carried ≡ false →
+    Does h g Retired (retired image (state_of h) n)
+retire-does image h g n place interval did x core effect w can found at i r cores effects fabric sizes seat history puts is =
+    let here = is_here h n w can.node in
+    let e = seat-read h n place x w can.node i r in
+    let y = record (seat_at h.processors.items n) { core = core } in
+    let middle = record g { history = h.history; output = h.output } in
+    let same : HasSeat h middle n y = seat_placed h middle n place y i (rw e at seat) in
+    let keeps : KeepsKnown h.fabric.fabric g.fabric.fabric = record {
+      count = rw fabric (same_length h.fabric.fabric n effect.write);
+      known = rw fabric (λ m. same_known h.fabric.fabric n m effect.write can.node);
+      point = rw fabric (same_point h.fabric.fabric n effect.write);
+    } in
+    let whole = seat-whole h middle n y same here w keeps refl in
+    let p = processor-at h n here in
+    let core_is : core ≡ (next_with image (processor_at (state_of h) n) (found_at image (state_of h) n)).core = cores ∙ rw (e, found, p) refl in
+    let effect_is : effect ≡ (next_with image (processor_at (state_of h) n) (found_at image (state_of h) n)).effect = effects ∙ rw (e, found, p) refl in
+    let checkpoints_are : (processor_at (state_of h) n).checkpoints ≡ (seat_at h.processors.items n).checkpoints.cores = ap (λ (q : Processor). q.checkpoints) p in
+    let given_is : (processor_at (state_of h) n).given ≡ (seat_at h.processors.items n).input.given = ap (λ (q : Processor). q.given) p in
+    record {
+      state = rw (fabric, same.processors, same.controller, history, puts.held, puts.released, map-set processor_as h.processors.items n y, map-append, at, found, core_is, effect_is, checkpoints_are, given_is) refl;
+      says = refl;
+      sent = rw is refl;
+      sizes = sizes;
+      whole = record { count = whole.count; known = whole.known; point = whole.point };
+      room = λ events room. record {
+        records = rw history (let a = room.records in omega (arith, a));
+        bytes = let a = room.bytes in let b = puts.room in omega (arith, a, b);
+        given = (seat-room h middle n y same here (omega arith) events room).given;
+      };
+    }

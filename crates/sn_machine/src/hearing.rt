@@ -1,0 +1,42 @@
+//! What the processors and the service controller hear of an event of the fabric.
+ghost use Rattle.std.specs.Prelude.{◌≡◌, ◌<◌, length, slice_set, Some};
+ghost use Rattle.reg_ckpt.specs.Kept.{next, freed_below};
+ghost use Rattle.sn_model.specs.MachineEvents.{unreserved};
+ghost use Rattle.sn_machine.specs.Hearing.{CanHear, Hear};
+ghost use Rattle.sn_machine.specs.Parts.{seat_at};
+
+use crate::processor::{Processor, unreserve};
+use sn_base::{BlockNo, Interval, NodeId};
+use sn_model::Told;
+use validation::Controller;
+
+/// A core keeps no reservation on a copy that is lost.
+fn lose_copy(processors: &mut Vec<Processor>, node: NodeId, block: BlockNo)
+    requires { node < length processors.old.items }
+    ensures { processors.new.items ≡ slice_set processors.old.items node (record (seat_at processors.old.items node) { core = unreserved (seat_at processors.old.items node).core block }) }
+{
+    let processor = &mut processors[usize::from(node.number())];
+    unreserve(&mut processor.core, block);
+}
+
+/// A node frees the checkpoints below a recovery point.
+fn free_below(processors: &mut Vec<Processor>, node: NodeId, k: Interval)
+    requires here { node < length processors.old.items }
+    requires below { k < next (seat_at processors.old.items node).checkpoints }
+    ensures { processors.new.items ≡ slice_set processors.old.items node (record (seat_at processors.old.items node) { checkpoints = freed_below (seat_at processors.old.items node).checkpoints k }) }
+{
+    let processor = &mut processors[usize::from(node.number())];
+    processor.checkpoints.free_below(k);
+}
+
+/// A copy is lost, the controller gets a report, or a node hears of a recovery point.
+pub fn hear(processors: &mut Vec<Processor>, controller: &mut Controller, told: &Told)
+    requires { CanHear processors.old.items controller.old (Some told.now) }
+    ensures { Hear processors.old.items controller.old (Some told.now) processors.new.items controller.new }
+{
+    match told {
+        Told::LostCopy(node, block) => lose_copy(processors, *node, *block),
+        Told::Ready(node, k) => controller.ready(*node, *k),
+        Told::Advance(node, k) => free_below(processors, *node, *k),
+    }
+}

@@ -1,0 +1,112 @@
+//! What else can be asked of a machine, between two events.
+ghost use Rattle.std.specs.Prelude.{◌≡◌, ℕ, ◌*◌, ◌<◌, ◌≤◌, true, false, length, IfSome, IsNone};
+ghost use Rattle.rv_core.specs.Core.{is_running};
+ghost use Rattle.route_plan.specs.Distances.{is_dead};
+ghost use Rattle.sn_model.specs.Caches.{block_count};
+ghost use Rattle.sn_model.specs.Fabric.{node_at};
+ghost use Rattle.sn_model.specs.Machine.{processor_at};
+ghost use Rattle.sn_model.specs.NodeEvents.{ready_of};
+ghost use Rattle.sn_fabric.specs.Nets.{net_as};
+ghost use Rattle.sn_machine.specs.Machine.{MachineData, next_of, flat_of};
+ghost use Rattle.sn_machine.specs.Looks.{wanted_block, can_go_from, have_ended};
+
+use crate::machine::Machine;
+use crate::processor::is_running;
+use crate::steps::block_at;
+use rv_core::{CoreState, Want};
+use sn_base::{Answer, BlockNo, Event, Image, Interval, NodeId, SwitchId};
+use switch_net::Net;
+
+/// The block that a core's next instruction wants.
+fn wanted_block(core: &CoreState, image: &Image) -> Option<BlockNo>
+    ensures { result ≡ wanted_block image.now core.now }
+{
+    if !is_running(core) {
+        return None;
+    }
+    match core.want(image) {
+        Want::Nothing | Want::Input => None,
+        Want::Load(address) => Some(block_at(address)),
+        Want::Store(address) => Some(block_at(address)),
+        Want::Amo(address) => Some(block_at(address)),
+        Want::Lr(address) => Some(block_at(address)),
+        Want::Sc(address) => Some(block_at(address)),
+    }
+}
+
+impl Machine {
+    /// The network. Contracts see it in the words of its own layer.
+    pub fn net(&self) -> &Net
+        ensures nodes { result.now.routes.nodes ≡ self.now.config.nodes }
+        ensures carried { net_as result.now ≡ self.now.state.fabric.net }
+    {
+        self.hardware.fabric.net()
+    }
+
+    /// The interval of a node.
+    pub fn now(&self, node: NodeId) -> Interval
+        requires { node < self.now.config.nodes }
+        ensures { result ≡ (node_at self.now.state.fabric node).now }
+    {
+        self.hardware.fabric.now(node)
+    }
+
+    /// The checkpoint that a report of the node would say now.
+    pub fn ready(&self, node: NodeId) -> Interval
+        requires { node < self.now.config.nodes }
+        ensures { result ≡ ready_of self.now.state.fabric node }
+    {
+        self.hardware.fabric.ready(node)
+    }
+
+    /// A node's core as it runs.
+    pub fn core(&self, node: NodeId) -> &CoreState
+        requires { node < self.now.config.nodes }
+        ensures { result.now ≡ (processor_at self.now.state node).core }
+    {
+        &self.hardware.processors[usize::from(node.number())].core
+    }
+
+    pub fn is_dead(&self, switch: SwitchId) -> bool
+        requires { switch < 2 * self.now.config.nodes }
+        ensures { result ≡ is_dead self.now.state.fabric.net.dead switch }
+    {
+        self.net().is_dead(switch)
+    }
+
+    /// Where a step of the node would be answered NeedsEvict: the least block of the set of the wanted block that an eviction
+    /// would let go now, by a drop or a put. None where there is none, and where a step has another answer.
+    pub fn least_line(&self, node: NodeId) -> Option<BlockNo>
+        requires { node < self.now.config.nodes }
+        ensures none { IsNone result → (next_of self.now (Event.Step node)).answer ≡ Answer.NeedsEvict
+            → (b : ℕ) → b < block_count → can_go_from self.now node b ≡ false }
+        ensures some { IfSome result (λ least. ((next_of self.now (Event.Step node)).answer ≡ Answer.NeedsEvict) × (can_go_from self.now node least ≡ true)
+            × ((b : ℕ) → b < least → can_go_from self.now node b ≡ false)) }
+    {
+        let Answer::NeedsEvict = self.foresee(Event::Step(node)) else {
+            return None;
+        };
+        let block = wanted_block(self.core(node), &self.image)?;
+        self.hardware.fabric.least_line(node, block)
+    }
+
+    /// Whether all cores have ended at the recovery point.
+    pub fn over(&self) -> bool
+        ensures { result ≡ have_ended self.now.config.nodes (flat_of self.now) }
+    {
+        let view = self.recovered();
+        'nodes: for number in 0..self.config.nodes {
+            if is_running(view.core(node_of(number))) {
+                return false;
+            }
+        }
+        true
+    }
+}
+
+fn node_of(number: u8) -> NodeId
+    requires { number < 16 }
+    ensures { result ≡ number }
+{
+    NodeId::new(number).unwrap()
+}
