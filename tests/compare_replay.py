@@ -1,12 +1,15 @@
 #!/usr/bin/env python3
-"""Compares `replay` on one node with a reference simulator, on random programs and scripts.
+"""Compares `replay` on 1 to 16 nodes with a reference simulator, on random programs and scripts of every event.
 
-    tests/compare_one_node.py PROGRAM SIMULATOR [COUNT] [SEED]
+    tests/compare_replay.py PROGRAM SIMULATOR [COUNT] [SEED]
 
-PROGRAM is the built program, SIMULATOR a reference simulator; both take `replay --nodes 1 FILE SCRIPT`, and the simulator
-`--main` before it, to name a status as the program does. Console, report and exit status must be the same. Programs are of ADDI
-and ECALL, half of them hexadecimal images and half ELF files; a tenth of the files is cut or has a byte changed. Scripts are of
-the events of one node without memory traffic.
+PROGRAM is the built program, SIMULATOR a reference simulator; both take `replay --nodes N FILE SCRIPT`, and the simulator
+`--main` before it, to name a status as the program does. Console, report and exit status must be the same.
+
+The programs' cores share eight blocks, more than a set of a cache holds: they load, store, reserve, add, put bytes out and ask for
+them, branch and loop. Half of the files are hexadecimal images, half ELF files; a tenth is cut or has a byte changed. Most scripts
+are the journal of a run that the simulator makes with losses and dying switches, some of them with events between that fit
+nothing, lines left out and lines doubled; the others are events at random, a network that is full, and lines that are no events.
 """
 import random
 import struct
@@ -22,28 +25,79 @@ START = 0x80000000
 # The place of the code in an ELF file, after the file header and two program headers.
 CODE = 52 + 2 * 32
 
-# The status of a program that needs memory, which the simulator runs. A byte that is changed can make one.
-NOT_BUILT = 11
+# The most messages in flight.
+NET_LIMIT = 1024
+
+LOAD_KINDS = [0, 1, 2, 4, 5]
+
+# Add, swap, xor, or, and, and the four of least and greatest.
+ATOMIC_KINDS = [0, 1, 4, 8, 12, 16, 20, 24, 28]
+
+LOAD_RESERVED, STORE_CONDITIONAL = 2, 3
+
+
+def lui(rd, upper):
+    return upper << 12 | rd << 7 | 0x37
 
 
 def addi(rd, rs1, immediate):
     return (immediate & 0xFFF) << 20 | rs1 << 15 | rd << 7 | 0x13
 
 
+def load(kind, rd, rs1, offset):
+    return (offset & 0xFFF) << 20 | rs1 << 15 | kind << 12 | rd << 7 | 0x03
+
+
+def store(kind, rs2, rs1, offset):
+    return (offset >> 5 & 0x7F) << 25 | rs2 << 20 | rs1 << 15 | kind << 12 | (offset & 0x1F) << 7 | 0x23
+
+
+def atomic(kind, rd, rs1, rs2):
+    return kind << 27 | rs2 << 20 | rs1 << 15 | 2 << 12 | rd << 7 | 0x2F
+
+
+def branch(kind, rs1, rs2, offset):
+    high = (offset >> 12 & 1) << 31 | (offset >> 5 & 0x3F) << 25
+    return high | rs2 << 20 | rs1 << 15 | kind << 12 | (offset >> 1 & 0xF) << 8 | (offset >> 11 & 1) << 7 | 0x63
+
+
+def jal(rd, offset):
+    return (offset >> 20 & 1) << 31 | (offset >> 1 & 0x3FF) << 21 | (offset >> 11 & 1) << 20 | (offset >> 12 & 0xFF) << 12 | rd << 7 | 0x6F
+
+
+def instruction(choose, place):
+    """One word at random. x5 to x9 hold addresses of one set's blocks, x11 to x14 values."""
+    base, value, into = choose.randrange(5, 10), choose.choice([10, 11, 12, 13, 14]), choose.randrange(11, 15)
+    kind = choose.choices(["load", "store", "atomic", "reserve", "conditional", "add", "move", "call", "branch", "back"],
+                          [16, 16, 8, 6, 6, 10, 14, 12, 6, 3])[0]
+    if kind == "load":
+        width = choose.choice(LOAD_KINDS)
+        return load(width, into, base, choose.randrange(0, 16) * (4 if width == 2 else 2 if width in (1, 5) else 1))
+    if kind == "store":
+        width = choose.randrange(3)
+        return store(width, value, base, choose.randrange(0, 16) << width)
+    if kind == "atomic":
+        return atomic(choose.choice(ATOMIC_KINDS), into, base, value)
+    if kind == "reserve":
+        return atomic(LOAD_RESERVED, into, base, 0)
+    if kind == "conditional":
+        return atomic(STORE_CONDITIONAL, into, base, value)
+    if kind == "add":
+        return addi(into, value, choose.randrange(-300, 300))
+    if kind == "move":
+        return lui(base, 0x80001 + choose.randrange(8))
+    if kind == "call":
+        return choose.choice([ECALL, ECALL, addi(17, 0, 1), addi(17, 0, choose.choice([1, 1, 2, 93, 7])), addi(10, value, 65)])
+    if kind == "branch":
+        return branch(choose.choice([0, 1, 4, 5, 6, 7]), value, into, choose.choice([8, 12]))
+    return choose.choice([jal(0, -4 * choose.randrange(0, min(place, 12) + 1)), choose.randrange(2**32)])
+
+
 def program(choose):
-    """Words that mostly put bytes out, sometimes end or ask for input, and sometimes call nothing."""
-    words = [addi(17, 0, 1)] if choose.random() < 0.8 else []
-    for _ in range(choose.randrange(1, 24)):
-        kind = choose.random()
-        if kind < 0.4:
-            words.append(ECALL)
-        elif kind < 0.5:
-            words.append(addi(17, 0, choose.choice([1, 1, 1, 1, 1, 1, 2, 93, 7])))
-        elif kind < 0.8:
-            words.append(addi(10, choose.choice([0, 10]), choose.randrange(-300, 300)))
-        else:
-            words.append(addi(choose.choice([5, 6, 10, 10, 31, 0]), choose.randrange(32), choose.randrange(-2048, 2048)))
-    return words
+    words = [lui(base, 0x80001 + choose.randrange(8)) for base in range(5, 10)] + [addi(17, 0, choose.choice([1, 1, 2]))]
+    for _ in range(choose.randrange(4, 40)):
+        words.append(instruction(choose, len(words)))
+    return words + [jal(0, -4 * len(words))]
 
 
 def hexadecimal_image(choose, words):
@@ -74,22 +128,72 @@ def spoiled(choose, file):
     return file[:place] + bytes([choose.randrange(256)]) + file[place + 1:]
 
 
-def script(choose):
-    """Events that often go through to a validation: what was sent is mostly delivered, and an edge mostly reported."""
-    lines, sent = [], 0
-    for _ in range(choose.randrange(0, 90)):
-        kind = choose.choices(["step", "edge", "deliver", "report", "validate", "recover"], [45, 8, 20, 12, 14, 2])[0]
-        if kind == "deliver":
-            kind = f"deliver {choose.randrange(max(0, sent - 2), sent + 1) if choose.random() < 0.8 else choose.randrange(0, sent + 3)}"
-        elif kind in ("step", "edge", "report"):
-            sent += kind == "report"
-            kind += " 0"
-        lines.append(kind)
-    return "".join(line + "\n" for line in lines)
+def event(choose, nodes, sent):
+    """An event at random, most of whose numbers are near those that are there."""
+    node = choose.randrange(nodes)
+    message = choose.randrange(max(0, sent - 6), sent + 2) if choose.random() < 0.9 else choose.choice([0, 10**6, 2**64 - 1])
+    kind = choose.choices(["step", "evict", "edge", "hop", "deliver", "lose", "kill", "report", "validate", "recover", "input"],
+                          [30, 12, 6, 14, 16, 2, 1, 8, 5, 1, 4])[0]
+    if kind == "evict":
+        return f"evict {node} {choose.choice([64 * choose.randrange(1, 9), 64, choose.randrange(65536)])}"
+    if kind in ("hop", "deliver", "lose"):
+        return f"{kind} {message}"
+    if kind == "kill":
+        return f"kill {choose.choice('ab')}{node}"
+    if kind == "input":
+        return f"input {node} {choose.randrange(256):02x}"
+    return kind if kind in ("validate", "recover") else f"{kind} {node}"
 
 
-def run(command, folder):
-    done = subprocess.run([*command, "replay", "--nodes", "1", "program", "events.script"], cwd=folder, capture_output=True)
+def journal(choose, simulator, nodes, folder):
+    """The journal of a run: each event is due, so that much is done in few events."""
+    options = ["--nodes", nodes, "--seed", choose.randrange(10**6), "--budget", choose.randrange(20, 1500),
+               "--interval", choose.choice([1, 3, 10, 40]), "--wait", choose.choice([100, 400, 2000]),
+               "--lose-every", choose.choice([0, 0, 13, 60])]
+    if choose.random() < 0.25:
+        options += ["--kill", f"{choose.choice('ab')}{choose.randrange(nodes)}@{choose.randrange(300)}"]
+    done = subprocess.run([simulator, "--schedule", str(choose.randrange(10**6)), "run", *map(str, options), "--journal", "program"],
+                          cwd=folder, capture_output=True)
+    return done.stderr.decode().splitlines()
+
+
+def disturbed(choose, lines, nodes):
+    """Lines left out and doubled, and others between them."""
+    result = []
+    for place, line in enumerate(lines):
+        draw = choose.random()
+        if draw > 0.01:
+            result.append(line)
+        if 0.01 < draw < 0.02:
+            result.append(line)
+        elif draw > 0.95:
+            result.append(event(choose, nodes, place // 2))
+    return result
+
+
+def wrong_line(choose, nodes):
+    return choose.choice([f"step {nodes}", f"kill a{nodes}", "evict 0 65536", "step 00", "Step 0", " step 0", "step 0 ", "step", "hop",
+                          "deliver 18446744073709551616", "input 0 5", "input 0 5A", "kill c0", "evict 0", "fly", "\t", "validate 0"])
+
+
+def script(choose, simulator, nodes, folder):
+    kind = choose.choices(["journal", "disturbed", "random", "full"], [40, 35, 20, 5])[0]
+    if kind == "full":
+        lines = ["report 0"] * (NET_LIMIT - choose.randrange(0, 4)) + [event(choose, nodes, NET_LIMIT) for _ in range(60)]
+    elif kind == "random":
+        lines = [event(choose, nodes, place // 3) for place in range(choose.randrange(0, 200))]
+    else:
+        lines = journal(choose, simulator, nodes, folder)
+        lines = disturbed(choose, lines, nodes) if kind == "disturbed" else lines
+    if choose.random() < 0.05:
+        lines.insert(choose.randrange(len(lines) + 1), wrong_line(choose, nodes))
+    end = choose.choice(["\n", "\n", "\n", "\r\n"])
+    text = "".join(line + end for line in lines)
+    return choose.choice([text, text, text.rstrip()])
+
+
+def run(command, nodes, folder):
+    done = subprocess.run([*command, "replay", "--nodes", str(nodes), "program", "events.script"], cwd=folder, capture_output=True)
     return done.returncode, done.stdout, done.stderr
 
 
@@ -98,26 +202,27 @@ def main():
         print(__doc__)
         return 2
     built, simulator = (str(Path(name).resolve()) for name in sys.argv[1:3])
-    count, seed = int(sys.argv[3]) if len(sys.argv) > 3 else 2000, sys.argv[4] if len(sys.argv) > 4 else "1"
-    released = refused = left_out = 0
+    count, seed = int(sys.argv[3]) if len(sys.argv) > 3 else 1000, sys.argv[4] if len(sys.argv) > 4 else "1"
+    events = released = refused = 0
     with tempfile.TemporaryDirectory() as folder:
         for case in range(count):
             choose = random.Random(f"{seed} {case}")
+            nodes = choose.choice([1, 2, 2, 3, 4, 4, 6, 8, choose.randrange(1, 17)])
             file = choose.choice([hexadecimal_image, elf_file])(choose, program(choose))
-            is_spoiled = choose.random() < 0.1
-            Path(folder, "program").write_bytes(spoiled(choose, file) if is_spoiled else file)
-            Path(folder, "events.script").write_text(script(choose))
-            found, expected = run([built], folder), run([simulator, "--main"], folder)
-            if is_spoiled and found[0] == NOT_BUILT:
-                left_out += 1
-                continue
+            Path(folder, "program").write_bytes(file)
+            text = script(choose, simulator, nodes, folder)
+            Path(folder, "events.script").write_text(text)
+            if choose.random() < 0.1:
+                Path(folder, "program").write_bytes(spoiled(choose, file))
+            found, expected = run([built], nodes, folder), run([simulator, "--main"], nodes, folder)
             if found != expected:
-                print(f"case {case}: {found} and not {expected}")
-                print(Path(folder, "program").read_bytes(), Path(folder, "events.script").read_text())
+                print(f"case {case}, {nodes} nodes: {found} and not {expected}")
+                print(Path(folder, "program").read_bytes(), text)
                 return 1
+            events += found[2].count(b": ")
             released += len(found[1])
             refused += found[0] != 0
-    print(f"{count} scripts, no difference; {released} bytes released, {refused} files refused, {left_out} left out")
+    print(f"{count} scripts, no difference; {events} events, {released} bytes released, {refused} files refused")
     return 0
 
 
