@@ -1,6 +1,7 @@
 #!/usr/bin/env bash
-# Runs each example by the README's first command, its program once as hexadecimal words and once as an ELF file, and compares
-# console, report and status with the files beside it. Then runs programs that are refused, and compares the status and its word.
+# Runs each example by the README's first command and compares console, report and status with the files beside it: the first
+# program once as hexadecimal words and once as an ELF file, and those of examples/shared by the words that their scripts begin
+# with. Then runs programs, scripts and words that are refused, and compares the status and its word.
 set -u
 cd "$(dirname "$0")/../.." || exit 1
 failed=0 passed=0
@@ -9,44 +10,71 @@ trap 'rm -rf "$work"' EXIT
 
 ./safetynet --build || { echo "the program was not built" >&2; exit 1; }
 
-for script in examples/first/*.script; do
-  name=${script%.script}
-  for program in examples/first/a.hex examples/first/a.elf; do
-    ./safetynet replay --nodes 1 "$program" "$script" >"$work/console" 2>"$work/report"
-    status=$?
-    if [ "$status" -eq 0 ] && cmp -s "$work/console" "$name.console" && diff "$name.report" "$work/report"; then
-      passed=$((passed + 1))
-    else
-      echo "example $name of $program: status $status, or another console or report" >&2
-      failed=$((failed + 1))
-    fi
-  done
-done
-
-# Replays the program in $work/program, which is to be refused with this status and this word.
-refused() { # status, word
-  ./safetynet replay --nodes 1 "$work/program" examples/first/a.script >"$work/console" 2>"$work/report"
-  local status=$?
-  if [ "$status" -eq "$1" ] && [ ! -s "$work/console" ] && diff <(echo "# safetynet: $2") "$work/report"; then
+# Replays an example, whose console and report stand beside its script.
+shows() { # nodes, program, script
+  local name=${3%.script} status
+  ./safetynet replay --nodes "$1" "$2" "$3" >"$work/console" 2>"$work/report"
+  status=$?
+  if [ "$status" -eq 0 ] && cmp -s "$work/console" "$name.console" && diff "$name.report" "$work/report"; then
     passed=$((passed + 1))
   else
-    echo "a program that is refused as $2: status $status, or something else was written" >&2
+    echo "example $name of $2: status $status, or another console or report" >&2
     failed=$((failed + 1))
   fi
 }
 
+for script in examples/first/*.script; do
+  for program in examples/first/a.hex examples/first/a.elf; do
+    shows 1 "$program" "$script"
+  done
+done
+for script in examples/shared/*.script; do
+  read -r _ _ _ nodes program <"$script"
+  shows "$nodes" "examples/shared/$program" "$script"
+done
+
+# Replays these files, which are to be refused with this status and this word.
+refused() { # status, word, program, script, nodes
+  ./safetynet replay --nodes "${5:-1}" "$3" "$4" >"$work/console" 2>"$work/report"
+  local status=$?
+  if [ "$status" -eq "$1" ] && [ ! -s "$work/console" ] && diff <(echo "# safetynet: $2") "$work/report"; then
+    passed=$((passed + 1))
+  else
+    echo "what is refused as $2: status $status, or something else was written" >&2
+    failed=$((failed + 1))
+  fi
+}
+refused_program() { # status, word
+  refused "$1" "$2" "$work/program" examples/first/a.script
+}
+refused_script() { # word
+  refused 4 "$1" examples/first/a.hex "$work/script"
+}
+
 printf '0410051' >"$work/program"
-refused 3 'program badhexline'
+refused_program 3 'program badhexline'
 head -c 4115 examples/first/a.elf >"$work/program"
-refused 3 'program truncated'
+refused_program 3 'program truncated'
 # A comment of 16 MiB is a file without a word, and one of a byte more is too long.
 head -c 16777216 /dev/zero | tr '\0' '#' >"$work/program"
-refused 3 'program badentry'
+refused_program 3 'program badentry'
 printf '#' >>"$work/program"
-refused 3 'program toolong'
-# lw x5, 0(x1)
-printf '00000013\n0000a283\n' >"$work/program"
-refused 11 'notbuilt'
+refused_program 3 'program toolong'
+
+printf 'step 0\n step 0\n' >"$work/script"
+refused_script 'script badline'
+printf 'step 1\n' >"$work/script"
+refused_script 'script outofrange'
+yes validate | head -n 1000001 >"$work/script"
+refused_script 'script toomany'
+# A comment of 32 MiB is a script without an event, and one of a byte more is too long.
+head -c 33554433 /dev/zero | tr '\0' '#' >"$work/script"
+refused_script 'script toolong'
+
+for nodes in 0 17 01 x; do
+  refused 1 usage examples/first/a.hex examples/first/a.script "$nodes"
+done
+refused 2 store examples/first/lacking.hex examples/first/a.script
 
 echo "examples: $passed passed, $failed failed"
 [ "$failed" -eq 0 ]

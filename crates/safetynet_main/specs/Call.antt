@@ -1,5 +1,6 @@
 -- What a call comes to: by the words, by what was found of the files, and by the sinks.
-use Rattle.std.specs.Prelude.{◌≡◌, ℕ, ◌≤◌, true, List, length, nat_lt, if◌then◌else◌, Option, Some, None, IfSome, MatchOption, Result, Ok, Err, MatchResult, ◌⊎◌, Vec}
+use Rattle.std.specs.Prelude.{◌≡◌, ℕ, ◌≤◌, ◌⊎◌, true, nat_lt, if◌then◌else◌, List, length, Vec}
+use Rattle.std.specs.Prelude.{Option, Some, None, IfSome, MatchOption, Result, Ok, Err, MatchResult}
 use Rattle.std.specs.declared.alloc.Global.{Global}
 use Rattle.sn_base.specs.Config.{config_fits}
 use Rattle.sn_base.specs.Image.{ImageData}
@@ -12,7 +13,7 @@ use Rattle.sn_model.specs.Machine.{start_of}
 use Rattle.sn_machine.specs.Machine.{MachineData}
 use Rattle.consistent_cuts.specs.Runs.{AllFit}
 use Rattle.safetynet_main.specs.Program.{program_limit, program_of}
-use Rattle.safetynet_main.specs.Pieces.{Ends, after, Breaks, pieces_of}
+use Rattle.safetynet_main.specs.Pieces.{Piece, Ends, after, Breaks, pieces_of}
 use Rattle.safetynet_main.specs.Shown.{IsShown, IsShownInPart}
 use Rattle.safetynet_main.specs.Request.{Request, sizes_of}
 use Rattle.safetynet_main.specs.declared.call.Job.{Job}
@@ -78,7 +79,8 @@ abbrev pub Loads : {S : Type 0} → (S → List ℕ → ℕ → Found → S → 
 Loads {S} fetches request job old new =
     (program : Found) × (mid : S) × fetches old request.program program_limit program mid
     × MatchResult (program_in program)
-    (λ image. (script : Found) × fetches mid request.script script_limit script new × (job ≡ with_program request.nodes image (script_in request.nodes script)))
+    (λ image. (script : Found) × fetches mid request.script script_limit script new
+    × (job ≡ with_program request.nodes image (script_in request.nodes script)))
     (λ status. (new ≡ mid) × (job ≡ Err status))
 
 -- what is due over these files, by the words
@@ -87,12 +89,16 @@ due_of held None = Err Usage
 due_of held (Some request) =
     with_script request.nodes (program_in (found_in (held request.program) program_limit)) (found_in (held request.script) script_limit)
 
+-- all that a job puts
+abbrev pub pieces_due : Job → List Piece
+pieces_due job = pieces_of job.program (sizes_of job.nodes) job.script
+
 -- what is due is done: a refusal is the status and nothing is written; else all pieces are put, or a sink broke
 abbrev pub Follows : Result Job Status → Status → Ends → Ends → Type 0
 Follows (Err refusal) status old new = (status ≡ refusal) × (new ≡ old)
 Follows (Ok job) status old new =
-    ((status ≡ Done) × (new ≡ after old (pieces_of job.program (sizes_of job.nodes) job.script)) × IsShown job.program (sizes_of job.nodes) job.script old new)
-    ⊎ ((status ≡ SinkFault) × Breaks (pieces_of job.program (sizes_of job.nodes) job.script) old new × IsShownInPart job.program (sizes_of job.nodes) job.script old new)
+    ((status ≡ Done) × (new ≡ after old (pieces_due job)) × IsShown job.program (sizes_of job.nodes) job.script old new)
+    ⊎ ((status ≡ SinkFault) × Breaks (pieces_due job) old new × IsShownInPart job.program (sizes_of job.nodes) job.script old new)
 
 -- what a call comes to, over any store
 abbrev pub Comes : {S : Type 0} → (S → List ℕ → ℕ → Found → S → Type 0) → Option Request → Status → S → S → Ends → Ends → Type 0

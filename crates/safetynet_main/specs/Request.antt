@@ -1,5 +1,5 @@
 -- What the words ask for.
-use Rattle.std.specs.Prelude.{ℕ, ◌+◌, ◌-◌, nat_eq, ◌&&◌, List, [], ◌∷◌, codes, Option, Some, None, bytes_eq, if◌then◌else◌}
+use Rattle.std.specs.Prelude.{ℕ, ◌+◌, ◌-◌, ◌&&◌, nat_eq, List, [], ◌∷◌, codes, Option, Some, None, bytes_eq, if◌then◌else◌}
 use Rattle.sn_base.specs.Config.{lies_in}
 use Rattle.sn_base.specs.declared.config.Config.{Config}
 

@@ -1,7 +1,8 @@
 -- The numbers and words of the statuses.
 use Rattle.std.specs.Prelude.{ℕ, List, ◌++◌, codes}
 use Rattle.elf_load.specs.declared.fault.LoadCause.{LoadCause}
-use Rattle.elf_load.specs.declared.fault.LoadCause.TheVariants.{Empty, BadHexLine, TooManyWords, Truncated, WrongField, Compressed, TooManySegments, FileLargerThanMemory, Outside, Overlap, WritableCode, BadEntry}
+use Rattle.elf_load.specs.declared.fault.LoadCause.TheVariants.{Empty, BadHexLine, TooManyWords, Truncated, WrongField, Compressed}
+use Rattle.elf_load.specs.declared.fault.LoadCause.TheVariants.{TooManySegments, FileLargerThanMemory, Outside, Overlap, WritableCode, BadEntry}
 use Rattle.sn_text.specs.declared.cause.ScriptCause.{ScriptCause}
 use Rattle.sn_text.specs.declared.cause.ScriptCause.TheVariants.{TooLong as ScriptTooLong, BadLine, OutOfRange, TooMany}
 use Rattle.safetynet_main.specs.declared.status.ProgramCause.{ProgramCause}

@@ -1,5 +1,6 @@
 //! The call: words, program, script, memory, events, in this order.
-ghost use Rattle.std.specs.Prelude.{◌≡◌, ◌≢◌, ◌↔◌, ℕ, List, [], ◌≤◌, ◌⊎◌, true, map, length, Option, Some, None, Ok, Err, IfSome, IfOk, IsOk, string_bytes};
+ghost use Rattle.std.specs.Prelude.{◌≡◌, ◌≢◌, ◌↔◌, ℕ, ◌≤◌, ◌⊎◌, true, List, [], map, length, string_bytes};
+ghost use Rattle.std.specs.Prelude.{Option, Some, None, Ok, Err, IfSome, IfOk, IsOk};
 ghost use Rattle.sn_base.specs.Config.{config_fits};
 ghost use Rattle.sn_io.specs.Outside.{Rose, Found};
 ghost use Rattle.consistent_cuts.specs.Runs.{AllFit};
@@ -51,7 +52,9 @@ fn fetch_file<S: Store>(
 }
 
 fn fetch_program<S: Store>(alloc: Global, store: &mut S, name: &str) -> Result<Image, Status>
-    ensures { result ≢ Err Status.Memory → (found : Found) × Fetches S.files S.sure S.faults S.gave store.old name.now 16777216 found store.new × (result ≡ program_in found) }
+    ensures { result ≢ Err Status.Memory → (found : Found)
+        × Fetches S.files S.sure S.faults S.gave store.old name.now 16777216 found store.new
+        × (result ≡ program_in found) }
 {
     match fetch_file(alloc, store, name, PROGRAM_LIMIT) {
         Ok(bytes) => read_program(alloc, bytes.as_slice()),
@@ -68,7 +71,9 @@ fn fetch_script<S: Store>(
     nodes: u8,
 ) -> Result<Script, Status>
     requires { nodes ≤ 16 }
-    ensures found { result ≢ Err Status.Memory → (found : Found) × Fetches S.files S.sure S.faults S.gave store.old name.now 33554432 found store.new × (result ≡ script_in nodes found) }
+    ensures found { result ≢ Err Status.Memory → (found : Found)
+        × Fetches S.files S.sure S.faults S.gave store.old name.now 33554432 found store.new
+        × (result ≡ script_in nodes found) }
     ensures fit { IfOk result (λ script. AllFit nodes script) }
     ensures few { IfOk result (λ script. length script ≤ 1000000) }
 {
@@ -89,7 +94,8 @@ fn load<S: Store>(
 ) -> Result<Job, Status>
     requires some { 1 ≤ nodes }
     requires few { nodes ≤ 16 }
-    ensures loads { result ≢ Err Status.Memory → Loads (Fetches S.files S.sure S.faults S.gave) (record { nodes = nodes; program = program.now; script = script.now }) result store.old store.new }
+    ensures loads { result ≢ Err Status.Memory → Loads (Fetches S.files S.sure S.faults S.gave)
+        (record { nodes = nodes; program = program.now; script = script.now }) result store.old store.new }
     ensures read { IfOk result IsRead }
 {
     let program = match fetch_program(alloc, store, program) {
@@ -133,7 +139,8 @@ fn perform<C: Sink, R: Sink>(alloc: Global, job: Job, console: &mut C, report: &
     ensures follows { result ≢ Status.Memory → Follows (Ok job) result
         (ends (C.written console.old) (R.written report.old)) (ends (C.written console.new) (R.written report.new)) }
     ensures nothing { result ≡ Status.Memory → (console.new ≡ console.old) × (report.new ≡ report.old) }
-    ensures cause { result ≡ Status.SinkFault → Rose (C.faults console.old) (C.faults console.new) ⊎ Rose (R.faults report.old) (R.faults report.new) }
+    ensures cause { result ≡ Status.SinkFault
+        → Rose (C.faults console.old) (C.faults console.new) ⊎ Rose (R.faults report.old) (R.faults report.new) }
     ensures only { (result ≡ Status.Done) ⊎ (result ≡ Status.SinkFault) ⊎ (result ≡ Status.Memory) }
 {
     let Job {
@@ -161,10 +168,12 @@ fn answer<S: Store, C: Sink, R: Sink>(
     console: &mut C,
     report: &mut R,
 ) -> Status
-    ensures comes { result ≢ Status.Memory → Comes (Fetches S.files S.sure S.faults S.gave) (ask_of (map string_bytes words.now)) result store.old store.new
+    ensures comes { result ≢ Status.Memory → Comes (Fetches S.files S.sure S.faults S.gave)
+        (ask_of (map string_bytes words.now)) result store.old store.new
         (ends (C.written console.old) (R.written report.old)) (ends (C.written console.new) (R.written report.new)) }
     ensures nothing { result ≢ Status.Done → result ≢ Status.SinkFault → (console.new ≡ console.old) × (report.new ≡ report.old) }
-    ensures sink_fault { result ≡ Status.SinkFault → Rose (C.faults console.old) (C.faults console.new) ⊎ Rose (R.faults report.old) (R.faults report.new) }
+    ensures sink_fault { result ≡ Status.SinkFault
+        → Rose (C.faults console.old) (C.faults console.new) ⊎ Rose (R.faults report.old) (R.faults report.new) }
     ensures usage { (ask_of (map string_bytes words.now) ≡ None) → result ≡ Status.Usage }
 {
     let Some(asked) = read_words(words) else {
@@ -186,15 +195,18 @@ pub fn safetynet<S: Store, C: Sink, R: Sink>(
     report: &mut R,
 ) -> Status
     // Over any store "the file" is what a fetch of its name gave.
-    ensures comes { result ≢ Status.Memory → Comes (Fetches S.files S.sure S.faults S.gave) (ask_of (map string_bytes words.now)) result store.old store.new
+    ensures comes { result ≢ Status.Memory → Comes (Fetches S.files S.sure S.faults S.gave)
+        (ask_of (map string_bytes words.now)) result store.old store.new
         (ends (C.written console.old) (R.written report.old)) (ends (C.written console.new) (R.written report.new)) }
 
     // Over told files the words and the files say what is done.
-    ensures told { IfSome (S.files store.old) (λ held. result ≢ Status.Memory → result ≢ Status.StoreFault → Follows (due_of held (ask_of (map string_bytes words.now))) result
+    ensures told { IfSome (S.files store.old) (λ held. result ≢ Status.Memory → result ≢ Status.StoreFault
+        → Follows (due_of held (ask_of (map string_bytes words.now))) result
         (ends (C.written console.old) (R.written report.old)) (ends (C.written console.new) (R.written report.new))) }
 
     // Over a sure store the words and the files that it holds say what is done.
-    ensures sure { S.sure store.old → IfSome (S.files store.old) (λ held. result ≢ Status.Memory → Follows (due_of held (ask_of (map string_bytes words.now))) result
+    ensures sure { S.sure store.old → IfSome (S.files store.old) (λ held. result ≢ Status.Memory
+        → Follows (due_of held (ask_of (map string_bytes words.now))) result
         (ends (C.written console.old) (R.written report.old)) (ends (C.written console.new) (R.written report.new))) }
 
     // Where all is good and no sink's count rose, all is done, or memory was lacking.
@@ -205,7 +217,8 @@ pub fn safetynet<S: Store, C: Sink, R: Sink>(
     // Each answer has its cause.
     ensures usage { (result ≡ Status.Usage) ↔ (ask_of (map string_bytes words.now) ≡ None) }
     ensures store_fault { result ≡ Status.StoreFault → Rose (S.faults store.old) (S.faults store.new) }
-    ensures sink_fault { result ≡ Status.SinkFault → Rose (C.faults console.old) (C.faults console.new) ⊎ Rose (R.faults report.old) (R.faults report.new) }
+    ensures sink_fault { result ≡ Status.SinkFault
+        → Rose (C.faults console.old) (C.faults console.new) ⊎ Rose (R.faults report.old) (R.faults report.new) }
     ensures nothing { result ≢ Status.Done → result ≢ Status.SinkFault → (console.new ≡ console.old) × (report.new ≡ report.old) }
 {
     answer(alloc, words, store, console, report)

@@ -104,7 +104,8 @@ fn turn<C: Sink, R: Sink>(
         (ends (C.written console.old) (R.written report.old)) (ends (C.written console.new) (R.written report.new))) }
     ensures console_later { C.faults console.old ≤ C.faults console.new }
     ensures report_later { R.faults report.old ≤ R.faults report.new }
-    ensures cause { OnErr result (Rose (C.faults console.old) (C.faults console.new) ⊎ Rose (R.faults report.old) (R.faults report.new)) }
+    ensures cause { OnErr result
+        (Rose (C.faults console.old) (C.faults console.new) ⊎ Rose (R.faults report.old) (R.faults report.new)) }
 {
     let had = machine.recovered().released().len();
     let answer = machine.apply(*event);
@@ -131,7 +132,8 @@ pub fn play<C: Sink, R: Sink>(
         (ends (C.written console.old) (R.written report.old)) (ends (C.written console.new) (R.written report.new))) }
     ensures console_later { C.faults console.old ≤ C.faults console.new }
     ensures report_later { R.faults report.old ≤ R.faults report.new }
-    ensures cause { OnErr result (Rose (C.faults console.old) (C.faults console.new) ⊎ Rose (R.faults report.old) (R.faults report.new)) }
+    ensures cause { OnErr result
+        (Rose (C.faults console.old) (C.faults console.new) ⊎ Rose (R.faults report.old) (R.faults report.new)) }
 {
     'events: for event in events {
         turn(machine, line, event, console, report)?;

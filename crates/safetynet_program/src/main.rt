@@ -19,31 +19,48 @@ const VERSION: &str = "safetynet 0.1.0\n";
 const HELP: &str = "\
 Replays a list of events on a simulated SafetyNet multiprocessor.
 
-usage: safetynet replay --nodes 1 PROGRAM SCRIPT
+usage: safetynet replay --nodes N PROGRAM SCRIPT
        safetynet --help
        safetynet --version
 
+N is the number of nodes, 1 to 16.
 PROGRAM is a static ELF file for 32-bit RISC-V as a linker writes it, or a
 text with one word of eight hexadecimal digits a line, from 80000000 up, in
 which empty lines and lines that begin with # are skipped. It has at most
-16 MiB, and none of its instructions is a load, a store or an atomic
-operation.
-SCRIPT has at most 1,000,000 lines, each one event: step 0, edge 0,
-deliver I, report 0, validate or recover. Each line ends with a line feed.
+16 MiB. Each core begins at its entry, with the core's number in x10.
+SCRIPT has at most 32 MiB and 1,000,000 events, one a line; empty lines and
+lines that begin with # are skipped:
+
+  step N       the core of node N does one instruction
+  evict N B    the cache of node N gives up block B
+  edge N       node N takes a checkpoint, and its next interval begins
+  hop I        message I goes on to its next switch
+  deliver I    message I is taken, where it stands at its receiver
+  lose I       message I is lost
+  kill S       switch S dies: aN or bN of node N
+  report N     node N tells up to which checkpoint it has completed everything
+  validate     the recovery point rises by one checkpoint
+  recover      the whole machine goes back to the recovery point
+  input N BB   node N is given a byte, two hexadecimal digits
+
+Nodes count from 0. Block B is the 64 bytes from 80000000 + 64 B on. The
+report says which number each message has.
 
 The bytes that the program puts out go to standard output once their
 checkpoint is validated. The report goes to standard error: each event with
-its answer and the messages that it sent, and then a summary.
+its answer and the messages that it sent, after a recovery each core, and at
+the end a summary.
 
 exit status:
    0  done
    1  usage: the words aren't a command
    2  store: a file is lacking or couldn't be read
    3  program CAUSE: the program's file is too long or can't be loaded
+   4  script CAUSE: the script is too long (toolong, toomany), has a line
+      that is no event (badline), or names a node, a block or a switch that
+      isn't there (outofrange)
    5  sink: not all of the output could be written
    7  memory: there was not enough of it
-  11  notbuilt: the program has an instruction that needs memory, or the
-      script isn't of the form above
 ";
 
 /// What the program answers itself.
