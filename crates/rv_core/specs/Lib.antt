@@ -3,6 +3,5 @@ pub mod Arithmetic
 pub mod Access
 pub mod Step
 pub mod Wanted
-pub mod Plain
 pub mod Flat
 pub mod Execution

@@ -1,10 +1,9 @@
-//! Which accesses a program may make, and which words make some.
+//! Which accesses a program may make.
 ghost use Rattle.std.specs.Prelude.{◌≡◌};
 ghost use Rattle.rv_core.specs.Access.{width_of, fault_of};
-ghost use Rattle.rv_core.specs.Plain.{needs_memory};
 
 use crate::state::Cause;
-use rv_decode::{Instr, LoadOp, decode};
+use rv_decode::LoadOp;
 use sn_base::{BlockNo, Image, Width};
 
 pub(crate) fn width_of(op: LoadOp) -> Width
@@ -33,21 +32,4 @@ pub(crate) fn fault(image: &Image, width: Width, writes: bool, address: u32) -> 
         return Some(Cause::AccessFault);
     }
     None
-}
-
-/// Whether a word is a load, a store or an atomic operation (the opcodes LOAD, STORE and AMO). A program none of whose
-/// executable words is one never wants memory.
-pub fn needs_memory(word: u32) -> bool
-    ensures { result ≡ needs_memory word }
-{
-    match decode(word) {
-        Ok(
-            Instr::Load { .. }
-            | Instr::Store { .. }
-            | Instr::Lr { .. }
-            | Instr::Sc { .. }
-            | Instr::Amo { .. },
-        ) => true,
-        Ok(_) | Err(_) => false,
-    }
 }

@@ -16,6 +16,5 @@ mod rows;
 mod state;
 mod step;
 
-pub use access::needs_memory;
 pub use state::{Cause, CoreState, End};
 pub use step::{Effect, Record, Want};

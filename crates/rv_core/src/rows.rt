@@ -4,7 +4,7 @@ ghost use Rattle.rv_core.specs.Core.{is_running};
 
 #[cfg(test)]
 mod tests {
-    use crate::{Cause, CoreState, End, Want, needs_memory};
+    use crate::{Cause, CoreState, End, Want};
     use sn_base::{Image, Memory, NodeId, Segment};
     use std::alloc::Global;
     use std::test::Fail;
@@ -93,20 +93,5 @@ mod tests {
             assert_eq!(rt; core.x[6], x6);
         }
         Ok(())
-    }
-
-    #[test]
-    fn loads_stores_and_atomics_need_memory(rt: HostRuntime) {
-        for (word, needs) in [
-            (0x0000_2003, true),
-            (0x0000_3003, false),
-            (0x00a2_a023, true),
-            (0x1002_a32f, true),
-            (0xe062_a3af, true),
-            (0x0030_0093, false),
-            (0, false),
-        ] {
-            assert_eq!(rt; needs_memory(word), needs, "{word:08x}");
-        }
     }
 }
