@@ -21,6 +21,7 @@ mod cuts;
 mod deliveries;
 mod evictions;
 mod foresight;
+
 mod node;
 mod points;
 mod receiver;
@@ -28,14 +29,17 @@ mod recovery;
 mod replies;
 mod reports;
 mod sending;
+mod showing;
 mod start;
 mod switches;
 #[cfg(test)]
 mod tests;
 
 use home_directory::Home;
+pub use home_directory::Transaction;
 use node::Seat;
 use sn_base::{Config, Interval, NodeId};
+pub use mosi_cache::{Line, OpenMiss, OpenPut};
 pub use sn_model::{Need, Owner, Sent, Told};
 use std::marker::Model;
 use switch_net::Net;
