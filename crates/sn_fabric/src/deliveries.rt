@@ -11,7 +11,7 @@ ghost use Rattle.sn_fabric.specs.Deliveries.{receiver_of, HasCome, fault_as, loo
 
 use crate::node::Seat;
 use crate::receiver::{Receiver, receiver_of};
-use crate::replies::{lost_by, out_of, post_one, post_step};
+use crate::replies::{lost_by, out_of, post_one, post_step, take_out};
 use crate::{Fabric, Told};
 use mosi_cache::CacheStep;
 use sn_base::{Answer, Interval, MsgId};
@@ -110,11 +110,12 @@ impl Fabric {
         look_answer(look, self.net.count())
     }
 
-    /// Delivers a message that has arrived: its receiver takes it out of the network and does its row, and sends what that
-    /// says. The layer above is told of a copy that was lost, of a report to the service controller, and of a recovery point
-    /// of which a node has heard. What has no such number (`NoMessage`), is under way (`NotArrived`), comes from a later
-    /// interval than the receiver's (`Held`), or is a request about a block with an open transaction (`HomeBusy`) stays where
-    /// it is, and so does what the log (`LogFull`) or the network (`NetFull`) has no room for.
+    /// Delivers a message that has arrived: its receiver takes it out of the network, does its row, and sends what that says.
+    /// The layer above is told of a copy that was lost, of a report to the service controller, or of a recovery point of
+    /// which a node has heard. Nothing is done or told where no message in flight has the number (`NoMessage`), where it is
+    /// under way (`NotArrived`), where its interval hasn't begun at the receiver (`Held`), where it is a request about a
+    /// block with an open transaction (`HomeBusy`), and where the log (`LogFull`) or the network (`NetFull`) lacks the room
+    /// for what its row notes or sends.
     pub fn deliver(&mut self, id: MsgId) -> (Answer, Option<Told>)
         requires numbers { self.old.fabric.net.next_id ≤ 2 ^ 63 }
         ensures after { IsAfter self.old self.new result.0 (delivered self.old.config self.old.fabric id) }
@@ -175,8 +176,7 @@ impl Fabric {
         ensures after { IsAfter self.old self.new Delivered (delivered self.old.config self.old.fabric message.now.id) }
         ensures told { result ≡ (delivered self.old.config self.old.fabric message.now.id).told }
     {
-        self.sent.clear();
-        self.net.lose(message.id);
+        take_out(&mut self.net, &mut self.sent, message);
         let (to, block) = (message.to, message.block);
         let seat = &mut self.seats[usize::from(to.number())];
         let now = seat.clock.now();
@@ -195,8 +195,7 @@ impl Fabric {
         ensures after { IsAfter self.old self.new Delivered (delivered self.old.config self.old.fabric message.now.id) }
         ensures told { (delivered self.old.config self.old.fabric message.now.id).told ≡ None }
     {
-        self.sent.clear();
-        self.net.lose(message.id);
+        take_out(&mut self.net, &mut self.sent, message);
         let (to, block) = (message.to, message.block);
         let place = usize::from(to.number());
         let seat = &mut self.seats[place];
@@ -214,8 +213,7 @@ impl Fabric {
         ensures after { IsAfter self.old self.new Delivered (delivered self.old.config self.old.fabric message.now.id) }
         ensures told { Some result ≡ (delivered self.old.config self.old.fabric message.now.id).told }
     {
-        self.sent.clear();
-        self.net.lose(message.id);
+        take_out(&mut self.net, &mut self.sent, message);
         Told::Ready(message.from, k)
     }
 
@@ -227,8 +225,7 @@ impl Fabric {
         ensures after { IsAfter self.old self.new Delivered (delivered self.old.config self.old.fabric message.now.id) }
         ensures told { Some result ≡ (delivered self.old.config self.old.fabric message.now.id).told }
     {
-        self.sent.clear();
-        self.net.lose(message.id);
+        take_out(&mut self.net, &mut self.sent, message);
         let to = message.to;
         let seat = &mut self.seats[usize::from(to.number())];
         seat.clock.learn(k);

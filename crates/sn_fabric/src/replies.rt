@@ -1,5 +1,6 @@
-//! What is sent of a cache's or a home's answer to a message.
-ghost use Rattle.std.specs.Prelude.{◌≡◌, ◌+◌, ◌<◌, ◌≤◌, ◌^◌, ◌++◌, length, vec_capacity};
+//! What a delivery does to the network: it takes the message out, and sends what a cache or a home replies.
+ghost use Rattle.std.specs.Prelude.{◌≡◌, ◌+◌, ◌<◌, ◌≤◌, ◌^◌, ◌++◌, [], length, vec_capacity};
+ghost use Rattle.switch_net.specs.Net.{without};
 ghost use Rattle.sn_model.specs.Net.{posted, sent_by};
 ghost use Rattle.sn_fabric.specs.Deliveries.{out_of, lost_by, outs_of, invalidation, invalidations_of, home_outs, GoTo};
 ghost use Rattle.sn_fabric.specs.Nets.{net_as};
@@ -9,8 +10,18 @@ use home_directory::HomeStep;
 use mosi_cache::CacheStep;
 use sn_base::{BlockNo, Interval, NodeId, NodeSet};
 use sn_model::{Out, Sent, Told};
-use sn_msg::Body;
+use sn_msg::{Body, Message};
 use switch_net::Net;
+
+/// What every delivery begins with: the list is empty, and the message leaves the network.
+pub fn take_out(net: &mut Net, sent: &mut Vec<Sent>, message: &Message)
+    ensures net { net.new ≡ record net.old { flights = without net.old.flights message.now.id } }
+    ensures sent { sent.new.items ≡ [] }
+    ensures capacity { vec_capacity sent.old ≤ vec_capacity sent.new }
+{
+    sent.clear();
+    net.lose(message.id);
+}
 
 /// What a cache sends.
 pub fn out_of(step: &CacheStep) -> Option<Out>

@@ -28,26 +28,26 @@ pub receive-step-requires-clause-last : goal.receive-step-requires-clause-last
 receive-step-requires-clause-last c = cache-last c.self.inside.config (record { seats = c.self.inside.seats.items; homes = c.self.inside.homes.items; net = c.self.inside.net; point = c.self.inside.point }) c.self.invariant.0 c.args.message.now (rw (← c.self.view_is) at c.requires.come) c.requires.receiver c.from.result c.now-now.result c.index_mut-seat.result.now (c.from.ensures ∙ c.number.ensures.same) c.index_mut-seat.ensures.value c.now-now.ensures.same
 
 pub post_one-requires-clause-room : goal.post_one-requires-clause-room
-post_one-requires-clause-room c = cache-room c.self.inside.config (record { seats = c.self.inside.seats.items; homes = c.self.inside.homes.items; net = c.self.inside.net; point = c.self.inside.point }) c.self.invariant.0 c.args.message.now (rw (← c.self.view_is) at c.requires.come) c.requires.receiver c.from.result c.now-now.result c.index_mut-seat.result.now (c.from.ensures ∙ c.number.ensures.same) c.index_mut-seat.ensures.value c.now-now.ensures.same (rw (← c.self.view_is) at c.requires.delivers) c.receive-step.result c.receive-step.ensures.answer c.out_of-out.result c.out_of-out.ensures c.lose.new.self c.lose.ensures.lost
+post_one-requires-clause-room c = cache-room c.self.inside.config (record { seats = c.self.inside.seats.items; homes = c.self.inside.homes.items; net = c.self.inside.net; point = c.self.inside.point }) c.self.invariant.0 c.args.message.now (rw (← c.self.view_is) at c.requires.come) c.requires.receiver c.from.result c.now-now.result c.index_mut-seat.result.now (c.from.ensures ∙ c.number.ensures.same) c.index_mut-seat.ensures.value c.now-now.ensures.same (rw (← c.self.view_is) at c.requires.delivers) c.receive-step.result c.receive-step.ensures.answer c.out_of-out.result c.out_of-out.ensures c.take_out.new.net c.take_out.ensures.net
 
 pub post_one-requires-clause-sender : goal.post_one-requires-clause-sender
 post_one-requires-clause-sender c =
     let h = to-there c.self.inside.config (record { seats = c.self.inside.seats.items; homes = c.self.inside.homes.items; net = c.self.inside.net; point = c.self.inside.point }) c.self.invariant.0 c.args.message.now (rw (← c.self.view_is) at c.requires.come) in
-    rw c.lose.ensures.lost h
+    rw c.take_out.ensures.net h
 
 pub post_one-requires-clause-receivers : goal.post_one-requires-clause-receivers
-post_one-requires-clause-receivers c = cache-goes c.self.inside.config (record { seats = c.self.inside.seats.items; homes = c.self.inside.homes.items; net = c.self.inside.net; point = c.self.inside.point }) c.self.invariant.0 c.args.message.now (rw (← c.self.view_is) at c.requires.come) c.requires.receiver c.from.result c.now-now.result c.index_mut-seat.result.now (c.from.ensures ∙ c.number.ensures.same) c.index_mut-seat.ensures.value c.now-now.ensures.same (rw (← c.self.view_is) at c.requires.delivers) c.receive-step.result c.receive-step.ensures.answer c.out_of-out.result c.out_of-out.ensures c.lose.new.self c.lose.ensures.lost
+post_one-requires-clause-receivers c = cache-goes c.self.inside.config (record { seats = c.self.inside.seats.items; homes = c.self.inside.homes.items; net = c.self.inside.net; point = c.self.inside.point }) c.self.invariant.0 c.args.message.now (rw (← c.self.view_is) at c.requires.come) c.requires.receiver c.from.result c.now-now.result c.index_mut-seat.result.now (c.from.ensures ∙ c.number.ensures.same) c.index_mut-seat.ensures.value c.now-now.ensures.same (rw (← c.self.view_is) at c.requires.delivers) c.receive-step.result c.receive-step.ensures.answer c.out_of-out.result c.out_of-out.ensures c.take_out.new.net c.take_out.ensures.net
 
 pub invariant_of-self : goal.invariant_of-self
 invariant_of-self c = (
-  (cache-comes c.self.inside.config (record { seats = c.self.inside.seats.items; homes = c.self.inside.homes.items; net = c.self.inside.net; point = c.self.inside.point }) c.self.invariant.0 c.args.message.now (rw (← c.self.view_is) at c.requires.come) c.requires.receiver c.from.result c.now-now.result c.index_mut-seat.result.now (c.from.ensures ∙ c.number.ensures.same) c.index_mut-seat.ensures.value c.now-now.ensures.same (rw (← c.self.view_is) at c.requires.delivers) c.receive-step.result c.receive-step.ensures.answer c.out_of-out.result c.out_of-out.ensures c.lose.new.self c.lose.ensures.lost c.receive-step.new.seat c.post_one.new.net c.post_one.new.sent.items c.receive-step.ensures.seat c.post_one.ensures.routes c.post_one.ensures.net (rw c.clear.ensures.items at c.post_one.ensures.sent)).parts,
-  omega (arith, c.self.invariant.1, c.clear.ensures.capacity, c.post_one.ensures.capacity),
+  (cache-comes c.self.inside.config (record { seats = c.self.inside.seats.items; homes = c.self.inside.homes.items; net = c.self.inside.net; point = c.self.inside.point }) c.self.invariant.0 c.args.message.now (rw (← c.self.view_is) at c.requires.come) c.requires.receiver c.from.result c.now-now.result c.index_mut-seat.result.now (c.from.ensures ∙ c.number.ensures.same) c.index_mut-seat.ensures.value c.now-now.ensures.same (rw (← c.self.view_is) at c.requires.delivers) c.receive-step.result c.receive-step.ensures.answer c.out_of-out.result c.out_of-out.ensures c.take_out.new.net c.take_out.ensures.net c.receive-step.new.seat c.post_one.new.net c.post_one.new.sent.items c.receive-step.ensures.seat c.post_one.ensures.routes c.post_one.ensures.net (rw c.take_out.ensures.sent at c.post_one.ensures.sent)).parts,
+  omega (arith, c.self.invariant.1, c.take_out.ensures.capacity, c.post_one.ensures.capacity),
 )
 
 pub returns-clause-after : goal.returns-clause-after
 returns-clause-after c =
     after-whole c.self.inside.config (record { seats = c.self.inside.seats.items; homes = c.self.inside.homes.items; net = c.self.inside.net; point = c.self.inside.point }) (record { seats = set c.self.inside.seats.items c.from.result c.receive-step.new.seat; homes = c.self.inside.homes.items; net = c.post_one.new.net; point = c.self.inside.point }) c.self.inside.sent.items c.post_one.new.sent.items Delivered (λ (d : FabricData). delivered d.config d.fabric c.args.message.now.id) c.args.self.now c.self.view_is
-    (cache-comes c.self.inside.config (record { seats = c.self.inside.seats.items; homes = c.self.inside.homes.items; net = c.self.inside.net; point = c.self.inside.point }) c.self.invariant.0 c.args.message.now (rw (← c.self.view_is) at c.requires.come) c.requires.receiver c.from.result c.now-now.result c.index_mut-seat.result.now (c.from.ensures ∙ c.number.ensures.same) c.index_mut-seat.ensures.value c.now-now.ensures.same (rw (← c.self.view_is) at c.requires.delivers) c.receive-step.result c.receive-step.ensures.answer c.out_of-out.result c.out_of-out.ensures c.lose.new.self c.lose.ensures.lost c.receive-step.new.seat c.post_one.new.net c.post_one.new.sent.items c.receive-step.ensures.seat c.post_one.ensures.routes c.post_one.ensures.net (rw c.clear.ensures.items at c.post_one.ensures.sent))
+    (cache-comes c.self.inside.config (record { seats = c.self.inside.seats.items; homes = c.self.inside.homes.items; net = c.self.inside.net; point = c.self.inside.point }) c.self.invariant.0 c.args.message.now (rw (← c.self.view_is) at c.requires.come) c.requires.receiver c.from.result c.now-now.result c.index_mut-seat.result.now (c.from.ensures ∙ c.number.ensures.same) c.index_mut-seat.ensures.value c.now-now.ensures.same (rw (← c.self.view_is) at c.requires.delivers) c.receive-step.result c.receive-step.ensures.answer c.out_of-out.result c.out_of-out.ensures c.take_out.new.net c.take_out.ensures.net c.receive-step.new.seat c.post_one.new.net c.post_one.new.sent.items c.receive-step.ensures.seat c.post_one.ensures.routes c.post_one.ensures.net (rw c.take_out.ensures.sent at c.post_one.ensures.sent))
 
 pub returns-clause-told : goal.returns-clause-told
 returns-clause-told c =
