@@ -2,6 +2,7 @@
 ghost use Rattle.std.specs.Prelude.{◌≡◌, ◌/◌, ◌%◌, ◌<◌, true, length, map};
 ghost use Rattle.sn_model.specs.Homes.{Itself, OfCache};
 ghost use Rattle.home_directory.specs.Restored.{settled, begun_restore, had, CanHave, Stays, with_holder};
+ghost use Rattle.home_directory.specs.Restored.{stays-same, stays-along, can-part, can-way};
 
 use crate::Home;
 use crate::entry::Entry;
@@ -53,9 +54,6 @@ impl Home {
 
 /// A home holds of each of its blocks who owns it, and nothing of blocks of other homes.
 impl Restore for Home {
-    ghost use Rattle.std.specs.Prelude.{refl};
-    ghost use Rattle.std.proofs.Common.{◌∙◌, inl, inr};
-
     ghost home_side = { true };
 
     ghost holds = { had };
@@ -74,11 +72,11 @@ impl Restore for Home {
         }
     }
 
-    ghost stays_refl = { λ h. record { node = refl; nodes = refl; count = refl; sharers = λ p. refl; transactions = λ p. refl } };
+    ghost stays_refl = { stays-same };
 
-    ghost stays_trans = { λ f g h a b. record { node = b.node ∙ a.node; nodes = b.nodes ∙ a.nodes; count = b.count ∙ a.count; sharers = λ p. b.sharers p ∙ a.sharers p; transactions = λ p. b.transactions p ∙ a.transactions p } };
+    ghost stays_trans = { stays-along };
 
-    ghost part = { λ h part whole can is b other. elim (is b) [ inl e ↦ e ∙ can b other | inr e ↦ e ] };
+    ghost part = { can-part };
 
-    ghost way = { λ h before after between first last is b other. elim (is b) [ inl e ↦ e ∙ last b other | inr e ↦ e ∙ first b other ] };
+    ghost way = { can-way };
 }
