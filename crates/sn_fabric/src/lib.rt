@@ -21,7 +21,6 @@ mod cuts;
 mod deliveries;
 mod evictions;
 mod foresight;
-
 mod node;
 mod points;
 mod receiver;
@@ -37,9 +36,9 @@ mod tests;
 
 use home_directory::Home;
 pub use home_directory::Transaction;
+pub use mosi_cache::{Line, OpenMiss, OpenPut};
 use node::Seat;
 use sn_base::{Config, Interval, NodeId};
-pub use mosi_cache::{Line, OpenMiss, OpenPut};
 pub use sn_model::{Need, Owner, Sent, Told};
 use std::marker::Model;
 use switch_net::Net;

@@ -1,7 +1,7 @@
 //! Whole exchanges about a block, message by message, and the deliveries that are refused.
 use super::{access, bring, carry, deliver, edge, evict, is_here, load, node, sends, start, store};
 use crate::{Fabric, Need, Owner, Told};
-use sn_base::{Answer, Block, BlockNo, Interval, MsgId, NodeId, Width};
+use sn_base::{Answer, Block, BlockNo, Entries, Interval, MsgId, NodeId, Width};
 use sn_msg::{Body, Message};
 use std::process::Abort;
 use std::test::Fail;
@@ -57,6 +57,41 @@ fn a_read_gets_the_block_alone_from_its_home(rt: HostRuntime) -> Result<(), Fail
     assert!(rt; fabric.owner_at(block(), 0) == Owner::Home);
     assert!(rt; fabric.owner_at(block(), 1) == Owner::Cache(reader));
     assert!(rt; deliver(&rt, &mut fabric, 3) == (Answer::NoMessage, None));
+    Ok(())
+}
+
+/// What stands of the block: whether the node has a line, a miss and a put, and how many entries its log has.
+fn shown(fabric: &Fabric, node: NodeId) -> Option<(bool, bool, bool, usize)> {
+    if !is_here(fabric, node) {
+        return None;
+    }
+    let line = fabric.line(node, block()).is_some();
+    let miss = fabric.miss(node).is_some();
+    let put = fabric.put(node).is_some();
+    Some((line, miss, put, fabric.log(node).count()))
+}
+
+/// And of its home's entry: the owner, how many share it, and who asked for what is open.
+fn shown_at_home(fabric: &Fabric) -> (Owner, u8, Option<NodeId>) {
+    let asked = fabric.transaction(block()).map(|open| open.requester);
+    (
+        fabric.owner(block()),
+        fabric.sharers(block()).count(),
+        asked,
+    )
+}
+
+#[test]
+fn a_look_shows_what_stands(rt: HostRuntime) -> Result<(), Fail> {
+    let mut fabric = start(&rt, rt.alloc(), 2)?;
+    let reader = node(&rt, 1);
+    ask(&rt, &mut fabric, reader, Need::Read);
+    assert!(rt; shown(&fabric, reader) == Some((false, true, false, 0)));
+    assert!(rt; shown_at_home(&fabric) == (Owner::Home, 0, None));
+    assert!(rt; bring(&rt, &mut fabric, 1) == None);
+    assert!(rt; shown_at_home(&fabric) == (Owner::Cache(reader), 0, Some(reader)));
+    assert!(rt; bring(&rt, &mut fabric, 2) == None);
+    assert!(rt; shown(&fabric, reader) == Some((true, false, false, 1)));
     Ok(())
 }
 
