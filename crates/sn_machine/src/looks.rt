@@ -80,8 +80,8 @@ impl Machine {
         requires { node < self.now.config.nodes }
         ensures none { IsNone result → (next_of self.now (Event.Step node)).answer ≡ Answer.NeedsEvict
             → (b : ℕ) → b < block_count → can_go_from self.now node b ≡ false }
-        ensures some { IfSome result (λ least. ((next_of self.now (Event.Step node)).answer ≡ Answer.NeedsEvict) × (can_go_from self.now node least ≡ true)
-            × ((b : ℕ) → b < least → can_go_from self.now node b ≡ false)) }
+        ensures some { IfSome result (λ least. ((next_of self.now (Event.Step node)).answer ≡ Answer.NeedsEvict)
+            × (can_go_from self.now node least ≡ true) × ((b : ℕ) → b < least → can_go_from self.now node b ≡ false)) }
     {
         let Answer::NeedsEvict = self.foresee(Event::Step(node)) else {
             return None;
