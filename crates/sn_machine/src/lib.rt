@@ -26,5 +26,7 @@ mod steps;
 mod view;
 
 pub use machine::Machine;
+pub use sn_fabric::{Line, OpenMiss, OpenPut, Owner, Transaction};
+pub use sn_history::Pending;
 pub use sn_model::Sent;
 pub use view::View;
