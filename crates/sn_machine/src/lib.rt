@@ -23,6 +23,8 @@ mod processor;
 mod restoring;
 mod start;
 mod steps;
+#[cfg(test)]
+mod tests;
 mod view;
 
 pub use machine::Machine;
