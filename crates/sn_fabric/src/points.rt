@@ -9,18 +9,11 @@ ghost use Rattle.sn_fabric.specs.Nets.{net_as};
 ghost use Rattle.sn_fabric.specs.Points.{tellings};
 
 use crate::Fabric;
-use crate::sending::{lacks_room, post};
-use sn_base::{Answer, BlockNo, Interval, NodeId};
+use crate::sending::{lacks_room, node_of, post};
+use sn_base::{Answer, BlockNo, Interval};
 use sn_model::{Out, Sent};
 use sn_msg::Body;
 use switch_net::Net;
-
-fn node_of(number: u8) -> NodeId
-    requires { number < 16 }
-    ensures { result ≡ number }
-{
-    NodeId::new(number).unwrap()
-}
 
 /// Node 0 tells each node of a new recovery point, in order.
 fn tell_all(net: &mut Net, sent: &mut Vec<Sent>, nodes: u8, tag: Interval, k: Interval)

@@ -5,7 +5,7 @@ ghost use Rattle.sn_model.specs.Net.{posted, sent_by};
 ghost use Rattle.sn_fabric.specs.Deliveries.{out_of, lost_by, outs_of, invalidation, invalidations_of, home_outs, GoTo};
 ghost use Rattle.sn_fabric.specs.Nets.{net_as};
 
-use crate::sending::post;
+use crate::sending::{node_of, post};
 use home_directory::HomeStep;
 use mosi_cache::CacheStep;
 use sn_base::{BlockNo, Interval, NodeId, NodeSet};
@@ -41,13 +41,6 @@ pub fn lost_by(node: NodeId, step: &CacheStep) -> Option<Told>
         CacheStep::Took(_, Some(block)) => Some(Told::LostCopy(node, *block)),
         _ => None,
     }
-}
-
-fn node_of(number: u8) -> NodeId
-    requires { number < 16 }
-    ensures { result ≡ number }
-{
-    NodeId::new(number).unwrap()
 }
 
 /// An `Inv` that names r to a node, where it is one of the set.

@@ -21,10 +21,10 @@ use std::alloc::Global;
 use std::marker::Model;
 
 /// A record that a recovery may still undo, and the interval that it belongs to.
-#[derive(Clone, Copy)]
-pub(crate) struct Pending {
-    interval: Interval,
-    taken: Record,
+#[derive(Clone, Copy, PartialEq, Eq, Debug)]
+pub struct Pending {
+    pub interval: Interval,
+    pub taken: Record,
 }
 
 /// The records of a machine. Contracts see the pending and the committed ones, and how many more may be added.
@@ -115,6 +115,13 @@ impl History {
         self.pending.clear();
     }
 
+    /// The records that a recovery would undo, in order of retirement.
+    pub fn pending(&self) -> &[Pending]
+        ensures { result.now ≡ self.now.pending }
+    {
+        self.pending.as_slice()
+    }
+
     pub fn committed(&self) -> &[Record]
         ensures { result.now ≡ self.now.committed }
     {
@@ -154,6 +161,7 @@ mod tests {
         history.add(1, record(other, 4, Some(8)));
         history.add(0, record(node, 2, Some(9)));
         assert_eq!(rt; (history.taken(node), history.taken(other)), (2, 1));
+        assert_eq!(rt; (history.pending().len(), history.pending()[1].interval), (4, 0));
         history.commit_below(1);
         let seen = history.committed();
         assert_eq!(rt; seen.len(), 2);

@@ -7,9 +7,9 @@ use Rattle.sn_model.specs.MachineEvents.{unready_node}
 use Rattle.fabric_coherence.specs.Coherent.{Keeps, IsFinished, IsInTime}
 use Rattle.consistent_cuts.specs.Outlined.{IsRestShaped}
 
--- numbers that don't run out; the coherent fabric; a processor for each node, with the register checkpoints from the point that its node knows on;
--- what waits is of no interval below the recovery point; and where every node has reported, nothing before the next checkpoint
--- is unfinished
+-- numbers that don't run out; all sentences of coherence; a processor for each node, with the register checkpoints from the
+-- point that its node knows on, and the clocks in order; what waits is of no interval below the recovery point; and where every
+-- node has reported, nothing before the next checkpoint is unfinished
 pub record IsSound (s : State) : Type 0 where
   pub numbers : s.fabric.net.next_id ≤ 2 ^ 63
   pub nows : (n : ℕ) → n < length s.fabric.nodes → (node_at s.fabric n).now + 1 < 2 ^ 32

@@ -1,8 +1,7 @@
 //! What the processors and the service controller hear of an event of the fabric.
-ghost use Rattle.std.specs.Prelude.{◌≡◌, ◌<◌, length, slice_set, Some};
-ghost use Rattle.reg_ckpt.specs.Kept.{next, freed_below};
-ghost use Rattle.sn_model.specs.MachineEvents.{unreserved};
-ghost use Rattle.sn_machine.specs.Hearing.{CanHear, Hear};
+ghost use Rattle.std.specs.Prelude.{◌≡◌, ◌<◌, length, Some};
+ghost use Rattle.reg_ckpt.specs.Kept.{next};
+ghost use Rattle.sn_machine.specs.Hearing.{CanHear, Hear, after_loss, after_news};
 ghost use Rattle.sn_machine.specs.Parts.{seat_at};
 
 use crate::processor::{Processor, unreserve};
@@ -13,7 +12,7 @@ use validation::Controller;
 /// A core keeps no reservation on a copy that is lost.
 fn lose_copy(processors: &mut Vec<Processor>, node: NodeId, block: BlockNo)
     requires { node < length processors.old.items }
-    ensures { processors.new.items ≡ slice_set processors.old.items node (record (seat_at processors.old.items node) { core = unreserved (seat_at processors.old.items node).core block }) }
+    ensures { processors.new.items ≡ after_loss processors.old.items node block }
 {
     let processor = &mut processors[usize::from(node.number())];
     unreserve(&mut processor.core, block);
@@ -23,7 +22,7 @@ fn lose_copy(processors: &mut Vec<Processor>, node: NodeId, block: BlockNo)
 fn free_below(processors: &mut Vec<Processor>, node: NodeId, k: Interval)
     requires here { node < length processors.old.items }
     requires below { k < next (seat_at processors.old.items node).checkpoints }
-    ensures { processors.new.items ≡ slice_set processors.old.items node (record (seat_at processors.old.items node) { checkpoints = freed_below (seat_at processors.old.items node).checkpoints k }) }
+    ensures { processors.new.items ≡ after_news processors.old.items node k }
 {
     let processor = &mut processors[usize::from(node.number())];
     processor.checkpoints.free_below(k);

@@ -23,8 +23,12 @@ mod processor;
 mod restoring;
 mod start;
 mod steps;
+#[cfg(test)]
+mod tests;
 mod view;
 
 pub use machine::Machine;
+pub use sn_fabric::{Line, OpenMiss, OpenPut, Owner, Transaction};
+pub use sn_history::Pending;
 pub use sn_model::Sent;
 pub use view::View;

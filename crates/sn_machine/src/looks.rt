@@ -1,20 +1,25 @@
 //! What else can be asked of a machine, between two events.
-ghost use Rattle.std.specs.Prelude.{◌≡◌, ℕ, ◌*◌, ◌<◌, ◌≤◌, true, false, length, IfSome, IsNone};
+ghost use Rattle.std.specs.Prelude.{◌≡◌, ℕ, ◌*◌, ◌<◌, ◌≤◌, true, false, length, map, IfSome, IsNone};
 ghost use Rattle.rv_core.specs.Core.{is_running};
 ghost use Rattle.route_plan.specs.Distances.{is_dead};
-ghost use Rattle.sn_model.specs.Caches.{block_count};
-ghost use Rattle.sn_model.specs.Fabric.{node_at};
+ghost use Rattle.home_directory.specs.Home.{owner_of};
+ghost use Rattle.sn_model.specs.Caches.{block_count, line_of, no_line, is_present};
+ghost use Rattle.sn_model.specs.Fabric.{node_at, home_of};
 ghost use Rattle.sn_model.specs.Machine.{processor_at};
 ghost use Rattle.sn_model.specs.NodeEvents.{ready_of};
 ghost use Rattle.sn_fabric.specs.Nets.{net_as};
+ghost use Rattle.sn_machine.specs.Parts.{retirement_as};
 ghost use Rattle.sn_machine.specs.Machine.{MachineData, next_of, flat_of};
 ghost use Rattle.sn_machine.specs.Looks.{wanted_block, can_go_from, have_ended};
 
 use crate::machine::Machine;
 use crate::processor::is_running;
 use crate::steps::block_at;
+use log_buffer::LogBuffer;
 use rv_core::{CoreState, Want};
-use sn_base::{Answer, BlockNo, Event, Image, Interval, NodeId, SwitchId};
+use sn_base::{Answer, BlockNo, Event, Image, Interval, NodeId, NodeSet, SwitchId};
+use sn_fabric::{Line, OpenMiss, OpenPut, Owner, Transaction};
+use sn_history::Pending;
 use switch_net::Net;
 
 /// The block that a core's next instruction wants.
@@ -67,6 +72,68 @@ impl Machine {
         &self.hardware.processors[usize::from(node.number())].core
     }
 
+    /// The line of a block in a node's cache. None where it has none.
+    pub fn line(&self, node: NodeId, block: BlockNo) -> Option<Line>
+        requires { node < self.now.config.nodes }
+        ensures none { IsNone result → line_of (node_at self.now.state.fabric node).cache block ≡ no_line }
+        ensures some { IfSome result (λ line. (line ≡ line_of (node_at self.now.state.fabric node).cache block) × (is_present line.state ≡ true)) }
+    {
+        self.hardware.fabric.line(node, block)
+    }
+
+    /// The open miss of a node, if there is one.
+    pub fn miss(&self, node: NodeId) -> Option<OpenMiss>
+        requires { node < self.now.config.nodes }
+        ensures { result ≡ (node_at self.now.state.fabric node).cache.miss }
+    {
+        self.hardware.fabric.miss(node)
+    }
+
+    /// The open put of a node, if there is one.
+    pub fn put(&self, node: NodeId) -> Option<OpenPut>
+        requires { node < self.now.config.nodes }
+        ensures { result ≡ (node_at self.now.state.fabric node).cache.put }
+    {
+        self.hardware.fabric.put(node)
+    }
+
+    /// The log of a node, of both its sides.
+    pub fn log(&self, node: NodeId) -> &LogBuffer
+        requires { node < self.now.config.nodes }
+        ensures { result.now.entries ≡ (node_at self.now.state.fabric node).log }
+    {
+        self.hardware.fabric.log(node)
+    }
+
+    /// Whom the home of a block names as its owner now.
+    pub fn owner(&self, block: BlockNo) -> Owner
+        ensures { result ≡ owner_of (home_of self.now.state.fabric block).holder }
+    {
+        self.hardware.fabric.owner(block)
+    }
+
+    /// Which nodes the home of a block has as its sharers.
+    pub fn sharers(&self, block: BlockNo) -> NodeSet
+        ensures { result ≡ (home_of self.now.state.fabric block).sharers }
+    {
+        self.hardware.fabric.sharers(block)
+    }
+
+    /// The transaction that the home of a block has open on it, if there is one.
+    pub fn transaction(&self, block: BlockNo) -> Option<Transaction>
+        ensures { result ≡ (home_of self.now.state.fabric block).transaction }
+    {
+        self.hardware.fabric.transaction(block)
+    }
+
+    /// The records of the instructions that wait for the validation of their intervals, in order of retirement.
+    pub fn pending(&self) -> &[Pending]
+        ensures { map retirement_as result.now ≡ self.now.state.pending }
+    {
+        self.hardware.history.pending()
+    }
+
+    /// Whether a switch is dead.
     pub fn is_dead(&self, switch: SwitchId) -> bool
         requires { switch < 2 * self.now.config.nodes }
         ensures { result ≡ is_dead self.now.state.fabric.net.dead switch }
@@ -80,8 +147,8 @@ impl Machine {
         requires { node < self.now.config.nodes }
         ensures none { IsNone result → (next_of self.now (Event.Step node)).answer ≡ Answer.NeedsEvict
             → (b : ℕ) → b < block_count → can_go_from self.now node b ≡ false }
-        ensures some { IfSome result (λ least. ((next_of self.now (Event.Step node)).answer ≡ Answer.NeedsEvict) × (can_go_from self.now node least ≡ true)
-            × ((b : ℕ) → b < least → can_go_from self.now node b ≡ false)) }
+        ensures some { IfSome result (λ least. ((next_of self.now (Event.Step node)).answer ≡ Answer.NeedsEvict)
+            × (can_go_from self.now node least ≡ true) × ((b : ℕ) → b < least → can_go_from self.now node b ≡ false)) }
     {
         let Answer::NeedsEvict = self.foresee(Event::Step(node)) else {
             return None;

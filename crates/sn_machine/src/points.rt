@@ -60,7 +60,8 @@ impl Hardware {
     pub fn recover(&mut self) -> Answer
         requires whole { IsWhole self.old }
         requires sound { IsSound (state_of self.old) }
-        ensures { Does self.old self.new result (restores (state_of self.old) (recovered self.old.fabric.fabric self.old.fabric.fabric.point)) }
+        ensures { Does self.old self.new result
+            (restores (state_of self.old) (recovered self.old.fabric.fabric self.old.fabric.fabric.point)) }
     {
         self.is_carried = true;
         let point = self.controller.point();

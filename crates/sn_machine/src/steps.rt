@@ -107,7 +107,8 @@ impl Hardware {
         requires whole { IsWhole self.now }
         requires sound { IsSound (state_of self.now) }
         requires here { node < length self.now.fabric.fabric.nodes }
-        ensures { ComesTo image.now self.now.fabric.config (state_of self.now) node (stepped image.now self.now.fabric.config (state_of self.now) node) result }
+        ensures { ComesTo image.now self.now.fabric.config (state_of self.now) node
+            (stepped image.now self.now.fabric.config (state_of self.now) node) result }
     {
         let core = &self.processors[usize::from(node.number())].core;
         if !is_running(core) {
@@ -147,7 +148,8 @@ impl Hardware {
         requires here { node < length self.now.fabric.fabric.nodes }
         requires low { ram_start ≤ address }
         requires high { address < ram_start + ram_size }
-        ensures { IsAccess self.now.fabric.config self.now.fabric.fabric node (block_of address) need (record nothing_found { seen = loaded self.now.fabric.fabric node address }) result }
+        ensures { IsAccess self.now.fabric.config self.now.fabric.fabric node (block_of address) need
+            (record nothing_found { seen = loaded self.now.fabric.fabric node address }) result }
     {
         match self.look_access(node, address, need) {
             Turn::Retires(quiet) => Turn::Retires(Record {
@@ -201,7 +203,8 @@ impl Hardware {
         requires whole { IsWhole self.old }
         requires sound { IsSound (state_of self.old) }
         requires here { node < length self.old.fabric.fabric.nodes }
-        ensures { Does self.old self.new result (carried (state_of self.old) (accessed self.old.fabric.config self.old.fabric.fabric node block need)) }
+        ensures { Does self.old self.new result
+            (carried (state_of self.old) (accessed self.old.fabric.config self.old.fabric.fabric node block need)) }
     {
         self.is_carried = true;
         self.fabric.access(node, block, need)
