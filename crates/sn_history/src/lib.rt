@@ -161,7 +161,10 @@ mod tests {
         history.add(1, record(other, 4, Some(8)));
         history.add(0, record(node, 2, Some(9)));
         assert_eq!(rt; (history.taken(node), history.taken(other)), (2, 1));
-        assert_eq!(rt; (history.pending().len(), history.pending()[1].interval), (4, 0));
+        assert_eq!(rt;
+            (history.pending().len(), history.pending()[1].interval),
+            (4, 0)
+        );
         history.commit_below(1);
         let seen = history.committed();
         assert_eq!(rt; seen.len(), 2);
