@@ -14,17 +14,17 @@ fn node(rt: &impl Abort, number: u8) -> NodeId {
     NodeId::new(number).expect(rt, "a node has a number below 16")
 }
 
-/// A program of these words from the start of memory on.
+/// A program of these words, 16 at most, from the start of memory on.
 fn image(alloc: Global, words: &[u32]) -> Result<Image, AllocError> {
     let mut bytes = Vec::new(alloc);
     for word in words {
         bytes.extend_from_slice(&word.to_le_bytes())?;
     }
-    let size = bytes.len() as u32;
+    bytes.truncate(64);
     let mut segments = Vec::new(alloc);
     segments.push(Segment {
         start: 0x8000_0000,
-        size,
+        size: 64,
         bytes,
         write: false,
         exec: true,
@@ -63,19 +63,20 @@ fn apply(rt: &impl Abort, machine: &mut Machine, event: Event) -> Answer {
     answer
 }
 
-/// An event by a letter and a number, as rows have it: a node, a message, or nothing.
+/// An event by a letter and a number, as rows have it: a node below 16, a message, or nothing.
 fn event_of(rt: &impl Abort, letter: char, number: u64) -> Event {
+    let at = node(rt, (number % 16) as u8);
     match letter {
-        's' => Event::Step(node(rt, number as u8)),
-        'p' => Event::Evict(node(rt, number as u8), BlockNo::new(64)),
-        'e' => Event::Edge(node(rt, number as u8)),
+        's' => Event::Step(at),
+        'p' => Event::Evict(at, BlockNo::new(64)),
+        'e' => Event::Edge(at),
         'h' => Event::Hop(number),
         'd' => Event::Deliver(number),
         'l' => Event::Lose(number),
-        'a' => Event::Kill(SwitchId::a(node(rt, number as u8))),
-        'b' => Event::Kill(SwitchId::b(node(rt, number as u8))),
-        'r' => Event::Report(node(rt, number as u8)),
-        'i' => Event::Input(node(rt, number as u8), 0x41),
+        'a' => Event::Kill(SwitchId::a(at)),
+        'b' => Event::Kill(SwitchId::b(at)),
+        'r' => Event::Report(at),
+        'i' => Event::Input(at, 0x41),
         'v' => Event::Validate,
         _ => Event::Recover,
     }
