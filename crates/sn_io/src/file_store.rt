@@ -1,9 +1,10 @@
 //! A store over the files of the system: a trusted edge.
-ghost use Rattle.std.specs.Prelude.{◌≡◌, ◌≢◌, ◌≤◌, ◌<◌, vec_len};
+ghost use Rattle.std.specs.Prelude.{◌≡◌, ◌≢◌, ◌⊎◌, ◌+◌, [], length, take, nat_lt, if◌then◌else◌, Some, Ok, Err, IfOk, OnOk, OnErr, IfSome};
+ghost use Rattle.sn_io.specs.Outside.{found_in, found_of};
 
 use crate::outside::{Fetched, Store, StoreFault};
 use std::fs::File;
-use std::io::Read;
+use std::io::{self, ErrorKind, Read};
 use std::rt::Files;
 
 /// The files that a runtime gives. It tells nothing of what they hold and is never sure: each error of the system,
@@ -22,32 +23,51 @@ impl<'a, R: Files> FileStore<'a, R> {
     }
 }
 
-/// How the reading of a file ended.
-enum Reading {
-    AtEnd,
-    PastLimit,
-    Broken,
-    NoMemory,
-}
-
-// Reads until the file's end, or until more than `limit` bytes are there.
-fn read_up_to<F: Read>(file: &mut F, limit: usize, into: &mut Vec<u8>) -> Reading
-    ensures past { result ≡ Reading.PastLimit → limit < vec_len into.new }
-    ensures at_end { result ≡ Reading.AtEnd → vec_len into.new ≤ limit }
+// Reads the rest of a file, or one byte more than `limit`, which shows that it is longer.
+fn read_past<F: Read + Drop>(file: F, limit: usize, into: &mut Vec<u8>) -> io::Result<usize>
+    requires empty { into.old.items ≡ [] }
+    ensures read { OnOk result (IfSome (F.remaining file) (λ rest. into.new.items ≡ take (limit + 1) rest)) }
+    ensures count { IfOk result (λ count. length into.new.items ≡ count) }
 {
-    let mut piece = [0u8; 4096];
-    while into.len() <= limit {
-        match file.read(&mut piece) {
-            Ok(0) => return Reading::AtEnd,
-            Ok(n) => {
-                if into.extend_from_slice(&piece[..n]).is_err() {
-                    return Reading::NoMemory;
-                }
-            }
-            Err(_) => return Reading::Broken,
+    match (limit as u64).checked_add(1) {
+        Some(most) => file.take(most).read_to_end(into),
+        None => {
+            let mut file = file;
+            file.read_to_end(into)?;
+            Ok(into.len())
         }
     }
-    Reading::PastLimit
+}
+
+// What it comes to that so many bytes were read, or that reading failed.
+fn fetched_by(read: &io::Result<usize>, limit: usize) -> Result<Fetched, StoreFault>
+    ensures read { IfOk read.now (λ count. result ≡ Ok (if nat_lt limit count then Fetched.Longer else Fetched.Whole)) }
+    ensures failed { OnErr read.now ((result ≡ Err StoreFault.Failed) ⊎ (result ≡ Err StoreFault.Memory)) }
+{
+    match read {
+        Ok(count) if *count > limit => Ok(Fetched::Longer),
+        Ok(_) => Ok(Fetched::Whole),
+        Err(error) if error.kind() == ErrorKind::OutOfMemory => Err(StoreFault::Memory),
+        Err(_) => Err(StoreFault::Failed),
+    }
+}
+
+// Puts the rest of a file into `into`, where it has at most `limit` bytes.
+pub(crate) fn read_whole<F: Read + Drop>(
+    file: F,
+    limit: usize,
+    into: &mut Vec<u8>,
+) -> Result<Fetched, StoreFault>
+    requires empty { into.old.items ≡ [] }
+    ensures found { IfSome (F.remaining file) (λ rest. IfOk result (λ _. found_of result into.new.items ≡ found_in (Some rest) limit)) }
+    ensures cleared { result ≢ Ok Fetched.Whole → into.new.items ≡ [] }
+{
+    let read = read_past(file, limit, into);
+    let fetched = fetched_by(&read, limit);
+    if fetched != Ok(Fetched::Whole) {
+        into.clear();
+    }
+    fetched
 }
 
 impl<R: Files> Store for FileStore<'_, R> {
@@ -67,25 +87,13 @@ impl<R: Files> Store for FileStore<'_, R> {
         limit: usize,
         into: &mut Vec<u8>,
     ) -> Result<Fetched, StoreFault> {
-        let Ok(mut file) = File::open(self.rt, name) else {
-            self.faults = self.faults.saturating_add(1);
-            return Err(StoreFault::Failed);
+        let fetched = match File::open(self.rt, name) {
+            Ok(file) => read_whole(file, limit, into),
+            Err(_) => Err(StoreFault::Failed),
         };
-        match read_up_to(&mut file, limit, into) {
-            Reading::AtEnd => Ok(Fetched::Whole),
-            Reading::PastLimit => {
-                into.clear();
-                Ok(Fetched::Longer)
-            }
-            Reading::Broken => {
-                into.clear();
-                self.faults = self.faults.saturating_add(1);
-                Err(StoreFault::Failed)
-            }
-            Reading::NoMemory => {
-                into.clear();
-                Err(StoreFault::Memory)
-            }
+        if fetched == Err(StoreFault::Failed) {
+            self.faults = self.faults.saturating_add(1);
         }
+        fetched
     }
 }

@@ -1,16 +1,18 @@
+use crate::file_store::read_whole;
 use crate::{
-    Failed, Fetched, FileStore, MemSink, MemStore, Sink, StdSink, Store, StoreFault, SureSink,
+    Failed, Fetched, FileStore, Gate, MemSink, MemStore, OpenGate, Sink, StdSink, Store,
+    StoreFault, SureSink,
 };
-use std::io;
+use std::io::{self, BufWriter};
 use std::test::Fail;
 
-/// Takes at most three bytes at a write, and nothing once it has five.
+/// Takes at most three bytes at a write, and nothing once it has five. What it took stands in the list that it was given.
 #[derive(Drop)]
-struct Narrow {
-    bytes: Vec<u8>,
+struct Narrow<'a> {
+    bytes: &'a mut Vec<u8>,
 }
 
-impl io::Write for Narrow {
+impl io::Write for Narrow<'_> {
     fn write(&mut self, buf: &[u8]) -> io::Result<usize> {
         let count = buf
             .len()
@@ -26,13 +28,81 @@ impl io::Write for Narrow {
 }
 
 #[test]
-fn a_writer_that_takes_nothing_more_is_a_failure(rt: HostRuntime) {
-    let mut sink = StdSink::new(Narrow {
-        bytes: Vec::new(rt.alloc()),
-    });
+fn a_writer_that_takes_a_few_bytes_at_a_time_has_the_beginning(rt: HostRuntime) {
+    let mut bytes = Vec::new(rt.alloc());
+    let mut sink = StdSink::new(Narrow { bytes: &mut bytes });
     assert_eq!(rt; sink.put(b"abcd"), Ok(()));
     assert_eq!(rt; sink.put(b""), Ok(()));
     assert_eq!(rt; sink.put(b"efg"), Err(Failed));
+    assert_eq!(rt; sink.finish(), Ok(()));
+    drop(sink);
+    assert_eq!(rt; bytes.as_slice(), b"abcde".as_slice());
+}
+
+#[test]
+fn what_is_held_back_comes_at_the_finish(rt: HostRuntime) -> Result<(), Fail> {
+    let mut bytes = Vec::new(rt.alloc());
+    let held = BufWriter::with_capacity(rt.alloc(), 64, Narrow { bytes: &mut bytes })?;
+    let mut sink = StdSink::new(held);
+    assert_eq!(rt; sink.put(b"abc"), Ok(()));
+    assert_eq!(rt; sink.put(b"defg"), Ok(()));
+    assert_eq!(rt; sink.finish(), Err(Failed));
+    drop(sink);
+    assert_eq!(rt; bytes.as_slice(), b"abcde".as_slice());
+    Ok(())
+}
+
+/// Gives its bytes one at a read, and then its end.
+#[derive(Drop)]
+struct Slow {
+    left: Vec<u8>,
+    end: Result<(), io::ErrorKind>,
+}
+
+impl io::Read for Slow {
+    fn read(&mut self, buf: &mut [u8]) -> io::Result<usize> {
+        match self.left.pop() {
+            Some(byte) if !buf.is_empty() => {
+                buf[0] = byte;
+                Ok(1)
+            }
+            _ => match self.end {
+                Ok(()) => Ok(0),
+                Err(kind) => Err(io::Error::from(kind)),
+            },
+        }
+    }
+}
+
+#[test]
+fn a_file_is_whole_exactly_where_its_end_comes_within_the_limit(
+    rt: HostRuntime,
+) -> Result<(), Fail> {
+    let broken = Err(io::ErrorKind::Other);
+    for (limit, end, want, content) in [
+        (4, Ok(()), Ok(Fetched::Whole), "abc"),
+        (3, Ok(()), Ok(Fetched::Whole), "abc"),
+        (2, Ok(()), Ok(Fetched::Longer), ""),
+        (usize::MAX, Ok(()), Ok(Fetched::Whole), "abc"),
+        (4, broken, Err(StoreFault::Failed), ""),
+        (2, broken, Ok(Fetched::Longer), ""),
+    ] {
+        let left = Vec::from_slice(rt.alloc(), b"cba")?;
+        let mut into = Vec::new(rt.alloc());
+        assert_eq!(rt;
+            read_whole(Slow { left, end }, limit, &mut into),
+            want,
+            "at {limit}"
+        );
+        assert_eq!(rt; into.as_slice(), content.as_bytes(), "at {limit}");
+    }
+    Ok(())
+}
+
+#[test]
+fn an_open_gate_holds_nobody(rt: HostRuntime) {
+    OpenGate::new().before(15, u64::MAX);
+    let _ = rt;
 }
 
 #[test]
