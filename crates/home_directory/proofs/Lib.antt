@@ -5,3 +5,4 @@ pub mod Starts
 pub mod Agrees
 pub mod Restored
 pub mod PutBack
+pub mod Listing

@@ -59,14 +59,14 @@ one_holder (OfCache node) (Itself content) e = cc
 one_holder (OfCache node) (OfCache other) e = cc
 
 -- an entry by its three parts
-entry_by : (x : HomeEntry) (holder : Holder) (sharers : List Bool) (transaction : Option Transaction) → x.holder ≡ holder → x.sharers ≡ sharers → x.transaction ≡ transaction →
+pub entry_by : (x : HomeEntry) (holder : Holder) (sharers : List Bool) (transaction : Option Transaction) → x.holder ≡ holder → x.sharers ≡ sharers → x.transaction ≡ transaction →
     x ≡ record { holder = holder; sharers = sharers; transaction = transaction }
 entry_by x holder sharers transaction h s t =
     ap (λ (y : Holder). record x { holder = y }) h
     ∙ ap (λ (y : List Bool). record x { holder = holder; sharers = y }) s
     ∙ ap (λ (y : Option Transaction). record { holder = holder; sharers = sharers; transaction = y }) t
 
-settled-at : (entries : List HomeEntry) (place : ℕ) → get_or (map settled entries) place no_entry ≡ settled (get_or entries place no_entry)
+pub settled-at : (entries : List HomeEntry) (place : ℕ) → get_or (map settled entries) place no_entry ≡ settled (get_or entries place no_entry)
 settled-at [] place = refl
 settled-at (entry ∷ entries) zero = refl
 settled-at (entry ∷ entries) (suc place) = settled-at entries place

@@ -3,3 +3,4 @@ pub mod Receipt
 pub mod Serving
 pub mod Open
 pub mod Restored
+pub mod Touched

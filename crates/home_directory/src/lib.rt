@@ -25,6 +25,7 @@ mod start;
 mod step;
 #[cfg(test)]
 mod tests;
+mod touched;
 
 use entry::Entry;
 pub use entry::Transaction;
@@ -37,32 +38,35 @@ use sn_msg::Message;
 use std::alloc::Global;
 use std::marker::Model;
 pub use step::HomeStep;
+use touched::Touched;
 
 /// The home of a node. Contracts see the node, the number of nodes, and the entries of its blocks in order. The open
-/// transactions stand in a list too, which has room for one of each block.
+/// transactions stand in a list too, which has room for one of each block. An entry that isn't touched is as a recovery leaves it.
 #[derive(Drop)]
 pub struct Home {
     node: NodeId,
     nodes: u8,
     entries: Vec<Entry>,
     opens: Vec<Open>,
+    touched: Touched,
 }
 
 impl Model for Home {
     ghost use Rattle.std.specs.Prelude.{◌≡◌, ◌≤◌, length, vec_capacity};
     ghost use Rattle.home_directory.specs.Home.{HomeData, IsHome};
     ghost use Rattle.home_directory.specs.Open.{opens_from};
+    ghost use Rattle.home_directory.specs.Touched.{AreSettled};
 
     ghost Value = { HomeData };
 
     ghost view = { λ h. record { node = h.node; nodes = h.nodes; entries = h.entries.items } };
 
-    ghost invariant = { λ h. IsHome (record { node = h.node; nodes = h.nodes; entries = h.entries.items }) × (h.opens.items ≡ opens_from 0 h.entries.items) × (length h.entries.items ≤ vec_capacity h.opens) };
+    ghost invariant = { λ h. IsHome (record { node = h.node; nodes = h.nodes; entries = h.entries.items }) × (h.opens.items ≡ opens_from 0 h.entries.items) × (length h.entries.items ≤ vec_capacity h.opens) × AreSettled h.touched h.entries.items };
 }
 
 impl Home {
     /// The home of a node of so many, at the start: it owns its blocks, with the bytes that the program gives them. It
-    /// takes memory for an entry of each of its blocks and for the list of open transactions.
+    /// takes memory for an entry of each of its blocks, and for the lists of open transactions and of touched entries.
     pub fn new(alloc: Global, node: NodeId, nodes: u8, image: &Image) -> Result<Home, Memory>
         requires inside { node < nodes }
         requires few { nodes ≤ 16 }
@@ -70,11 +74,13 @@ impl Home {
     {
         let entries = start::first_entries(alloc, node, nodes, image)?;
         let opens = Vec::with_capacity(alloc, entries.len())?;
+        let touched = Touched::new(alloc, entries.len())?;
         Ok(Home {
             node,
             nodes,
             entries,
             opens,
+            touched,
         })
     }
 
@@ -100,6 +106,7 @@ impl Home {
         ensures step { Tells result (received self.old log.old now message.now).verdict }
     {
         let place = self.place(message.block);
+        self.touched.touch(place);
         let entry = &mut self.entries[place];
         let step = receive::receive(entry, message, now, log);
         let begun = entry.begun();

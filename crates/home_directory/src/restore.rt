@@ -2,19 +2,23 @@
 ghost use Rattle.std.specs.Prelude.{◌≡◌, ◌/◌, ◌%◌, ◌<◌, true, length, map};
 ghost use Rattle.sn_model.specs.Homes.{Itself, OfCache};
 ghost use Rattle.home_directory.specs.Restored.{settled, begun_restore, had, CanHave, Stays, with_holder};
+ghost use Rattle.home_directory.specs.Touched.{AreSettled};
 ghost use Rattle.home_directory.specs.Restored.{stays-same, stays-along, can-part, can-way};
 
 use crate::Home;
 use crate::entry::Entry;
+use crate::touched::Touched;
 use rollback::Restore;
 use sn_base::{Block, BlockNo, NodeId, NodeSet, Old};
 use sn_model::Owner;
 
-/// Nobody shares a block, and nothing is open.
-fn settle(entries: &mut Vec<Entry>)
+/// Nobody shares a block, and nothing is open: so it is but for the touched places already.
+fn settle(entries: &mut Vec<Entry>, touched: &Touched)
+    requires { AreSettled touched.now entries.old.items }
     ensures { entries.new.items ≡ map settled entries.old.items }
 {
-    'entries: for entry in entries.iter_mut() {
+    'places: for place in touched.places() {
+        let entry = &mut entries[*place];
         entry.sharers = NodeSet::empty();
         entry.transaction = None;
     }
@@ -22,11 +26,13 @@ fn settle(entries: &mut Vec<Entry>)
 
 impl Home {
     /// Begins to put the home back to a checkpoint: all transactions are closed, and nobody shares a block. Who holds the
-    /// blocks stays, for `rollback::unwind` to put back.
+    /// blocks stays, for `rollback::unwind` to put back. It looks only at the blocks that messages have come about since the
+    /// last time.
     pub fn begin_restore(&mut self)
         ensures { self.new ≡ begun_restore self.old }
     {
-        settle(&mut self.entries);
+        settle(&mut self.entries, &self.touched);
+        self.touched.clear();
         self.opens.clear();
     }
 

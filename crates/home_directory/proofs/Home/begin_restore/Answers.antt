@@ -2,6 +2,7 @@ use Rattle.std.proofs.Common.{◌≡◌, length, sym, ap, ◌∙◌, arith}
 use Rattle.home_directory.specs.Open.{opens_from}
 use Rattle.home_directory.proofs.Restored.{length-settled}
 use Rattle.home_directory.proofs.PutBack.{opens-settled}
+use Rattle.home_directory.proofs.Listing.{settled-begun}
 use Rattle.home_directory.proofs.Home.begin_restore.Goals as goal
 
 -- nothing is open
@@ -13,6 +14,7 @@ invariant_of-self c =
         few = c.self.invariant.0.few;
         filled = e ∙ c.self.invariant.0.filled;
       },
-      c.clear.ensures.items ∙ sym (ap (opens_from 0) c.settle.ensures ∙ opens-settled c.self.inside.entries.items 0),
-      omega (arith, e, c.self.invariant.2, c.clear.ensures.capacity),
+      c.clear-2.ensures.items ∙ sym (ap (opens_from 0) c.settle.ensures ∙ opens-settled c.self.inside.entries.items 0),
+      omega (arith, e, c.self.invariant.2, c.clear-2.ensures.capacity),
+      rw (c.clear.ensures, c.settle.ensures) (settled-begun c.self.inside.touched c.self.inside.entries.items c.self.invariant.3),
     )

@@ -1,13 +1,26 @@
-use Rattle.std.proofs.Common.{sym, ap, ◌∙◌, arith}
-use Rattle.std.specs.Prelude.{slice_set}
-use Rattle.std.proofs.lemmas.List.Edits.{map_over_more}
+use Rattle.std.proofs.Common.{◌+◌, ◌<◌, length, drop, set, sym, subst, ◌∙◌, arith}
+use Rattle.std.specs.Prelude.{slice_index_or}
+use Rattle.std.proofs.lemmas.List.{get_or_default}
 use Rattle.sn_model.specs.Homes.{HomeEntry}
+use Rattle.sn_model.specs.Fabric.{no_entry}
 use Rattle.home_directory.specs.Restored.{settled}
+use Rattle.home_directory.proofs.Listing.{AreSettling, settling-more, settling-all}
 use Rattle.home_directory.proofs.restore.settle.Goals as goal
 
 -- one entry more is settled
-pub entries-preserved : goal.entries-preserved
-entries-preserved c =
+pub places-preserved : goal.places-preserved
+places-preserved c =
+    let places = c.places-place-items.result.now in
+    let i = c.places.place-index in
+    let place = slice_index_or places i 0 in
+    let now = c.places.entries.items in
+    let l : i < length places = omega arith in
+    let m : place < length now = omega (arith, c.places-place-items.ensures.inside i 0 l, c.requires.whole, c.places.invariant.whole) in
     rw c.empty-entry-inside.ensures
-    (ap (λ (x : HomeEntry). slice_set c.entries.entry-items c.entries.entry-index (settled x)) (c.entry.view_is ∙ sym c.entry-item.is)
-    ∙ map_over_more settled c.deref_mut-entry-items.result.now c.entries.entry-items c.entries.entry-index c.entry-item.result (omega arith) c.entries.invariant c.entry-item.is)
+    (subst (λ (x : HomeEntry). AreSettling c.args.entries.now.items (set now place (settled x)) (drop (i + 1) places)) (sym c.entry.view_is)
+    (settling-more c.args.entries.now.items now places i place c.index_mut-entry.result.now l (get_or_default places i 0 place l) m
+    (c.index_mut-entry.ensures.value ∙ get_or_default now place c.index_mut-entry.result.now no_entry m) c.places.invariant))
+
+-- what isn't listed was settled before
+pub returns : goal.returns
+returns c = settling-all c.args.entries.now.items c.places.entries.items c.places-place-items.result.now c.places.place-index (omega arith) c.places.invariant

@@ -1,7 +1,7 @@
-use Rattle.std.proofs.Common.{◌≡◌, ◌++◌, map, take, drop}
-use Rattle.home_directory.specs.Restored.{settled}
+use Rattle.std.proofs.Common.{drop}
+use Rattle.home_directory.proofs.Listing.{AreSettling}
 use Rattle.home_directory.proofs.restore.settle.Given as goal
 
--- the first entries are settled
-abbrev pub invariant-entries : goal.invariant-entries
-invariant-entries l = l.entry-items ≡ map settled (take l.entry-index l.initial.entry-items) ++ drop l.entry-index l.initial.entry-items
+-- the entries of the places that are left are still to be settled
+abbrev pub invariant-places : goal.invariant-places
+invariant-places l = AreSettling l.initial.entries.items l.entries.items (drop l.place-index l.place-items)
