@@ -1,4 +1,4 @@
-//! Lines of the report.
+//! The buffer that texts are written into, and their smallest parts.
 ghost use Rattle.std.specs.Prelude.{◌≡◌, ℕ, ◌+◌, ◌<◌, ◌≤◌, ◌^◌, ◌++◌, [], length, decimal, codes, IfOk};
 ghost use Rattle.sn_text.specs.Text.{word_text, byte_text, named_number, count_line, watch_line, probe_line, hex_digit};
 
@@ -10,8 +10,8 @@ use std::marker::Model;
 /// The bytes that a line has room for: enough for the group of any one event, a recovery of 16 nodes among them.
 const ROOM: usize = 8192;
 
-/// The text of one event's group. It has all its room from the start and takes no memory after `new`. Contracts see the
-/// bytes.
+/// A text as it is written, of one event's group at most. It has all its room from the start and takes no memory after `new`.
+/// Contracts see the bytes.
 #[derive(Drop)]
 pub struct Line {
     text: Vec<u8>,
