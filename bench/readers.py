@@ -57,7 +57,9 @@ fn main(rt: HostRuntime) -> io::Result<()> {
 
 MODULES = "asm driver explore facts fuzz ghost image isa rng roll routes rows save state step text top".split()
 
-THERE = "#![allow(dead_code, unused)]\n" + "".join(f'#[path = "SOURCE/{name}.rs"]\nmod {name};\n' for name in MODULES) + """
+MODS = "#![allow(dead_code, unused)]\n" + "".join(f'#[path = "SOURCE/{name}.rs"]\nmod {name};\n' for name in MODULES)
+
+THERE = """
 fn main() {
     let bytes = std::fs::read("text").unwrap();
     let start = std::time::Instant::now();
@@ -70,7 +72,7 @@ fn main() {
 }
 """
 
-NAMES = "sn_text sn_io sn_base byteorder itoa"
+NAMES = "sn_text sn_io rv_core sn_base byteorder itoa"
 
 
 def trace():
@@ -98,13 +100,14 @@ def measured(program, folder):
     return int(line[1]) / 1e6, usage.ru_maxrss / 1024
 
 
-def build_here(folder):
+def build_here(folder, program):
+    """The program, over copies of the crates of this repository that it stands on."""
     needs = needs_of((ROOT / "crates.txt").read_text())
     lower = below(NAMES.split(), needs)
     every = sorted({name for crate in lower for name in needs[crate]} | set(NAMES.split()))
     copy_crates(folder, None, lower)
     timed = folder / "crates" / "timed"
-    for name, text in {"src/main.rt": HERE, "specs/Lib.antt": "", "proofs/Lib.antt": ""}.items():
+    for name, text in {"src/main.rt": program, "specs/Lib.antt": "", "proofs/Lib.antt": ""}.items():
         (timed / name).parent.mkdir(parents=True, exist_ok=True)
         (timed / name).write_text(text)
     listed = "".join(f"{name}: {' '.join(needs[name])}\n" for name in lower)
@@ -115,8 +118,9 @@ def build_here(folder):
     return timed / "out" / "timed"
 
 
-def build_there(folder, source):
-    (folder / "timed.rs").write_text(THERE.replace("SOURCE", str(Path(source).resolve())))
+def build_there(folder, program, source):
+    """The program, over the simulator's source."""
+    (folder / "timed.rs").write_text((MODS + program).replace("SOURCE", str(Path(source).resolve())))
     subprocess.run(["rustc", "--edition", "2021", "-C", "opt-level=3", "timed.rs"], cwd=folder, check=True, stderr=subprocess.DEVNULL)
     return folder / "timed"
 
@@ -127,7 +131,7 @@ def main():
     random.seed(1)
     with tempfile.TemporaryDirectory() as folder:
         folder = Path(folder)
-        programs = {"simulator": build_there(folder, sys.argv[1]), "here": build_here(folder)}
+        programs = {"simulator": build_there(folder, THERE, sys.argv[1]), "here": build_here(folder, HERE)}
         for kind, lines in [("trace", trace()), ("script", script())]:
             with open(folder / "text", "w") as text:
                 text.writelines(lines)
