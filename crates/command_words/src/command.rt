@@ -122,7 +122,7 @@ fn named<'a>(alloc: Global) -> Command<'a>
         .subcommand_required(true)
 }
 
-fn with<'a>(command: Command<'a>, other: Command<'a>) -> Result<Command<'a>, AllocError>
+fn with_command<'a>(command: Command<'a>, other: Command<'a>) -> Result<Command<'a>, AllocError>
     requires alone { (fields_of other).has_globals ≡ false }
     ensures { IfOk result (λ c. app_of c ≡ with_command (app_of command.entry) (app_of other.entry)) }
 {
@@ -132,11 +132,11 @@ fn with<'a>(command: Command<'a>, other: Command<'a>) -> Result<Command<'a>, All
 fn command<'a>(alloc: Global) -> Result<Command<'a>, AllocError>
     ensures { IfOk result (λ c. app_of c ≡ the_app) }
 {
-    let command = with(named(alloc), replay(alloc)?)?;
-    let command = with(command, check(alloc)?)?;
-    let command = with(command, demo(alloc)?)?;
-    let command = with(command, asm(alloc)?)?;
-    with(command, dis(alloc)?)
+    let command = with_command(named(alloc), replay(alloc)?)?;
+    let command = with_command(command, check(alloc)?)?;
+    let command = with_command(command, demo(alloc)?)?;
+    let command = with_command(command, asm(alloc)?)?;
+    with_command(command, dis(alloc)?)
 }
 
 fn parse<'a>(alloc: Global, words: &'a [String]) -> Result<ArgMatches<'a>, Error>

@@ -12,3 +12,6 @@ mod sizes;
 pub use address::read_watch;
 pub use number::{LOG, NODES, NumberRule, SETS, WAYS, read_demo_size};
 pub use sizes::{SizeWords, read_nodes};
+
+#[cfg(test)]
+mod tests;
