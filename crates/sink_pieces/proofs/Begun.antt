@@ -9,6 +9,10 @@ pub console_text-piece : (bytes : List ℕ) → console_text (console_piece byte
 console_text-piece [] = refl
 console_text-piece (byte ∷ bytes) = append-nil (byte ∷ bytes)
 
+pub report_text-piece : (bytes : List ℕ) → report_text (console_piece bytes) ≡ []
+report_text-piece [] = refl
+report_text-piece (byte ∷ bytes) = refl
+
 pub console-after : (a b : Ends) (pieces : List Piece) → b ≡ after a pieces → b.console ≡ followed_by a.console (console_text pieces)
 unfolding after
 console-after a b pieces e = ap (λ (t : Ends). t.console) e

@@ -29,3 +29,8 @@ SoFar-breaks all ps left a b d h broken =
 -- all are put
 pub SoFar-whole : (all ps : List Piece) (a b d : Ends) → SoFar all ps a b → d ≡ after b ps → d ≡ after a all
 SoFar-whole all ps a b d h e = e ∙ ap (λ t. after t ps) h.put ∙ after-append a h.done ps ∙ ap (after a) h.split
+
+-- the last are broken off
+pub SoFar-breaks_last : (all ps : List Piece) (a b d : Ends) → SoFar all ps a b → Breaks ps b d → Breaks all a d
+SoFar-breaks_last all ps a b d h broken =
+    subst (λ (t : List Piece). Breaks t a d) h.split (Breaks-after h.done ps a d (subst (λ (t : Ends). Breaks ps t d) h.put broken))
