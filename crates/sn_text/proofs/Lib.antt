@@ -1,3 +1,6 @@
 pub mod Digits
 pub mod Texts
 pub mod Reading
+pub mod Printed
+pub mod Lines
+pub mod Written

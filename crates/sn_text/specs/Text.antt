@@ -1,9 +1,10 @@
 -- The texts of the report. Numbers are decimal; words and addresses have eight lower-case hexadecimal digits.
-use Rattle.std.specs.Prelude.{ℕ, ◌+◌, ◌/◌, ◌%◌, Bool, nat_eq, nat_lt, if◌then◌else◌, List, [], ◌∷◌, ◌++◌, drop, codes, decimal}
+use Rattle.std.specs.Prelude.{ℕ, ◌+◌, ◌/◌, ◌%◌, Bool, nat_eq, nat_lt, if◌then◌else◌, List, [], ◌∷◌, ◌++◌, drop, codes, decimal, Option, Some, None}
 use Rattle.sn_base.specs.declared.event.Event.{Event}
 use Rattle.sn_base.specs.declared.event.Event.TheVariants.{Step, Evict, Edge, Hop, Deliver, Lose, Kill, Report, Validate, Recover, Input}
 use Rattle.sn_base.specs.declared.event.Answer.{Answer}
 use Rattle.sn_base.specs.declared.event.Answer.TheVariants.{Retired, Missed, Waits, NeedsEvict, LogFull, NetFull, Ended, Evicted, PutBegun, NotCached, PutOpen, MissOpen, Edged, CheckpointsFull, Hopped, LostInDead, Arrived, NotArrived, NoMessage, Delivered, Held, HomeBusy, Lost, Killed, AlreadyDead, Reported, Validated, NotReady, Recovered, CutOff, Given, NoInput}
+use Rattle.rv_core.specs.declared.step.Record.{Record}
 use Rattle.rv_core.specs.declared.state.CoreState.{CoreState}
 use Rattle.rv_core.specs.declared.state.End.{End}
 use Rattle.rv_core.specs.declared.state.End.TheVariants.{Running, Exited, Trapped}
@@ -48,6 +49,10 @@ event_text (Report node) = named_number (codes "report") node
 event_text Validate = codes "validate"
 event_text Recover = codes "recover"
 event_text (Input node byte) = named_number (codes "input") node ++ codes " " ++ byte_text byte
+
+-- an event as a line of a script
+unfoldable pub script_line : Event → List ℕ
+script_line event = event_text event ++ codes "\n"
 
 abbrev pub answer_text : Answer → List ℕ
 answer_text Retired = codes "retired"
@@ -177,3 +182,29 @@ core_line before node core =
 -- `NAME NUMBER`
 unfoldable pub count_line : List ℕ → List ℕ → ℕ → List ℕ
 count_line before name number = before ++ named_number name number ++ codes "\n"
+
+-- `watch ADDRESS WORD`
+unfoldable pub watch_line : List ℕ → ℕ → ℕ → List ℕ
+watch_line before address word = before ++ codes "watch " ++ word_text address ++ codes " " ++ word_text word ++ codes "\n"
+
+-- `probe P PLACE VALUE`
+unfoldable pub probe_line : List ℕ → ℕ → ℕ → ℕ → List ℕ
+probe_line before probe place value =
+    before ++ named_number (codes "probe") probe ++ named_number [] place ++ named_number [] value ++ codes "\n"
+
+-- `1` where a store-conditional was done
+abbrev pub flag_text : Bool → List ℕ
+flag_text sc_done = if sc_done then codes "1" else codes "0"
+
+-- ` BB` where a byte was read
+abbrev pub read_text : Option ℕ → List ℕ
+read_text None = []
+read_text (Some byte) = codes " " ++ byte_text byte
+
+-- `CORE SEEN F` or `CORE SEEN F BB`
+abbrev pub record_text : Record → List ℕ
+record_text taken = decimal taken.core ++ codes " " ++ word_text taken.seen ++ codes " " ++ flag_text taken.sc_done ++ read_text taken.read
+
+-- a record as a line of a trace
+unfoldable pub trace_line : Record → List ℕ
+trace_line taken = record_text taken ++ codes "\n"

@@ -1,6 +1,6 @@
 //! Events and answers as text.
 ghost use Rattle.std.specs.Prelude.{◌≡◌, ◌+◌, ◌≤◌, ◌++◌, length};
-ghost use Rattle.sn_text.specs.Text.{named_number, switch_text, event_text, answer_text, event_line};
+ghost use Rattle.sn_text.specs.Text.{named_number, switch_text, event_text, answer_text, event_line, script_line};
 
 use crate::line::Line;
 use sn_base::{Answer, Event, NodeId, SwitchId};
@@ -115,6 +115,17 @@ impl Line {
         self.the_event(event);
         self.text(": ");
         self.the_answer(answer);
+        self.text("\n");
+    }
+
+    /// An event as a line of a script.
+    #[tactic(auto, unfolding(crate::specs::Text::script_line))]
+    pub fn script(&mut self, event: &Event)
+        requires { length self.old + 64 ≤ 8192 }
+        ensures text { self.new ≡ self.old ++ script_line event.now }
+        ensures short { length self.new ≤ length self.old + 64 }
+    {
+        self.the_event(event);
         self.text("\n");
     }
 }

@@ -8,15 +8,20 @@
 mod cause;
 mod event_text;
 mod items;
+mod laws;
 mod line;
 mod numbers;
 mod operands;
 mod script;
 mod state_text;
+mod trace;
+mod trace_text;
 
 pub use cause::{Fault, ScriptCause, ScriptFault};
+pub use laws::{scripts_are_read_back, traces_are_read_back};
 pub use line::Line;
 pub use script::read_script;
+pub use trace::read_trace;
 
 #[cfg(test)]
 mod tests;

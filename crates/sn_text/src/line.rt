@@ -1,6 +1,6 @@
 //! Lines of the report.
 ghost use Rattle.std.specs.Prelude.{◌≡◌, ℕ, ◌+◌, ◌<◌, ◌≤◌, ◌++◌, [], length, decimal, codes, IfOk};
-ghost use Rattle.sn_text.specs.Text.{word_text, byte_text, named_number, count_line, hex_digit};
+ghost use Rattle.sn_text.specs.Text.{word_text, byte_text, named_number, count_line, watch_line, probe_line, hex_digit};
 
 use itoa::Buffer;
 use sn_base::Memory;
@@ -150,6 +150,38 @@ impl Line {
     {
         self.text(before);
         self.named(name, number);
+        self.text("\n");
+    }
+
+    /// The line of a watched word and its address.
+    #[tactic(auto, unfolding(crate::specs::Text::watch_line))]
+    pub fn watch(&mut self, before: &str, address: u32, word: u32)
+        requires room { length self.old + 32 ≤ 8192 }
+        requires before_short { length before.now ≤ 2 }
+        ensures text { self.new ≡ self.old ++ watch_line before.now address word }
+        ensures short { length self.new ≤ length self.old + 32 }
+    {
+        self.text(before);
+        self.text("watch ");
+        self.word(address);
+        self.text(" ");
+        self.word(word);
+        self.text("\n");
+    }
+
+    /// The line of one number of a probe: the probe's place among the probes, the number's place among its numbers, and the
+    /// number.
+    #[tactic(auto, unfolding(crate::specs::Text::probe_line))]
+    pub fn probe(&mut self, before: &str, probe: u64, place: u64, value: u64)
+        requires room { length self.old + 80 ≤ 8192 }
+        requires before_short { length before.now ≤ 2 }
+        ensures text { self.new ≡ self.old ++ probe_line before.now probe place value }
+        ensures short { length self.new ≤ length self.old + 80 }
+    {
+        self.text(before);
+        self.named("probe", probe);
+        self.named("", place);
+        self.named("", value);
         self.text("\n");
     }
 }

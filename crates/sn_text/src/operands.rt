@@ -14,7 +14,7 @@ use sn_base::{BlockNo, Event, NodeId, SwitchId};
 const BLOCKS: u64 = 65_536;
 
 /// A node of the machine by its number.
-fn node_by(nodes: u8, number: u64) -> Result<NodeId, Fault>
+pub(crate) fn node_by(nodes: u8, number: u64) -> Result<NodeId, Fault>
     requires few { nodes ≤ 16 }
     ensures same { result ≡ if nat_lt number nodes then Ok number else Err Fault.NotThere }
     ensures there { IfOk result (λ node. node < nodes) }
@@ -63,6 +63,14 @@ fn first_blank(text: &[u8]) -> Option<usize>
     text.iter().position(|byte| *byte == b' ')
 }
 
+/// What stands before the first blank, and what stands after it.
+pub(crate) fn parted(text: &[u8]) -> Option<(&[u8], &[u8])>
+    ensures { MatchOption result (parted text.now ≡ None) (λ words. parted text.now ≡ Some (words.0.now, words.1.now)) }
+{
+    let blank = first_blank(text)?;
+    Some((&text[..blank], &text[blank + 1..]))
+}
+
 fn block_by(node: NodeId, block: u64) -> Result<Event, Fault>
     ensures { result ≡ if nat_lt block block_count then Ok (Event.Evict node block) else Err Fault.NotThere }
 {
@@ -92,14 +100,10 @@ pub(crate) fn eviction_in(nodes: u8, text: &[u8]) -> Result<Event, Fault>
     ensures same { result ≡ eviction_in nodes text.now }
     ensures fits { IfOk result (λ event. event_fits nodes event ≡ true) }
 {
-    let Some(blank) = first_blank(text) else {
-        return Err(Fault::NotOfForm);
-    };
-    evicted_at(
-        nodes,
-        number_in(&text[..blank]),
-        number_in(&text[blank + 1..]),
-    )
+    match parted(text) {
+        Some((node, block)) => evicted_at(nodes, number_in(node), number_in(block)),
+        None => Err(Fault::NotOfForm),
+    }
 }
 
 /// The value of a lower-case hexadecimal digit.
@@ -115,7 +119,7 @@ fn hex_value(byte: u8) -> Option<u8>
 }
 
 /// The byte of two such digits.
-fn byte_in(text: &[u8]) -> Option<u8>
+pub(crate) fn byte_in(text: &[u8]) -> Option<u8>
     ensures { result ≡ byte_of text.now }
 {
     if text.len() != 2 {
@@ -146,12 +150,8 @@ pub(crate) fn input_in(nodes: u8, text: &[u8]) -> Result<Event, Fault>
     ensures same { result ≡ input_in nodes text.now }
     ensures fits { IfOk result (λ event. event_fits nodes event ≡ true) }
 {
-    let Some(blank) = first_blank(text) else {
-        return Err(Fault::NotOfForm);
-    };
-    given_to(
-        nodes,
-        number_in(&text[..blank]),
-        byte_in(&text[blank + 1..]),
-    )
+    match parted(text) {
+        Some((node, byte)) => given_to(nodes, number_in(node), byte_in(byte)),
+        None => Err(Fault::NotOfForm),
+    }
 }

@@ -1,6 +1,6 @@
-//! Scripts that are read, each refusal at its line, and lines as a report has them.
-use crate::{Line, ScriptCause, ScriptFault, read_script};
-use rv_core::{Cause, CoreState, End};
+//! Scripts and traces that are read, each refusal at its line, and lines as they are written.
+use crate::{Line, ScriptCause, ScriptFault, read_script, read_trace};
+use rv_core::{Cause, CoreState, End, Record};
 use sn_base::{Answer, BlockNo, Event, NodeId, SwitchId, Undo};
 use sn_model::Sent;
 use sn_msg::{Body, Message};
@@ -12,125 +12,158 @@ fn node(rt: &impl Abort, number: u8) -> NodeId {
     NodeId::new(number).expect(rt, "a node has a number below 16")
 }
 
-/// The cause for which a script for four nodes is refused.
-fn cause(alloc: Global, text: &str) -> Option<ScriptCause> {
-    if text.len() > 100_000_000 {
+/// Scripts for four nodes, each with the cause for which it is refused.
+const REFUSED_SCRIPTS: [(&str, ScriptCause); 41] = [
+    ("step", ScriptCause::BadLine(1)),
+    ("step ", ScriptCause::BadLine(1)),
+    ("step  0", ScriptCause::BadLine(1)),
+    (" step 0", ScriptCause::BadLine(1)),
+    ("step 0 ", ScriptCause::BadLine(1)),
+    ("step 00", ScriptCause::BadLine(1)),
+    ("step 01", ScriptCause::BadLine(1)),
+    ("step -1", ScriptCause::BadLine(1)),
+    ("step +1", ScriptCause::BadLine(1)),
+    ("Step 0", ScriptCause::BadLine(1)),
+    ("step\t0", ScriptCause::BadLine(1)),
+    ("step 18446744073709551616", ScriptCause::BadLine(1)),
+    ("hop", ScriptCause::BadLine(1)),
+    ("hop a", ScriptCause::BadLine(1)),
+    ("deliver 1 2", ScriptCause::BadLine(1)),
+    ("lose 0x1", ScriptCause::BadLine(1)),
+    ("kill 0", ScriptCause::BadLine(1)),
+    ("kill c0", ScriptCause::BadLine(1)),
+    ("kill a", ScriptCause::BadLine(1)),
+    ("kill a03", ScriptCause::BadLine(1)),
+    ("evict 0", ScriptCause::BadLine(1)),
+    ("evict 0 ", ScriptCause::BadLine(1)),
+    ("evict 0 1 2", ScriptCause::BadLine(1)),
+    ("evict 9 x", ScriptCause::BadLine(1)),
+    ("input 0 f", ScriptCause::BadLine(1)),
+    ("input 0 0F", ScriptCause::BadLine(1)),
+    ("input 0 0ff", ScriptCause::BadLine(1)),
+    ("validate 0", ScriptCause::BadLine(1)),
+    ("recover\r", ScriptCause::BadLine(1)),
+    ("\r", ScriptCause::BadLine(1)),
+    ("step 0\n\n#\nedge\nstep 9\n", ScriptCause::BadLine(4)),
+    ("step 4", ScriptCause::OutOfRange(1)),
+    ("edge 16", ScriptCause::OutOfRange(1)),
+    ("report 18446744073709551615", ScriptCause::OutOfRange(1)),
+    ("evict 4 0", ScriptCause::OutOfRange(1)),
+    ("evict 0 65536", ScriptCause::OutOfRange(1)),
+    ("kill a4", ScriptCause::OutOfRange(1)),
+    ("kill b99", ScriptCause::OutOfRange(1)),
+    ("input 4 00", ScriptCause::OutOfRange(1)),
+    ("step 0\r\nstep 9\nedge\n", ScriptCause::OutOfRange(2)),
+    ("# may end so\r\nhop 1\n\rhop 2", ScriptCause::BadLine(3)),
+];
+
+/// Traces of four cores, each with the cause for which it is refused.
+const REFUSED_TRACES: [(&str, ScriptCause); 18] = [
+    ("0", ScriptCause::BadLine(1)),
+    ("0 00000000", ScriptCause::BadLine(1)),
+    ("0 00000000 ", ScriptCause::BadLine(1)),
+    ("0 0000000 0", ScriptCause::BadLine(1)),
+    ("0 000000000 0", ScriptCause::BadLine(1)),
+    ("0 0000000A 0", ScriptCause::BadLine(1)),
+    ("0 00000000 2", ScriptCause::BadLine(1)),
+    ("0 00000000 00", ScriptCause::BadLine(1)),
+    ("0 00000000  0", ScriptCause::BadLine(1)),
+    ("0  00000000 0", ScriptCause::BadLine(1)),
+    (" 0 00000000 0", ScriptCause::BadLine(1)),
+    ("0 00000000 0 ", ScriptCause::BadLine(1)),
+    ("0 00000000 0 4", ScriptCause::BadLine(1)),
+    ("0 00000000 0 4G", ScriptCause::BadLine(1)),
+    ("0 00000000 0 41 41", ScriptCause::BadLine(1)),
+    ("01 00000000 0", ScriptCause::BadLine(1)),
+    ("9 00000000 2", ScriptCause::BadLine(1)),
+    (
+        "#\n\n3 00000000 0\r\n4 00000000 0",
+        ScriptCause::OutOfRange(4),
+    ),
+];
+
+/// The cause for which a text is refused for four nodes.
+fn cause_of(alloc: Global, text: &str, is_trace: bool) -> Option<ScriptCause> {
+    if text.len() > 100 {
         return None;
     }
-    match read_script(alloc, text.as_bytes(), 4) {
-        Err(ScriptFault::Refused(cause)) => Some(cause),
+    let fault = if is_trace {
+        read_trace(alloc, text.as_bytes(), 4).err()
+    } else {
+        read_script(alloc, text.as_bytes(), 4).err()
+    };
+    match fault {
+        Some(ScriptFault::Refused(cause)) => Some(cause),
         _ => None,
     }
 }
 
-const ALL_EVENTS: &str = "\
-# each event once, with an empty line and a line that ends with CR and LF
-step 0
-evict 3 65535
-
-edge 1\r
-hop 18446744073709551615
-deliver 0
-lose 7
-kill a3
-kill b0
-report 2
-validate
-recover
-input 1 0f";
+fn each_is_refused(rt: &impl Abort, alloc: Global, rows: &[(&str, ScriptCause)], is_trace: bool) {
+    for (text, cause) in rows {
+        assert!(rt; cause_of(alloc, text, is_trace) == Some(*cause));
+    }
+}
 
 #[test]
-fn each_event_is_read(rt: HostRuntime) -> Result<(), Fail> {
-    let events = read_script(rt.alloc(), ALL_EVENTS.as_bytes(), 4)?;
-    let expected = [
-        Event::Step(node(&rt, 0)),
-        Event::Evict(node(&rt, 3), BlockNo::new(65_535)),
-        Event::Edge(node(&rt, 1)),
-        Event::Hop(18_446_744_073_709_551_615),
-        Event::Deliver(0),
-        Event::Lose(7),
-        Event::Kill(SwitchId::a(node(&rt, 3))),
-        Event::Kill(SwitchId::b(node(&rt, 0))),
-        Event::Report(node(&rt, 2)),
-        Event::Validate,
-        Event::Recover,
-        Event::Input(node(&rt, 1), 15),
+fn the_first_cause_is_given_at_its_line(rt: HostRuntime) {
+    each_is_refused(&rt, rt.alloc(), &REFUSED_SCRIPTS, false);
+    each_is_refused(&rt, rt.alloc(), &REFUSED_TRACES, true);
+}
+
+#[test]
+fn each_event_is_written_and_read_back(rt: HostRuntime) -> Result<(), Fail> {
+    let rows = [
+        (Event::Step(node(&rt, 0)), "step 0\n"),
+        (
+            Event::Evict(node(&rt, 3), BlockNo::new(65_535)),
+            "evict 3 65535\n",
+        ),
+        (Event::Edge(node(&rt, 1)), "edge 1\n"),
+        (
+            Event::Hop(18_446_744_073_709_551_615),
+            "hop 18446744073709551615\n",
+        ),
+        (Event::Deliver(0), "deliver 0\n"),
+        (Event::Lose(7), "lose 7\n"),
+        (Event::Kill(SwitchId::a(node(&rt, 3))), "kill a3\n"),
+        (Event::Kill(SwitchId::b(node(&rt, 0))), "kill b0\n"),
+        (Event::Report(node(&rt, 2)), "report 2\n"),
+        (Event::Validate, "validate\n"),
+        (Event::Recover, "recover\n"),
+        (Event::Input(node(&rt, 1), 15), "input 1 0f\n"),
     ];
-    assert!(rt; events.as_slice() == expected.as_slice());
-    Ok(())
-}
-
-/// Lines that have another form.
-const BAD_LINES: [&str; 30] = [
-    "step",
-    "step ",
-    "step  0",
-    " step 0",
-    "step 0 ",
-    "step 00",
-    "step 01",
-    "step -1",
-    "step +1",
-    "Step 0",
-    "step\t0",
-    "step 18446744073709551616",
-    "hop",
-    "hop a",
-    "deliver 1 2",
-    "lose 0x1",
-    "kill 0",
-    "kill c0",
-    "kill a",
-    "kill a03",
-    "evict 0",
-    "evict 0 ",
-    "evict 0 1 2",
-    "evict 9 x",
-    "input 0 f",
-    "input 0 0F",
-    "input 0 0ff",
-    "validate 0",
-    "recover\r",
-    "\r",
-];
-
-#[test]
-fn another_form_is_refused(rt: HostRuntime) -> Result<(), Fail> {
-    for line in BAD_LINES {
-        assert!(rt; cause(rt.alloc(), line) == Some(ScriptCause::BadLine(1)));
-    }
-    Ok(())
-}
-
-/// Lines of good form whose node, block or switch isn't there in a machine of four nodes.
-const OUT_OF_RANGE: [&str; 8] = [
-    "step 4",
-    "edge 16",
-    "report 18446744073709551615",
-    "evict 4 0",
-    "evict 0 65536",
-    "kill a4",
-    "kill b99",
-    "input 4 00",
-];
-
-#[test]
-fn what_is_not_there_is_refused(rt: HostRuntime) -> Result<(), Fail> {
-    for line in OUT_OF_RANGE {
-        assert!(rt; cause(rt.alloc(), line) == Some(ScriptCause::OutOfRange(1)));
+    let mut line = Line::new(rt.alloc())?;
+    for (event, text) in rows {
+        line.clear();
+        line.script(&event);
+        written(&rt, &line, text);
+        let read = read_script(rt.alloc(), line.bytes(), 4)?;
+        assert!(rt; read.as_slice() == [event].as_slice());
     }
     Ok(())
 }
 
 #[test]
-fn the_first_cause_is_given_at_its_line(rt: HostRuntime) -> Result<(), Fail> {
-    let bad_third = "step 0\n\n#\nedge\nstep 9\n";
-    assert!(rt; cause(rt.alloc(), bad_third) == Some(ScriptCause::BadLine(4)));
-    let range_first = "step 0\r\nstep 9\nedge\n";
-    assert!(rt; cause(rt.alloc(), range_first) == Some(ScriptCause::OutOfRange(2)));
-    let return_alone = "# a comment may end so\r";
-    assert!(rt; cause(rt.alloc(), return_alone).is_none());
-    assert!(rt; cause(rt.alloc(), "").is_none());
+fn each_record_is_written_and_read_back(rt: HostRuntime) -> Result<(), Fail> {
+    let rows = [
+        (0, 0, false, None, "0 00000000 0\n"),
+        (15, 0x1234_abcd, true, None, "15 1234abcd 1\n"),
+        (3, 0xffff_ffff, false, Some(0x4e), "3 ffffffff 0 4e\n"),
+    ];
+    let mut line = Line::new(rt.alloc())?;
+    for (core, seen, sc_done, read, text) in rows {
+        let taken = Record {
+            core: node(&rt, core),
+            seen,
+            sc_done,
+            read,
+        };
+        line.clear();
+        line.trace(&taken);
+        written(&rt, &line, text);
+        let records = read_trace(rt.alloc(), line.bytes(), 16)?;
+        assert!(rt; records.as_slice() == [taken].as_slice());
+    }
     Ok(())
 }
 
@@ -144,7 +177,8 @@ fn recoveries(alloc: Global, count: usize, last: &str) -> Result<Vec<u8>, Fail> 
     Ok(text)
 }
 
-fn count_read(alloc: Global, text: &[u8]) -> Result<usize, Fail> {
+/// How many events a script has, or the cause for which it is refused.
+fn count_read(alloc: Global, text: &[u8]) -> Result<usize, ScriptFault> {
     if text.len() > 100_000_000 {
         return Ok(0);
     }
@@ -155,11 +189,10 @@ fn count_read(alloc: Global, text: &[u8]) -> Result<usize, Fail> {
 #[test]
 fn a_million_events_and_no_more(rt: HostRuntime) -> Result<(), Fail> {
     let most = recoveries(rt.alloc(), 1_000_000, "# no event")?;
-    assert_eq!(rt; count_read(rt.alloc(), most.as_slice())?, 1_000_000);
+    assert!(rt; count_read(rt.alloc(), most.as_slice()) == Ok(1_000_000));
     let more = recoveries(rt.alloc(), 1_000_000, "step 15")?;
-    assert!(rt; more.len() < 100_000_000);
-    let refused = read_script(rt.alloc(), more.as_slice(), 16);
-    assert!(rt; refused.err() == Some(ScriptFault::Refused(ScriptCause::TooMany)));
+    let many = ScriptFault::Refused(ScriptCause::TooMany);
+    assert!(rt; count_read(rt.alloc(), more.as_slice()) == Err(many));
     Ok(())
 }
 
@@ -204,7 +237,13 @@ fn an_event_and_what_it_sent_have_their_lines(rt: HostRuntime) -> Result<(), Fai
     line.clear();
     line.event(1, &Event::Input(third, 10), &Answer::CutOff(first, third));
     line.count("# ", "released", 20);
-    written(&rt, &line, "1 input 3 0a: cutoff 0 3\n# released 20\n");
+    line.watch("  ", 0x8000_1000, 0xab);
+    line.probe("", 1, 0, 18_446_744_073_709_551_615);
+    written(
+        &rt,
+        &line,
+        "1 input 3 0a: cutoff 0 3\n# released 20\n  watch 80001000 000000ab\nprobe 1 0 18446744073709551615\n",
+    );
     Ok(())
 }
 

@@ -1,0 +1,51 @@
+//! Records as text.
+ghost use Rattle.std.specs.Prelude.{◌≡◌, ◌+◌, ◌≤◌, ◌++◌, length};
+ghost use Rattle.sn_text.specs.Text.{flag_text, read_text, record_text, trace_line};
+
+use crate::line::Line;
+use rv_core::Record;
+
+fn flag_of(sc_done: bool) -> &'static str
+    ensures text { result.now ≡ flag_text sc_done }
+    ensures short { length result.now ≤ 1 }
+{
+    if sc_done { "1" } else { "0" }
+}
+
+impl Line {
+    fn byte_read(&mut self, read: Option<u8>)
+        requires { length self.old + 3 ≤ 8192 }
+        ensures text { self.new ≡ self.old ++ read_text read }
+        ensures short { length self.new ≤ length self.old + 3 }
+    {
+        if let Some(byte) = read {
+            self.text(" ");
+            self.byte(byte);
+        }
+    }
+
+    fn record(&mut self, taken: &Record)
+        requires { length self.old + 17 ≤ 8192 }
+        ensures text { self.new ≡ self.old ++ record_text taken.now }
+        ensures short { length self.new ≤ length self.old + 17 }
+    {
+        self.small(taken.core.number());
+        self.text(" ");
+        self.word(taken.seen);
+        self.text(" ");
+        self.text(flag_of(taken.sc_done));
+        self.byte_read(taken.read);
+    }
+
+    /// A record as a line of a trace: the core, the word that it saw, whether a store-conditional was done, and the byte of
+    /// input that it read, if any.
+    #[tactic(auto, unfolding(crate::specs::Text::trace_line))]
+    pub fn trace(&mut self, taken: &Record)
+        requires { length self.old + 18 ≤ 8192 }
+        ensures text { self.new ≡ self.old ++ trace_line taken.now }
+        ensures short { length self.new ≤ length self.old + 18 }
+    {
+        self.record(taken);
+        self.text("\n");
+    }
+}
