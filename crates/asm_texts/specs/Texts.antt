@@ -1,6 +1,6 @@
 -- The texts of the commands that assemble and disassemble.
-use Rattle.std.specs.Prelude.{ℕ, zero, suc, ◌+◌, ◌-◌, ◌*◌, Bool, true, false, if◌then◌else◌, List, [], ◌∷◌, ◌++◌, codes, Option, Some, None}
-use Rattle.std.specs.List.{flat_map}
+use Rattle.std.specs.Prelude.{ℕ, ◌+◌, ◌-◌, ◌*◌, Bool, true, false, if◌then◌else◌, List, [], ◌∷◌, ◌++◌, codes, Option, Some, None}
+use Rattle.std.specs.List.{flat_map, range_with_len}
 use Rattle.std.specs.Option.{is_some}
 use Rattle.sn_base.specs.Blocks.{ram_start}
 use Rattle.sn_base.specs.Image.{SegmentData, fetched}
@@ -28,11 +28,10 @@ lines_at is_next address (Some word) = heading is_next address ++ word_text word
 abbrev pub place_lines : List SegmentData → ℕ → List ℕ
 place_lines segments place = lines_at (is_some (fetched segments (ram_start + 4 * place - 4))) (ram_start + 4 * place) (fetched segments (ram_start + 4 * place))
 
--- the numbers from one up, so many of them
-abbrev pub numbers_from : ℕ → ℕ → List ℕ
-numbers_from zero first = []
-numbers_from (suc count) first = first ∷ numbers_from count (first + 1)
+-- the lines of the first places of memory, in order
+unfoldable pub first_lines : List SegmentData → ℕ → List ℕ
+first_lines segments places = flat_map (place_lines segments) (range_with_len 0 places)
 
--- the lines of a program's words, in order of address
-abbrev pub listing : List SegmentData → List ℕ
-listing segments = flat_map (place_lines segments) (numbers_from 1048576 0)
+-- the lines of a program's words, in order of address: those of all of memory
+unfoldable pub listing : List SegmentData → List ℕ
+listing segments = first_lines segments 1048576
