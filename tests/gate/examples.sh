@@ -71,9 +71,19 @@ refused_script 'script toomany'
 head -c 33554433 /dev/zero | tr '\0' '#' >"$work/script"
 refused_script 'script toolong'
 
-for nodes in 0 17 01 x; do
+for nodes in 0 17 x; do
   refused 1 usage examples/first/a.hex examples/first/a.script "$nodes"
 done
+
+# What the commands put that turn words into lines and back is read as the same program again.
+./safetynet dis examples/first/a.elf >"$work/text" 2>"$work/report" && ./safetynet asm "$work/text" >"$work/program" 2>>"$work/report"
+status=$?
+if [ "$status" -eq 0 ] && [ ! -s "$work/report" ] && diff <(./safetynet dis "$work/program") "$work/text"; then
+  passed=$((passed + 1))
+else
+  echo "a listing of examples/first/a.elf: status $status, or another listing of what it is assembled to" >&2
+  failed=$((failed + 1))
+fi
 refused 2 store examples/first/lacking.hex examples/first/a.script
 
 echo "examples: $passed passed, $failed failed"
