@@ -1,3 +1,5 @@
 pub mod Scripts
 pub mod Errands
 pub mod CallLaws
+pub mod Watched
+pub mod Loading

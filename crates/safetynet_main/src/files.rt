@@ -1,12 +1,13 @@
 //! Files fetched from the store, and read.
-ghost use Rattle.std.specs.Prelude.{◌≡◌, ◌≢◌, ◌≤◌, true, length, Some, Ok, Err, IfOk, IfSome, string_bytes};
+ghost use Rattle.std.specs.Prelude.{◌≡◌, ◌≢◌, ◌≤◌, true, length, Some, Ok, Err, IfOk, string_bytes};
 ghost use Rattle.sn_base.specs.Config.{config_fits};
 ghost use Rattle.sn_io.specs.Outside.{Found};
 ghost use Rattle.consistent_cuts.specs.Runs.{AllFit};
-ghost use Rattle.command_words.specs.Request.{request_of, Fits, is_word_address};
+ghost use Rattle.command_words.specs.Request.{as_request, request_fits};
+ghost use Rattle.script_replay.specs.Played.{IsWatchable};
 ghost use Rattle.safetynet_main.specs.Files.{program_in, script_in, assembly_in};
 ghost use Rattle.safetynet_main.specs.Errand.{Loads};
-ghost use Rattle.safetynet_main.specs.Call.{Fetches, found_by, errand_of, replay_errand, assembly_errand, listing_errand, IsRead};
+ghost use Rattle.safetynet_main.specs.Call.{Fetches, found_by, errand_of, replay_errand, assembly_errand, listing_errand, Watches, IsRead};
 
 use crate::job::{Job, Text};
 use crate::reading::{
@@ -103,7 +104,7 @@ fn load_replay<S: Store>(
     asked: &command_words::Replay,
 ) -> Result<Job, Status>
     requires sizes { config_fits asked.now.config ≡ true }
-    requires watched { IfSome asked.now.watch (λ address. is_word_address address ≡ true) }
+    requires watched { IsWatchable asked.now.watch }
     ensures loads { result ≢ Err Status.Memory → Loads (Fetches S.files S.sure S.faults S.gave)
         (replay_errand asked.now.config (record { trace = asked.now.trace; watch = asked.now.watch }) (string_bytes asked.now.program) (string_bytes asked.now.script))
         result store.old store.new }
@@ -160,9 +161,10 @@ fn load_listing<S: Store>(alloc: Global, store: &mut S, program: &str) -> Result
 
 /// What is due for a request: its files are fetched and read one after another, and the first that is refused decides.
 pub fn load<S: Store>(alloc: Global, store: &mut S, request: &Request) -> Result<Job, Status>
-    requires { Fits (request_of request.now) }
+    requires fits { request_fits (as_request request.now) ≡ true }
+    requires watched { Watches (as_request request.now) }
     ensures loads { result ≢ Err Status.Memory →
-        Loads (Fetches S.files S.sure S.faults S.gave) (errand_of (Some (request_of request.now))) result store.old store.new }
+        Loads (Fetches S.files S.sure S.faults S.gave) (errand_of (Some (as_request request.now))) result store.old store.new }
     ensures read { IfOk result IsRead }
     ensures files { S.files store.new ≡ S.files store.old }
 {
