@@ -1,6 +1,6 @@
 -- What follows of a call from how its files were found.
 use Rattle.std.proofs.Common.{◌≡◌, ℕ, List, refl, ap, sym, subst, ◌∙◌, inl, inr}
-use Rattle.std.specs.Prelude.{Option, Some, IfSome, IfOk, Result, Ok, Err, ◌⊎◌}
+use Rattle.std.specs.Prelude.{Option, Some, None, IfSome, IfOk, Result, Ok, Err, ◌⊎◌}
 use Rattle.sn_io.specs.Outside.{Found, Rose}
 use Rattle.command_words.specs.Request.{Request}
 use Rattle.sink_pieces.specs.Pieces.{Ends}
@@ -82,3 +82,13 @@ module _ {S : Type 0} (files : S → Option (List ℕ → Option (List ℕ))) (s
   clause-complete R h cause s =
       if_some-intro (files old) (λ held. IfOk (due_of held ask) (λ job. (R → ⊥) → (status ≡ status_of_job job) ⊎ (status ≡ Memory)))
       (λ held e. is-complete (due_of held ask) status before behind R (λ m. comes-sure held (h m) s e) cause)
+
+-- words that ask for nothing: nothing is fetched, and the status is Usage
+pub comes-none : {S : Type 0} (fetches : S → List ℕ → ℕ → Found → S → Type 0) (ask : Option Request) (old : S) (before : Ends) → ask ≡ None → Comes fetches ask Usage old old before before
+comes-none fetches ask old before e =
+    (Err Usage, subst (λ (a : Option Request). Loads fetches (errand_of a) (Err Usage) old old) (sym e) (refl, refl), (refl, refl))
+
+-- words that ask for something
+pub comes-some : {S : Type 0} (fetches : S → List ℕ → ℕ → Found → S → Type 0) (ask : Option Request) (r : Request) (job : Result Job Status) (status : Status) (old new : S) (before behind : Ends) → ask ≡ Some r → Loads fetches (errand_of (Some r)) job old new → Follows job status before behind → Comes fetches ask status old new before behind
+comes-some fetches ask r job status old new before behind e h follows =
+    (job, subst (λ (a : Option Request). Loads fetches (errand_of a) job old new) (sym e) h, follows)

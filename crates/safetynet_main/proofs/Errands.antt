@@ -141,16 +141,20 @@ module _ {S : Type 0} (files : S → Option (List ℕ → Option (List ℕ))) (s
   -- where no file was found missing, the others were found as they are held
   told-plain : (errand : Errand) (job : Result Job Status) (old new : S) (held : List ℕ → Option (List ℕ)) → IsPlain errand → Loads (Fetches files sure faults gave) errand job old new → files old ≡ Some held → (job ≡ Err StoreFault → ⊥) → job ≡ due_by held errand
   told-plain (Due due) job old new held plain h e fine = h.0
-  told-plain (Fetch name limit next) job old new held plain h e fine = by_found h.0 h.2 h.3
+  told-plain (Fetch name limit next) job old new held plain h e fine =
+      by_found h.0 h.2 h.3
+      (λ l. told-plain (next TooLong) job h.1 new held plain.1 l (h.2.same_files ∙ e) fine)
+      (λ bytes l. told-plain (next (File bytes)) job h.1 new held (plain.2 bytes) l (h.2.same_files ∙ e) fine)
     where
-      by_found : (found : Found) → Fetches files sure faults gave old name limit found h.1 → Loads (Fetches files sure faults gave) (next found) job h.1 new → job ≡ due_by held (Fetch name limit next)
-      by_found Missing f l = absurd (fine (loads-due (next Missing) (Err StoreFault) job h.1 new plain.0 l))
-      by_found TooLong f l =
-          told-plain (next TooLong) job h.1 new held plain.1 l (f.same_files ∙ e) fine
-          ∙ ap (λ t. due_by held (next t)) (fetches-told old h.1 name limit held TooLong f e (λ no. cc))
-      by_found (File bytes) f l =
-          told-plain (next (File bytes)) job h.1 new held (plain.2 bytes) l (f.same_files ∙ e) fine
-          ∙ ap (λ t. due_by held (next t)) (fetches-told old h.1 name limit held (File bytes) f e (λ no. cc))
+      by_found : (found : Found) → Fetches files sure faults gave old name limit found h.1 → Loads (Fetches files sure faults gave) (next found) job h.1 new
+          → (Loads (Fetches files sure faults gave) (next TooLong) job h.1 new → job ≡ due_by held (next TooLong))
+          → ((bytes : List ℕ) → Loads (Fetches files sure faults gave) (next (File bytes)) job h.1 new → job ≡ due_by held (next (File bytes)))
+          → job ≡ due_by held (Fetch name limit next)
+      by_found Missing f l long whole = absurd (fine (loads-due (next Missing) (Err StoreFault) job h.1 new plain.0 l))
+      by_found TooLong f l long whole =
+          long l ∙ ap (λ t. due_by held (next t)) (fetches-told old h.1 name limit held TooLong f e (λ no. cc))
+      by_found (File bytes) f l long whole =
+          whole bytes l ∙ ap (λ t. due_by held (next t)) (fetches-told old h.1 name limit held (File bytes) f e (λ no. cc))
 
   pub loads-told : (errand : Errand) (job : Result Job Status) (old new : S) (held : List ℕ → Option (List ℕ)) → IsOfWords errand → Loads (Fetches files sure faults gave) errand job old new → files old ≡ Some held → (job ≡ Err StoreFault → ⊥) → job ≡ due_by held errand
   loads-told (Due due) job old new held good h e fine = h.0
@@ -159,13 +163,19 @@ module _ {S : Type 0} (files : S → Option (List ℕ → Option (List ℕ))) (s
   -- a store's fault was one
   rose-plain : (errand : Errand) (job : Result Job Status) (old new : S) → IsPlain errand → Loads (Fetches files sure faults gave) errand job old new → job ≡ Err StoreFault → Rose (faults old) (faults new)
   rose-plain (Due due) job old new plain h e = absurd (plain.0 (sym h.0 ∙ e))
-  rose-plain (Fetch name limit next) job old new plain h e = by_found h.0 h.2 h.3
+  rose-plain (Fetch name limit next) job old new plain h e =
+      by_found h.0 h.2 h.3
+      (λ l. rose-plain (next TooLong) job h.1 new plain.1 l e)
+      (λ bytes l. rose-plain (next (File bytes)) job h.1 new (plain.2 bytes) l e)
     where
-      by_found : (found : Found) → Fetches files sure faults gave old name limit found h.1 → Loads (Fetches files sure faults gave) (next found) job h.1 new → Rose (faults old) (faults new)
-      by_found Missing f l =
+      by_found : (found : Found) → Fetches files sure faults gave old name limit found h.1 → Loads (Fetches files sure faults gave) (next found) job h.1 new
+          → (Loads (Fetches files sure faults gave) (next TooLong) job h.1 new → Rose (faults h.1) (faults new))
+          → ((bytes : List ℕ) → Loads (Fetches files sure faults gave) (next (File bytes)) job h.1 new → Rose (faults h.1) (faults new))
+          → Rose (faults old) (faults new)
+      by_found Missing f l long whole =
           subst (λ t. Rose (faults old) (faults t)) (sym (loads-stays (next Missing) (Err StoreFault) job h.1 new plain.0 l)) (f.rose refl)
-      by_found TooLong f l = Rose-before (faults old) (faults h.1) (faults new) f.later (rose-plain (next TooLong) job h.1 new plain.1 l e)
-      by_found (File bytes) f l = Rose-before (faults old) (faults h.1) (faults new) f.later (rose-plain (next (File bytes)) job h.1 new (plain.2 bytes) l e)
+      by_found TooLong f l long whole = Rose-before (faults old) (faults h.1) (faults new) f.later (long l)
+      by_found (File bytes) f l long whole = Rose-before (faults old) (faults h.1) (faults new) f.later (whole bytes l)
 
   pub loads-rose : (errand : Errand) (job : Result Job Status) (old new : S) → IsOfWords errand → Loads (Fetches files sure faults gave) errand job old new → job ≡ Err StoreFault → Rose (faults old) (faults new)
   loads-rose (Due due) job old new good h e = absurd cc
@@ -174,12 +184,17 @@ module _ {S : Type 0} (files : S → Option (List ℕ → Option (List ℕ))) (s
   -- the words' fault is no file's
   no_usage-plain : (errand : Errand) (job : Result Job Status) (old new : S) → IsPlain errand → Loads (Fetches files sure faults gave) errand job old new → job ≡ Err Usage → ⊥
   no_usage-plain (Due due) job old new plain h e = plain.1 (sym h.0 ∙ e)
-  no_usage-plain (Fetch name limit next) job old new plain h e = by_found h.0 h.3
+  no_usage-plain (Fetch name limit next) job old new plain h e =
+      by_found h.0 h.3
+      (λ l. no_usage-plain (next TooLong) job h.1 new plain.1 l e)
+      (λ bytes l. no_usage-plain (next (File bytes)) job h.1 new (plain.2 bytes) l e)
     where
-      by_found : (found : Found) → Loads (Fetches files sure faults gave) (next found) job h.1 new → ⊥
-      by_found Missing l = let same : job ≡ Err StoreFault = loads-due (next Missing) (Err StoreFault) job h.1 new plain.0 l in cc
-      by_found TooLong l = no_usage-plain (next TooLong) job h.1 new plain.1 l e
-      by_found (File bytes) l = no_usage-plain (next (File bytes)) job h.1 new (plain.2 bytes) l e
+      by_found : (found : Found) → Loads (Fetches files sure faults gave) (next found) job h.1 new
+          → (Loads (Fetches files sure faults gave) (next TooLong) job h.1 new → ⊥)
+          → ((bytes : List ℕ) → Loads (Fetches files sure faults gave) (next (File bytes)) job h.1 new → ⊥) → ⊥
+      by_found Missing l long whole = let same : job ≡ Err StoreFault = loads-due (next Missing) (Err StoreFault) job h.1 new plain.0 l in cc
+      by_found TooLong l long whole = long l
+      by_found (File bytes) l long whole = whole bytes l
 
   pub loads-usage : (errand : Errand) (job : Result Job Status) (old new : S) → IsOfWords errand → Loads (Fetches files sure faults gave) errand job old new → job ≡ Err Usage → errand ≡ Due (Err Usage)
   loads-usage (Due due) job old new good h e = ap Due good

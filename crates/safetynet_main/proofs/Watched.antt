@@ -56,7 +56,7 @@ watch-word (Some text) watch e =
 good-replay : (entries : List Row) → IsGood (replay_of entries)
 good-replay entries =
     good-then _ (config_of entries) (λ config c. good-then _ (watch_by (first_of (codes "watch") entries)) (λ watch w.
-    good-then _ (first_of (codes "program") entries) (λ program p. good-map _ (first_of (codes "script") entries) (λ script. watch-word _ watch w))))
+    good-then _ (first_of (codes "program") entries) (λ program p. good-map _ (first_of (codes "script") entries) (λ script. watch-word (first_of (codes "watch") entries) watch w))))
 
 good-check : (entries : List Row) → IsGood (check_of entries)
 good-check entries =

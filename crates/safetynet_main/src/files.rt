@@ -7,7 +7,7 @@ ghost use Rattle.command_words.specs.Request.{as_request, request_fits};
 ghost use Rattle.script_replay.specs.Played.{IsWatchable};
 ghost use Rattle.safetynet_main.specs.Files.{program_in, script_in, assembly_in};
 ghost use Rattle.safetynet_main.specs.Errand.{Loads};
-ghost use Rattle.safetynet_main.specs.Call.{Fetches, found_by, errand_of, replay_errand, assembly_errand, listing_errand, Watches, IsRead};
+ghost use Rattle.safetynet_main.specs.Call.{Fetches, found_by, errand_of, replay_errand, assembly_errand, listing_errand, AsksNothing, Watches, IsRead};
 
 use crate::job::{Job, Text};
 use crate::reading::{
@@ -165,6 +165,7 @@ pub fn load<S: Store>(alloc: Global, store: &mut S, request: &Request) -> Result
     requires watched { Watches (as_request request.now) }
     ensures loads { result ≢ Err Status.Memory →
         Loads (Fetches S.files S.sure S.faults S.gave) (errand_of (Some (as_request request.now))) result store.old store.new }
+    ensures no_command { AsksNothing (Some (as_request request.now)) → (result ≡ Err Status.Usage) × (store.new ≡ store.old) }
     ensures read { IfOk result IsRead }
     ensures files { S.files store.new ≡ S.files store.old }
 {
