@@ -1,0 +1,47 @@
+-- The program's command line, as clap has it: a table with one row a command.
+use Rattle.std.specs.Prelude.{true, Some, List, [], ◌∷◌, codes, fold}
+use Rattle.clap.specs.Words.{App, Rule, Text, new_app, new_rule, with_rule, with_subcommand}
+use Rattle.clap.specs.declared.builder.ArgAction.TheVariants.{Set, SetTrue}
+use Rattle.command_words.specs.declared.command.Kind.{Kind}
+use Rattle.command_words.specs.declared.command.Kind.TheVariants as kind
+
+-- a word that must be there; `--name value` or `--name=value`; `--name`
+abbrev pub rule_by : Kind → Text → Rule
+rule_by kind.Word name = record (new_rule name) { required = true; action = Some Set }
+rule_by kind.Option name = record (new_rule name) { long = Some name; action = Some Set }
+rule_by kind.Flag name = record (new_rule name) { long = Some name; action = Some SetTrue }
+
+abbrev pub with_args : Kind → List Text → App → App
+with_args kind names app = fold (λ a name. with_rule a (rule_by kind name)) app names
+
+-- a command by its name, with its words, its options and its flags
+abbrev pub command_app : Text → List Text → List Text → List Text → App
+command_app name words options flags = with_args kind.Flag flags (with_args kind.Option options (with_args kind.Word words (new_app name)))
+
+abbrev pub replay_app : App
+replay_app = command_app (codes "replay") (codes "program" ∷ codes "script" ∷ [])
+    (codes "nodes" ∷ codes "sets" ∷ codes "ways" ∷ codes "log" ∷ codes "watch" ∷ []) (codes "trace" ∷ [])
+
+abbrev pub check_app : App
+check_app = command_app (codes "check") (codes "program" ∷ codes "trace" ∷ []) (codes "nodes" ∷ []) []
+
+abbrev pub demo_app : App
+demo_app = command_app (codes "demo") (codes "size" ∷ []) [] []
+
+abbrev pub asm_app : App
+asm_app = command_app (codes "asm") (codes "text" ∷ []) [] []
+
+abbrev pub dis_app : App
+dis_app = command_app (codes "dis") (codes "program" ∷ []) [] []
+
+-- the program's name, and that a command must follow it; a call for help is no command and no option
+abbrev pub named_app : App
+named_app = record (new_app (codes "safetynet")) {
+  top = record (new_app (codes "safetynet")).top { disable_help_flag = true; disable_help_subcommand = true; subcommand_required = true };
+}
+
+abbrev pub with_command : App → App → App
+with_command app command = with_subcommand app command.top
+
+abbrev pub the_app : App
+the_app = fold with_command named_app (replay_app ∷ check_app ∷ demo_app ∷ asm_app ∷ dis_app ∷ [])

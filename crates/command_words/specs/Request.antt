@@ -1,0 +1,77 @@
+-- What the words ask for.
+use Rattle.std.specs.Prelude.{ℕ, Bool, true, false, if◌then◌else◌, List, codes, bytes_eq, Option, None, option_map, option_and_then, string_bytes}
+use Rattle.std.specs.Option.{option_map_or}
+use Rattle.sn_base.specs.Config.{lies_in, config_fits}
+use Rattle.sn_base.specs.declared.config.Config.{Config}
+use Rattle.option_values.specs.Values.{nodes_rule, number_by, config_by, watch_by, demo_size}
+use Rattle.clap.specs.Words.{Row, Text, first_of, takes, subcommand_of}
+use Rattle.command_words.specs.Command.{the_app}
+use Rattle.command_words.specs.declared.request.Replay as code_replay
+use Rattle.command_words.specs.declared.request.Check as code_check
+use Rattle.command_words.specs.declared.request.Request as code_request
+use Rattle.command_words.specs.declared.request.Request.TheVariants as asked
+
+-- the sizes, whether the trace is to be shown, which word is to be watched, and the names of files: of the program and of
+-- the script or the trace, or of the text
+pub data Request : Type 0 where
+  Replay : Config → Bool → Option ℕ → Text → Text → Request
+  Check : ℕ → Text → Text → Request
+  Demo : ℕ → Request
+  Assemble : Text → Request
+  Disassemble : Text → Request
+
+-- whether a flag is given
+abbrev pub flag_of : Text → List Row → Bool
+flag_of name entries = option_map_or (λ text. bytes_eq text (codes "true")) (first_of name entries) false
+
+abbrev pub config_of : List Row → Option Config
+config_of entries =
+    config_by (first_of (codes "nodes") entries) (first_of (codes "sets") entries) (first_of (codes "ways") entries) (first_of (codes "log") entries)
+
+abbrev pub replay_of : List Row → Option Request
+replay_of entries =
+    option_and_then (λ config. option_and_then (λ watch. option_and_then (λ program. option_map (λ script.
+    Replay config (flag_of (codes "trace") entries) watch program script)
+    (first_of (codes "script") entries)) (first_of (codes "program") entries)) (watch_by (first_of (codes "watch") entries))) (config_of entries)
+
+abbrev pub check_of : List Row → Option Request
+check_of entries =
+    option_and_then (λ nodes. option_and_then (λ program. option_map (λ trace. Check nodes program trace)
+    (first_of (codes "trace") entries)) (first_of (codes "program") entries)) (number_by nodes_rule (first_of (codes "nodes") entries))
+
+abbrev pub demo_of : List Row → Option ℕ
+demo_of entries = option_and_then demo_size (first_of (codes "size") entries)
+
+-- the request of a command by its name and its entries
+abbrev pub request_of : Text → List Row → Option Request
+request_of command entries =
+    if bytes_eq command (codes "replay") then replay_of entries else
+    if bytes_eq command (codes "check") then check_of entries else
+    if bytes_eq command (codes "demo") then option_map (λ size. Demo size) (demo_of entries) else
+    if bytes_eq command (codes "asm") then option_map (λ text. Assemble text) (first_of (codes "text") entries) else
+    if bytes_eq command (codes "dis") then option_map (λ program. Disassemble program) (first_of (codes "program") entries) else None
+
+-- the request of the words: none where they aren't a command's, or where the text of an entry breaks its rule
+abbrev pub ask_of : List Text → Option Request
+ask_of words = if takes the_app words then option_and_then (λ command. request_of command.0 command.1) (subcommand_of the_app words) else None
+
+-- requests of the code, with their names as bytes
+abbrev pub as_replay : code_replay.Replay → Request
+as_replay r = Replay r.config r.trace r.watch (string_bytes r.program) (string_bytes r.script)
+
+abbrev pub as_check : code_check.Check → Request
+as_check c = Check c.nodes (string_bytes c.program) (string_bytes c.trace)
+
+abbrev pub as_request : code_request.Request → Request
+as_request (asked.Replay r) = as_replay r
+as_request (asked.Check c) = as_check c
+as_request (asked.Demo size) = Demo size
+as_request (asked.Assemble text) = Assemble (string_bytes text)
+as_request (asked.Disassemble program) = Disassemble (string_bytes program)
+
+-- whether the sizes lie in their ranges
+abbrev pub request_fits : Request → Bool
+request_fits (Replay config trace watch program script) = config_fits config
+request_fits (Check nodes program trace) = lies_in 1 16 nodes
+request_fits (Demo size) = lies_in 1 1000000 size
+request_fits _ = true

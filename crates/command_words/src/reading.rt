@@ -1,0 +1,104 @@
+//! The request of the words: the entries' texts are read, and the names are copied.
+ghost use Rattle.std.specs.Prelude.{◌≡◌, IfOk, IfErr, true, Some, None, map, string_bytes};
+ghost use Rattle.sn_base.specs.Config.{lies_in, config_fits};
+ghost use Rattle.clap.specs.Words.{found_of, rows_of, first_of};
+ghost use Rattle.command_words.specs.Request.{ask_of, as_request, request_of, config_of, replay_of, check_of, demo_of, as_replay, as_check, request_fits};
+
+use crate::command::entries_of;
+use crate::entries::{command_of, has_flag, text_of};
+use crate::request::{Check, Replay, Request, WordsFault};
+use clap::ArgMatches;
+use option_values::{SizeWords, read_demo_size, read_nodes, read_watch};
+use sn_base::Config;
+use std::alloc::Global;
+
+// The name of a file.
+fn name(alloc: Global, entries: &ArgMatches<'_>, id: &str) -> Result<String, WordsFault>
+    ensures ok { IfOk result (λ name. first_of id.now (rows_of (found_of entries.now)) ≡ Some (string_bytes name)) }
+    ensures usage { result ≡ Err WordsFault.Usage → first_of id.now (rows_of (found_of entries.now)) ≡ None }
+{
+    match text_of(entries, id) {
+        Some(text) => Ok(String::from_str(alloc, text)?),
+        None => Err(WordsFault::Usage),
+    }
+}
+
+fn config(entries: &ArgMatches<'_>) -> Result<Config, WordsFault>
+    ensures ok { IfOk result (λ config. config_of (rows_of (found_of entries.now)) ≡ Some config) }
+    ensures usage { IfErr result (λ fault. (fault ≡ WordsFault.Usage) × (config_of (rows_of (found_of entries.now)) ≡ None)) }
+    ensures fits { IfOk result (λ config. config_fits config ≡ true) }
+{
+    let sizes = SizeWords {
+        nodes: text_of(entries, "nodes"),
+        sets: text_of(entries, "sets"),
+        ways: text_of(entries, "ways"),
+        log: text_of(entries, "log"),
+    };
+    sizes.config().ok_or(WordsFault::Usage)
+}
+
+fn replay(alloc: Global, entries: &ArgMatches<'_>) -> Result<Replay, WordsFault>
+    ensures ok { IfOk result (λ replay. replay_of (rows_of (found_of entries.now)) ≡ Some (as_replay replay)) }
+    ensures usage { result ≡ Err WordsFault.Usage → replay_of (rows_of (found_of entries.now)) ≡ None }
+    ensures fits { IfOk result (λ replay. config_fits replay.config ≡ true) }
+{
+    Ok(Replay {
+        config: config(entries)?,
+        trace: has_flag(entries, "trace"),
+        watch: read_watch(text_of(entries, "watch")).ok_or(WordsFault::Usage)?,
+        program: name(alloc, entries, "program")?,
+        script: name(alloc, entries, "script")?,
+    })
+}
+
+fn check(alloc: Global, entries: &ArgMatches<'_>) -> Result<Check, WordsFault>
+    ensures ok { IfOk result (λ check. check_of (rows_of (found_of entries.now)) ≡ Some (as_check check)) }
+    ensures usage { result ≡ Err WordsFault.Usage → check_of (rows_of (found_of entries.now)) ≡ None }
+    ensures fits { IfOk result (λ check. lies_in 1 16 check.nodes ≡ true) }
+{
+    Ok(Check {
+        nodes: read_nodes(text_of(entries, "nodes")).ok_or(WordsFault::Usage)?,
+        program: name(alloc, entries, "program")?,
+        trace: name(alloc, entries, "trace")?,
+    })
+}
+
+fn demo(entries: &ArgMatches<'_>) -> Result<u32, WordsFault>
+    ensures ok { IfOk result (λ size. demo_of (rows_of (found_of entries.now)) ≡ Some size) }
+    ensures usage { result ≡ Err WordsFault.Usage → demo_of (rows_of (found_of entries.now)) ≡ None }
+    ensures fits { IfOk result (λ size. lies_in 1 1000000 size ≡ true) }
+{
+    let size = text_of(entries, "size").ok_or(WordsFault::Usage)?;
+    read_demo_size(size).ok_or(WordsFault::Usage)
+}
+
+fn request(alloc: Global, command: &str, entries: &ArgMatches<'_>) -> Result<Request, WordsFault>
+    ensures ok { IfOk result (λ request. request_of command.now (rows_of (found_of entries.now)) ≡ Some (as_request request)) }
+    ensures usage { result ≡ Err WordsFault.Usage → request_of command.now (rows_of (found_of entries.now)) ≡ None }
+    ensures fits { IfOk result (λ request. request_fits (as_request request) ≡ true) }
+{
+    match command {
+        "replay" => Ok(Request::Replay(replay(alloc, entries)?)),
+        "check" => Ok(Request::Check(check(alloc, entries)?)),
+        "demo" => Ok(Request::Demo(demo(entries)?)),
+        "asm" => Ok(Request::Assemble(name(alloc, entries, "text")?)),
+        "dis" => Ok(Request::Disassemble(name(alloc, entries, "program")?)),
+        _ => Err(WordsFault::Usage),
+    }
+}
+
+/// What the words ask for; the first of them is the program's own name.
+///
+/// `Usage` where they are no command's words, or where a value breaks its rule. Each option may stand once, as
+/// `--name value` or as `--name=value`, and words that begin with `--` may be files' names after `--` alone.
+pub fn read_words(alloc: Global, words: &[String]) -> Result<Request, WordsFault>
+    ensures ok { IfOk result (λ request. ask_of (map string_bytes words.now) ≡ Some (as_request request)) }
+    ensures fits { IfOk result (λ request. request_fits (as_request request) ≡ true) }
+    ensures usage { result ≡ Err WordsFault.Usage → ask_of (map string_bytes words.now) ≡ None }
+{
+    let entries = entries_of(alloc, words)?;
+    match command_of(&entries) {
+        Some((command, entries)) => request(alloc, command, entries),
+        None => Err(WordsFault::Usage),
+    }
+}

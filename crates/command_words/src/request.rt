@@ -1,0 +1,55 @@
+//! What the words ask for.
+ghost use Rattle.std.specs.Prelude.{◌≡◌};
+
+use sn_base::Config;
+use std::alloc::AllocError;
+
+/// The sizes, what is shown, and the names of the files.
+#[derive(Drop)]
+pub struct Replay {
+    pub config: Config,
+    /// Whether the committed trace is shown in place of each event's answer.
+    pub trace: bool,
+    /// The address of the word that is shown after each recovery.
+    pub watch: Option<u32>,
+    pub program: String,
+    pub script: String,
+}
+
+/// The number of nodes, and the names of the files.
+#[derive(Drop)]
+pub struct Check {
+    pub nodes: u8,
+    pub program: String,
+    pub trace: String,
+}
+
+/// A command, with all that its words say.
+#[derive(Drop)]
+pub enum Request {
+    Replay(Replay),
+    Check(Check),
+    /// How many events the demonstration has.
+    Demo(u32),
+    /// The name of a text in assembler.
+    Assemble(String),
+    /// The name of a program's file.
+    Disassemble(String),
+}
+
+/// Why words are no request: they are no command's or a value breaks its rule, or memory was wanted and not given.
+#[derive(Clone, Copy, PartialEq, Eq, Debug)]
+pub enum WordsFault {
+    Usage,
+    Memory,
+}
+
+impl From<AllocError> for WordsFault {
+    ghost use Rattle.command_words.specs.declared.request.WordsFault.TheVariants.{Memory};
+
+    ghost from_gives = { λ _ fault. fault ≡ Memory };
+
+    fn from(_error: AllocError) -> WordsFault {
+        WordsFault::Memory
+    }
+}

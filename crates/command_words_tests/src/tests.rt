@@ -1,0 +1,200 @@
+//! Each row has the words of a line, and the request that they are, as text.
+use command_words::{Request, WordsFault, read_words};
+use std::alloc::{AllocError, Global};
+use std::test::Fail;
+
+/// The words of a line, after the program's name; '' is an empty word, as in a shell.
+fn words_of(alloc: Global, line: &str) -> Result<Vec<String>, AllocError> {
+    let mut words = Vec::new(alloc);
+    words.push(String::from_str(alloc, "safetynet")?)?;
+    for word in line.split_whitespace() {
+        let word = if word == "''" { "" } else { word };
+        words.push(String::from_str(alloc, word)?)?;
+    }
+    Ok(words)
+}
+
+fn shown(alloc: Global, request: &Request) -> Result<String, AllocError> {
+    match request {
+        Request::Replay(r) => {
+            let c = &r.config;
+            let (watch, trace) = (r.watch, r.trace);
+            format!(in alloc;
+                "replay {} {} ({} nodes, {} sets, {} ways, log {}) {watch:?} {trace}",
+                r.program, r.script, c.nodes, c.sets, c.ways, c.log
+            )
+        }
+        Request::Check(c) => format!(in alloc;
+            "check {} {} ({} nodes)",
+            c.program, c.trace, c.nodes
+        ),
+        Request::Demo(size) => format!(in alloc; "demo {size}"),
+        Request::Assemble(text) => format!(in alloc; "asm {text}"),
+        Request::Disassemble(program) => format!(in alloc; "dis {program}"),
+    }
+}
+
+/// What the words of the line ask for, as text.
+fn read(alloc: Global, line: &str) -> Result<String, AllocError> {
+    let words = words_of(alloc, line)?;
+    match read_words(alloc, words.as_slice()) {
+        Ok(request) => shown(alloc, &request),
+        Err(WordsFault::Usage) => String::from_str(alloc, "usage"),
+        Err(WordsFault::Memory) => String::from_str(alloc, "memory"),
+    }
+}
+
+const REQUESTS: [(&str, &str); 24] = [
+    (
+        "replay p s",
+        "replay p s (4 nodes, 16 sets, 4 ways, log 256) None false",
+    ),
+    (
+        "replay --nodes 1 p s",
+        "replay p s (1 nodes, 16 sets, 4 ways, log 256) None false",
+    ),
+    (
+        "replay --nodes=16 p s",
+        "replay p s (16 nodes, 16 sets, 4 ways, log 256) None false",
+    ),
+    (
+        "replay p --sets 1 s",
+        "replay p s (4 nodes, 1 sets, 4 ways, log 256) None false",
+    ),
+    (
+        "replay p s --sets=256",
+        "replay p s (4 nodes, 256 sets, 4 ways, log 256) None false",
+    ),
+    (
+        "replay p s --ways 16",
+        "replay p s (4 nodes, 16 sets, 16 ways, log 256) None false",
+    ),
+    (
+        "replay p s --log=4",
+        "replay p s (4 nodes, 16 sets, 4 ways, log 4) None false",
+    ),
+    (
+        "replay p s --log 0004096",
+        "replay p s (4 nodes, 16 sets, 4 ways, log 4096) None false",
+    ),
+    (
+        "replay p s --trace",
+        "replay p s (4 nodes, 16 sets, 4 ways, log 256) None true",
+    ),
+    (
+        "replay --trace p s --watch 80000000",
+        "replay p s (4 nodes, 16 sets, 4 ways, log 256) Some(2147483648) true",
+    ),
+    (
+        "replay --watch=803FFFFC p s",
+        "replay p s (4 nodes, 16 sets, 4 ways, log 256) Some(2151677948) false",
+    ),
+    (
+        "replay --nodes 2 --sets 3 --ways 5 --log 7 --watch 80000004 --trace p s",
+        "replay p s (2 nodes, 3 sets, 5 ways, log 7) Some(2147483652) true",
+    ),
+    (
+        "replay -- --nodes --trace",
+        "replay --nodes --trace (4 nodes, 16 sets, 4 ways, log 256) None false",
+    ),
+    (
+        "replay --nodes 2 -- -p -s",
+        "replay -p -s (2 nodes, 16 sets, 4 ways, log 256) None false",
+    ),
+    (
+        "replay - -",
+        "replay - - (4 nodes, 16 sets, 4 ways, log 256) None false",
+    ),
+    (
+        "replay replay help",
+        "replay replay help (4 nodes, 16 sets, 4 ways, log 256) None false",
+    ),
+    (
+        "replay '' s",
+        "replay  s (4 nodes, 16 sets, 4 ways, log 256) None false",
+    ),
+    ("check p t", "check p t (4 nodes)"),
+    ("check p t --nodes 7", "check p t (7 nodes)"),
+    (
+        "check --nodes=00000000000000000001 p t",
+        "check p t (1 nodes)",
+    ),
+    ("demo 1", "demo 1"),
+    ("demo 001000000", "demo 1000000"),
+    ("asm p.s", "asm p.s"),
+    ("dis p", "dis p"),
+];
+
+#[test]
+fn words_that_are_requests(rt: HostRuntime) -> Result<(), Fail> {
+    for (line, request) in REQUESTS {
+        let read = read(rt.alloc(), line)?;
+        assert_eq!(rt; read.as_str(), request, "at {line}");
+    }
+    Ok(())
+}
+
+const USAGE: [&str; 53] = [
+    "",
+    "''",
+    "help",
+    "--help",
+    "-h",
+    "--version",
+    "-V",
+    "--",
+    "-- replay p s",
+    "Replay p s",
+    "repla p s",
+    "run p",
+    "--nodes 4 replay p s",
+    "replay",
+    "replay p",
+    "replay p s t",
+    "replay help",
+    "replay --help",
+    "replay p s --help",
+    "replay p s -h",
+    "replay p s --version",
+    "replay p s -x",
+    "replay p s --node 4",
+    "replay p s --Nodes 4",
+    "replay p s --nodes",
+    "replay p s --nodes=",
+    "replay p s --nodes ''",
+    "replay p s --nodes --trace",
+    "replay p s --nodes -1",
+    "replay p s --nodes 0",
+    "replay p s --nodes 17",
+    "replay p s --nodes=+4",
+    "replay p s --nodes 4 --nodes 4",
+    "replay p s --nodes=4 --nodes=5",
+    "replay p s --nodes 000000000000000000004",
+    "replay p s --sets 0",
+    "replay p s --sets 257",
+    "replay p s --ways 0",
+    "replay p s --ways 17",
+    "replay p s --log 3",
+    "replay p s --log 4097",
+    "replay p s --watch 80000001",
+    "replay p s --watch 80400000",
+    "replay p s --watch 8000000",
+    "replay p s --trace --trace",
+    "replay p s --trace=x",
+    "replay p s --trace=true",
+    "replay p s --trace=",
+    "check p t --sets 4",
+    "check p t --nodes 17",
+    "demo 0",
+    "demo 1000001",
+    "asm",
+];
+
+#[test]
+fn words_that_are_none(rt: HostRuntime) -> Result<(), Fail> {
+    for line in USAGE {
+        let read = read(rt.alloc(), line)?;
+        assert_eq!(rt; read.as_str(), "usage", "at {line}");
+    }
+    Ok(())
+}
