@@ -1,13 +1,12 @@
 -- Lines that are written, and read again.
-use Rattle.std.proofs.Common.{◌≡◌, ℕ, zero, suc, ◌+◌, ◌-◌, ◌<◌, ◌≤◌, List, [], ◌∷◌, ◌++◌, take, length, get_or, All, refl, ap, sym, ◌∙◌, append_assoc, append-nil, arith}
+use Rattle.std.proofs.Common.{◌≡◌, ℕ, suc, ◌+◌, ◌-◌, ◌≤◌, List, [], ◌∷◌, ◌++◌, length, get_or, All, refl, ap, sym, ◌∙◌, append_assoc, append-nil, arith}
 use Rattle.std.proofs.lemmas.Bool.Decides.{nat_tests}
 use Rattle.std.specs.List.{flat_map}
-use Rattle.std.specs.Prelude.{Bool, true, false, nat_eq, nat_le, if◌then◌else◌, codes, Result, Ok, Err}
-use Rattle.text_lines.specs.Lines.{without_return, is_line_feed, lines_from}
+use Rattle.std.specs.Prelude.{false, nat_eq, nat_le, Result, Ok}
+use Rattle.text_lines.specs.Lines.{without_return, lines_from}
 use Rattle.sn_text.specs.declared.cause.Fault.{Fault}
-use Rattle.sn_text.specs.declared.cause.ScriptCause.{ScriptCause}
 use Rattle.sn_text.specs.Items.{most_items, is_skipped, followed, items_from, items_of}
-use Rattle.sn_text.proofs.Printed.{From, from-append}
+use Rattle.sn_text.proofs.Printed.{From}
 
 -- a line that says something: its first byte is no mark, and no byte is one that ends a line
 abbrev pub IsLine : List ℕ → Type 0

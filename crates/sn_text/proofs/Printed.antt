@@ -1,14 +1,14 @@
 -- What numbers and words look like as text, and that they are read back.
-use Rattle.std.proofs.Common.{◌≡◌, ℕ, zero, suc, ◌+◌, ◌-◌, ◌*◌, ◌/◌, ◌%◌, ◌^◌, ◌<◌, ◌≤◌, List, [], ◌∷◌, ◌++◌, take, drop, length, get_or, refl, ap, sym, ◌∙◌, arith}
+use Rattle.std.proofs.Common.{◌≡◌, ℕ, zero, suc, ◌+◌, ◌-◌, ◌*◌, ◌/◌, ◌%◌, ◌^◌, ◌<◌, ◌≤◌, List, [], ◌∷◌, ◌++◌, take, drop, length, get_or, refl, ap, ◌∙◌, arith}
 use Rattle.std.proofs.lemmas.Bool.Decides.{nat_tests}
-use Rattle.std.proofs.lemmas.Fmt.{decimal_digit, decimal_by_steps, decimal_nonempty, first_decimal, length-decimal-le}
+use Rattle.std.proofs.lemmas.Fmt.{decimal_by_steps, decimal_nonempty, first_decimal, length-decimal-le}
 use Rattle.std.proofs.lemmas.List.{length-append}
 use Rattle.std.specs.List.{position_or_len}
-use Rattle.std.specs.Prelude.{⊤, Bool, true, false, nat_eq, nat_lt, nat_le, ◌&&◌, if◌then◌else◌, decimal, Option, Some, None}
+use Rattle.std.specs.Prelude.{⊤, Bool, true, false, nat_eq, nat_lt, nat_le, ◌&&◌, if◌then◌else◌, decimal, Some, None}
 use Rattle.sn_text.specs.Digits.{is_digit, number_of, number_from, if_below}
-use Rattle.sn_text.specs.Script.{hex_value, byte_by, byte_of, parted, parted_at}
+use Rattle.sn_text.specs.Script.{hex_value, byte_of, parted}
 use Rattle.sn_text.specs.Text.{hex_digit, byte_text, word_text}
-use Rattle.sn_text.specs.Trace.{word_by, word_of}
+use Rattle.sn_text.specs.Trace.{word_of}
 use Rattle.sn_text.proofs.Digits.{number_of-plain, number-ends}
 
 -- no byte of a text is below this one

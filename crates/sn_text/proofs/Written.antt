@@ -2,21 +2,19 @@
 use Rattle.std.proofs.Common.{◌≡◌, ℕ, ◌+◌, ◌*◌, ◌/◌, ◌%◌, ◌^◌, ◌<◌, ◌≤◌, List, [], ◌∷◌, ◌++◌, length, All, refl, ap, sym, subst, ◌∙◌, append_assoc, arith}
 use Rattle.std.proofs.lemmas.Bool.Decides.{nat_tests}
 use Rattle.std.proofs.lemmas.Fmt.{decimal_nonempty}
-use Rattle.std.specs.Prelude.{⊤, Bool, true, false, nat_eq, nat_lt, nat_le, ◌&&◌, if◌then◌else◌, codes, decimal, Option, Some, None, IfSome, Result, Ok, Err}
+use Rattle.std.specs.Prelude.{Bool, true, false, nat_eq, nat_lt, nat_le, ◌&&◌, if◌then◌else◌, codes, decimal, Option, Some, None, IfSome, Ok}
 use Rattle.sn_base.specs.Events.{event_fits}
 use Rattle.sn_base.specs.declared.event.Event.{Event}
 use Rattle.sn_base.specs.declared.event.Event.TheVariants.{Step, Evict, Edge, Hop, Deliver, Lose, Kill, Report, Validate, Recover, Input}
 use Rattle.rv_core.specs.declared.step.Record.{Record}
 use Rattle.sn_model.specs.Caches.{block_count}
-use Rattle.sn_text.specs.declared.cause.Fault.{Fault}
-use Rattle.sn_text.specs.Digits.{number_of}
-use Rattle.sn_text.specs.Script.{number_below, node_in, message_in, switch_in, switch_by, said, parted, evicted_at, eviction_by, eviction_in, given_to, input_by, input_in, event_of, script_of}
+use Rattle.sn_text.specs.Script.{node_in, message_in, switch_in, said, parted, eviction_in, input_in, event_of, script_of}
 use Rattle.sn_text.specs.Items.{most_items}
 use Rattle.sn_text.specs.Text.{event_text, switch_text, byte_text, word_text, flag_text, read_text, record_text, script_line, trace_line}
-use Rattle.sn_text.specs.Trace.{flag_of, record_by, with_last, record_of, trace_of}
+use Rattle.sn_text.specs.Trace.{record_by, with_last, record_of, trace_of}
 use Rattle.sn_text.specs.Written.{HasNumbers, IsEventOf, IsRecordOf, script_text, trace_text}
 use Rattle.sn_text.proofs.Lines.{IsLine, text-read_back}
-use Rattle.sn_text.proofs.Printed.{From, from-append, from-lower, from-decimal, from-byte, from-word, number_of-decimal, byte_of-text, word_of-text, parted-words, parted-word}
+use Rattle.sn_text.proofs.Printed.{From, from-append, from-lower, from-decimal, from-byte, from-word, number_of-decimal, byte_of-text, word_of-text, parted-words}
 
 small : (nodes n : ℕ) → nodes ≤ 16 → nat_lt n nodes ≡ true → n < 2 ^ 64
 small nodes n few fits = grind (arith, nat_tests)

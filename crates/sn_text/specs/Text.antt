@@ -1,4 +1,4 @@
--- The texts of the report. Numbers are decimal; words and addresses have eight lower-case hexadecimal digits.
+-- The texts that are written. Numbers are decimal; words and addresses have eight lower-case hexadecimal digits.
 use Rattle.std.specs.Prelude.{ℕ, ◌+◌, ◌/◌, ◌%◌, Bool, nat_eq, nat_lt, if◌then◌else◌, List, [], ◌∷◌, ◌++◌, drop, codes, decimal, Option, Some, None}
 use Rattle.sn_base.specs.declared.event.Event.{Event}
 use Rattle.sn_base.specs.declared.event.Event.TheVariants.{Step, Evict, Edge, Hop, Deliver, Lose, Kill, Report, Validate, Recover, Input}

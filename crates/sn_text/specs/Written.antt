@@ -1,5 +1,5 @@
 -- What is written, and which of it is read back.
-use Rattle.std.specs.Prelude.{◌≡◌, ℕ, ◌<◌, ◌^◌, true, List, Option, IfSome, ⊤}
+use Rattle.std.specs.Prelude.{◌≡◌, ℕ, ◌<◌, ◌^◌, true, List, IfSome, ⊤}
 use Rattle.std.specs.List.{flat_map}
 use Rattle.sn_base.specs.Events.{event_fits}
 use Rattle.sn_base.specs.declared.event.Event.{Event}

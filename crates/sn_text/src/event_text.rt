@@ -1,5 +1,8 @@
 //! Events and answers as text.
-ghost use Rattle.std.specs.Prelude.{◌≡◌, ◌+◌, ◌≤◌, ◌++◌, length};
+ghost use Rattle.std.specs.Prelude.{◌≡◌, ℕ, ◌+◌, ◌≤◌, ◌++◌, Ok, length, true};
+ghost use Rattle.sn_base.specs.Events.{event_fits};
+ghost use Rattle.sn_text.specs.Script.{event_of};
+ghost use Rattle.sn_text.specs.Written.{HasNumbers};
 ghost use Rattle.sn_text.specs.Text.{named_number, switch_text, event_text, answer_text, event_line, script_line};
 
 use crate::line::Line;
@@ -28,6 +31,7 @@ impl Line {
         requires { length self.old + 60 ≤ 8192 }
         ensures text { self.new ≡ self.old ++ event_text event.now }
         ensures short { length self.new ≤ length self.old + 60 }
+        ensures numbers { HasNumbers event.now }
     {
         match event {
             Event::Step(node) => self.named_node("step", *node),
@@ -118,12 +122,13 @@ impl Line {
         self.text("\n");
     }
 
-    /// An event as a line of a script.
+    /// An event as a line of a script. The line, without its end, is read back as the event.
     #[tactic(auto, unfolding(crate::specs::Text::script_line))]
     pub fn script(&mut self, event: &Event)
         requires { length self.old + 64 ≤ 8192 }
         ensures text { self.new ≡ self.old ++ script_line event.now }
         ensures short { length self.new ≤ length self.old + 64 }
+        ensures read_back { (nodes : ℕ) → nodes ≤ 16 → event_fits nodes event.now ≡ true → event_of nodes (event_text event.now) ≡ Ok event.now }
     {
         self.the_event(event);
         self.text("\n");

@@ -1,8 +1,9 @@
-//! All texts of the product: scripts that are read, and the lines of a report that are written.
+//! All texts of the product: scripts and traces that are read and written, and the lines of a report.
 //!
 //! A `Line` is a buffer with the room for the text of any one event; each of its calls appends one line, or a part of one,
-//! and takes no memory. `read_script` gives the events of a script, or the first cause for which it isn't one. What a text
-//! means stands in specs/: `event_of` and `script_of` for what is read, `event_line` and its like for what is written.
+//! and takes no memory. `read_script` gives the events of a script and `read_trace` the records of a trace, or the first cause
+//! for which it isn't one. What a text means stands in specs/: `event_of`, `script_of`, `record_of` and `trace_of` for what is
+//! read, `event_line` and its like for what is written. What is written as a script or a trace is read back (`laws.rt`).
 #![tactic(auto)]
 
 mod cause;

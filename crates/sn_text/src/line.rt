@@ -1,5 +1,5 @@
-//! Lines of the report.
-ghost use Rattle.std.specs.Prelude.{◌≡◌, ℕ, ◌+◌, ◌<◌, ◌≤◌, ◌++◌, [], length, decimal, codes, IfOk};
+//! The buffer that texts are written into, and their smallest parts.
+ghost use Rattle.std.specs.Prelude.{◌≡◌, ℕ, ◌+◌, ◌<◌, ◌≤◌, ◌^◌, ◌++◌, [], length, decimal, codes, IfOk};
 ghost use Rattle.sn_text.specs.Text.{word_text, byte_text, named_number, count_line, watch_line, probe_line, hex_digit};
 
 use itoa::Buffer;
@@ -10,8 +10,8 @@ use std::marker::Model;
 /// The bytes that a line has room for: enough for the group of any one event, a recovery of 16 nodes among them.
 const ROOM: usize = 8192;
 
-/// The text of one event's group. It has all its room from the start and takes no memory after `new`. Contracts see the
-/// bytes.
+/// A text as it is written, of one event's group at most. It has all its room from the start and takes no memory after `new`.
+/// Contracts see the bytes.
 #[derive(Drop)]
 pub struct Line {
     text: Vec<u8>,
@@ -66,10 +66,13 @@ impl Line {
         self.text.extend_from_slice(text.as_bytes()).unwrap();
     }
 
+    /// A number. The clause `number` here, and its like in the calls below, says what the type does, so that the layer above
+    /// knows in its clauses that what it writes is read back.
     pub(crate) fn number(&mut self, number: u64)
         requires { length self.old + 20 ≤ 8192 }
         ensures text { self.new ≡ self.old ++ decimal number }
         ensures short { length self.new ≤ length self.old + 20 }
+        ensures number { number < 2 ^ 64 }
     {
         let mut buffer = Buffer::new();
         self.text(buffer.format(number));
@@ -80,6 +83,7 @@ impl Line {
         requires { length self.old + length name.now + 21 ≤ 8192 }
         ensures text { self.new ≡ self.old ++ named_number name.now number }
         ensures short { length self.new ≤ length self.old + length name.now + 21 }
+        ensures number { number < 2 ^ 64 }
     {
         self.text(name);
         self.text(" ");
@@ -112,6 +116,7 @@ impl Line {
     pub(crate) fn byte(&mut self, byte: u8)
         requires { length self.old + 2 ≤ 8192 }
         ensures text { self.new ≡ self.old ++ byte_text byte }
+        ensures number { byte < 256 }
         ensures short { length self.new ≡ length self.old + 2 }
     {
         let byte = u32::from(byte);
@@ -124,6 +129,7 @@ impl Line {
     pub(crate) fn word(&mut self, word: u32)
         requires { length self.old + 8 ≤ 8192 }
         ensures text { self.new ≡ self.old ++ word_text word }
+        ensures number { word < 2 ^ 32 }
         ensures short { length self.new ≡ length self.old + 8 }
     {
         let digits = [

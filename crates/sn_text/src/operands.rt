@@ -1,4 +1,4 @@
-//! The words of a script's line after its first: nodes, messages, switches, blocks and bytes.
+//! The words of lines: nodes, messages, switches, blocks and bytes, and where a blank parts two of them.
 ghost use Rattle.std.specs.Prelude.{◌≡◌, ◌*◌, ◌<◌, ◌≤◌, nat_eq, nat_lt, if◌then◌else◌, IfOk, IfSome, MatchOption, Ok, Err, Some, None, length, true};
 ghost use Rattle.std.specs.List.{position};
 ghost use Rattle.sn_base.specs.Events.{event_fits};

@@ -1,5 +1,6 @@
 //! Records as text.
-ghost use Rattle.std.specs.Prelude.{◌≡◌, ◌+◌, ◌≤◌, ◌++◌, length};
+ghost use Rattle.std.specs.Prelude.{◌≡◌, ℕ, ◌+◌, ◌<◌, ◌≤◌, ◌^◌, ◌++◌, Ok, IfSome, length};
+ghost use Rattle.sn_text.specs.Trace.{record_of};
 ghost use Rattle.sn_text.specs.Text.{flag_text, read_text, record_text, trace_line};
 
 use crate::line::Line;
@@ -16,6 +17,7 @@ impl Line {
     fn byte_read(&mut self, read: Option<u8>)
         requires { length self.old + 3 ≤ 8192 }
         ensures text { self.new ≡ self.old ++ read_text read }
+        ensures number { IfSome read (λ byte. byte < 256) }
         ensures short { length self.new ≤ length self.old + 3 }
     {
         if let Some(byte) = read {
@@ -28,6 +30,8 @@ impl Line {
         requires { length self.old + 17 ≤ 8192 }
         ensures text { self.new ≡ self.old ++ record_text taken.now }
         ensures short { length self.new ≤ length self.old + 17 }
+        ensures seen { taken.now.seen < 2 ^ 32 }
+        ensures read { IfSome taken.now.read (λ byte. byte < 256) }
     {
         self.small(taken.core.number());
         self.text(" ");
@@ -38,12 +42,13 @@ impl Line {
     }
 
     /// A record as a line of a trace: the core, the word that it saw, whether a store-conditional was done, and the byte of
-    /// input that it read, if any.
+    /// input that it read, if any. The line, without its end, is read back as the record.
     #[tactic(auto, unfolding(crate::specs::Text::trace_line))]
     pub fn trace(&mut self, taken: &Record)
         requires { length self.old + 18 ≤ 8192 }
         ensures text { self.new ≡ self.old ++ trace_line taken.now }
         ensures short { length self.new ≤ length self.old + 18 }
+        ensures read_back { (nodes : ℕ) → nodes ≤ 16 → taken.now.core < nodes → record_of nodes (record_text taken.now) ≡ Ok taken.now }
     {
         self.record(taken);
         self.text("\n");
