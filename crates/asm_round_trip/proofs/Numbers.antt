@@ -122,9 +122,19 @@ digits_in word =
     word / 268435456 % 16 ∷ word / 16777216 % 16 ∷ word / 1048576 % 16 ∷ word / 65536 % 16 ∷ word / 4096 % 16 ∷ word / 256 % 16 ∷ word / 16 % 16 ∷ word % 16 ∷ []
 
 are-below : (word : ℕ) → AreBelow (digits_in word)
-are-below word =
-    (below_16 (word / 268435456), (below_16 (word / 16777216), (below_16 (word / 1048576), (below_16 (word / 65536),
-    (below_16 (word / 4096), (below_16 (word / 256), (below_16 (word / 16), (below_16 word, tt))))))))
+are-below word = (
+  below_16 (word / 268435456),
+  (
+    below_16 (word / 16777216),
+    (
+      below_16 (word / 1048576),
+      (
+        below_16 (word / 65536),
+        (below_16 (word / 4096), (below_16 (word / 256), (below_16 (word / 16), (below_16 word, tt)))),
+      ),
+    ),
+  ),
+)
 
 pub word-read : (word : ℕ) → word < 2 ^ 32 → number_of (codes "0x" ++ digits_text word) ≡ Some (pos word)
 unfolding number_of digits_of digits_text
