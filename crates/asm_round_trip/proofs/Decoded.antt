@@ -1,5 +1,5 @@
 -- The word of an instruction's line is decoded as that instruction.
-use Rattle.std.proofs.Common.{◌≡◌, ℕ, ℤ, pos, Bool, true, false, cond, nat_eq, List, [], ◌∷◌, length, take, get_or, codes, Option, Some, None, Result, Ok, Err, refl, sym, ap, ◌∙◌, subst, arith, ◌-◌}
+use Rattle.std.proofs.Common.{◌≡◌, ℕ, pos, Bool, true, false, nat_eq, List, [], length, take, get_or, codes, Option, Some, None, Ok, refl, sym, ap, ◌∙◌, subst, ◌-◌}
 use Rattle.std.specs.Prelude.{option_map, if◌then◌else◌, ◌-ℤ◌}
 use Rattle.std.specs.Str.{bytes_eq}
 use Rattle.std.proofs.lemmas.Slice.Eq.{bytes_eq-Decides}
@@ -9,9 +9,8 @@ use Rattle.rv_decode.specs.Table.{word_of, instr_fits}
 use Rattle.rv_decode.proofs.Words.{decoded-word_of}
 use Rattle.rv_statement.specs.Lines.{bare, cut, is_blank, trimmed}
 use Rattle.rv_statement.specs.Operands.{number_of, is_name}
-use Rattle.rv_statement.specs.Reading.{Named, Read, whole, fixed, read_of, coded, with_offset, word_in, named_by, named_in, operation_of, row_of, on_parts, instruction_of, Statement, nothing, label, formless, said, said_or, label_or, statement_of}
-use Rattle.rv_asm.specs.declared.fault.AsmCause.{AsmCause}
-use Rattle.rv_asm.specs.Assembly.{in_range, led_word}
+use Rattle.rv_statement.specs.Reading.{Named, Read, whole, fixed, read_of, coded, with_offset, word_in, named_by, named_in, operation_of, row_of, on_parts, instruction_of, nothing, label, formless, said, said_or, label_or, statement_of}
+use Rattle.rv_asm.specs.Assembly.{in_range}
 use Rattle.asm_round_trip.specs.Decoding.{Names, Says, HasWord}
 
 -- what has a word is decoded as itself

@@ -1,23 +1,20 @@
 -- An instruction's line reads back as its word.
-use Rattle.std.proofs.Common.{◌≡◌, ℕ, ℤ, pos, negsuc, ◌+◌, ◌*◌, ◌/◌, ◌%◌, ◌^◌, ◌<◌, ◌≤◌, Bool, true, false, not, ◌&&◌, nat_eq, List, [], ◌∷◌, ◌++◌, length, codes, decimal, Option, Some, None, refl, sym, ap, ◌∙◌, arith, append-nil, subst}
-use Rattle.std.specs.Prelude.{option_map, unsigned_abs, if◌then◌else◌, int_le, int_lt}
+use Rattle.std.proofs.Common.{◌≡◌, ℕ, ℤ, pos, negsuc, ◌*◌, ◌/◌, ◌%◌, ◌^◌, ◌<◌, ◌≤◌, Bool, true, false, not, ◌&&◌, List, [], ◌∷◌, ◌++◌, decimal, Option, Some, refl, sym, ap, ◌∙◌, arith, append-nil, subst}
+use Rattle.std.specs.Prelude.{option_map}
 use Rattle.std.specs.Fmt.{signed_decimal}
 use Rattle.std.proofs.lemmas.Bool.Decides.{nat_tests}
 use Rattle.std.proofs.lemmas.Bool.{lt-ltb, le-leb}
 use lib.Signed.{mag}
-use Rattle.rv_decode.specs.declared.operations.BranchOp.{BranchOp}
-use Rattle.rv_decode.specs.declared.operations.ImmOp.{ImmOp}
 use Rattle.rv_decode.specs.declared.instr.Instr.{Instr}
 use Rattle.rv_decode.specs.declared.instr.Instr.TheVariants.{Lui, Auipc, Jal, Jalr, Branch, Load, Store, OpImm, Op, Fence, Ecall, Ebreak, Lr, Sc, Amo}
 use Rattle.rv_decode.specs.Codes.{is_shift}
 use Rattle.rv_decode.specs.Table.{word_of, instr_fits, is_signed, is_target, is_operand, is_register, is_upper}
-use Rattle.rv_statement.specs.Lines.{is_blank, trimmed, cut}
+use Rattle.rv_statement.specs.Lines.{is_blank}
 use Rattle.rv_statement.specs.Names.{mnemonic}
-use Rattle.rv_statement.specs.Operands.{number_of}
 use Rattle.rv_statement.specs.Forms.{chained}
 use Rattle.rv_statement.specs.Reading.{Named, whole, fixed, read_of, coded, upper, target, at_number, named_as, operation_of, on_parts, instruction_of}
 use Rattle.rv_asm.specs.Text.{register_text, listed, address_text, place_text, operands_text, instr_text}
-use Rattle.asm_round_trip.proofs.Bytes.{all, none, all-append, all-weaker, is_solid, is_inner, solid-inner, solid-unblank, Begins, Ends, begins-append, ends-append, ends-after, solid-begins, solid-ends}
+use Rattle.asm_round_trip.proofs.Bytes.{all, all-append, all-weaker, is_solid, is_inner, solid-inner, solid-unblank, begins-append, ends-append, ends-after, solid-begins, solid-ends}
 use Rattle.asm_round_trip.proofs.Cuts.{cut-at, cut-nowhere, trimmed-none}
 use Rattle.asm_round_trip.proofs.Numbers.{signed-read}
 use Rattle.asm_round_trip.proofs.Forms.{Stands, register-stands, decimal-stands, signed-stands, listed-stands, address-stands, place-stands, then-read, registers-read, numbered-read, compared-read, upper-read, placed-read, reserved-read, atomic-read}

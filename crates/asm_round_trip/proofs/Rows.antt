@@ -1,5 +1,5 @@
 -- Each mnemonic is found in the table, and its row is read as its instruction is.
-use Rattle.std.proofs.Common.{◌≡◌, ℕ, ◌<◌, Bool, true, false, List, length, codes, Option, Some, refl, arith}
+use Rattle.std.proofs.Common.{◌≡◌, ℕ, ◌<◌, true, List, length, refl, arith}
 use Rattle.std.specs.Prelude.{option_map}
 use Rattle.sn_base.specs.declared.block.Width.TheVariants.{Byte, Half, Word}
 use Rattle.rv_decode.specs.declared.operations.BranchOp.TheVariants.{Beq, Bne, Blt, Bge, Bltu, Bgeu}

@@ -1,8 +1,8 @@
 -- What a decoder makes of the words of an assembler.
-use Rattle.std.specs.Prelude.{◌≡◌, ℕ, List, Some, Ok, pos, ◌-ℤ◌}
+use Rattle.std.specs.Prelude.{◌≡◌, ℕ, List, Some, Ok}
 use Rattle.rv_decode.specs.declared.instr.Instr.{Instr}
 use Rattle.rv_statement.specs.Lines.{bare}
-use Rattle.rv_statement.specs.Reading.{Named, whole, named_in, fixed, said, statement_of}
+use Rattle.rv_statement.specs.Reading.{whole, named_in, fixed, said, statement_of}
 use Rattle.rv_asm.specs.Assembly.{led_word}
 
 -- a line names an instruction, whose numbers may be out of their ranges
