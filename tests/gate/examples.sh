@@ -1,7 +1,7 @@
 #!/usr/bin/env bash
 # Runs each example by the README's first command and compares console, report and status with the files beside it: the first
-# program once as hexadecimal words and once as an ELF file, and those of examples/shared by the words that their scripts begin
-# with. Then runs programs, scripts and words that are refused, and compares the status and its word.
+# program once as hexadecimal words and once as an ELF file, and those of examples/shared and examples/asm by the words that
+# their scripts begin with. Then runs programs, scripts and words that are refused, and compares the status and its word.
 set -u
 cd "$(dirname "$0")/../.." || exit 1
 failed=0 passed=0
@@ -28,9 +28,9 @@ for script in examples/first/*.script; do
     shows 1 "$program" "$script"
   done
 done
-for script in examples/shared/*.script; do
+for script in examples/shared/*.script examples/asm/*.script; do
   read -r _ _ _ nodes program <"$script"
-  shows "$nodes" "examples/shared/$program" "$script"
+  shows "$nodes" "${script%/*}/$program" "$script"
 done
 
 # Replays these files, which are to be refused with this status and this word.

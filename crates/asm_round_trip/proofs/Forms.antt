@@ -1,16 +1,14 @@
 -- Each form of operands reads back.
-use Rattle.std.proofs.Common.{◌≡◌, ℕ, ℤ, pos, ◌+◌, ◌<◌, ◌^◌, Bool, true, false, not, nat_eq, List, [], ◌∷◌, ◌++◌, length, codes, decimal, Option, Some, None, refl, sym, ap, ◌∙◌, arith, append_assoc}
-use Rattle.std.specs.Prelude.{option_map}
+use Rattle.std.proofs.Common.{◌≡◌, ℕ, ℤ, pos, ◌<◌, ◌^◌, true, not, nat_eq, List, [], ◌∷◌, ◌++◌, length, codes, decimal, Some, refl, ap, ◌∙◌, arith, append_assoc}
 use Rattle.std.specs.Fmt.{signed_decimal}
 use lib.Signed.{mag}
-use Rattle.rv_statement.specs.Lines.{trimmed, cut}
-use Rattle.rv_statement.specs.Operands.{register_of, number_of}
-use Rattle.rv_statement.specs.Forms.{chained, register_then, registers_of, numbered_of, upper_of, closed_of, based_of, address_of, placed_of, reserved_of, atomic_of, compared_of}
+use Rattle.rv_statement.specs.Lines.{cut}
+use Rattle.rv_statement.specs.Forms.{register_then, registers_of, numbered_of, upper_of, closed_of, based_of, address_of, placed_of, reserved_of, atomic_of, compared_of}
 use Rattle.rv_asm.specs.Text.{register_text, listed, address_text, place_text}
-use Rattle.asm_round_trip.proofs.Bytes.{all, none, all-append, all-weaker, is_solid, is_inner, solid-inner, solid-no_comma, solid-no_open, solid-no_close, Begins, Ends, begins-append, ends-append, ends-after, solid-begins, solid-ends}
-use Rattle.asm_round_trip.proofs.Cuts.{cut-at, trimmed-none, trimmed-blank, trimmed-solid}
+use Rattle.asm_round_trip.proofs.Bytes.{all, all-append, all-weaker, is_solid, is_inner, solid-inner, solid-no_comma, solid-no_open, solid-no_close, Begins, Ends, begins-append, ends-append, ends-after, solid-begins, solid-ends}
+use Rattle.asm_round_trip.proofs.Cuts.{cut-at, trimmed-blank, trimmed-solid}
 use Rattle.asm_round_trip.proofs.Numbers.{decimal-read, signed-read, signed-solid, signed-some, decimal-solid, decimal-some}
-use Rattle.asm_round_trip.proofs.Registers.{register-read, register-solid, register-some, register-begins, register-ends}
+use Rattle.asm_round_trip.proofs.Registers.{register-read, register-solid, register-some}
 
 -- what stands in a line, from its first byte to its last
 pub record Stands (text : List ℕ) : Type 0 where

@@ -1,23 +1,20 @@
 -- An instruction's line reads back as its word.
-use Rattle.std.proofs.Common.{◌≡◌, ℕ, ℤ, pos, negsuc, ◌+◌, ◌*◌, ◌/◌, ◌%◌, ◌^◌, ◌<◌, ◌≤◌, Bool, true, false, not, ◌&&◌, nat_eq, List, [], ◌∷◌, ◌++◌, length, codes, decimal, Option, Some, None, refl, sym, ap, ◌∙◌, arith, append-nil, subst}
-use Rattle.std.specs.Prelude.{option_map, unsigned_abs, if◌then◌else◌, int_le, int_lt}
+use Rattle.std.proofs.Common.{◌≡◌, ℕ, ℤ, pos, negsuc, ◌*◌, ◌/◌, ◌%◌, ◌^◌, ◌<◌, ◌≤◌, Bool, true, false, not, ◌&&◌, List, [], ◌∷◌, ◌++◌, decimal, Option, Some, refl, sym, ap, ◌∙◌, arith, append-nil, subst}
+use Rattle.std.specs.Prelude.{option_map}
 use Rattle.std.specs.Fmt.{signed_decimal}
 use Rattle.std.proofs.lemmas.Bool.Decides.{nat_tests}
 use Rattle.std.proofs.lemmas.Bool.{lt-ltb, le-leb}
 use lib.Signed.{mag}
-use Rattle.rv_decode.specs.declared.operations.BranchOp.{BranchOp}
-use Rattle.rv_decode.specs.declared.operations.ImmOp.{ImmOp}
 use Rattle.rv_decode.specs.declared.instr.Instr.{Instr}
 use Rattle.rv_decode.specs.declared.instr.Instr.TheVariants.{Lui, Auipc, Jal, Jalr, Branch, Load, Store, OpImm, Op, Fence, Ecall, Ebreak, Lr, Sc, Amo}
 use Rattle.rv_decode.specs.Codes.{is_shift}
 use Rattle.rv_decode.specs.Table.{word_of, instr_fits, is_signed, is_target, is_operand, is_register, is_upper}
-use Rattle.rv_statement.specs.Lines.{is_blank, trimmed, cut}
+use Rattle.rv_statement.specs.Lines.{is_blank}
 use Rattle.rv_statement.specs.Names.{mnemonic}
-use Rattle.rv_statement.specs.Operands.{number_of}
 use Rattle.rv_statement.specs.Forms.{chained}
-use Rattle.rv_statement.specs.Reading.{Read, fixed, coded, upper, target, at_number, read_as, operation_of, split_operation, instruction_of}
+use Rattle.rv_statement.specs.Reading.{Named, whole, fixed, read_of, coded, upper, target, at_number, named_as, operation_of, on_parts, instruction_of}
 use Rattle.rv_asm.specs.Text.{register_text, listed, address_text, place_text, operands_text, instr_text}
-use Rattle.asm_round_trip.proofs.Bytes.{all, none, all-append, all-weaker, is_solid, is_inner, solid-inner, solid-unblank, Begins, Ends, begins-append, ends-append, ends-after, solid-begins, solid-ends}
+use Rattle.asm_round_trip.proofs.Bytes.{all, all-append, all-weaker, is_solid, is_inner, solid-inner, solid-unblank, begins-append, ends-append, ends-after, solid-begins, solid-ends}
 use Rattle.asm_round_trip.proofs.Cuts.{cut-at, cut-nowhere, trimmed-none}
 use Rattle.asm_round_trip.proofs.Numbers.{signed-read}
 use Rattle.asm_round_trip.proofs.Forms.{Stands, register-stands, decimal-stands, signed-stands, listed-stands, address-stands, place-stands, then-read, registers-read, numbered-read, compared-read, upper-read, placed-read, reserved-read, atomic-read}
@@ -79,10 +76,10 @@ coded-fits instr h = rw h refl
 
 -- ---- operands
 
-abbrev right : Instr → Option Read
-right instr = Some (fixed (coded instr))
+abbrev right : Instr → Option Named
+right instr = Some (whole instr)
 
-upper-is : (make : ℕ → Instr) (imm : ℕ) → is_upper imm ≡ true → upper make (pos (imm / 4096)) ≡ coded (make imm)
+upper-is : (make : ℕ → Instr) (imm : ℕ) → is_upper imm ≡ true → upper make (pos (imm / 4096)) ≡ whole (make imm)
 upper-is make imm h =
     let u = upper-small imm h in
     rw (le-leb 0 (imm / 4096) (omega arith), lt-ltb (imm / 4096) 1048576 u.0, u.1) refl
@@ -108,47 +105,47 @@ bare_operands (Lr rd rs1) = listed (register_text rd) (address_text rs1)
 bare_operands (Sc rd rs1 rs2) = listed (register_text rd) (listed (register_text rs2) (address_text rs1))
 bare_operands (Amo o rd rs1 rs2) = listed (register_text rd) (listed (register_text rs2) (address_text rs1))
 
-operands-read : (instr : Instr) → instr_fits instr ≡ true → read_as instr (bare_operands instr) ≡ right instr
-unfolding read_as
+operands-read : (instr : Instr) → instr_fits instr ≡ true → named_as instr (bare_operands instr) ≡ right instr
+unfolding named_as
 operands-read (Lui rd imm) h =
     let f = two _ _ h in let u = upper-small imm f.two in
-    ap (option_map (λ a. fixed (upper (Lui a.0) a.1))) (upper-read rd (imm / 4096) (is_register-lt rd f.one) (omega (arith, u.0))) ∙ ap (λ w. Some (fixed w)) (upper-is (Lui rd) imm f.two)
+    ap (option_map (λ a. upper (Lui a.0) a.1)) (upper-read rd (imm / 4096) (is_register-lt rd f.one) (omega (arith, u.0))) ∙ ap Some (upper-is (Lui rd) imm f.two)
 operands-read (Auipc rd imm) h =
     let f = two _ _ h in let u = upper-small imm f.two in
-    ap (option_map (λ a. fixed (upper (Auipc a.0) a.1))) (upper-read rd (imm / 4096) (is_register-lt rd f.one) (omega (arith, u.0))) ∙ ap (λ w. Some (fixed w)) (upper-is (Auipc rd) imm f.two)
+    ap (option_map (λ a. upper (Auipc a.0) a.1)) (upper-read rd (imm / 4096) (is_register-lt rd f.one) (omega (arith, u.0))) ∙ ap Some (upper-is (Auipc rd) imm f.two)
 operands-read (Jal rd offset) h =
     let f = two _ _ h in let small = target-small 1048576 offset (omega arith) f.two in
     ap (λ o. chained o (λ a. target (Jal a.0) a.1)) (then-read rd (signed_decimal offset) (is_register-lt rd f.one) (signed-stands offset small)) ∙ target-is (Jal rd) offset small
 operands-read (Jalr rd rs1 imm) h =
     let f = three _ _ _ h in
-    ap (option_map (λ a. fixed (coded (Jalr a.0 a.2 a.1)))) (placed-read rd imm rs1 (is_register-lt rd f.one) (signed-small imm f.three) (is_register-lt rs1 f.two))
+    ap (option_map (λ a. whole (Jalr a.0 a.2 a.1))) (placed-read rd imm rs1 (is_register-lt rd f.one) (signed-small imm f.three) (is_register-lt rs1 f.two))
 operands-read (Branch o rs1 rs2 offset) h =
     let f = three _ _ _ h in let small = target-small 4096 offset (omega arith) f.three in
     ap (λ c. chained c (λ a. target (Branch o a.0 a.1) a.2)) (compared-read rs1 rs2 (signed_decimal offset) (is_register-lt rs1 f.one) (is_register-lt rs2 f.two) (signed-stands offset small)) ∙ target-is (Branch o rs1 rs2) offset small
 operands-read (Load o rd rs1 imm) h =
     let f = three _ _ _ h in
-    ap (option_map (λ a. fixed (coded (Load o a.0 a.2 a.1)))) (placed-read rd imm rs1 (is_register-lt rd f.one) (signed-small imm f.three) (is_register-lt rs1 f.two))
+    ap (option_map (λ a. whole (Load o a.0 a.2 a.1))) (placed-read rd imm rs1 (is_register-lt rd f.one) (signed-small imm f.three) (is_register-lt rs1 f.two))
 operands-read (Store o rs1 rs2 imm) h =
     let f = three _ _ _ h in
-    ap (option_map (λ a. fixed (coded (Store o a.2 a.0 a.1)))) (placed-read rs2 imm rs1 (is_register-lt rs2 f.two) (signed-small imm f.three) (is_register-lt rs1 f.one))
+    ap (option_map (λ a. whole (Store o a.2 a.0 a.1))) (placed-read rs2 imm rs1 (is_register-lt rs2 f.two) (signed-small imm f.three) (is_register-lt rs1 f.one))
 operands-read (OpImm o rd rs1 imm) h =
     let f = three _ _ _ h in
-    ap (option_map (λ a. fixed (coded (OpImm o a.0 a.1 a.2)))) (numbered-read rd rs1 imm (is_register-lt rd f.one) (is_register-lt rs1 f.two) (operand-small (is_shift o) imm f.three))
+    ap (option_map (λ a. whole (OpImm o a.0 a.1 a.2))) (numbered-read rd rs1 imm (is_register-lt rd f.one) (is_register-lt rs1 f.two) (operand-small (is_shift o) imm f.three))
 operands-read (Op o rd rs1 rs2) h =
     let f = three _ _ _ h in
-    ap (option_map (λ a. fixed (coded (Op o a.0 a.1 a.2)))) (registers-read rd rs1 rs2 (is_register-lt rd f.one) (is_register-lt rs1 f.two) (is_register-lt rs2 f.three))
+    ap (option_map (λ a. whole (Op o a.0 a.1 a.2))) (registers-read rd rs1 rs2 (is_register-lt rd f.one) (is_register-lt rs1 f.two) (is_register-lt rs2 f.three))
 operands-read Fence h = refl
 operands-read Ecall h = refl
 operands-read Ebreak h = refl
 operands-read (Lr rd rs1) h =
     let f = two _ _ h in
-    ap (option_map (λ a. fixed (coded (Lr a.0 a.1)))) (reserved-read rd rs1 (is_register-lt rd f.one) (is_register-lt rs1 f.two))
+    ap (option_map (λ a. whole (Lr a.0 a.1))) (reserved-read rd rs1 (is_register-lt rd f.one) (is_register-lt rs1 f.two))
 operands-read (Sc rd rs1 rs2) h =
     let f = three _ _ _ h in
-    ap (option_map (λ a. fixed (coded (Sc a.0 a.2 a.1)))) (atomic-read rd rs2 rs1 (is_register-lt rd f.one) (is_register-lt rs2 f.three) (is_register-lt rs1 f.two))
+    ap (option_map (λ a. whole (Sc a.0 a.2 a.1))) (atomic-read rd rs2 rs1 (is_register-lt rd f.one) (is_register-lt rs2 f.three) (is_register-lt rs1 f.two))
 operands-read (Amo o rd rs1 rs2) h =
     let f = three _ _ _ h in
-    ap (option_map (λ a. fixed (coded (Amo o a.0 a.2 a.1)))) (atomic-read rd rs2 rs1 (is_register-lt rd f.one) (is_register-lt rs2 f.three) (is_register-lt rs1 f.two))
+    ap (option_map (λ a. whole (Amo o a.0 a.2 a.1))) (atomic-read rd rs2 rs1 (is_register-lt rd f.one) (is_register-lt rs2 f.three) (is_register-lt rs1 f.two))
 
 -- ---- the whole line
 
@@ -170,12 +167,12 @@ spaced-stands name operands a b = record {
 pub spaced-read : (name operands : List ℕ) → all is_solid name ≡ true → Stands operands → instruction_of (name ++ 32 ∷ operands) ≡ operation_of name operands
 unfolding instruction_of
 spaced-read name operands solid s =
-    ap (split_operation (name ++ 32 ∷ operands)) (cut-at is_blank name operands 32 (all-weaker is_solid (λ byte. not (is_blank byte)) solid-unblank name solid) refl)
+    ap (on_parts operation_of (name ++ 32 ∷ operands)) (cut-at is_blank name operands 32 (all-weaker is_solid (λ byte. not (is_blank byte)) solid-unblank name solid) refl)
     ∙ ap (operation_of name) (trimmed-none operands s.begins s.ends)
 
 alone-read : (name : List ℕ) → all is_solid name ≡ true → instruction_of name ≡ operation_of name []
 unfolding instruction_of
-alone-read name solid = ap (split_operation name) (cut-nowhere is_blank name (all-weaker is_solid (λ byte. not (is_blank byte)) solid-unblank name solid))
+alone-read name solid = ap (on_parts operation_of name) (cut-nowhere is_blank name (all-weaker is_solid (λ byte. not (is_blank byte)) solid-unblank name solid))
 
 -- a line, from its first byte to its last, that says an instruction
 pub record IsLine (instr : Instr) (text : List ℕ) : Type 0 where
@@ -187,7 +184,7 @@ unfolding instr_text
 with-operands instr h e s =
     subst (λ (operands : List ℕ). IsLine instr (mnemonic instr ++ operands)) (sym e) (record {
       stands = spaced-stands (mnemonic instr) (bare_operands instr) (mnemonic-stands instr) s;
-      reads = spaced-read (mnemonic instr) (bare_operands instr) (mnemonic-solid instr) s ∙ operation-read instr (bare_operands instr) ∙ operands-read instr h ∙ ap (λ w. Some (fixed w)) (coded-fits instr h);
+      reads = spaced-read (mnemonic instr) (bare_operands instr) (mnemonic-solid instr) s ∙ operation-read instr (bare_operands instr) ∙ ap (option_map read_of) (operands-read instr h) ∙ ap (λ w. Some (fixed w)) (coded-fits instr h);
     })
 
 without-operands : (instr : Instr) → instr_fits instr ≡ true → operands_text instr ≡ [] → bare_operands instr ≡ [] → IsLine instr (instr_text instr)
@@ -196,7 +193,7 @@ without-operands instr h e b =
     let text : mnemonic instr ++ operands_text instr ≡ mnemonic instr = ap (λ (operands : List ℕ). mnemonic instr ++ operands) e ∙ append-nil (mnemonic instr) in
     subst (IsLine instr) (sym text) (record {
       stands = mnemonic-stands instr;
-      reads = alone-read (mnemonic instr) (mnemonic-solid instr) ∙ operation-read instr [] ∙ ap (read_as instr) (sym b) ∙ operands-read instr h ∙ ap (λ w. Some (fixed w)) (coded-fits instr h);
+      reads = alone-read (mnemonic instr) (mnemonic-solid instr) ∙ operation-read instr [] ∙ ap (λ text. option_map read_of (named_as instr text)) (sym b) ∙ ap (option_map read_of) (operands-read instr h) ∙ ap (λ w. Some (fixed w)) (coded-fits instr h);
     })
 
 numbered-stands : (a b : ℕ) (z : ℤ) → a < 32 → b < 32 → mag z < 2 ^ 31 → Stands (listed (register_text a) (listed (register_text b) (signed_decimal z)))

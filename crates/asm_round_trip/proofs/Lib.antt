@@ -7,3 +7,4 @@ pub mod Rows
 pub mod Instructions
 pub mod Lines
 pub mod Texts
+pub mod Decoded

@@ -1,16 +1,15 @@
 -- A word's line reads back as the word.
-use Rattle.std.proofs.Common.{◌≡◌, ℕ, pos, ◌+◌, ◌-◌, ◌<◌, ◌≤◌, ◌^◌, Bool, true, false, not, nat_eq, List, [], ◌∷◌, ◌++◌, length, get_or, codes, Option, Some, None, refl, sym, ap, ◌∙◌, arith, append_assoc, subst}
-use Rattle.std.specs.Prelude.{option_map, if◌then◌else◌, int_le, int_lt, IfSome}
+use Rattle.std.proofs.Common.{◌≡◌, ℕ, pos, ◌-◌, ◌<◌, ◌^◌, Bool, true, false, not, nat_eq, List, ◌++◌, length, get_or, codes, Option, Some, None, refl, ap, ◌∙◌, arith, subst}
+use Rattle.std.specs.Prelude.{option_map, if◌then◌else◌, IfSome}
 use Rattle.std.proofs.lemmas.Bool.{eqb-true, ne_eqb, lt-ltb, le-leb}
 use Rattle.rv_decode.specs.declared.instr.Instr.{Instr}
 use Rattle.rv_decode.specs.Decoded.{decoded}
 use Rattle.rv_decode.specs.Table.{IsWordOf, word_of, instr_fits}
 use Rattle.rv_decode.proofs.Sound.{decoded-sound}
-use Rattle.rv_statement.specs.Lines.{cut, trimmed, bare, front_or}
-use Rattle.rv_statement.specs.Operands.{number_of}
+use Rattle.rv_statement.specs.Lines.{trimmed, bare, front_or}
 use Rattle.rv_statement.specs.Reading.{Read, fixed, word_in, said, said_or, operation_of, instruction_of, statement_of}
 use Rattle.rv_asm.specs.Text.{digits_text, if_written, written, line_of, word_text}
-use Rattle.asm_round_trip.proofs.Bytes.{all, none, all-at, all-append, all-weaker, is_solid, is_inner, solid-inner, inner-no_comment, inner-no_colon, Begins, Ends, solid-begins, solid-ends}
+use Rattle.asm_round_trip.proofs.Bytes.{all, all-at, all-weaker, is_solid, is_inner, solid-inner, inner-no_comment, inner-no_colon, solid-begins, solid-ends}
 use Rattle.asm_round_trip.proofs.Cuts.{cut-nowhere, trimmed-none}
 use Rattle.asm_round_trip.proofs.Numbers.{word-read, digits-text_solid}
 use Rattle.asm_round_trip.proofs.Forms.{Stands}

@@ -1,6 +1,6 @@
 -- A number that is written reads back.
-use Rattle.std.proofs.Common.{◌≡◌, ℕ, ℤ, pos, negsuc, zero, suc, ◌+◌, ◌-◌, ◌*◌, ◌/◌, ◌%◌, ◌^◌, ◌<◌, ◌≤◌, Bool, true, false, ◌&&◌, nat_lt, nat_eq, List, [], ◌∷◌, ◌++◌, length, take, drop, get_or, map, codes, decimal, Option, Some, refl, sym, ap, ◌∙◌, arith, lit<}
-use Rattle.std.specs.Prelude.{option_map, neg_ℤ, if◌then◌else◌}
+use Rattle.std.proofs.Common.{◌≡◌, ℕ, ℤ, pos, negsuc, suc, ◌+◌, ◌-◌, ◌*◌, ◌/◌, ◌%◌, ◌^◌, ◌<◌, ◌≤◌, true, false, nat_eq, List, [], ◌∷◌, ◌++◌, length, map, codes, decimal, Some, refl, ap, ◌∙◌, arith}
+use Rattle.std.specs.Prelude.{option_map, neg_ℤ}
 use Rattle.std.proofs.lemmas.Bool.{ne_eqb, lt-ltb, le-leb, and_right, and_from}
 use Rattle.std.proofs.lemmas.Bool.Decides.{nat_tests}
 use Rattle.std.proofs.lemmas.Fmt.{decimal_is_IsNumeral, decimal_nonempty, length-decimal-le}
@@ -122,9 +122,19 @@ digits_in word =
     word / 268435456 % 16 ∷ word / 16777216 % 16 ∷ word / 1048576 % 16 ∷ word / 65536 % 16 ∷ word / 4096 % 16 ∷ word / 256 % 16 ∷ word / 16 % 16 ∷ word % 16 ∷ []
 
 are-below : (word : ℕ) → AreBelow (digits_in word)
-are-below word =
-    (below_16 (word / 268435456), (below_16 (word / 16777216), (below_16 (word / 1048576), (below_16 (word / 65536),
-    (below_16 (word / 4096), (below_16 (word / 256), (below_16 (word / 16), (below_16 word, tt))))))))
+are-below word = (
+  below_16 (word / 268435456),
+  (
+    below_16 (word / 16777216),
+    (
+      below_16 (word / 1048576),
+      (
+        below_16 (word / 65536),
+        (below_16 (word / 4096), (below_16 (word / 256), (below_16 (word / 16), (below_16 word, tt)))),
+      ),
+    ),
+  ),
+)
 
 pub word-read : (word : ℕ) → word < 2 ^ 32 → number_of (codes "0x" ++ digits_text word) ≡ Some (pos word)
 unfolding number_of digits_of digits_text

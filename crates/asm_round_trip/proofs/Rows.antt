@@ -1,6 +1,6 @@
 -- Each mnemonic is found in the table, and its row is read as its instruction is.
-use Rattle.std.proofs.Common.{◌≡◌, ℕ, ◌<◌, Bool, true, false, List, length, codes, Option, Some, refl, arith}
-use Rattle.std.specs.Str.{bytes_eq}
+use Rattle.std.proofs.Common.{◌≡◌, ℕ, ◌<◌, true, List, length, refl, arith}
+use Rattle.std.specs.Prelude.{option_map}
 use Rattle.sn_base.specs.declared.block.Width.TheVariants.{Byte, Half, Word}
 use Rattle.rv_decode.specs.declared.operations.BranchOp.TheVariants.{Beq, Bne, Blt, Bge, Bltu, Bgeu}
 use Rattle.rv_decode.specs.declared.operations.LoadOp.TheVariants.{Lb, Lh, Lw, Lbu, Lhu}
@@ -10,11 +10,11 @@ use Rattle.rv_decode.specs.declared.operations.AmoOp.TheVariants.{Amoswap, Amoad
 use Rattle.rv_decode.specs.declared.instr.Instr.{Instr}
 use Rattle.rv_decode.specs.declared.instr.Instr.TheVariants.{Lui, Auipc, Jal, Jalr, Branch, Load, Store, OpImm, Op, Fence, Ecall, Ebreak, Lr, Sc, Amo}
 use Rattle.rv_statement.specs.Names.{mnemonic}
-use Rattle.rv_statement.specs.Reading.{read_as, row_of, operation_of}
+use Rattle.rv_statement.specs.Reading.{read_of, named_as, row_of, operation_of}
 use Rattle.asm_round_trip.proofs.Bytes.{all, is_solid}
 
-pub operation-read : (instr : Instr) (text : List ℕ) → operation_of (mnemonic instr) text ≡ read_as instr text
-unfolding operation_of row_of read_as
+pub operation-read : (instr : Instr) (text : List ℕ) → operation_of (mnemonic instr) text ≡ option_map read_of (named_as instr text)
+unfolding operation_of row_of named_as
 operation-read (Lui rd imm) text = refl
 operation-read (Auipc rd imm) text = refl
 operation-read (Jal rd offset) text = refl

@@ -1,17 +1,17 @@
 -- The text of a list of words is assembled to the list.
-use Rattle.std.proofs.Common.{◌≡◌, ℕ, zero, suc, ◌+◌, ◌-◌, ◌*◌, ◌<◌, ◌≤◌, ◌^◌, Bool, true, false, ◌&&◌, nat_eq, nat_le, cond, List, [], ◌∷◌, ◌++◌, length, get_or, map, All, codes, Option, Some, None, Result, Ok, Err, refl, sym, ap, ◌∙◌, arith, append_assoc, append-nil}
-use Rattle.std.proofs.lemmas.Bool.{and_parts, lt-leb, eqb-false}
+use Rattle.std.proofs.Common.{◌≡◌, ℕ, ◌+◌, ◌-◌, ◌<◌, ◌≤◌, ◌^◌, true, List, [], ◌∷◌, ◌++◌, length, get_or, map, All, codes, Option, Some, None, Result, Ok, refl, sym, ap, ◌∙◌, arith, append_assoc, append-nil}
+use Rattle.std.proofs.lemmas.Bool.{and_parts, lt-leb}
 use Rattle.std.proofs.lemmas.List.{length-append}
 use Rattle.std.proofs.lemmas.List.Elements.{All-head, All-tail}
-use Rattle.text_lines.specs.Lines.{is_line_feed, without_return, lines_from, lines_of}
+use Rattle.text_lines.specs.Lines.{without_return, lines_from}
 use Rattle.rv_statement.specs.Lines.{bare, trimmed, cut}
 use Rattle.rv_statement.specs.Reading.{statement_of, nothing, said, fixed}
 use Rattle.rv_asm.specs.declared.fault.AsmCause.{AsmCause}
-use Rattle.rv_asm.specs.Assembly.{Item, known, Listing, with_line, with_item, listed_from, words_from, words_of, nothing_listed, asm_of}
+use Rattle.rv_asm.specs.Assembly.{known, Listing, with_line, listed_from, words_from, words_of, nothing_listed, asm_of}
 use Rattle.rv_asm.specs.Text.{word_text, dis_of}
 use Rattle.asm_round_trip.specs.RoundTrip.{HasText, ReadsBack}
 use Rattle.asm_round_trip.proofs.Bytes.{all, all-at, is_inner, inner-no_feed, inner-no_return}
-use Rattle.asm_round_trip.proofs.Lines.{IsLineOf, word_text-line}
+use Rattle.asm_round_trip.proofs.Lines.{word_text-line}
 
 -- ---- the lines
 

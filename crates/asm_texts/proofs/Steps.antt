@@ -1,13 +1,10 @@
 -- How the texts grow by one line.
-use Rattle.std.proofs.Common.{◌≡◌, ℕ, zero, suc, ◌+◌, ◌-◌, ◌*◌, ◌<◌, ◌≤◌, List, [], ◌∷◌, ◌++◌, length, get_or, take, refl, sym, ap, ◌∙◌, append-nil, add-one, arith}
+use Rattle.std.proofs.Common.{◌≡◌, ℕ, zero, suc, ◌+◌, ◌<◌, List, [], ◌∷◌, ◌++◌, length, get_or, take, refl, ap, ◌∙◌, append-nil, add-one, arith}
 use Rattle.std.proofs.lemmas.List.{take_more}
 use Rattle.std.proofs.lemmas.List.Concat.{flat_map-append}
 use Rattle.std.specs.List.{flat_map, range_with_len}
-use Rattle.std.specs.Option.{is_some}
-use Rattle.std.specs.Prelude.{Option}
-use Rattle.sn_base.specs.Blocks.{ram_start}
-use Rattle.sn_base.specs.Image.{SegmentData, fetched}
-use Rattle.asm_texts.specs.Texts.{digits_line, words_text, lines_at, place_lines, first_lines, listing}
+use Rattle.sn_base.specs.Image.{SegmentData}
+use Rattle.asm_texts.specs.Texts.{digits_line, words_text, place_lines, first_lines, listing}
 
 one-more : (f : ℕ → List ℕ) (xs : List ℕ) (x : ℕ) → flat_map f (xs ++ x ∷ []) ≡ flat_map f xs ++ f x
 one-more f xs x = flat_map-append f xs (x ∷ []) ∙ ap (λ (l : List ℕ). flat_map f xs ++ l) (append-nil (f x))

@@ -1,5 +1,5 @@
 -- The texts of the commands that assemble and disassemble.
-use Rattle.std.specs.Prelude.{ℕ, ◌+◌, ◌-◌, ◌*◌, Bool, true, false, if◌then◌else◌, List, [], ◌∷◌, ◌++◌, codes, Option, Some, None}
+use Rattle.std.specs.Prelude.{ℕ, ◌+◌, ◌-◌, ◌*◌, Bool, true, false, List, [], ◌++◌, codes, Option, Some, None}
 use Rattle.std.specs.List.{flat_map, range_with_len}
 use Rattle.std.specs.Option.{is_some}
 use Rattle.sn_base.specs.Blocks.{ram_start}
@@ -14,17 +14,17 @@ digits_line word = digits_text word ++ codes "\n"
 abbrev pub words_text : List ℕ → List ℕ
 words_text words = flat_map digits_line words
 
--- `# ADDRESS`, which stands before a word that no word stands next to
+-- `# ADDRESS`, unless there is a word right before this one
 abbrev pub heading : Bool → ℕ → List ℕ
 heading true address = []
 heading false address = codes "# " ++ digits_line address
 
--- the lines of an address: none where its four bytes aren't all executable
+-- the lines of a word at an address, where there is one
 abbrev pub lines_at : Bool → ℕ → Option ℕ → List ℕ
 lines_at is_next address None = []
 lines_at is_next address (Some word) = heading is_next address ++ word_text word ++ codes "\n"
 
--- the same of a place of memory in words, with whether there is a word right before it
+-- the lines of a place of memory, counted in words: its four bytes are a word where all of them are executable
 abbrev pub place_lines : List SegmentData → ℕ → List ℕ
 place_lines segments place = lines_at (is_some (fetched segments (ram_start + 4 * place - 4))) (ram_start + 4 * place) (fetched segments (ram_start + 4 * place))
 

@@ -5,6 +5,8 @@
 #![tactic(auto)]
 
 mod listing;
+#[cfg(test)]
+mod tests;
 mod words;
 
 pub use listing::listing_of;

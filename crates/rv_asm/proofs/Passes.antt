@@ -7,7 +7,6 @@ use Rattle.std.specs.BTreeMap.{BTreeMap}
 use Rattle.rv_asm.specs.declared.fault.AsmCause.{AsmCause}
 use Rattle.rv_asm.specs.declared.fault.AsmFault.{AsmFault}
 use Rattle.rv_asm.specs.declared.fault.AsmFault.TheVariants.{Refused, Memory}
-use Rattle.text_lines.specs.Lines.{lines_of}
 use Rattle.rv_statement.specs.Lines.{bare}
 use Rattle.rv_statement.specs.Reading.{statement_of}
 use Rattle.rv_asm.specs.Assembly.{Item, Listing, IsRefusedAs, with_line, listed_from, nothing_listed, item_word, words_from}

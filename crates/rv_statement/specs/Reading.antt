@@ -46,46 +46,64 @@ with_offset (Jal rd _) offset = Jal rd offset
 with_offset (Branch o rs1 rs2 _) offset = Branch o rs1 rs2 offset
 with_offset instr offset = instr
 
--- an instruction has its word, or None where a number is out of its range; or it leads to a label, and its offset isn't known yet
+-- what a mnemonic and its operands name: an instruction, whose numbers may be out of their ranges; an upper immediate out of
+-- its range; or an instruction that leads to a label, with its offset 0
+pub data Named : Type 0 where
+  whole : Instr → Named
+  outside : Named
+  leads : Instr → List ℕ → Named
+
+-- the upper 20 bits of a word
+abbrev pub upper : (ℕ → Instr) → ℤ → Named
+upper make number = if int_le (pos 0) number && int_lt number (pos 1048576) then whole (make (unsigned_abs number * 4096)) else outside
+
+abbrev pub at_label : (ℤ → Instr) → List ℕ → Option Named
+at_label make text = if is_name text then Some (leads (make (pos 0)) text) else None
+
+abbrev pub at_number : (ℤ → Instr) → List ℕ → Option ℤ → Option Named
+at_number make text None = at_label make text
+at_number make text (Some offset) = Some (whole (make offset))
+
+-- a target: an offset, or a label
+abbrev pub target : (ℤ → Instr) → List ℕ → Option Named
+target make text = at_number make text (number_of text)
+
+abbrev pub alone : Instr → List ℕ → Option Named
+alone instr text = if nat_eq (length text) 0 then Some (whole instr) else None
+
+-- an instruction of this row, with its operands as its form reads them
+unfoldable pub named_as : Instr → List ℕ → Option Named
+named_as (Lui _ _) text = option_map (λ a. upper (Lui a.0) a.1) (upper_of text)
+named_as (Auipc _ _) text = option_map (λ a. upper (Auipc a.0) a.1) (upper_of text)
+named_as (Jal _ _) text = chained (register_then text) (λ a. target (Jal a.0) a.1)
+named_as (Jalr _ _ _) text = option_map (λ a. whole (Jalr a.0 a.2 a.1)) (placed_of text)
+named_as (Branch o _ _ _) text = chained (compared_of text) (λ a. target (Branch o a.0 a.1) a.2)
+named_as (Load o _ _ _) text = option_map (λ a. whole (Load o a.0 a.2 a.1)) (placed_of text)
+named_as (Store o _ _ _) text = option_map (λ a. whole (Store o a.2 a.0 a.1)) (placed_of text)
+named_as (OpImm o _ _ _) text = option_map (λ a. whole (OpImm o a.0 a.1 a.2)) (numbered_of text)
+named_as (Op o _ _ _) text = option_map (λ a. whole (Op o a.0 a.1 a.2)) (registers_of text)
+named_as Fence text = alone Fence text
+named_as Ecall text = alone Ecall text
+named_as Ebreak text = alone Ebreak text
+named_as (Lr _ _) text = option_map (λ a. whole (Lr a.0 a.1)) (reserved_of text)
+named_as (Sc _ _ _) text = option_map (λ a. whole (Sc a.0 a.2 a.1)) (atomic_of text)
+named_as (Amo o _ _ _) text = option_map (λ a. whole (Amo o a.0 a.2 a.1)) (atomic_of text)
+
+-- the instruction of a mnemonic and its operands
+abbrev pub named_by : List ℕ → List ℕ → Option Named
+named_by name operands = chained (row_of name) (λ row. named_as row operands)
+
+-- what a line gives: a word, or None where a number is out of its range; or an instruction that leads to a label, and its
+-- offset isn't known yet
 pub data Read : Type 0 where
   fixed : Option ℕ → Read
   aimed : Instr → List ℕ → Read
 
--- the upper 20 bits of a word
-abbrev pub upper : (ℕ → Instr) → ℤ → Option ℕ
-upper make number = if int_le (pos 0) number && int_lt number (pos 1048576) then coded (make (unsigned_abs number * 4096)) else None
-
-abbrev pub at_label : (ℤ → Instr) → List ℕ → Option Read
-at_label make text = if is_name text then Some (aimed (make (pos 0)) text) else None
-
-abbrev pub at_number : (ℤ → Instr) → List ℕ → Option ℤ → Option Read
-at_number make text None = at_label make text
-at_number make text (Some offset) = Some (fixed (coded (make offset)))
-
--- a target: an offset, or a label
-abbrev pub target : (ℤ → Instr) → List ℕ → Option Read
-target make text = at_number make text (number_of text)
-
-abbrev pub alone : Instr → List ℕ → Option Read
-alone instr text = if nat_eq (length text) 0 then Some (fixed (coded instr)) else None
-
--- an instruction of this row, with its operands as its form reads them
-unfoldable pub read_as : Instr → List ℕ → Option Read
-read_as (Lui _ _) text = option_map (λ a. fixed (upper (Lui a.0) a.1)) (upper_of text)
-read_as (Auipc _ _) text = option_map (λ a. fixed (upper (Auipc a.0) a.1)) (upper_of text)
-read_as (Jal _ _) text = chained (register_then text) (λ a. target (Jal a.0) a.1)
-read_as (Jalr _ _ _) text = option_map (λ a. fixed (coded (Jalr a.0 a.2 a.1))) (placed_of text)
-read_as (Branch o _ _ _) text = chained (compared_of text) (λ a. target (Branch o a.0 a.1) a.2)
-read_as (Load o _ _ _) text = option_map (λ a. fixed (coded (Load o a.0 a.2 a.1))) (placed_of text)
-read_as (Store o _ _ _) text = option_map (λ a. fixed (coded (Store o a.2 a.0 a.1))) (placed_of text)
-read_as (OpImm o _ _ _) text = option_map (λ a. fixed (coded (OpImm o a.0 a.1 a.2))) (numbered_of text)
-read_as (Op o _ _ _) text = option_map (λ a. fixed (coded (Op o a.0 a.1 a.2))) (registers_of text)
-read_as Fence text = alone Fence text
-read_as Ecall text = alone Ecall text
-read_as Ebreak text = alone Ebreak text
-read_as (Lr _ _) text = option_map (λ a. fixed (coded (Lr a.0 a.1))) (reserved_of text)
-read_as (Sc _ _ _) text = option_map (λ a. fixed (coded (Sc a.0 a.2 a.1))) (atomic_of text)
-read_as (Amo o _ _ _) text = option_map (λ a. fixed (coded (Amo o a.0 a.2 a.1))) (atomic_of text)
+-- the word of what is named
+abbrev pub read_of : Named → Read
+read_of (whole instr) = fixed (coded instr)
+read_of outside = fixed None
+read_of (leads instr name) = aimed instr name
 
 -- the number of a `.word`
 abbrev pub word_in : ℤ → Option ℕ
@@ -95,15 +113,20 @@ word_in number = if int_le (pos 0) number && int_lt number (pos (2 ^ 32)) then S
 unfoldable pub operation_of : List ℕ → List ℕ → Option Read
 operation_of name operands =
     if bytes_eq name (codes ".word") then option_map (λ number. fixed (word_in number)) (number_of operands)
-    else chained (row_of name) (λ row. read_as row operands)
+    else option_map read_of (named_by name operands)
 
-abbrev pub split_operation : List ℕ → Option (List ℕ × List ℕ) → Option Read
-split_operation text None = operation_of text []
-split_operation text (Some parts) = operation_of parts.0 (trimmed parts.1)
+-- what is said of a mnemonic and its operands, where these are told apart
+abbrev pub on_parts : {A : Type 0} → (List ℕ → List ℕ → Option A) → List ℕ → Option (List ℕ × List ℕ) → Option A
+on_parts say text None = say text []
+on_parts say text (Some parts) = say parts.0 (trimmed parts.1)
 
--- a mnemonic, and its operands after the first blank
+-- the instruction that a text names: its mnemonic, and its operands after the first blank
+unfoldable pub named_in : List ℕ → Option Named
+named_in text = on_parts named_by text (cut is_blank text)
+
+-- the same with its word, and `.word`
 unfoldable pub instruction_of : List ℕ → Option Read
-instruction_of text = split_operation text (cut is_blank text)
+instruction_of text = on_parts operation_of text (cut is_blank text)
 
 -- a line says nothing, a label or an instruction, or has another form
 pub data Statement : Type 0 where

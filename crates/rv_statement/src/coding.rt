@@ -2,7 +2,7 @@
 ghost use Rattle.std.specs.Prelude.{◌≡◌, ◌*◌, ◌&&◌, ◌^◌, int_le, int_lt, pos, unsigned_abs, true, if◌then◌else◌, Some, None};
 ghost use Rattle.rv_decode.specs.declared.instr.Instr.{Instr};
 ghost use Rattle.rv_decode.specs.Table.{is_signed, is_target};
-ghost use Rattle.rv_statement.specs.Reading.{coded, upper, word_in, with_offset};
+ghost use Rattle.rv_statement.specs.Reading.{coded, fixed, read_of, upper, word_in, with_offset};
 
 use rv_decode::{BranchOp, ImmOp, Instr, LoadOp, encode};
 use sn_base::Width;
@@ -31,14 +31,14 @@ fn upper_bits(number: i64) -> Option<u32>
 }
 
 pub(crate) fn lui(rd: u8, number: i64) -> Option<u32>
-    ensures { result ≡ upper (Instr.Lui rd) number }
+    ensures { fixed result ≡ read_of (upper (Instr.Lui rd) number) }
 {
     let imm = upper_bits(number)?;
     coded(&Instr::Lui { rd, imm })
 }
 
 pub(crate) fn auipc(rd: u8, number: i64) -> Option<u32>
-    ensures { result ≡ upper (Instr.Auipc rd) number }
+    ensures { fixed result ≡ read_of (upper (Instr.Auipc rd) number) }
 {
     let imm = upper_bits(number)?;
     coded(&Instr::Auipc { rd, imm })
