@@ -91,7 +91,7 @@ examples:
   safetynet replay --nodes 2 --watch 80001000 \\
       examples/shared/count.hex examples/shared/shared_word.script
   safetynet replay --nodes=1 --trace examples/first/a.hex examples/first/a.script
-  safetynet dis examples/first/a.elf
+  safetynet asm examples/asm/counter.s
 ";
 
 /// What the program answers itself.
