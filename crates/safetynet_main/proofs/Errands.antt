@@ -74,9 +74,11 @@ plain-listing (Err status) h = (λ e. h.0 cc, λ e. h.1 cc)
 
 plain-script : (config : Config) (showing : Showing) (script : List ℕ) (program : Result ImageData Status) → IsOfBytes program → IsPlain (script_errand config showing script program)
 plain-script config showing script (Err status) h = (λ e. h.0 cc, λ e. h.1 cc)
-plain-script config showing script (Ok image) h =
-    (refl, plain-job config showing image (Err (BadScript ScriptTooLong)) (λ e. cc, λ e. cc),
-    λ bytes. plain-job config showing image (events_of config.nodes bytes) (read (script_of config.nodes bytes) (nat_lt script_limit (length bytes))))
+plain-script config showing script (Ok image) h = (
+  refl,
+  plain-job config showing image (Err (BadScript ScriptTooLong)) (λ e. cc, λ e. cc),
+  λ bytes. plain-job config showing image (events_of config.nodes bytes) (read (script_of config.nodes bytes) (nat_lt script_limit (length bytes))),
+)
 
 program-of_bytes : (bytes : List ℕ) → IsOfBytes (program_of bytes)
 program-of_bytes bytes = loaded (image_of bytes) (nat_lt program_limit (length bytes))
@@ -86,15 +88,21 @@ errand-of_words None = refl
 errand-of_words (Some (Check nodes program trace)) = refl
 errand-of_words (Some (Demo size)) = refl
 errand-of_words (Some (Replay config trace watch program script)) =
-    let showing : Showing = record { trace = trace; watch = watch } in
-    (refl, plain-script config showing script (Err (BadProgram ProgramTooLong)) (λ e. cc, λ e. cc),
-    λ bytes. plain-script config showing script (program_of bytes) (program-of_bytes bytes))
-errand-of_words (Some (Assemble text)) =
-    (refl, plain-text (Err (BadAsm AsmTooLong)) (λ e. cc, λ e. cc),
-    λ bytes. plain-text (assembly_of bytes) (assembled (asm_of bytes) (nat_lt program_limit (length bytes))))
-errand-of_words (Some (Disassemble program)) =
-    (refl, plain-text (listing_of (Err (BadProgram ProgramTooLong))) (λ e. cc, λ e. cc),
-    λ bytes. plain-text (listing_of (program_of bytes)) (plain-listing (program_of bytes) (program-of_bytes bytes)))
+    let showing : Showing = record { trace = trace; watch = watch } in (
+      refl,
+      plain-script config showing script (Err (BadProgram ProgramTooLong)) (λ e. cc, λ e. cc),
+      λ bytes. plain-script config showing script (program_of bytes) (program-of_bytes bytes),
+    )
+errand-of_words (Some (Assemble text)) = (
+  refl,
+  plain-text (Err (BadAsm AsmTooLong)) (λ e. cc, λ e. cc),
+  λ bytes. plain-text (assembly_of bytes) (assembled (asm_of bytes) (nat_lt program_limit (length bytes))),
+)
+errand-of_words (Some (Disassemble program)) = (
+  refl,
+  plain-text (listing_of (Err (BadProgram ProgramTooLong))) (λ e. cc, λ e. cc),
+  λ bytes. plain-text (listing_of (program_of bytes)) (plain-listing (program_of bytes) (program-of_bytes bytes)),
+)
 
 -- what the store's fetches say
 

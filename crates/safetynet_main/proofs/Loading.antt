@@ -16,9 +16,13 @@ module _ {S : Type 0} (fetches : S → List ℕ → ℕ → Found → S → Type
       → (found : Found) × fetches old program program_limit found mid × (Ok image ≡ program_in found)
       → (found : Found) × fetches mid script script_limit found new × (events ≡ script_in config.nodes found)
       → Loads fetches (replay_errand config showing program script) (job_with config showing image events) old new
-  loads-both program script h k =
-      (h.0, mid, h.1, subst (λ (r : Result ImageData Status). Loads fetches (script_errand config showing script r) (job_with config showing image events) mid new) h.2
-      (k.0, new, k.1, (ap (job_with config showing image) k.2, refl)))
+  loads-both program script h k = (
+    h.0,
+    mid,
+    h.1,
+    subst (λ (r : Result ImageData Status). Loads fetches (script_errand config showing script r) (job_with config showing image events) mid new) h.2
+        (k.0, new, k.1, (ap (job_with config showing image) k.2, refl)),
+  )
 
   -- the same where the names are the request's
   pub loads-replay : (program script asked_program asked_script : List ℕ) → program ≡ asked_program → script ≡ asked_script

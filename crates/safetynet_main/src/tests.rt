@@ -450,14 +450,7 @@ fn a_text_that_cant_be_assembled_is_refused_by_its_first_cause(
         ("jal x0, end\n", AsmCause::NoLabel(1)),
     ] {
         let want = Status::BadAsm(cause);
-        check_refusal(
-            &rt,
-            alloc,
-            "safetynet asm a.hex",
-            text.as_bytes(),
-            "",
-            want,
-        )?;
+        check_refusal(&rt, alloc, "safetynet asm a.hex", text.as_bytes(), "", want)?;
     }
     Ok(())
 }
