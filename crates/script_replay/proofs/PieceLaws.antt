@@ -69,7 +69,7 @@ turn-breaks_first m showing event fresh a b is_fresh broken =
 pub turn-breaks_second : (m n : MachineData) (showing : Showing) (event : Event) (said : Answer) (fresh : List ℕ) (a b d : Ends) → IsFresh m event fresh → IsApplied m n event said → b ≡ after a (console_piece fresh) → Breaks (group_pieces showing.trace (group_now n showing.watch event said)) b d → Breaks (turn_now m showing event) a d
 unfolding turn_pieces
 turn-breaks_second m n showing event said fresh a b d is_fresh applied first broken =
-    rw ← is_fresh (Breaks-after (console_piece fresh) _ a d
+    rw (← is_fresh) (Breaks-after (console_piece fresh) _ a d
     (subst (λ (e : Ends). Breaks (group_pieces showing.trace (group_of m.image m.config showing.watch (m.applied + 1) event (next_of m event))) e d) first
     (subst (λ (ps : List Piece). Breaks ps b d) (group_pieces-are m n showing event said applied) broken)))
 
@@ -94,7 +94,7 @@ trace_pieces-drop records i taken below is =
 
 trace_pieces-end : (records : List Record) (i : ℕ) → length records ≡ i → trace_pieces (drop i records) ≡ []
 unfolding trace_pieces
-trace_pieces-end records i e = rw (drop_all records i (omega arith))
+trace_pieces-end records i e = rw (drop_all i records (omega arith))
 
 -- what a line has after it was cleared
 cleared-line : (cleared line text : List ℕ) → cleared ≡ [] → line ≡ cleared ++ text → line ≡ text
@@ -126,18 +126,21 @@ unfolding end_pieces
 end-plain_breaks m showing a b is broken = rw is broken
 
 -- the end: the trace, and then the summary
-pub end-traced : (m : MachineData) (showing : Showing) (records : List Record) (a b d : Ends) → showing.trace ≡ true → records ≡ m.state.committed → b ≡ after a (trace_pieces records) → d ≡ after b (Report (summary_now (codes "# ") m showing.watch) ∷ []) → d ≡ after a (end_now m showing)
-unfolding end_pieces
-end-traced m showing records a b d is same first second =
-    rw (is, ← same) (second ∙ ap (λ e. after e (Report (summary_now (codes "# ") m showing.watch) ∷ [])) first ∙ after-append a (trace_pieces records) (Report (summary_now (codes "# ") m showing.watch) ∷ []))
+module _ (m : MachineData) (showing : Showing) (records : List Record) (is : showing.trace ≡ true) (same : records ≡ m.state.committed) where
+  pub end-traced : (a b d : Ends) → b ≡ after a (trace_pieces records) → d ≡ after b (Report (summary_now (codes "# ") m showing.watch) ∷ []) → d ≡ after a (end_now m showing)
+  unfolding end_pieces
+  end-traced a b d first second =
+      rw is (second ∙ ap (λ e. after e (Report (summary_now (codes "# ") m showing.watch) ∷ [])) (first ∙ ap (λ t. after a (trace_pieces t)) same)
+      ∙ after-append a (trace_pieces m.state.committed) (Report (summary_now (codes "# ") m showing.watch) ∷ []))
 
-pub end-traced_breaks_first : (m : MachineData) (showing : Showing) (records : List Record) (a b : Ends) → showing.trace ≡ true → records ≡ m.state.committed → Breaks (trace_pieces records) a b → Breaks (end_now m showing) a b
-unfolding end_pieces
-end-traced_breaks_first m showing records a b is same broken =
-    rw (is, ← same) (Breaks-more (trace_pieces records) (Report (summary_now (codes "# ") m showing.watch) ∷ []) a b broken)
+  pub end-traced_breaks_first : (a b : Ends) → Breaks (trace_pieces records) a b → Breaks (end_now m showing) a b
+  unfolding end_pieces
+  end-traced_breaks_first a b broken =
+      rw is (Breaks-more (trace_pieces m.state.committed) (Report (summary_now (codes "# ") m showing.watch) ∷ []) a b
+      (subst (λ (t : List Record). Breaks (trace_pieces t) a b) same broken))
 
-pub end-traced_breaks_second : (m : MachineData) (showing : Showing) (records : List Record) (a b d : Ends) → showing.trace ≡ true → records ≡ m.state.committed → b ≡ after a (trace_pieces records) → Breaks (Report (summary_now (codes "# ") m showing.watch) ∷ []) b d → Breaks (end_now m showing) a d
-unfolding end_pieces
-end-traced_breaks_second m showing records a b d is same first broken =
-    rw (is, ← same) (Breaks-after (trace_pieces records) (Report (summary_now (codes "# ") m showing.watch) ∷ []) a d
-    (subst (λ (e : Ends). Breaks (Report (summary_now (codes "# ") m showing.watch) ∷ []) e d) first broken))
+  pub end-traced_breaks_second : (a b d : Ends) → b ≡ after a (trace_pieces records) → Breaks (Report (summary_now (codes "# ") m showing.watch) ∷ []) b d → Breaks (end_now m showing) a d
+  unfolding end_pieces
+  end-traced_breaks_second a b d first broken =
+      rw is (Breaks-after (trace_pieces m.state.committed) (Report (summary_now (codes "# ") m showing.watch) ∷ []) a d
+      (subst (λ (e : Ends). Breaks (Report (summary_now (codes "# ") m showing.watch) ∷ []) e d) (first ∙ ap (λ t. after a (trace_pieces t)) same) broken))

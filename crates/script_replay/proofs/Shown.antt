@@ -161,11 +161,14 @@ report_text-from image config showing done s (event ∷ events) is =
 
 report-trace : (image : ImageData) (config : Config) (showing : Showing) (events : List Event) (before behind : Ends) → IsRun config events → behind ≡ after before (pieces_of image config showing events) → showing.trace ≡ true → IsTrace image config showing.watch events before.report behind.report
 unfolding pieces_of
-report-trace image config showing events before behind run put is = record {
-  execution = (reached_consistent image config events run).execution;
-  written = report-after before behind (pieces_of image config showing events) put
-      ∙ ap (followed_by before.report) (report_text-from image config showing 0 (start_of image config.nodes) events is);
-}
+report-trace image config showing events before behind run put is =
+    let same : 0 + length events ≡ length events = omega arith in
+    record {
+      execution = (reached_consistent image config events run).execution;
+      written = report-after before behind (pieces_of image config showing events) put
+          ∙ ap (followed_by before.report) (report_text-from image config showing 0 (start_of image config.nodes) events is
+          ∙ ap (λ n. trace_text (committed_by image config events) ++ summary_of (codes "# ") image config showing.watch n (reached image config events)) same);
+    }
 
 pub shown-all : (image : ImageData) (config : Config) (showing : Showing) (events : List Event) (before behind : Ends) → IsRun config events → behind ≡ after before (pieces_of image config showing events) → IsShown image config showing events before behind
 shown-all image config showing events before behind run put = record {

@@ -104,13 +104,13 @@ fn put_end<R: Sink>(
     ensures later { R.faults report.old ≤ R.faults report.new }
     ensures cause { OnErr result (Rose (R.faults report.old) (R.faults report.new)) }
 {
-    if !showing.trace {
-        put_summary(line, "", machine, showing.watch, report)?;
+    if showing.trace {
+        let view = machine.recovered();
+        put_trace(line, view.committed(), report)?;
+        put_summary(line, "# ", machine, showing.watch, report)?;
         return Ok(());
     }
-    let view = machine.recovered();
-    put_trace(line, view.committed(), report)?;
-    put_summary(line, "# ", machine, showing.watch, report)?;
+    put_summary(line, "", machine, showing.watch, report)?;
     Ok(())
 }
 

@@ -1,6 +1,7 @@
 use Rattle.std.proofs.Common.{arith, refl}
 use Rattle.std.proofs.lemmas.Result.{err_from_is_err_and}
 use Rattle.sink_pieces.proofs.SoFar.{SoFar-start}
+use Rattle.script_replay.specs.Played.{pieces_left}
 use Rattle.script_replay.proofs.SoFar.{SoFar-next, SoFar-breaks_event, SoFar-breaks_end, SoFar-end}
 use Rattle.script_replay.proofs.Fits.{event-fits, sizes-next, spare-next}
 use Rattle.script_replay.proofs.play.play.Goals as goal
@@ -30,7 +31,7 @@ events-preserved g c = record {
 pub returns-in_err-turn-clause-err : goal.returns-in_err-turn-clause-err
 returns-in_err-turn-clause-err g c =
     let p = err_from_is_err_and c.from_residual.result c.from_residual.ensures.1 in
-    rw p.1 (SoFar-breaks_event _ c.events.machine c.args.showing.now c.args.events.now c.events.event-index c.event-item.result _ _ _ c.events-test.true c.event-item.is c.events.invariant.played c.in_err-turn.ensures.err)
+    rw p.1 (SoFar-breaks_event (pieces_left c.args.machine.now c.args.showing.now c.args.events.now) c.events.machine c.args.showing.now c.args.events.now c.events.event-index c.event-item.result _ _ _ c.events-test.true c.event-item.is c.events.invariant.played c.in_err-turn.ensures.err)
 
 pub returns-in_err-put_end-clause-err : goal.returns-in_err-put_end-clause-err
 returns-in_err-put_end-clause-err g c =
