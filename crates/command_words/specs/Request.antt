@@ -1,9 +1,9 @@
 -- What the words ask for.
-use Rattle.std.specs.Prelude.{ℕ, Bool, true, false, if◌then◌else◌, List, codes, bytes_eq, Option, None, option_map, option_and_then, string_bytes}
+use Rattle.std.specs.Prelude.{ℕ, Bool, true, false, ◌&&◌, if◌then◌else◌, List, codes, bytes_eq, Option, None, option_map, option_and_then, string_bytes}
 use Rattle.std.specs.Option.{option_map_or}
 use Rattle.sn_base.specs.Config.{lies_in, config_fits}
 use Rattle.sn_base.specs.declared.config.Config.{Config}
-use Rattle.option_values.specs.Values.{nodes_rule, number_by, config_by, watch_by, demo_size}
+use Rattle.option_values.specs.Values.{nodes_rule, number_by, config_by, watch_by, is_word_address, demo_size}
 use Rattle.clap.specs.Words.{Row, Text, first_of, takes, subcommand_of}
 use Rattle.command_words.specs.Command.{the_app}
 use Rattle.command_words.specs.declared.request.Replay as code_replay
@@ -69,9 +69,13 @@ as_request (asked.Demo size) = Demo size
 as_request (asked.Assemble text) = Assemble (string_bytes text)
 as_request (asked.Disassemble program) = Disassemble (string_bytes program)
 
--- whether the sizes lie in their ranges
+-- whether a word that is to be watched is one of memory
+abbrev pub watch_fits : Option ℕ → Bool
+watch_fits watch = option_map_or is_word_address watch true
+
+-- whether the sizes lie in their ranges, and the watched word in memory
 abbrev pub request_fits : Request → Bool
-request_fits (Replay config trace watch program script) = config_fits config
+request_fits (Replay config trace watch program script) = config_fits config && watch_fits watch
 request_fits (Check nodes program trace) = lies_in 1 16 nodes
 request_fits (Demo size) = lies_in 1 1000000 size
 request_fits _ = true

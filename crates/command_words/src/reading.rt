@@ -2,7 +2,7 @@
 ghost use Rattle.std.specs.Prelude.{◌≡◌, IfOk, IfErr, true, Some, None, map, string_bytes};
 ghost use Rattle.sn_base.specs.Config.{lies_in, config_fits};
 ghost use Rattle.clap.specs.Words.{found_of, rows_of, first_of};
-ghost use Rattle.command_words.specs.Request.{ask_of, as_request, request_of, config_of, replay_of, check_of, demo_of, as_replay, as_check, request_fits};
+ghost use Rattle.command_words.specs.Request.{ask_of, as_request, request_of, config_of, replay_of, check_of, demo_of, as_replay, as_check, watch_fits, request_fits};
 
 use crate::command::entries_of;
 use crate::entries::{command_of, has_flag, text_of};
@@ -41,6 +41,7 @@ fn replay(alloc: Global, entries: &ArgMatches<'_>) -> Result<Replay, WordsFault>
     ensures ok { IfOk result (λ replay. replay_of (rows_of (found_of entries.now)) ≡ Some (as_replay replay)) }
     ensures usage { result ≡ Err WordsFault.Usage → replay_of (rows_of (found_of entries.now)) ≡ None }
     ensures fits { IfOk result (λ replay. config_fits replay.config ≡ true) }
+    ensures watched { IfOk result (λ replay. watch_fits replay.watch ≡ true) }
 {
     Ok(Replay {
         config: config(entries)?,
