@@ -66,7 +66,7 @@ fn main(rt: HostRuntime) -> io::Result<()> {
 }
 """
 
-NAMES = "rv_asm rv_decode sn_base itoa byteorder"
+NAMES = "rv_asm rv_statement text_lines rv_decode sn_base itoa byteorder"
 
 
 def main():

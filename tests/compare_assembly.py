@@ -5,8 +5,8 @@
 
 SIMULATOR is a reference simulator that takes `dis FILE` and `--main asm FILE`. WORDS random words (20,000) become lines by both,
 and the lines become words again here; then TEXTS random texts (3,000), half of them with a byte or two changed, are assembled by
-both: the words are the same, or the name of the cause is (the simulator doesn't tell the line). The crates are copied into a
-folder of their own, beside a small program that prints what they answer, and are built there without a proof (`rt try`); so `rt`
+both: the words are the same, or the name of the cause is (the simulator doesn't tell the line). The programs of examples/asm are
+assembled too, and have the words of the files beside them. The crates are copied into a folder of their own, beside a small program that prints what they answer, and are built there without a proof (`rt try`); so `rt`
 has to be on the path.
 """
 import random
@@ -22,8 +22,10 @@ import compare_instructions as instructions
 CRATES = {
     "sn_base": "byteorder",
     "rv_decode": "sn_base",
-    "rv_asm": "sn_base rv_decode itoa",
-    "reader": "rv_asm sn_base rv_decode itoa byteorder",
+    "text_lines": "",
+    "rv_statement": "sn_base rv_decode",
+    "rv_asm": "sn_base rv_decode rv_statement text_lines itoa",
+    "reader": "rv_asm sn_base rv_decode rv_statement text_lines itoa byteorder",
 }
 
 READER = """// A line is `dis` and words, or `asm` and bytes, all hexadecimal. It prints the words' lines, or the text's words or the cause
@@ -237,6 +239,14 @@ def compare_texts(simulator, folder, reader, choose, count):
     print(f"{count} texts are the same: " + ", ".join(f"{name} {counts[name]}" for name in sorted(counts)))
 
 
+def compare_examples(reader):
+    files = sorted((Path(__file__).resolve().parent.parent / "examples" / "asm").glob("*.s"))
+    for file, here in zip(files, read(reader, [hexadecimal(file.read_bytes()) for file in files]), strict=True):
+        if here != file.with_suffix(".hex").read_text().split():
+            sys.exit(f"{file.name} has other words than its .hex: {here}")
+    print(f"{len(files)} programs of examples/asm have the words of their .hex files")
+
+
 def main():
     if len(sys.argv) < 2:
         print(__doc__)
@@ -247,6 +257,7 @@ def main():
     with tempfile.TemporaryDirectory() as folder:
         folder = Path(folder)
         reader = build(folder)
+        compare_examples(reader)
         compare_words(simulator, folder, reader, choose, words)
         compare_texts(simulator, folder, reader, choose, texts)
 

@@ -1,10 +1,13 @@
 #!/usr/bin/env python3
-"""Compares `replay` on 1 to 16 nodes with a reference simulator, on random programs and scripts of every event.
+"""Compares `replay` on 1 to 16 nodes with a reference simulator, on random programs and scripts of every event, with and without
+its options.
 
     tests/compare_replay.py PROGRAM SIMULATOR [COUNT] [SEED]
 
-PROGRAM is the built program, SIMULATOR a reference simulator; both take `replay --nodes N FILE SCRIPT`, and the simulator
-`--main` before it, to name a status as the program does. Console, report and exit status must be the same.
+PROGRAM is the built program, SIMULATOR a reference simulator; both take `replay [OPTIONS] FILE SCRIPT`, and the simulator
+`--main` before it, to name a status as the program does. Console, report and exit status must be the same. Half of the calls have
+options beside --nodes: other sizes, a watched word, the trace in place of the events, in any order and either form; and a
+twentieth of these has a value out of its range.
 
 The programs' cores share eight blocks, more than a set of a cache holds: they load, store, reserve, add, put bytes out and ask for
 them, branch and loop. Half of the files are hexadecimal images, half ELF files; a tenth is cut or has a byte changed. Most scripts
@@ -192,8 +195,36 @@ def script(choose, simulator, nodes, folder):
     return choose.choice([text, text, text.rstrip()])
 
 
-def run(command, nodes, folder):
-    done = subprocess.run([*command, "replay", "--nodes", str(nodes), "program", "events.script"], cwd=folder, capture_output=True)
+def words(choose, nodes):
+    """The words after `replay`: both files and the options, each in one of its two forms."""
+    values = {"nodes": nodes}
+    flags = []
+    if choose.random() < 0.5:
+        values |= {name: value for name, value in [
+            ("sets", choose.choice([1, 2, 4, 16, 256])), ("ways", choose.choice([1, 2, 4, 16])),
+            ("log", choose.choice([4, 5, 8, 64, 4096])), ("watch", watched(choose)),
+        ] if choose.random() < 0.6}
+        flags = ["--trace"] if choose.random() < 0.4 else []
+        if choose.random() < 0.05:
+            name, value = choose.choice([("nodes", 0), ("nodes", 17), ("sets", 0), ("sets", 257), ("ways", 17), ("log", 3), ("log", 4097),
+                                         ("watch", "80000001"), ("watch", "80400000"), ("watch", "8000000"), ("nodes", "4x")])
+            values[name] = value
+    options = [choose.choice([[f"--{name}", str(value)], [f"--{name}={value}"]]) for name, value in values.items()]
+    parts = options + [[flag] for flag in flags]
+    choose.shuffle(parts)
+    place = choose.randrange(len(parts) + 1)
+    return sum(parts[:place], []) + ["program"] + sum(parts[place:], []) + ["events.script"]
+
+
+def watched(choose):
+    """The address of a word that the programs share, of code, or of any other memory."""
+    shared = 0x80001000 + 0x1000 * choose.randrange(8) + 4 * choose.randrange(16)
+    address = choose.choice([shared, shared, shared, START, START + 4 * choose.randrange(2**20)])
+    return choose.choice([f"{address:08x}", f"{address:08X}"])
+
+
+def run(command, words, folder):
+    done = subprocess.run([*command, "replay", *words], cwd=folder, capture_output=True)
     return done.returncode, done.stdout, done.stderr
 
 
@@ -214,9 +245,10 @@ def main():
             Path(folder, "events.script").write_text(text)
             if choose.random() < 0.1:
                 Path(folder, "program").write_bytes(spoiled(choose, file))
-            found, expected = run([built], nodes, folder), run([simulator, "--main"], nodes, folder)
+            given = words(choose, nodes)
+            found, expected = run([built], given, folder), run([simulator, "--main"], given, folder)
             if found != expected:
-                print(f"case {case}, {nodes} nodes: {found} and not {expected}")
+                print(f"case {case}, {' '.join(given)}: {found} and not {expected}")
                 print(Path(folder, "program").read_bytes(), text)
                 return 1
             events += found[2].count(b": ")

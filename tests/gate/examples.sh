@@ -1,7 +1,7 @@
 #!/usr/bin/env bash
 # Runs each example by the README's first command and compares console, report and status with the files beside it: the first
-# program once as hexadecimal words and once as an ELF file, and those of examples/shared by the words that their scripts begin
-# with. Then runs programs, scripts and words that are refused, and compares the status and its word.
+# program once as hexadecimal words and once as an ELF file, and those of examples/shared and examples/asm by the words that
+# their scripts begin with. Then runs programs, scripts and words that are refused, and compares the status and its word.
 set -u
 cd "$(dirname "$0")/../.." || exit 1
 failed=0 passed=0
@@ -28,9 +28,9 @@ for script in examples/first/*.script; do
     shows 1 "$program" "$script"
   done
 done
-for script in examples/shared/*.script; do
+for script in examples/shared/*.script examples/asm/*.script; do
   read -r _ _ _ nodes program <"$script"
-  shows "$nodes" "examples/shared/$program" "$script"
+  shows "$nodes" "${script%/*}/$program" "$script"
 done
 
 # Replays these files, which are to be refused with this status and this word.
@@ -71,9 +71,19 @@ refused_script 'script toomany'
 head -c 33554433 /dev/zero | tr '\0' '#' >"$work/script"
 refused_script 'script toolong'
 
-for nodes in 0 17 01 x; do
+for nodes in 0 17 x; do
   refused 1 usage examples/first/a.hex examples/first/a.script "$nodes"
 done
+
+# What the commands put that turn words into lines and back is read as the same program again.
+./safetynet dis examples/first/a.elf >"$work/text" 2>"$work/report" && ./safetynet asm "$work/text" >"$work/program" 2>>"$work/report"
+status=$?
+if [ "$status" -eq 0 ] && [ ! -s "$work/report" ] && diff <(./safetynet dis "$work/program") "$work/text"; then
+  passed=$((passed + 1))
+else
+  echo "a listing of examples/first/a.elf: status $status, or another listing of what it is assembled to" >&2
+  failed=$((failed + 1))
+fi
 refused 2 store examples/first/lacking.hex examples/first/a.script
 
 echo "examples: $passed passed, $failed failed"

@@ -93,7 +93,7 @@ END
 is_so "the lowest first" grep -q "^low" <(head -n 1 "$CALLS")
 is_so "what rt keeps of a crate stays in its folder" [ "$(sort -u "$repo/crates/right/out/rlib/built")" = right ]
 is_so "and nothing else is left" [ ! -e "$repo/crates/safetynet_program/out/views" ]
-check "the second call builds nothing" 7 "first:" 0
+check "the second call builds nothing" 7 "first:x" 0 x
 change aside "second"
 check "a crate that the program doesn't stand on changes nothing" 7 "first:x" 0 x
 change low "second"
@@ -111,7 +111,7 @@ rm "$FAILS.meanwhile"
 check "is seen by the next call" 7 "third:x" 1 x
 check "and by no further one" 7 "third:x" 0 x
 rm "$repo/crates/left/src/lib.rt"
-check "a file that is gone is a change" 7 "third:" 1
+check "a file that is gone is a change" 7 "third:x" 1 x
 change low "fourth"
 check "--build builds" 0 "" 1 --build
 check "and then has nothing to do" 0 "" 0 --build
@@ -135,7 +135,10 @@ rm -rf "$repo"/crates/*/out "$work/bin"/*
 for tool in bash env dirname readlink cat find; do ln -s "$(command -v "$tool")" "$work/bin/$tool"; done
 PATH_TO=$work/bin
 check "--version needs no build" 0 "$(cat crates/safetynet_program/version.txt)" 0 --version
-check "--help needs no build" 0 "$(./safetynet --help)" 0 --help
+for words in '' --help -h help 'replay --help' 'dis --help'; do
+  # Each word is one of its own.
+  check "the page that '$words' asks for needs no build" 0 "$(./safetynet --help)" 0 $words
+done
 is_so "--help begins with the program's page" diff crates/safetynet_program/help.txt <(head -n "$(wc -l <crates/safetynet_program/help.txt)" "$work/out")
 check "all else is refused" 125 "" 0 x
 check "and says why" 125 "" 0 --build

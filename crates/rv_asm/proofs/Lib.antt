@@ -1,4 +1,2 @@
 pub mod Lines
-pub mod Registers
-pub mod Found
 pub mod Passes

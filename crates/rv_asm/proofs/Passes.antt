@@ -1,47 +1,17 @@
--- How a text is read byte by byte, and its items one by one.
-use Rattle.std.proofs.Common.{◌≡◌, ℕ, ◌+◌, ◌-◌, ◌*◌, ◌<◌, ◌≤◌, false, true, List, [], ◌∷◌, ◌++◌, length, get_or, take, drop, slice_range, nat_eq, arith, map, Option, None, Result, Ok, refl, sym, ap, ◌∙◌, subst}
+-- How a text is read line by line, and its items one by one.
+use Rattle.std.proofs.Common.{◌≡◌, ℕ, ◌+◌, ◌*◌, ◌<◌, ◌≤◌, List, [], ◌∷◌, ◌++◌, length, get_or, drop, map, Option, None, Result, Ok, refl, sym, ap, ◌∙◌, subst}
 use mathlib.Core.Path.{fun_ext}
-use Rattle.std.proofs.lemmas.Bool.Decides.{nat_tests}
-use Rattle.std.proofs.lemmas.List.{take_more, drop_more, drop_all, take_all, get_or-drop, length-drop}
+use Rattle.std.proofs.lemmas.List.{drop_more, drop_all}
 use Rattle.std.specs.Borrow.{Bor}
 use Rattle.std.specs.BTreeMap.{BTreeMap}
 use Rattle.rv_asm.specs.declared.fault.AsmCause.{AsmCause}
 use Rattle.rv_asm.specs.declared.fault.AsmFault.{AsmFault}
 use Rattle.rv_asm.specs.declared.fault.AsmFault.TheVariants.{Refused, Memory}
-use Rattle.rv_asm.specs.Lines.{without_return, lines_from, bare}
-use Rattle.rv_asm.specs.Reading.{statement_of}
+use Rattle.rv_statement.specs.Lines.{bare}
+use Rattle.rv_statement.specs.Reading.{statement_of}
 use Rattle.rv_asm.specs.Assembly.{Item, Listing, IsRefusedAs, with_line, listed_from, nothing_listed, item_word, words_from}
 use Rattle.rv_asm.specs.declared.assembling.Item as code
 use Rattle.rv_asm.specs.Kept.{place_in, item_seen, listing_of}
-
--- a line that has begun grows by one byte
-slice_range-more : (bytes : List ℕ) (start i : ℕ) → start ≤ i → i < length bytes → slice_range bytes start (i + 1) ≡ slice_range bytes start i ++ get_or bytes i 0 ∷ []
-slice_range-more bytes start i a b =
-    let inside : i - start < length (drop start bytes) = omega (arith, length-drop start bytes) in
-    let more = take_more (drop start bytes) (i - start) 0 inside in
-    let n : i + 1 - start ≡ i - start + 1 = omega arith in
-    let j : start + (i - start) ≡ i = omega arith in
-    rw (n, more, get_or-drop, j)
-
--- at a byte that is no LF
-lines_from-byte : (bytes : List ℕ) (start i : ℕ) → start ≤ i → i < length bytes → nat_eq (get_or bytes i 0) 10 ≡ false → lines_from (slice_range bytes start i) (drop i bytes) ≡ lines_from (slice_range bytes start (i + 1)) (drop (i + 1) bytes)
-unfolding lines_from
-lines_from-byte bytes start i a b other = rw (drop_more bytes i 0 b, other, slice_range-more bytes start i a b)
-
--- at an LF
-lines_from-end_of_line : (begun bytes : List ℕ) (i : ℕ) → i < length bytes → nat_eq (get_or bytes i 0) 10 ≡ true → lines_from begun (drop i bytes) ≡ without_return begun ∷ lines_from [] (drop (i + 1) bytes)
-unfolding lines_from
-lines_from-end_of_line begun bytes i b same = rw (drop_more bytes i 0 b, same)
-
--- at the end of the text
-lines_from-end : (bytes : List ℕ) (start i : ℕ) → start ≤ i → length bytes ≤ i → lines_from (slice_range bytes start i) (drop i bytes) ≡ take (length bytes - start) (drop start bytes) ∷ []
-unfolding lines_from
-lines_from-end bytes start i a b =
-    rw (
-      drop_all i bytes b,
-      take_all (i - start) (drop start bytes) (omega (arith, length-drop start bytes)),
-      take_all (length bytes - start) (drop start bytes) (omega (arith, length-drop start bytes)),
-    )
 
 -- a line that adds to the listing
 listed_from-next : (number : ℕ) (listing longer : Listing) (line : List ℕ) (lines : List (List ℕ)) → with_line number listing (statement_of (bare line)) ≡ Ok longer → listed_from number listing (line ∷ lines) ≡ listed_from (number + 1) longer lines
@@ -57,43 +27,23 @@ listed_from-refused number listing line lines Memory refused = tt
 refused-along : {A : Type 0} (r s : Result A AsmCause) (fault : AsmFault) → r ≡ s → IsRefusedAs r fault → IsRefusedAs s fault
 refused-along {A} r s fault e h = subst (λ (t : Result A AsmCause). IsRefusedAs t fault) e h
 
--- what the reader keeps true: the listing so far, followed by what the rest adds, is the whole
-abbrev pub IsReadSoFar : Listing → ℕ → ℕ → ℕ → List ℕ → Type 0
-IsReadSoFar listing number start i text = listed_from number listing (lines_from (slice_range text start i) (drop i text)) ≡ listed_from 1 nothing_listed (lines_from [] text)
-
--- before the first byte
-pub reader-begins : (labels : BTreeMap (Bor (List ℕ)) ℕ) (text : List ℕ) → labels.entries ≡ [] → IsReadSoFar (listing_of [] labels) 1 0 0 text
-reader-begins labels text empty =
+-- before the first line
+pub reader-begins : (labels : BTreeMap (Bor (List ℕ)) ℕ) (lines : List (List ℕ)) → labels.entries ≡ [] → listed_from 1 (listing_of [] labels) lines ≡ listed_from 1 nothing_listed lines
+reader-begins labels lines empty =
     let none : place_in labels ≡ (λ name. None) = fun_ext (λ name. rw empty) in
-    ap (λ places. listed_from 1 (record { items = []; places = places }) (lines_from [] text)) none
+    ap (λ places. listed_from 1 (record { items = []; places = places }) lines) none
 
-pub reader-refuses : (listing : Listing) (number start i : ℕ) (text : List ℕ) (fault : AsmFault) → i < length text → get_or text i 0 ≡ 10 → IsReadSoFar listing number start i text → IsRefusedAs (with_line number listing (statement_of (bare (without_return (slice_range text start i))))) fault → IsRefusedAs (listed_from 1 nothing_listed (lines_from [] text)) fault
-reader-refuses listing number start i text fault b is_lf h refused =
-    let lf : nat_eq (get_or text i 0) 10 ≡ true = grind (arith, nat_tests) in
-    refused-along _ _ fault (sym (ap (listed_from number listing) (lines_from-end_of_line (slice_range text start i) text i b lf)) ∙ h)
-    (listed_from-refused number listing (without_return (slice_range text start i)) (lines_from [] (drop (i + 1) text)) fault refused)
+-- what the reader keeps true: the listing so far, followed by what the lines that are left add, is the whole
+module _ (listing : Listing) (number : ℕ) (left : List (List ℕ)) (whole : Result Listing AsmCause) (h : listed_from number listing left ≡ whole) where
+  pub reader-next : (longer : Listing) (line : List ℕ) (more : List (List ℕ)) → left ≡ line ∷ more → with_line number listing (statement_of (bare line)) ≡ Ok longer → listed_from (number + 1) longer more ≡ whole
+  reader-next longer line more e adds = sym (listed_from-next number listing longer line more adds) ∙ ap (listed_from number listing) (sym e) ∙ h
 
-pub reader-next : (listing longer : Listing) (number start i : ℕ) (text : List ℕ) → i < length text → get_or text i 0 ≡ 10 → with_line number listing (statement_of (bare (without_return (slice_range text start i)))) ≡ Ok longer → IsReadSoFar listing number start i text → IsReadSoFar longer (number + 1) (i + 1) (i + 1) text
-reader-next listing longer number start i text b is_lf adds h =
-    let lf : nat_eq (get_or text i 0) 10 ≡ true = grind (arith, nat_tests) in
-    let n : i + 1 - (i + 1) ≡ 0 = omega arith in
-    rw n (sym (listed_from-next number listing longer (without_return (slice_range text start i)) (lines_from [] (drop (i + 1) text)) adds)
-    ∙ sym (ap (listed_from number listing) (lines_from-end_of_line (slice_range text start i) text i b lf)) ∙ h)
+  pub reader-refuses : (line : List ℕ) (more : List (List ℕ)) (fault : AsmFault) → left ≡ line ∷ more → IsRefusedAs (with_line number listing (statement_of (bare line))) fault → IsRefusedAs whole fault
+  reader-refuses line more fault e refused = refused-along _ _ fault (ap (listed_from number listing) (sym e) ∙ h) (listed_from-refused number listing line more fault refused)
 
-pub reader-on : (listing : Listing) (number start i : ℕ) (text : List ℕ) → start ≤ i → i < length text → (get_or text i 0 ≡ 10 → ⊥) → IsReadSoFar listing number start i text → IsReadSoFar listing number start (i + 1) text
-reader-on listing number start i text a b differs h =
-    let other : nat_eq (get_or text i 0) 10 ≡ false = grind (arith, nat_tests) in
-    ap (listed_from number listing) (sym (lines_from-byte text start i a b other)) ∙ h
-
-pub reader-refuses_last : (listing : Listing) (number start i : ℕ) (text : List ℕ) (fault : AsmFault) → start ≤ i → length text ≤ i → IsReadSoFar listing number start i text → IsRefusedAs (with_line number listing (statement_of (bare (take (length text - start) (drop start text))))) fault → IsRefusedAs (listed_from 1 nothing_listed (lines_from [] text)) fault
-reader-refuses_last listing number start i text fault a b h refused =
-    refused-along _ _ fault (sym (ap (listed_from number listing) (lines_from-end text start i a b)) ∙ h)
-    (listed_from-refused number listing (take (length text - start) (drop start text)) [] fault refused)
-
-pub reader-ends : (listing longer : Listing) (number start i : ℕ) (text : List ℕ) → start ≤ i → length text ≤ i → with_line number listing (statement_of (bare (take (length text - start) (drop start text)))) ≡ Ok longer → IsReadSoFar listing number start i text → listed_from 1 nothing_listed (lines_from [] text) ≡ Ok longer
-unfolding listed_from
-reader-ends listing longer number start i text a b adds h =
-    sym (sym (ap (listed_from number listing) (lines_from-end text start i a b)) ∙ h) ∙ listed_from-next number listing longer (take (length text - start) (drop start text)) [] adds
+  pub reader-ends : left ≡ [] → whole ≡ Ok listing
+  unfolding listed_from
+  reader-ends e = sym h ∙ ap (listed_from number listing) e
 
 -- one more word
 pub words_from-next : (places : List ℕ → Option ℕ) (words : List ℕ) (item : Item) (items : List Item) (word : ℕ) → item_word places (4 * length words) item ≡ Ok word → words_from places words (item ∷ items) ≡ words_from places (words ++ word ∷ []) items

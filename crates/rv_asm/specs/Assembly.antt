@@ -1,14 +1,14 @@
 -- The words of a text, or the first cause why there are none.
-use Rattle.std.specs.Prelude.{◌≡◌, ℕ, ◌+◌, ◌*◌, nat_le, if◌then◌else◌, ℤ, pos, ◌-ℤ◌, List, [], ◌∷◌, ◌++◌, length, Option, Some, None, Result, Ok, Err}
+use Rattle.std.specs.Prelude.{◌≡◌, ℕ, ◌+◌, ◌*◌, nat_le, if◌then◌else◌, pos, ◌-ℤ◌, List, [], ◌∷◌, ◌++◌, length, Option, Some, None, Result, Ok, Err}
 use Rattle.std.specs.Str.{bytes_eq}
 use Rattle.rv_decode.specs.declared.instr.Instr.{Instr}
-use Rattle.rv_decode.specs.declared.instr.Instr.TheVariants.{Branch, Jal}
 use Rattle.rv_asm.specs.declared.fault.AsmCause.{AsmCause}
 use Rattle.rv_asm.specs.declared.fault.AsmCause.TheVariants.{BadLine, OutOfRange, LabelTwice, TooManyWords, NoLabel}
 use Rattle.rv_asm.specs.declared.fault.AsmFault.{AsmFault}
 use Rattle.rv_asm.specs.declared.fault.AsmFault.TheVariants.{Refused, Memory}
-use Rattle.rv_asm.specs.Lines.{lines_from, bare}
-use Rattle.rv_asm.specs.Reading.{Read, fixed, aimed, Statement, nothing, label, said, formless, coded, statement_of}
+use Rattle.text_lines.specs.Lines.{lines_of}
+use Rattle.rv_statement.specs.Lines.{bare}
+use Rattle.rv_statement.specs.Reading.{Read, fixed, aimed, Statement, nothing, label, said, formless, coded, with_offset, statement_of}
 
 -- a word of the output: it is known, or it is an instruction of that line that leads to a label
 pub data Item : Type 0 where
@@ -54,11 +54,6 @@ listed_from number listing (line ∷ lines) = elim (with_line number listing (st
   | Ok longer ↦ listed_from (number + 1) longer lines
 ]
 
-abbrev pub with_offset : Instr → ℤ → Instr
-with_offset (Jal rd _) offset = Jal rd offset
-with_offset (Branch o rs1 rs2 _) offset = Branch o rs1 rs2 offset
-with_offset instr offset = instr
-
 abbrev pub in_range : ℕ → Option ℕ → Result ℕ AsmCause
 in_range line None = Err (OutOfRange line)
 in_range line (Some word) = Ok word
@@ -89,7 +84,7 @@ nothing_listed = record { items = []; places = λ name. None }
 
 -- the words of a text: its lines in order first, and then the offsets to labels in order
 unfoldable pub asm_of : List ℕ → Result (List ℕ) AsmCause
-asm_of text = words_of (listed_from 1 nothing_listed (lines_from [] text))
+asm_of text = words_of (listed_from 1 nothing_listed (lines_of text))
 
 -- a refusal has the text's first cause; want of memory says nothing of the text
 abbrev pub IsRefusedAs : {A : Type 0} → Result A AsmCause → AsmFault → Type 0

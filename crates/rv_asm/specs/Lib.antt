@@ -1,9 +1,3 @@
-pub mod Names
 pub mod Text
-pub mod Lines
-pub mod Operands
-pub mod Forms
-pub mod Reading
-pub mod Seen
 pub mod Assembly
 pub mod Kept

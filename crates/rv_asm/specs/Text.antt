@@ -5,7 +5,7 @@ use Rattle.rv_decode.specs.declared.instr.Instr.{Instr}
 use Rattle.rv_decode.specs.declared.instr.Instr.TheVariants.{Lui, Auipc, Jal, Jalr, Branch, Load, Store, OpImm, Op, Fence, Ecall, Ebreak, Lr, Sc, Amo}
 use Rattle.rv_decode.specs.Table.{word_of}
 use Rattle.rv_decode.specs.Decoded.{decoded}
-use Rattle.rv_asm.specs.Names.{mnemonic}
+use Rattle.rv_statement.specs.Names.{mnemonic}
 
 -- xN
 abbrev pub register_text : ℕ → List ℕ

@@ -1,19 +1,18 @@
 //! From text to words, in two passes.
-ghost use Rattle.std.specs.Prelude.{◌≡◌, ℕ, map, ◌+◌, ◌*◌, ◌<◌, ◌≤◌, List, [], ◌∷◌, ◌++◌, ◌-ℤ◌, pos, Ok, IfOk, IfErr, OnOk, length, vec_len};
-ghost use Rattle.rv_decode.specs.declared.instr.Instr.{Instr};
-ghost use Rattle.rv_asm.specs.Reading.{coded, statement_of};
-ghost use Rattle.rv_asm.specs.Lines.{bare, lines_from};
-ghost use Rattle.rv_asm.specs.Seen.{operation_seen, line_seen};
-ghost use Rattle.rv_asm.specs.Assembly.{asm_of, IsRefusedAs, with_offset, with_item, with_operation, with_line, with_label, with_place, item_word, led_word, words_from, listed_from, nothing_listed};
+ghost use Rattle.std.specs.Prelude.{◌≡◌, ℕ, map, ◌+◌, ◌*◌, ◌<◌, ◌≤◌, List, [], ◌∷◌, ◌++◌, Ok, IfOk, IfErr, OnOk, length, vec_len};
+ghost use Rattle.text_lines.specs.Lines.{lines_of};
+ghost use Rattle.rv_statement.specs.Reading.{statement_of};
+ghost use Rattle.rv_statement.specs.Lines.{bare};
+ghost use Rattle.rv_statement.specs.Seen.{operation_seen, line_seen};
+ghost use Rattle.rv_asm.specs.Assembly.{asm_of, IsRefusedAs, with_item, with_operation, with_line, with_label, with_place, item_word, led_word, words_from, listed_from, nothing_listed};
 ghost use Rattle.rv_asm.specs.Kept.{item_seen, place_in, listing_of};
 
-use crate::coding::{branch, coded, jal};
 use crate::fault::{AsmCause, AsmFault};
-use crate::line::{bare, without_return};
-use crate::reading::{Line, Operation, line_of};
 use rv_decode::Instr;
+use rv_statement::{Line, Operation, aimed_word, line_of};
 use std::alloc::Global;
 use std::collections::BTreeMap;
+use text_lines::lines_of;
 
 /// The most words that a text may have.
 const MOST_WORDS: usize = 1_048_576;
@@ -100,7 +99,7 @@ fn add_line<'a>(
     ensures ok { OnOk result (with_line number (listing_of items.old.items labels.old) (statement_of (bare line.entry.now)) ≡ Ok (listing_of items.new.items labels.new)) }
     ensures refused { IfErr result (λ fault. IsRefusedAs (with_line number (listing_of items.old.items labels.old) (statement_of (bare line.entry.now))) fault) }
 {
-    match line_of(bare(line)) {
+    match line_of(line) {
         Line::Nothing => Ok(()),
         Line::Label(name) => add_label(items, labels, number, name),
         Line::Says(operation) => add_operation(items, number, operation),
@@ -113,38 +112,19 @@ fn listed<'a>(
     alloc: Global,
     text: &'a [u8],
 ) -> Result<(Vec<Item<'a>>, BTreeMap<&'a [u8], u64>), AsmFault>
-    ensures ok { IfOk result (λ listing. listed_from 1 nothing_listed (lines_from [] text.entry.now) ≡ Ok (listing_of listing.0.items listing.1)) }
+    ensures ok { IfOk result (λ listing. listed_from 1 nothing_listed (lines_of text.entry.now) ≡ Ok (listing_of listing.0.items listing.1)) }
     ensures few { IfOk result (λ listing. vec_len listing.0 ≤ 1048576) }
-    ensures refused { IfErr result (λ fault. IsRefusedAs (listed_from 1 nothing_listed (lines_from [] text.entry.now)) fault) }
+    ensures refused { IfErr result (λ fault. IsRefusedAs (listed_from 1 nothing_listed (lines_of text.entry.now)) fault) }
 {
     let mut items = Vec::new(alloc);
     let mut labels = BTreeMap::new(alloc);
     let mut number = 1u64;
-    let mut start = 0usize;
-    'bytes: for (i, byte) in text.iter().enumerate() {
-        if *byte == b'\n' {
-            add_line(
-                &mut items,
-                &mut labels,
-                number,
-                without_return(&text[start..i]),
-            )?;
-            number += 1;
-            start = i + 1;
-        }
+    let mut lines = lines_of(text);
+    'lines: while let Some(line) = lines.next_line() {
+        add_line(&mut items, &mut labels, number, line)?;
+        number += 1;
     }
-    add_line(&mut items, &mut labels, number, &text[start..])?;
     Ok((items, labels))
-}
-
-fn offset_word(instr: &Instr, offset: i128) -> Option<u32>
-    ensures { result ≡ coded (with_offset instr.now offset) }
-{
-    match *instr {
-        Instr::Jal { rd, .. } => jal(rd, offset),
-        Instr::Branch { op, rs1, rs2, .. } => branch(op, rs1, rs2, offset),
-        _ => coded(instr),
-    }
 }
 
 fn led_word(line: u64, instr: &Instr, here: u64, place: Option<u64>) -> Result<u32, AsmFault>
@@ -154,7 +134,7 @@ fn led_word(line: u64, instr: &Instr, here: u64, place: Option<u64>) -> Result<u
     let Some(place) = place else {
         return Err(AsmFault::Refused(AsmCause::NoLabel(line)));
     };
-    match offset_word(instr, i128::from(place) - i128::from(here)) {
+    match aimed_word(instr, i128::from(place) - i128::from(here)) {
         Some(word) => Ok(word),
         None => Err(AsmFault::Refused(AsmCause::OutOfRange(line))),
     }

@@ -3,9 +3,9 @@ ghost use Rattle.std.specs.Prelude.{◌≡◌, ◌+◌, ◌<◌, ◌/◌, ◌++�
 ghost use Rattle.std.specs.Fmt.{signed_decimal};
 ghost use Rattle.rv_asm.specs.Text.{register_text, listed, address_text, place_text, operands_text, instr_text, hex_digit, digits_text, word_text, written, dis_of};
 
-use crate::names::mnemonic;
 use itoa::Buffer;
 use rv_decode::{Instr, decode, encode};
+use rv_statement::mnemonic;
 use sn_base::Memory;
 use std::alloc::Global;
 
@@ -20,7 +20,8 @@ pub fn disassemble(alloc: Global, words: &[u32]) -> Result<Vec<u8>, Memory>
     Ok(text)
 }
 
-fn add_line(text: &mut Vec<u8>, word: u32) -> Result<(), Memory>
+/// Appends a word's line, ended by LF.
+pub fn add_line(text: &mut Vec<u8>, word: u32) -> Result<(), Memory>
     ensures { OnOk result (text.new.items ≡ text.old.items ++ (word_text word ++ codes "\n")) }
 {
     add_word(text, word)?;
@@ -179,9 +180,9 @@ fn hex_digit(digit: u32) -> u8
     }
 }
 
-/// Eight hexadecimal digits, in lower case.
+/// Appends a number as eight hexadecimal digits in lower case.
 #[tactic(auto, unfolding(crate::specs::Text::digits_text))]
-fn add_digits(text: &mut Vec<u8>, word: u32) -> Result<(), Memory>
+pub fn add_digits(text: &mut Vec<u8>, word: u32) -> Result<(), Memory>
     ensures { OnOk result (text.new.items ≡ text.old.items ++ digits_text word) }
 {
     let digits = [

@@ -1,10 +1,5 @@
 pub mod Scripts
-pub mod Fits
-pub mod Releases
-pub mod Recoveries
-pub mod Groups
-pub mod PieceLaws
-pub mod SoFar
-pub mod Shown
-pub mod Performed
+pub mod Errands
 pub mod CallLaws
+pub mod Watched
+pub mod Loading

@@ -1,51 +1,24 @@
 -- What a call comes to: by the words, by what was found of the files, and by the sinks.
-use Rattle.std.specs.Prelude.{◌≡◌, ℕ, ◌≤◌, ◌⊎◌, true, nat_lt, if◌then◌else◌, List, length, Vec}
-use Rattle.std.specs.Prelude.{Option, Some, None, IfSome, MatchOption, Result, Ok, Err, MatchResult}
+use Rattle.std.specs.Prelude.{◌≡◌, ℕ, ◌≤◌, ◌⊎◌, ⊤, List, Vec}
+use Rattle.std.specs.Prelude.{Option, Some, None, IfSome, Result, Ok, Err}
 use Rattle.std.specs.declared.alloc.Global.{Global}
-use Rattle.sn_base.specs.Config.{config_fits}
 use Rattle.sn_base.specs.Image.{ImageData}
+use Rattle.sn_base.specs.declared.config.Config.{Config}
 use Rattle.sn_base.specs.declared.event.Event.{Event}
 use Rattle.sn_io.specs.Outside.{Found, File, TooLong, Missing, Rose, found_in}
-use Rattle.sn_text.specs.Script.{script_of}
-use Rattle.sn_text.specs.declared.cause.ScriptCause.{ScriptCause}
-use Rattle.sn_text.specs.declared.cause.ScriptCause.TheVariants.{TooLong as ScriptTooLong}
-use Rattle.sn_model.specs.Machine.{start_of}
-use Rattle.sn_machine.specs.Machine.{MachineData}
-use Rattle.consistent_cuts.specs.Runs.{AllFit}
-use Rattle.safetynet_main.specs.Program.{program_limit, program_of}
-use Rattle.safetynet_main.specs.Pieces.{Piece, Ends, after, Breaks, pieces_of}
-use Rattle.safetynet_main.specs.Shown.{IsShown, IsShownInPart}
-use Rattle.safetynet_main.specs.Request.{Request, sizes_of}
-use Rattle.safetynet_main.specs.declared.call.Job.{Job}
-use Rattle.safetynet_main.specs.declared.call.Unread.{Unread}
-use Rattle.safetynet_main.specs.declared.call.Unread.TheVariants.{Missing as UnreadMissing, TooLong as UnreadTooLong, Memory as UnreadMemory}
-use Rattle.safetynet_main.specs.declared.status.ProgramCause.TheVariants.{TooLong as ProgramTooLong}
+use Rattle.command_words.specs.Request.{Request, Replay, Assemble, Disassemble}
+use Rattle.sink_pieces.specs.Pieces.{Piece, Ends, after, Breaks, console_piece}
+use Rattle.script_replay.specs.declared.job.Showing.{Showing}
+use Rattle.script_replay.specs.Played.{IsWatchable, MayBegin}
+use Rattle.script_replay.specs.Shown.{pieces_due, IsShown, IsShownInPart}
+use Rattle.safetynet_main.specs.Files.{program_limit, script_limit, program_in, script_in, assembly_in, listing_of}
+use Rattle.safetynet_main.specs.Errand.{Errand, Due, Fetch, due_by, Loads}
+use Rattle.safetynet_main.specs.declared.job.Job.{Job}
+use Rattle.safetynet_main.specs.declared.job.Job.TheVariants.{Replay as ReplayJob, Text}
+use Rattle.safetynet_main.specs.declared.files.Unread.{Unread}
+use Rattle.safetynet_main.specs.declared.files.Unread.TheVariants.{Missing as UnreadMissing, TooLong as UnreadTooLong, Memory as UnreadMemory}
 use Rattle.safetynet_main.specs.declared.status.Status.{Status}
-use Rattle.safetynet_main.specs.declared.status.Status.TheVariants.{Done, Usage, StoreFault, BadProgram, BadScript, SinkFault}
-
--- 32 MiB
-abbrev pub script_limit : ℕ
-script_limit = 33554432
-
--- a script that is refused is the status
-abbrev pub if_read : Result (List Event) ScriptCause → Result (List Event) Status
-if_read (Ok events) = Ok events
-if_read (Err cause) = Err (BadScript cause)
-
--- the events for so many nodes that the bytes of a file are
-abbrev pub events_of : ℕ → List ℕ → Result (List Event) Status
-events_of nodes bytes = if nat_lt script_limit (length bytes) then Err (BadScript ScriptTooLong) else if_read (script_of nodes bytes)
-
--- what was found of a file, read
-abbrev pub program_in : Found → Result ImageData Status
-program_in Missing = Err StoreFault
-program_in TooLong = Err (BadProgram ProgramTooLong)
-program_in (File bytes) = program_of bytes
-
-abbrev pub script_in : ℕ → Found → Result (List Event) Status
-script_in nodes Missing = Err StoreFault
-script_in nodes TooLong = Err (BadScript ScriptTooLong)
-script_in nodes (File bytes) = events_of nodes bytes
+use Rattle.safetynet_main.specs.declared.status.Status.TheVariants.{Done, Usage, SinkFault}
 
 -- what the bytes of a file, or why there are none, say was found
 abbrev pub found_by : Result (Vec ℕ Global) Unread → Found
@@ -64,57 +37,81 @@ pub record Fetches {S : Type 0} (files : S → Option (List ℕ → Option (List
   pub same_files : files new ≡ files old
   pub stays_sure : sure old → sure new
 
--- the nodes, the program and the script's events
-abbrev pub with_program : ℕ → ImageData → Result (List Event) Status → Result Job Status
-with_program nodes program (Ok events) = Ok (record { nodes = nodes; program = program; script = events })
-with_program nodes program (Err status) = Err status
+-- the job of a program and of what was read of the script
+abbrev pub job_with : Config → Showing → ImageData → Result (List Event) Status → Result Job Status
+job_with config showing image (Ok events) = Ok (ReplayJob (record { program = image; config = config; showing = showing; script = events }))
+job_with config showing image (Err status) = Err status
+
+-- the job of a text for the console
+abbrev pub text_job : Result (List ℕ) Status → Result Job Status
+text_job (Ok text) = Ok (Text text)
+text_job (Err status) = Err status
 
 -- a program that is refused leaves the script alone
-abbrev pub with_script : ℕ → Result ImageData Status → Found → Result Job Status
-with_script nodes (Ok program) script = with_program nodes program (script_in nodes script)
-with_script nodes (Err status) script = Err status
+abbrev pub script_errand : Config → Showing → List ℕ → Result ImageData Status → Errand
+script_errand config showing script (Ok image) = Fetch script script_limit (λ found. Due (job_with config showing image (script_in config.nodes found)))
+script_errand config showing script (Err status) = Due (Err status)
 
--- how both files of a request were found and read, in order; `fetches` is `Fetches` of the store
-abbrev pub Loads : {S : Type 0} → (S → List ℕ → ℕ → Found → S → Type 0) → Request → Result Job Status → S → S → Type 0
-Loads {S} fetches request job old new =
-    (program : Found) × (mid : S) × fetches old request.program program_limit program mid
-    × MatchResult (program_in program)
-    (λ image. (script : Found) × fetches mid request.script script_limit script new
-    × (job ≡ with_program request.nodes image (script_in request.nodes script)))
-    (λ status. (new ≡ mid) × (job ≡ Err status))
+-- what each command fetches, and what is due then
+abbrev pub replay_errand : Config → Showing → List ℕ → List ℕ → Errand
+replay_errand config showing program script = Fetch program program_limit (λ found. script_errand config showing script (program_in found))
+
+abbrev pub assembly_errand : List ℕ → Errand
+assembly_errand text = Fetch text program_limit (λ found. Due (text_job (assembly_in found)))
+
+abbrev pub listing_errand : List ℕ → Errand
+listing_errand program = Fetch program program_limit (λ found. Due (text_job (listing_of (program_in found))))
+
+-- words that aren't a command's are refused, and so are for now those of `check` and `demo`
+abbrev pub errand_of : Option Request → Errand
+errand_of (Some (Replay config trace watch program script)) = replay_errand config (record { trace = trace; watch = watch }) program script
+errand_of (Some (Assemble text)) = assembly_errand text
+errand_of (Some (Disassemble program)) = listing_errand program
+errand_of _ = Due (Err Usage)
+
+-- the words ask for nothing that is done here
+abbrev pub AsksNothing : Option Request → Type 0
+AsksNothing ask = errand_of ask ≡ Due (Err Usage)
 
 -- what is due over these files, by the words
 abbrev pub due_of : (List ℕ → Option (List ℕ)) → Option Request → Result Job Status
-due_of held None = Err Usage
-due_of held (Some request) =
-    with_script request.nodes (program_in (found_in (held request.program) program_limit)) (found_in (held request.script) script_limit)
+due_of held ask = due_by held (errand_of ask)
 
--- all that a job puts
-abbrev pub pieces_due : Job → List Piece
-pieces_due job = pieces_of job.program (sizes_of job.nodes) job.script
+-- all that a job puts, and the status in which it ends
+abbrev pub pieces_of_job : Job → List Piece
+pieces_of_job (ReplayJob r) = pieces_due r
+pieces_of_job (Text text) = console_piece text
+
+abbrev pub status_of_job : Job → Status
+status_of_job (ReplayJob r) = Done
+status_of_job (Text text) = Done
+
+-- what the sinks show of a job that was done, and of one that a sink broke
+abbrev pub Shows : Job → Ends → Ends → Type 0
+Shows (ReplayJob r) old new = IsShown r.program r.config r.showing r.script old new
+Shows (Text text) old new = ⊤
+
+abbrev pub ShowsInPart : Job → Ends → Ends → Type 0
+ShowsInPart (ReplayJob r) old new = IsShownInPart r.program r.config r.showing r.script old new
+ShowsInPart (Text text) old new = ⊤
 
 -- what is due is done: a refusal is the status and nothing is written; else all pieces are put, or a sink broke
 abbrev pub Follows : Result Job Status → Status → Ends → Ends → Type 0
 Follows (Err refusal) status old new = (status ≡ refusal) × (new ≡ old)
 Follows (Ok job) status old new =
-    ((status ≡ Done) × (new ≡ after old (pieces_due job)) × IsShown job.program (sizes_of job.nodes) job.script old new)
-    ⊎ ((status ≡ SinkFault) × Breaks (pieces_due job) old new × IsShownInPart job.program (sizes_of job.nodes) job.script old new)
+    ((status ≡ status_of_job job) × (new ≡ after old (pieces_of_job job)) × Shows job old new)
+    ⊎ ((status ≡ SinkFault) × Breaks (pieces_of_job job) old new × ShowsInPart job old new)
 
 -- what a call comes to, over any store
 abbrev pub Comes : {S : Type 0} → (S → List ℕ → ℕ → Found → S → Type 0) → Option Request → Status → S → S → Ends → Ends → Type 0
-Comes fetches ask status old new before behind = MatchOption ask ((status ≡ Usage) × (before ≡ behind))
-    (λ request. (job : Result Job Status) × Loads fetches request job old new × Follows job status before behind)
+Comes fetches ask status old new before behind = (job : Result Job Status) × Loads fetches (errand_of ask) job old new × Follows job status before behind
 
--- a job that was read: its sizes fit, and so do its events, of which there are at most a million
-pub record IsRead (job : Job) : Type 0 where
-  pub sizes : config_fits (sizes_of job.nodes) ≡ true
-  pub events : AllFit job.nodes job.script
-  pub few : length job.script ≤ 1000000
+-- what a request watches is a word of memory
+abbrev pub Watches : Request → Type 0
+Watches (Replay config trace watch program script) = IsWatchable watch
+Watches _ = ⊤
 
--- a machine of these sizes at the start of a program, with room for so many events
-pub record IsReady (m : MachineData) (image : ImageData) (nodes events : ℕ) : Type 0 where
-  pub program : m.image ≡ image
-  pub sizes : m.config ≡ sizes_of nodes
-  pub start : m.state ≡ start_of image nodes
-  pub new : m.applied ≡ 0
-  pub room : events ≤ m.spare
+-- a job that may begin
+abbrev pub IsRead : Job → Type 0
+IsRead (ReplayJob r) = MayBegin r
+IsRead (Text text) = ⊤

@@ -1,7 +1,4 @@
 pub mod Status
-pub mod Program
-pub mod Pieces
-pub mod Played
-pub mod Shown
-pub mod Request
+pub mod Files
+pub mod Errand
 pub mod Call

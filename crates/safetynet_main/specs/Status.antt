@@ -3,12 +3,14 @@ use Rattle.std.specs.Prelude.{ℕ, List, ◌++◌, codes}
 use Rattle.elf_load.specs.declared.fault.LoadCause.{LoadCause}
 use Rattle.elf_load.specs.declared.fault.LoadCause.TheVariants.{Empty, BadHexLine, TooManyWords, Truncated, WrongField, Compressed}
 use Rattle.elf_load.specs.declared.fault.LoadCause.TheVariants.{TooManySegments, FileLargerThanMemory, Outside, Overlap, WritableCode, BadEntry}
+use Rattle.rv_asm.specs.declared.fault.AsmCause.{AsmCause}
+use Rattle.rv_asm.specs.declared.fault.AsmCause.TheVariants.{TooLong as AsmTooLong, BadLine as AsmBadLine, OutOfRange as AsmOutOfRange, LabelTwice, TooManyWords as AsmTooManyWords, NoLabel}
 use Rattle.sn_text.specs.declared.cause.ScriptCause.{ScriptCause}
 use Rattle.sn_text.specs.declared.cause.ScriptCause.TheVariants.{TooLong as ScriptTooLong, BadLine, OutOfRange, TooMany}
 use Rattle.safetynet_main.specs.declared.status.ProgramCause.{ProgramCause}
 use Rattle.safetynet_main.specs.declared.status.ProgramCause.TheVariants.{TooLong, Load}
 use Rattle.safetynet_main.specs.declared.status.Status.{Status}
-use Rattle.safetynet_main.specs.declared.status.Status.TheVariants.{Done, Usage, StoreFault, BadProgram, BadScript, SinkFault, Memory}
+use Rattle.safetynet_main.specs.declared.status.Status.TheVariants.{Done, Usage, StoreFault, BadProgram, BadScript, BadAsm, SinkFault, Memory}
 
 abbrev pub number_of : Status → ℕ
 number_of Done = 0
@@ -18,6 +20,7 @@ number_of (BadProgram cause) = 3
 number_of (BadScript cause) = 4
 number_of SinkFault = 5
 number_of Memory = 7
+number_of (BadAsm cause) = 13
 
 -- the name of a cause, in lower case and without its fields
 abbrev pub load_name : LoadCause → List ℕ
@@ -44,11 +47,20 @@ script_name (BadLine line) = codes "badline"
 script_name (OutOfRange line) = codes "outofrange"
 script_name TooMany = codes "toomany"
 
+abbrev pub asm_name : AsmCause → List ℕ
+asm_name AsmTooLong = codes "toolong"
+asm_name (AsmBadLine line) = codes "badline"
+asm_name (AsmOutOfRange line) = codes "outofrange"
+asm_name (LabelTwice line) = codes "labeltwice"
+asm_name (AsmTooManyWords line) = codes "toomanywords"
+asm_name (NoLabel line) = codes "nolabel"
+
 abbrev pub word_of : Status → List ℕ
 word_of Done = codes "done"
 word_of Usage = codes "usage"
 word_of StoreFault = codes "store"
 word_of (BadProgram cause) = codes "program " ++ program_name cause
 word_of (BadScript cause) = codes "script " ++ script_name cause
+word_of (BadAsm cause) = codes "asm " ++ asm_name cause
 word_of SinkFault = codes "sink"
 word_of Memory = codes "memory"

@@ -1,8 +1,9 @@
 //! How a call ends.
 ghost use Rattle.std.specs.Prelude.{◌≡◌, ◌++◌, codes};
-ghost use Rattle.safetynet_main.specs.Status.{number_of, load_name, program_name, script_name, word_of};
+ghost use Rattle.safetynet_main.specs.Status.{number_of, load_name, program_name, script_name, asm_name, word_of};
 
 use elf_load::LoadCause;
+use rv_asm::AsmCause;
 use sn_text::ScriptCause;
 
 /// Why a program's file is refused.
@@ -17,7 +18,7 @@ pub enum ProgramCause {
 /// How a call ended.
 #[derive(Clone, Copy, PartialEq, Eq, Debug)]
 pub enum Status {
-    /// All events were applied, and all text is written.
+    /// All is done, and all text is written.
     Done,
     /// The words aren't a command.
     Usage,
@@ -27,6 +28,8 @@ pub enum Status {
     BadProgram(ProgramCause),
     /// The script's file is too long, or isn't a list of events for so many nodes.
     BadScript(ScriptCause),
+    /// The text that was to be assembled is too long, or is refused at a line.
+    BadAsm(AsmCause),
     /// A sink failed: what was written is a prefix of the text.
     SinkFault,
     /// Memory was wanted and not given. Nothing is written.
@@ -75,6 +78,20 @@ fn script_word(cause: ScriptCause) -> &'static str
     }
 }
 
+// The word `asm`, and the name of the cause.
+fn asm_word(cause: AsmCause) -> &'static str
+    ensures { result.now ≡ codes "asm " ++ asm_name cause }
+{
+    match cause {
+        AsmCause::TooLong => "asm toolong",
+        AsmCause::BadLine(_) => "asm badline",
+        AsmCause::OutOfRange(_) => "asm outofrange",
+        AsmCause::LabelTwice(_) => "asm labeltwice",
+        AsmCause::TooManyWords(_) => "asm toomanywords",
+        AsmCause::NoLabel(_) => "asm nolabel",
+    }
+}
+
 impl Status {
     /// The program's exit status.
     pub fn number(self) -> u8
@@ -88,6 +105,7 @@ impl Status {
             Status::BadScript(_) => 4,
             Status::SinkFault => 5,
             Status::Memory => 7,
+            Status::BadAsm(_) => 13,
         }
     }
 
@@ -101,6 +119,7 @@ impl Status {
             Status::StoreFault => "store",
             Status::BadProgram(cause) => program_word(cause),
             Status::BadScript(cause) => script_word(cause),
+            Status::BadAsm(cause) => asm_word(cause),
             Status::SinkFault => "sink",
             Status::Memory => "memory",
         }

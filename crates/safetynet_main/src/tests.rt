@@ -1,6 +1,7 @@
 //! Runs whose texts come from the rules and not from this program, and each way in which a call ends.
 use crate::{ProgramCause, Status, safetynet};
 use elf_load::{LoadCause, load, write_elf};
+use rv_asm::AsmCause;
 use sn_io::{MemSink, MemStore};
 use sn_text::ScriptCause;
 use std::alloc::Global;
@@ -12,6 +13,20 @@ const PUTS_A: &str = "04100513\n00100893\n00000073\n05d00893\n00000073\n";
 
 /// Adds 1 to a word of block 64, and ends with the core's number.
 const COUNTS: &str = "800012b7\n00100313\n0062a3af\n05d00893\n00000073\n";
+
+/// Takes a byte of input, puts it, and ends.
+const ECHOES: &str = "00200893\n00000073\n00100893\n00000073\n05d00893\n00000073\n";
+
+/// Both cores add to the word, and a recovery comes after all of it is validated.
+const BOTH: &str = "\
+step 0\nstep 0\nstep 0\ndeliver 1\ndeliver 2\ndeliver 3\nstep 0\n\
+step 1\nstep 1\nstep 1\nhop 4\ndeliver 4\ndeliver 5\nhop 6\ndeliver 6\nhop 7\ndeliver 7\nstep 1\n\
+edge 0\nedge 1\nreport 0\nreport 1\ndeliver 8\nhop 9\ndeliver 9\nvalidate\nrecover\n";
+
+/// The byte is given late, and a recovery makes the core read it twice.
+const GIVEN: &str = "\
+step 0\nstep 0\ninput 0 41\nstep 0\nstep 0\nstep 0\nrecover\n\
+step 0\nstep 0\nstep 0\nstep 0\nedge 0\nreport 0\ndeliver 1\nvalidate\n";
 
 const VALIDATED: &str = "step 0\nstep 0\nstep 0\nedge 0\nreport 0\ndeliver 1\nvalidate\n";
 
@@ -133,6 +148,65 @@ core 0 80000000 running
 core 1 80000008 running x5=80001000 x6=00000001 x10=00000001
 ";
 
+const WATCHED_REPORT: &str = "\
+1 step 0: retired
+2 step 0: retired
+3 step 0: retired
+4 edge 0: edged 1
+5 report 0: reported 1
+  msg 1 ready 0 0 1 1
+6 recover: recovered 0 undone 0 dropped 1
+  core 0 80000000 running
+  watch 80000000 04100513
+events 6
+point 0
+committed 0
+released 0
+core 0 80000000 running
+watch 80000000 04100513
+";
+
+const BOTH_TRACE: &str = "\
+0 00000000 0
+0 00000000 0
+0 00000000 0
+1 00000000 0
+1 00000000 0
+1 00000001 0
+# events 27
+# point 1
+# committed 6
+# released 0
+# core 0 8000000c running x5=80001000 x6=00000001
+# core 1 8000000c running x5=80001000 x6=00000001 x7=00000001 x10=00000001
+# watch 80001000 00000002
+";
+
+const GIVEN_TRACE: &str = "\
+0 00000000 0
+0 00000000 0 41
+0 00000000 0
+0 00000000 0
+# events 15
+# point 1
+# committed 4
+# released 1
+# core 0 80000010 running x10=00000041 x17=00000001
+";
+
+const COUNTER: &str = "loop:\naddi t0, t0, 1\njal zero, loop\n";
+
+const COUNTER_WORDS: &str = "00128293\nffdff06f\n";
+
+const LISTING: &str = "\
+# 80000000
+addi x10, x0, 65
+addi x17, x0, 1
+ecall
+addi x17, x0, 93
+ecall
+";
+
 const WORDS: &str = "safetynet replay --nodes 1 a.hex a.script";
 
 /// What a call left.
@@ -250,12 +324,45 @@ fn a_replay_puts_what_was_validated_and_reports_each_event(rt: HostRuntime) -> R
 }
 
 #[test]
-fn a_recovery_shows_the_core_of_each_node(rt: HostRuntime) -> Result<(), Fail> {
-    let words = "safetynet replay --nodes 2 a.hex a.script";
-    let left = call(rt.alloc(), words, COUNTS.as_bytes(), ACROSS, NO_FAULT)?;
-    assert_eq!(rt; left.status, Status::Done);
-    assert!(rt; left.console.is_empty());
-    assert_eq!(rt; left.report.as_slice(), ACROSS_REPORT.as_bytes());
+fn a_command_puts_what_its_options_ask(rt: HostRuntime) -> Result<(), Fail> {
+    for (words, file, script, console, report) in [
+        (
+            "safetynet replay --nodes 2 a.hex a.script",
+            COUNTS,
+            ACROSS,
+            "",
+            ACROSS_REPORT,
+        ),
+        (
+            "safetynet replay a.hex --watch=80000000 --nodes=1 a.script",
+            PUTS_A,
+            RECOVERED,
+            "",
+            WATCHED_REPORT,
+        ),
+        (
+            "safetynet replay --trace --nodes 02 --watch 80001000 a.hex a.script",
+            COUNTS,
+            BOTH,
+            "",
+            BOTH_TRACE,
+        ),
+        (
+            "safetynet replay --nodes 1 --trace --log 4 --sets 1 --ways 1 a.hex a.script",
+            ECHOES,
+            GIVEN,
+            "A",
+            GIVEN_TRACE,
+        ),
+        ("safetynet asm a.hex", COUNTER, "", COUNTER_WORDS, ""),
+        ("safetynet asm a.hex", "# no word\n", "", "", ""),
+        ("safetynet dis a.hex", PUTS_A, "", LISTING, ""),
+    ] {
+        let left = call(rt.alloc(), words, file.as_bytes(), script, NO_FAULT)?;
+        assert_eq!(rt; left.status, Status::Done, "of {words}");
+        assert_eq!(rt; left.console.as_slice(), console.as_bytes(), "of {words}");
+        assert_eq!(rt; left.report.as_slice(), report.as_bytes(), "of {words}");
+    }
     Ok(())
 }
 
@@ -267,10 +374,18 @@ fn words_that_are_no_command_are_usage(rt: HostRuntime) -> Result<(), Fail> {
         "safetynet fly",
         "safetynet replay --nodes 0 a.hex a.script",
         "safetynet replay --nodes 17 a.hex a.script",
-        "safetynet replay --nodes 01 a.hex a.script",
         "safetynet replay --nodes 1f a.hex a.script",
-        "safetynet replay --nodes 016 a.hex a.script",
+        "safetynet replay --sets 257 a.hex a.script",
+        "safetynet replay --log 3 a.hex a.script",
+        "safetynet replay --watch 80000002 a.hex a.script",
+        "safetynet replay --nodes 1 --nodes 1 a.hex a.script",
+        "safetynet replay --trace=x a.hex a.script",
+        "safetynet replay a.hex",
         "safetynet replay --nodes 1 a.hex a.script more",
+        "safetynet asm a.hex a.script",
+        "safetynet dis",
+        "safetynet check a.hex a.script",
+        "safetynet demo 10",
     ] {
         check_refusal(
             &rt,
@@ -290,6 +405,8 @@ fn a_file_that_is_lacking_is_a_store_fault(rt: HostRuntime) -> Result<(), Fail> 
     for words in [
         "safetynet replay --nodes 16 b.hex a.script",
         "safetynet replay --nodes 9 a.hex b.script",
+        "safetynet asm b.s",
+        "safetynet dis b.hex",
     ] {
         check_refusal(
             &rt,
@@ -317,6 +434,23 @@ fn a_script_that_isnt_one_is_refused_by_its_first_cause(rt: HostRuntime) -> Resu
     ] {
         let want = Status::BadScript(cause);
         check_refusal(&rt, alloc, WORDS, PUTS_A.as_bytes(), script, want)?;
+    }
+    Ok(())
+}
+
+#[test]
+fn a_text_that_cant_be_assembled_is_refused_by_its_first_cause(
+    rt: HostRuntime,
+) -> Result<(), Fail> {
+    let alloc = rt.alloc();
+    for (text, cause) in [
+        ("fly x1\n", AsmCause::BadLine(1)),
+        ("\naddi x5, x5, 2048\n", AsmCause::OutOfRange(2)),
+        ("a:\necall\na:\n", AsmCause::LabelTwice(3)),
+        ("jal x0, end\n", AsmCause::NoLabel(1)),
+    ] {
+        let want = Status::BadAsm(cause);
+        check_refusal(&rt, alloc, "safetynet asm a.hex", text.as_bytes(), "", want)?;
     }
     Ok(())
 }
@@ -414,6 +548,11 @@ fn a_status_has_its_number_and_word(rt: HostRuntime) {
         ),
         (Status::SinkFault, 5, "sink"),
         (Status::Memory, 7, "memory"),
+        (
+            Status::BadAsm(AsmCause::LabelTwice(4)),
+            13,
+            "asm labeltwice",
+        ),
     ] {
         assert_eq!(rt; status.number(), number);
         assert_eq!(rt; status.word(), word);

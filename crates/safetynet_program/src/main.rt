@@ -2,11 +2,11 @@
 //!
 //! It makes a store over the system's files and a sink over each standard stream, the console on standard output and
 //! the report on standard error, calls `safetynet` with the words that it was given, and exits with the status's
-//! number. Where that isn't Done it names the status on standard error. `--help` and `--version` are its own.
+//! number. Where that isn't Done it names the status on standard error. Calls for help or the version are its own to answer.
 #![tactic(auto)]
 
 ghost use Rattle.std.specs.Prelude.{◌≡◌, map, string_bytes};
-ghost use Rattle.safetynet_program.specs.Own.{asked_by, own_of};
+ghost use Rattle.safetynet_program.specs.Own.{asked_by, is_command, own_of};
 
 use safetynet_main::{Status, safetynet};
 use sn_io::{FileStore, StdSink};
@@ -17,17 +17,39 @@ use std::process::ExitCode;
 const VERSION: &str = "safetynet 0.1.0\n";
 
 const HELP: &str = "\
-Replays a list of events on a simulated SafetyNet multiprocessor.
+Replays a list of events on a simulated SafetyNet multiprocessor, and turns
+programs for it into words and back.
 
-usage: safetynet replay --nodes N PROGRAM SCRIPT
-       safetynet --help
+usage: safetynet replay [OPTIONS] PROGRAM SCRIPT
+       safetynet asm TEXT
+       safetynet dis PROGRAM
+       safetynet --help        (also -h, help, after a command too, or no word)
        safetynet --version
 
-N is the number of nodes, 1 to 16.
+replay applies the events of SCRIPT to a machine that runs PROGRAM. Options:
+
+  --nodes N        how many nodes, 1 to 16; without it 4
+  --sets N         sets of a cache, 1 to 256; without it 16
+  --ways N         lines of a set, 1 to 16; without it 4
+  --log N          entries of a node's log, 4 to 4096; without it 256
+  --watch ADDRESS  shows the word at ADDRESS wherever cores are shown: eight
+                   hexadecimal digits, 80000000 to 803ffffc, a multiple of 4
+  --trace          reports no events; at the end the committed trace, one
+                   record a line, and the summary with \"# \" before each line
+
+An option stands before or after the files, at most once, and is written
+--nodes 2 or --nodes=2.
+
+asm puts the words of TEXT, in the assembler's language, to standard output,
+one a line; what it puts is a PROGRAM. dis puts PROGRAM's executable words as
+lines of that language, with the address before each stretch of them.
+
 PROGRAM is a static ELF file for 32-bit RISC-V as a linker writes it, or a
 text with one word of eight hexadecimal digits a line, from 80000000 up, in
 which empty lines and lines that begin with # are skipped. It has at most
-16 MiB. Each core begins at its entry, with the core's number in x10.
+16 MiB, and so has TEXT. Each core begins at the program's entry, with the
+core's number in x10.
+
 SCRIPT has at most 32 MiB and 1,000,000 events, one a line; empty lines and
 lines that begin with # are skipped:
 
@@ -49,18 +71,27 @@ report says which number each message has.
 The bytes that the program puts out go to standard output once their
 checkpoint is validated. The report goes to standard error: each event with
 its answer and the messages that it sent, after a recovery each core, and at
-the end a summary.
+the end a summary. docs/FORMATS.md has every format with an example.
 
-exit status:
-   0  done
-   1  usage: the words aren't a command
+exit status, with the word that standard error ends with:
+   0  (none) all is done
+   1  usage: the words aren't a command, or a value isn't in its range
    2  store: a file is lacking or couldn't be read
-   3  program CAUSE: the program's file is too long or can't be loaded
-   4  script CAUSE: the script is too long (toolong, toomany), has a line
-      that is no event (badline), or names a node, a block or a switch that
-      isn't there (outofrange)
+   3  program CAUSE: PROGRAM is too long (toolong) or can't be loaded
+   4  script CAUSE: SCRIPT is too long (toolong, toomany), has a line that is
+      no event (badline), or names a node, a block or a switch that isn't
+      there (outofrange)
    5  sink: not all of the output could be written
    7  memory: there was not enough of it
+  13  asm CAUSE: TEXT is too long (toolong, toomanywords), has a line that is
+      no statement (badline), a number that doesn't fit (outofrange), a label
+      twice (labeltwice) or one that stands nowhere (nolabel)
+
+examples:
+  safetynet replay --nodes 2 --watch 80001000 \\
+      examples/shared/count.hex examples/shared/shared_word.script
+  safetynet replay --nodes=1 --trace examples/first/a.hex examples/first/a.script
+  safetynet asm examples/asm/counter.s
 ";
 
 /// What the program answers itself.
@@ -74,10 +105,16 @@ fn asked_by(word: &str) -> Option<Own>
     ensures { result ≡ asked_by word.now }
 {
     match word {
-        "--help" => Some(Own::Help),
+        "--help" | "-h" | "help" => Some(Own::Help),
         "--version" => Some(Own::Version),
         _ => None,
     }
+}
+
+fn is_command(word: &str) -> bool
+    ensures { result ≡ is_command word.now }
+{
+    matches!(word, "replay" | "asm" | "dis")
 }
 
 /// What the words ask of the program itself, before any command is done.
@@ -85,8 +122,12 @@ fn own_of(words: &[String]) -> Option<Own>
     ensures { result ≡ own_of (map string_bytes words.now) }
 {
     match words {
+        [] | [_] => Some(Own::Help),
         [_, word] => asked_by(word.as_str()),
-        [_, command, word] if command.as_str() == "replay" => asked_by(word.as_str()),
+        [_, first, second] if is_command(first.as_str()) => asked_by(second.as_str()),
+        [_, first, second] if first.as_str() == "help" && is_command(second.as_str()) => {
+            Some(Own::Help)
+        }
         _ => None,
     }
 }

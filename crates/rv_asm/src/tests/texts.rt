@@ -46,7 +46,7 @@ fn blanks_and_cases_of_numbers(rt: HostRuntime) {
 
 #[test]
 fn each_refusal_has_its_cause_and_its_line(rt: HostRuntime) {
-    let rows: [(&[u8], AsmCause); 14] = [
+    let rows: [(&[u8], AsmCause); 15] = [
         (b"addi x5, x5, 2048", AsmCause::OutOfRange(1)),
         (b"jal x0, end", AsmCause::NoLabel(1)),
         (
@@ -61,6 +61,7 @@ fn each_refusal_has_its_cause_and_its_line(rt: HostRuntime) {
         (b".word 4294967296", AsmCause::OutOfRange(1)),
         (b".word 0000000000001", AsmCause::BadLine(1)),
         (b"addi,x1, x1, 1", AsmCause::BadLine(1)),
+        (b"fence # \xc3\xa4\nfence \xc3\xa4", AsmCause::BadLine(2)),
         (b"nop\r", AsmCause::BadLine(1)),
         (b"fence\r", AsmCause::BadLine(1)),
         (b"jal x0, end\naddi x1, x1", AsmCause::BadLine(2)),

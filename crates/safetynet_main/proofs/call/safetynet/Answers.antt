@@ -8,7 +8,7 @@ pub returns-clause-complete : goal.returns-clause-complete
 returns-clause-complete g c = clause-complete _ _ _ _ _ _ _ _ _ _ _ c.answer.ensures.comes c.answer.ensures.sink_fault
 
 pub returns-clause-usage : goal.returns-clause-usage
-returns-clause-usage g c = (λ e. comes-usage _ _ _ _ _ _ _ _ _ _ (c.answer.ensures.comes (λ m. cc)) e, c.answer.ensures.usage)
+returns-clause-usage g c = λ e. comes-usage _ _ _ _ _ _ _ _ _ _ (c.answer.ensures.comes (λ m. cc)) e
 
 pub returns-clause-store_fault : goal.returns-clause-store_fault
 returns-clause-store_fault g c = λ e. comes-rose _ _ _ _ _ _ _ _ _ _ (c.answer.ensures.comes (λ m. cc)) e

@@ -1,0 +1,10 @@
+pub mod Bytes
+pub mod Cuts
+pub mod Numbers
+pub mod Registers
+pub mod Forms
+pub mod Rows
+pub mod Instructions
+pub mod Lines
+pub mod Texts
+pub mod Decoded

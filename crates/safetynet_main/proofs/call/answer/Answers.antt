@@ -1,0 +1,17 @@
+use Rattle.std.proofs.Common.{ap, refl}
+use Rattle.std.specs.Prelude.{Err}
+use Rattle.safetynet_main.specs.Call.{Fetches}
+use Rattle.safetynet_main.proofs.CallLaws.{comes-none, comes-some}
+use Rattle.safetynet_main.proofs.Watched.{words-watch}
+use Rattle.safetynet_main.proofs.call.answer.Goals as goal
+
+pub load-requires-clause-watched : goal.load-requires-clause-watched
+load-requires-clause-watched g c = words-watch _ _ c.in-Ok.ensures.ok
+
+pub returns-in-Err-Usage-clause-comes : goal.returns-in-Err-Usage-clause-comes
+returns-in-Err-Usage-clause-comes g c = λ no.
+    comes-none (Fetches g.S.Store.files g.S.Store.sure g.S.Store.faults g.S.Store.gave) _ _ _ (c.in-Err-Usage.ensures.usage (ap (λ t. Err t) c.in-Err-Usage.field-0-is))
+
+pub returns-clause-comes : goal.returns-clause-comes
+returns-clause-comes g c = λ no.
+    comes-some (Fetches g.S.Store.files g.S.Store.sure g.S.Store.faults g.S.Store.gave) _ _ (Err c.in-Err.status) _ _ _ _ _ c.in-Ok.ensures.ok (c.in-Err.ensures.loads (λ m. no cc)) (refl, refl)

@@ -1,0 +1,178 @@
+//! Files fetched from the store, and read.
+ghost use Rattle.std.specs.Prelude.{◌≡◌, ◌≢◌, ◌≤◌, true, length, Some, Ok, Err, IfOk, string_bytes};
+ghost use Rattle.sn_base.specs.Config.{config_fits};
+ghost use Rattle.sn_io.specs.Outside.{Found};
+ghost use Rattle.consistent_cuts.specs.Runs.{AllFit};
+ghost use Rattle.command_words.specs.Request.{as_request, request_fits};
+ghost use Rattle.script_replay.specs.Played.{IsWatchable};
+ghost use Rattle.safetynet_main.specs.Files.{program_in, script_in, assembly_in};
+ghost use Rattle.safetynet_main.specs.Errand.{Loads};
+ghost use Rattle.safetynet_main.specs.Call.{Fetches, found_by, errand_of, replay_errand, assembly_errand, listing_errand, AsksNothing, Watches, IsRead};
+
+use crate::job::{Job, Text};
+use crate::reading::{
+    PROGRAM_LIMIT, SCRIPT_LIMIT, list_program, read_assembly, read_program, read_script,
+};
+use crate::status::{ProgramCause, Status};
+use command_words::Request;
+use rv_asm::AsmCause;
+use script_replay::{Replay, Script, Showing};
+use sn_base::Image;
+use sn_io::{Fetched, Store, StoreFault};
+use sn_text::ScriptCause;
+use std::alloc::Global;
+
+/// Why there are no bytes of a file.
+enum Unread {
+    Missing,
+    TooLong,
+    Memory,
+}
+
+fn fetch_file<S: Store>(
+    alloc: Global,
+    store: &mut S,
+    name: &str,
+    limit: usize,
+) -> Result<Vec<u8>, Unread>
+    ensures found { result ≢ Err Unread.Memory → Fetches S.files S.sure S.faults S.gave store.old name.now limit (found_by result) store.new }
+    ensures files { S.files store.new ≡ S.files store.old }
+{
+    let mut bytes = Vec::new(alloc);
+    match store.fetch(name, limit, &mut bytes) {
+        Ok(Fetched::Whole) => Ok(bytes),
+        Ok(Fetched::Longer) => Err(Unread::TooLong),
+        Err(StoreFault::Failed) => Err(Unread::Missing),
+        Err(StoreFault::Memory) => Err(Unread::Memory),
+    }
+}
+
+fn fetch_program<S: Store>(alloc: Global, store: &mut S, name: &str) -> Result<Image, Status>
+    ensures found { result ≢ Err Status.Memory → (found : Found)
+        × Fetches S.files S.sure S.faults S.gave store.old name.now 16777216 found store.new
+        × (result ≡ program_in found) }
+    ensures files { S.files store.new ≡ S.files store.old }
+{
+    match fetch_file(alloc, store, name, PROGRAM_LIMIT) {
+        Ok(bytes) => read_program(alloc, bytes.as_slice()),
+        Err(Unread::Missing) => Err(Status::StoreFault),
+        Err(Unread::TooLong) => Err(Status::BadProgram(ProgramCause::TooLong)),
+        Err(Unread::Memory) => Err(Status::Memory),
+    }
+}
+
+fn fetch_script<S: Store>(
+    alloc: Global,
+    store: &mut S,
+    name: &str,
+    nodes: u8,
+) -> Result<Script, Status>
+    requires { nodes ≤ 16 }
+    ensures found { result ≢ Err Status.Memory → (found : Found)
+        × Fetches S.files S.sure S.faults S.gave store.old name.now 33554432 found store.new
+        × (result ≡ script_in nodes found) }
+    ensures fit { IfOk result (λ script. AllFit nodes script) }
+    ensures few { IfOk result (λ script. length script ≤ 1000000) }
+    ensures files { S.files store.new ≡ S.files store.old }
+{
+    match fetch_file(alloc, store, name, SCRIPT_LIMIT) {
+        Ok(bytes) => read_script(alloc, bytes.as_slice(), nodes),
+        Err(Unread::Missing) => Err(Status::StoreFault),
+        Err(Unread::TooLong) => Err(Status::BadScript(ScriptCause::TooLong)),
+        Err(Unread::Memory) => Err(Status::Memory),
+    }
+}
+
+fn fetch_assembly<S: Store>(alloc: Global, store: &mut S, name: &str) -> Result<Text, Status>
+    ensures found { result ≢ Err Status.Memory → (found : Found)
+        × Fetches S.files S.sure S.faults S.gave store.old name.now 16777216 found store.new
+        × (result ≡ assembly_in found) }
+    ensures files { S.files store.new ≡ S.files store.old }
+{
+    match fetch_file(alloc, store, name, PROGRAM_LIMIT) {
+        Ok(bytes) => read_assembly(alloc, bytes.as_slice()),
+        Err(Unread::Missing) => Err(Status::StoreFault),
+        Err(Unread::TooLong) => Err(Status::BadAsm(AsmCause::TooLong)),
+        Err(Unread::Memory) => Err(Status::Memory),
+    }
+}
+
+// The program and the script of a replay, in this order.
+fn load_replay<S: Store>(
+    alloc: Global,
+    store: &mut S,
+    asked: &command_words::Replay,
+) -> Result<Job, Status>
+    requires sizes { config_fits asked.now.config ≡ true }
+    requires watched { IsWatchable asked.now.watch }
+    ensures loads { result ≢ Err Status.Memory → Loads (Fetches S.files S.sure S.faults S.gave)
+        (replay_errand asked.now.config (record { trace = asked.now.trace; watch = asked.now.watch }) (string_bytes asked.now.program) (string_bytes asked.now.script))
+        result store.old store.new }
+    ensures read { IfOk result IsRead }
+    ensures files { S.files store.new ≡ S.files store.old }
+{
+    let program = match fetch_program(alloc, store, asked.program.as_str()) {
+        Ok(program) => program,
+        Err(status) => return Err(status),
+    };
+    let config = asked.config;
+    let showing = Showing {
+        trace: asked.trace,
+        watch: asked.watch,
+    };
+    match fetch_script(alloc, store, asked.script.as_str(), config.nodes) {
+        Ok(script) => Ok(Job::Replay(Replay {
+            program,
+            config,
+            showing,
+            script,
+        })),
+        Err(status) => Err(status),
+    }
+}
+
+fn load_assembly<S: Store>(alloc: Global, store: &mut S, text: &str) -> Result<Job, Status>
+    ensures loads { result ≢ Err Status.Memory →
+        Loads (Fetches S.files S.sure S.faults S.gave) (assembly_errand text.now) result store.old store.new }
+    ensures read { IfOk result IsRead }
+    ensures files { S.files store.new ≡ S.files store.old }
+{
+    match fetch_assembly(alloc, store, text) {
+        Ok(text) => Ok(Job::Text(text)),
+        Err(status) => Err(status),
+    }
+}
+
+fn load_listing<S: Store>(alloc: Global, store: &mut S, program: &str) -> Result<Job, Status>
+    ensures loads { result ≢ Err Status.Memory →
+        Loads (Fetches S.files S.sure S.faults S.gave) (listing_errand program.now) result store.old store.new }
+    ensures read { IfOk result IsRead }
+    ensures files { S.files store.new ≡ S.files store.old }
+{
+    let program = match fetch_program(alloc, store, program) {
+        Ok(program) => program,
+        Err(status) => return Err(status),
+    };
+    match list_program(alloc, &program) {
+        Ok(text) => Ok(Job::Text(text)),
+        Err(status) => Err(status),
+    }
+}
+
+/// What is due for a request: its files are fetched and read one after another, and the first that is refused decides.
+pub fn load<S: Store>(alloc: Global, store: &mut S, request: &Request) -> Result<Job, Status>
+    requires fits { request_fits (as_request request.now) ≡ true }
+    requires watched { Watches (as_request request.now) }
+    ensures loads { result ≢ Err Status.Memory →
+        Loads (Fetches S.files S.sure S.faults S.gave) (errand_of (Some (as_request request.now))) result store.old store.new }
+    ensures no_command { AsksNothing (Some (as_request request.now)) → (result ≡ Err Status.Usage) × (store.new ≡ store.old) }
+    ensures read { IfOk result IsRead }
+    ensures files { S.files store.new ≡ S.files store.old }
+{
+    match request {
+        Request::Replay(asked) => load_replay(alloc, store, asked),
+        Request::Assemble(text) => load_assembly(alloc, store, text.as_str()),
+        Request::Disassemble(program) => load_listing(alloc, store, program.as_str()),
+        Request::Check(_) | Request::Demo(_) => Err(Status::Usage),
+    }
+}

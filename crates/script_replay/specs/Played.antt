@@ -1,0 +1,71 @@
+-- The pieces of a machine that has come to some state, and machines and replays that are good to begin with.
+use Rattle.std.specs.Prelude.{◌≡◌, ℕ, ◌+◌, ◌-◌, ◌%◌, ◌<◌, ◌≤◌, List, [], length, Option, IfSome}
+use Rattle.sn_base.specs.Blocks.{ram_start, ram_size}
+use Rattle.sn_base.specs.Image.{ImageData}
+use Rattle.sn_base.specs.declared.config.Config.{Config}
+use Rattle.sn_base.specs.declared.event.Event.{Event}
+use Rattle.sn_base.specs.declared.event.Undo.{Undo}
+use Rattle.sn_base.specs.declared.event.Answer.{Answer}
+use Rattle.sn_base.specs.declared.event.Answer.TheVariants.{Recovered}
+use Rattle.sn_model.specs.declared.net.Sent.{Sent}
+use Rattle.sn_model.specs.Machine.{start_of}
+use Rattle.sn_machine.specs.Machine.{MachineData, next_of}
+use Rattle.consistent_cuts.specs.Headline.{IsRun}
+use Rattle.sink_pieces.specs.Pieces.{Piece}
+use Rattle.script_replay.specs.declared.job.Showing.{Showing}
+use Rattle.script_replay.specs.declared.job.Replay.{Replay}
+use Rattle.script_replay.specs.Pieces.{group_of, summary_of, end_pieces, turn_pieces, pieces_from}
+
+-- the machine after an event
+abbrev pub after_event : MachineData → Event → MachineData
+after_event m event = record m {
+  state = (next_of m event).state;
+  sent = (next_of m event).sent;
+  applied = m.applied + 1;
+  spare = m.spare - 1;
+}
+
+-- the group of its last event, which had this answer
+abbrev pub group_now : MachineData → Option ℕ → Event → Answer → List ℕ
+group_now m watch event answer =
+    group_of m.image m.config watch m.applied event (record { state = m.state; answer = answer; sent = m.sent })
+
+-- a recovery sends nothing
+abbrev pub IsAlone : Answer → List Sent → Type 0
+IsAlone answer sent = (undo : Undo) → answer ≡ Recovered undo → sent ≡ []
+
+abbrev pub summary_now : List ℕ → MachineData → Option ℕ → List ℕ
+summary_now before m watch = summary_of before m.image m.config watch m.applied m.state
+
+-- the pieces of its end, of its next event, and of all events that are left
+abbrev pub end_now : MachineData → Showing → List Piece
+end_now m showing = end_pieces m.image m.config showing m.applied m.state
+
+abbrev pub turn_now : MachineData → Showing → Event → List Piece
+turn_now m showing event = turn_pieces m.image m.config showing (m.applied + 1) m.state event
+
+abbrev pub pieces_left : MachineData → Showing → List Event → List Piece
+pieces_left m showing events = pieces_from m.image m.config showing m.applied m.state events
+
+-- a word of memory that may be watched
+pub record IsWord (address : ℕ) : Type 0 where
+  pub low : ram_start ≤ address
+  pub high : address < ram_start + ram_size
+  pub aligned : address % 4 ≡ 0
+
+abbrev pub IsWatchable : Option ℕ → Type 0
+IsWatchable watch = IfSome watch IsWord
+
+-- a replay that may begin: its sizes and events fit, of which there are at most a million, and it watches a word of memory
+pub record MayBegin (r : Replay) : Type 0 where
+  pub run : IsRun r.config r.script
+  pub few : length r.script ≤ 1000000
+  pub watched : IsWatchable r.showing.watch
+
+-- a machine of these sizes at the start of a program, with room for so many events
+pub record IsReady (m : MachineData) (image : ImageData) (config : Config) (events : ℕ) : Type 0 where
+  pub program : m.image ≡ image
+  pub sizes : m.config ≡ config
+  pub start : m.state ≡ start_of image config.nodes
+  pub new : m.applied ≡ 0
+  pub room : events ≤ m.spare

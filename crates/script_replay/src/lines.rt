@@ -1,0 +1,83 @@
+//! The lines of one event and of the end, written into a line.
+ghost use Rattle.std.specs.Prelude.{◌≡◌, ◌+◌, ◌≤◌, ◌++◌, length};
+ghost use Rattle.sn_machine.specs.Machine.{flat_of};
+ghost use Rattle.script_replay.specs.Pieces.{core_lines, watch_lines, cut_lines};
+ghost use Rattle.script_replay.specs.Played.{group_now, summary_now, IsAlone, IsWatchable};
+
+use sn_base::{Answer, Event, NodeId};
+use sn_machine::Machine;
+use sn_text::Line;
+
+// The lines of all cores at the recovery point.
+fn write_cores(line: &mut Line, before: &str, machine: &Machine)
+    requires room { length line.old + 7808 ≤ 8192 }
+    requires before_short { length before.now ≤ 2 }
+    ensures text { line.new ≡ line.old ++ core_lines before.now (flat_of machine.now) machine.now.config.nodes }
+    ensures short { length line.new ≤ length line.old + 7808 }
+{
+    let view = machine.recovered();
+    'cores: for number in 0..machine.config().nodes {
+        let node = NodeId::new(number).unwrap();
+        line.core(before, node, view.core(node));
+    }
+}
+
+// The line of the watched word at the recovery point, where one is watched.
+fn write_watch(line: &mut Line, before: &str, machine: &Machine, watch: Option<u32>)
+    requires room { length line.old + 32 ≤ 8192 }
+    requires before_short { length before.now ≤ 2 }
+    requires watched { IsWatchable watch }
+    ensures { line.new ≡ line.old ++ watch_lines before.now (flat_of machine.now) watch }
+{
+    if let Some(address) = watch {
+        let view = machine.recovered();
+        line.watch(before, address, view.word(address));
+    }
+}
+
+// The lines of both.
+fn write_cut(line: &mut Line, before: &str, machine: &Machine, watch: Option<u32>)
+    requires room { length line.old + 7840 ≤ 8192 }
+    requires before_short { length before.now ≤ 2 }
+    requires watched { IsWatchable watch }
+    ensures { line.new ≡ line.old ++ cut_lines before.now (flat_of machine.now) machine.now.config.nodes watch }
+{
+    write_cores(line, before, machine);
+    write_watch(line, before, machine, watch);
+}
+
+/// The group of one event, which was the machine's last. A recovery sends nothing, and the cut stands below it.
+pub fn write_group(
+    line: &mut Line,
+    event: &Event,
+    answer: &Answer,
+    machine: &Machine,
+    watch: Option<u32>,
+)
+    requires alone { IsAlone answer.now machine.now.sent }
+    requires watched { IsWatchable watch }
+    ensures { line.new ≡ group_now machine.now watch event.now answer.now }
+{
+    line.clear();
+    line.event(u64::from(machine.applied()), event, answer);
+    match answer {
+        Answer::Recovered(_) => write_cut(line, "  ", machine, watch),
+        _ => line.all_sent(machine.sent()),
+    }
+}
+
+/// The summary, with `before` before each of its lines.
+#[tactic(auto, unfolding(crate::specs::Pieces::summary_of))]
+pub fn write_summary(line: &mut Line, before: &str, machine: &Machine, watch: Option<u32>)
+    requires before_short { length before.now ≤ 2 }
+    requires watched { IsWatchable watch }
+    ensures { line.new ≡ summary_now before.now machine.now watch }
+{
+    let view = machine.recovered();
+    line.clear();
+    line.count(before, "events", u64::from(machine.applied()));
+    line.count(before, "point", u64::from(view.point()));
+    line.count(before, "committed", view.committed().len() as u64);
+    line.count(before, "released", view.released().len() as u64);
+    write_cut(line, before, machine, watch);
+}

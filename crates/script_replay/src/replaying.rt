@@ -1,0 +1,74 @@
+//! A whole replay: all memory first, and then the events.
+ghost use Rattle.std.specs.Prelude.{◌≡◌, ◌≤◌, ◌⊎◌, true, OnOk, IfSome, Err};
+ghost use Rattle.sn_base.specs.Config.{config_fits};
+ghost use Rattle.sn_io.specs.Outside.{Rose};
+ghost use Rattle.sink_pieces.specs.Pieces.{ends};
+ghost use Rattle.script_replay.specs.Played.{MayBegin, IsReady};
+ghost use Rattle.script_replay.specs.Shown.{IsReplayed, IsBrokenOff};
+
+use crate::job::Replay;
+use crate::play::play;
+use sn_base::{Config, Image};
+use sn_io::Sink;
+use sn_machine::Machine;
+use sn_text::Line;
+use std::alloc::Global;
+
+/// Why a replay didn't come to its end.
+#[derive(Clone, Copy, PartialEq, Eq, Debug)]
+pub enum ReplayFault {
+    /// A sink took less than the whole of a piece.
+    Sink,
+    /// Memory was wanted and not given. No event was applied.
+    Memory,
+}
+
+// A machine of these sizes at the start of the program, with room for so many events.
+fn machine_for(alloc: Global, program: Image, config: Config, events: u32) -> Option<Machine>
+    requires sizes { config_fits config ≡ true }
+    requires few { events ≤ 1000000 }
+    ensures { IfSome result (λ m. IsReady m program config events) }
+{
+    let Ok(mut machine) = Machine::new(alloc, program, config) else {
+        return None;
+    };
+    match machine.reserve(events) {
+        Ok(()) => Some(machine),
+        Err(_) => None,
+    }
+}
+
+/// Applies the events in order, puts the released bytes to the console, and puts what is to be shown to the report.
+pub fn replay<C: Sink, R: Sink>(
+    alloc: Global,
+    job: Replay,
+    console: &mut C,
+    report: &mut R,
+) -> Result<(), ReplayFault>
+    requires { MayBegin job }
+    ensures ok { OnOk result (IsReplayed job
+        (ends (C.written console.old) (R.written report.old)) (ends (C.written console.new) (R.written report.new))) }
+    ensures sink { result ≡ Err ReplayFault.Sink → IsBrokenOff job
+        (ends (C.written console.old) (R.written report.old)) (ends (C.written console.new) (R.written report.new)) }
+    ensures memory { result ≡ Err ReplayFault.Memory → (console.new ≡ console.old) × (report.new ≡ report.old) }
+    ensures cause { result ≡ Err ReplayFault.Sink
+        → Rose (C.faults console.old) (C.faults console.new) ⊎ Rose (R.faults report.old) (R.faults report.new) }
+{
+    let Replay {
+        program,
+        config,
+        showing,
+        script,
+    } = job;
+    let events = script.events();
+    let Some(mut machine) = machine_for(alloc, program, config, events.len() as u32) else {
+        return Err(ReplayFault::Memory);
+    };
+    let Ok(mut line) = Line::new(alloc) else {
+        return Err(ReplayFault::Memory);
+    };
+    match play(&mut machine, &mut line, events, &showing, console, report) {
+        Ok(()) => Ok(()),
+        Err(_) => Err(ReplayFault::Sink),
+    }
+}
