@@ -11,26 +11,29 @@ trap 'rm -rf "$work"' EXIT
 ./safetynet --build || { echo "the program was not built" >&2; exit 1; }
 
 # Replays an example, whose console and report stand beside its script.
-shows() { # nodes, program, script
-  local name=${3%.script} status
-  ./safetynet replay --nodes "$1" "$2" "$3" >"$work/console" 2>"$work/report"
+shows() { # script, the command's words before it
+  local script=$1 name=${1%.script} status
+  shift
+  ./safetynet "$@" "$script" >"$work/console" 2>"$work/report"
   status=$?
   if [ "$status" -eq 0 ] && cmp -s "$work/console" "$name.console" && diff "$name.report" "$work/report"; then
     passed=$((passed + 1))
   else
-    echo "example $name of $2: status $status, or another console or report" >&2
+    echo "example $name by $*: status $status, or another console or report" >&2
     failed=$((failed + 1))
   fi
 }
 
 for script in examples/first/*.script; do
   for program in examples/first/a.hex examples/first/a.elf; do
-    shows 1 "$program" "$script"
+    shows "$script" replay --nodes 1 "$program"
   done
 done
 for script in examples/shared/*.script examples/asm/*.script; do
-  read -r _ _ _ nodes program <"$script"
-  shows "$nodes" "${script%/*}/$program" "$script"
+  read -r _ line <"$script"
+  read -ra words <<<"$line"
+  last=$((${#words[@]} - 1))
+  shows "$script" "${words[@]:0:last}" "${script%/*}/${words[last]}"
 done
 
 # Replays these files, which are to be refused with this status and this word.

@@ -11,10 +11,13 @@ ghost use Rattle.safetynet_program.specs.Own.{asked_by, is_command, own_of};
 use safetynet_main::{Status, safetynet};
 use sn_io::{FileStore, StdSink};
 use std::env;
-use std::io::ErrorKind;
+use std::io::{BufWriter, ErrorKind, IsTerminal};
 use std::process::ExitCode;
 
 const VERSION: &str = "safetynet 0.1.0\n";
+
+/// How many bytes of the report are held back until they go out together.
+const HELD_BACK: usize = 65_536;
 
 const HELP: &str = "\
 Replays a list of events on a simulated SafetyNet multiprocessor, and turns
@@ -139,6 +142,24 @@ fn text_of(own: Own) -> &'static str {
     }
 }
 
+// Does a command over the system's files and streams. The report goes out in large pieces, which spares a call of the
+// system for each event, but at once where it goes to a terminal.
+fn perform(rt: &HostRuntime, words: &[String]) -> Status {
+    let stream = rt.stderr();
+    let held_back = if stream.is_terminal() { 0 } else { HELD_BACK };
+    let Ok(writer) = BufWriter::with_capacity(rt.alloc(), held_back, stream) else {
+        return Status::Memory;
+    };
+    let mut report = StdSink::new(writer);
+    let mut console = StdSink::new(rt.stdout());
+    let mut store = FileStore::new(rt);
+    let status = safetynet(rt.alloc(), words, &mut store, &mut console, &mut report);
+    if report.finish().is_err() && status == Status::Done {
+        return Status::SinkFault;
+    }
+    status
+}
+
 fn main(rt: HostRuntime) -> ExitCode {
     let alloc = rt.alloc();
     let status = match env::args(&rt) {
@@ -152,16 +173,7 @@ fn main(rt: HostRuntime) -> ExitCode {
                         Status::SinkFault.number()
                     });
                 }
-                let mut store = FileStore::new(&rt);
-                let mut console = StdSink::new(rt.stdout());
-                let mut report = StdSink::new(rt.stderr());
-                safetynet(
-                    alloc,
-                    words.as_slice(),
-                    &mut store,
-                    &mut console,
-                    &mut report,
-                )
+                perform(&rt, words.as_slice())
             }
             Err(_) => Status::Memory,
         },
