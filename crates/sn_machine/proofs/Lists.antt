@@ -18,41 +18,41 @@ use Rattle.sn_machine.specs.declared.hardware.Hardware.{Hardware}
 use Rattle.sn_machine.specs.Parts.{retirement_as, held_as, state_of}
 
 -- entries that wait, in words of the machine that give each its interval and what it is
-module _ {T M : Type 0} (as : Waiting T → M) (interval_of : M → ℕ) (entry_of : M → T) (same : (w : Waiting T) → interval_of (as w) ≡ w.interval) (is : (w : Waiting T) → entry_of (as w) ≡ w.entry) where
-  reached : (point : ℕ) (ws : List (Waiting T)) → All (λ (m : M). point ≤ interval_of m) (map as ws) → All (λ (w : Waiting T). point ≤ w.interval) ws
+module _ {T M : Type 0} (shown : Waiting T → M) (interval_of : M → ℕ) (entry_of : M → T) (same : (w : Waiting T) → interval_of (shown w) ≡ w.interval) (is : (w : Waiting T) → entry_of (shown w) ≡ w.entry) where
+  reached : (point : ℕ) (ws : List (Waiting T)) → All (λ (m : M). point ≤ interval_of m) (map shown ws) → All (λ (w : Waiting T). point ≤ w.interval) ws
   reached point [] all = All-nil (λ (w : Waiting T). point ≤ w.interval)
   reached point (w ∷ ws) all =
-      All-cons (λ (v : Waiting T). point ≤ v.interval) w ws (let l = All-head (λ (m : M). point ≤ interval_of m) (as w) (map as ws) all in omega (arith, l, same w))
-      (reached point ws (All-tail (λ (m : M). point ≤ interval_of m) (as w) (map as ws) all))
+      All-cons (λ (v : Waiting T). point ≤ v.interval) w ws (let l = All-head (λ (m : M). point ≤ interval_of m) (shown w) (map shown ws) all in omega (arith, l, same w))
+      (reached point ws (All-tail (λ (m : M). point ≤ interval_of m) (shown w) (map shown ws) all))
 
   -- those of an interval, and those that aren't
-  those_step : (w : Waiting T) (ws : List (Waiting T)) (ms : List M) → map as ws ≡ ms → (a b : Bool) → a ≡ b → map as (cond a (w ∷ ws) ws) ≡ cond b (as w ∷ ms) ms
-  those_step w ws ms e true true q = ap (λ xs. as w ∷ xs) e
+  those_step : (w : Waiting T) (ws : List (Waiting T)) (ms : List M) → map shown ws ≡ ms → (a b : Bool) → a ≡ b → map shown (cond a (w ∷ ws) ws) ≡ cond b (shown w ∷ ms) ms
+  those_step w ws ms e true true q = ap (λ xs. shown w ∷ xs) e
   those_step w ws ms e false false q = e
   those_step w ws ms e true false q = cc
   those_step w ws ms e false true q = cc
 
-  others_are : (point : ℕ) (ws : List (Waiting T)) → map as (filter (λ (w : Waiting T). not (nat_eq w.interval point)) ws) ≡ filter (λ (m : M). not (nat_eq (interval_of m) point)) (map as ws)
+  others_are : (point : ℕ) (ws : List (Waiting T)) → map shown (filter (λ (w : Waiting T). not (nat_eq w.interval point)) ws) ≡ filter (λ (m : M). not (nat_eq (interval_of m) point)) (map shown ws)
   others_are point [] = refl
-  others_are point (w ∷ ws) = those_step w _ _ (others_are point ws) (not (nat_eq w.interval point)) (not (nat_eq (interval_of (as w)) point)) (ap (λ i. not (nat_eq i point)) (sym (same w)))
+  others_are point (w ∷ ws) = those_step w _ _ (others_are point ws) (not (nat_eq w.interval point)) (not (nat_eq (interval_of (shown w)) point)) (ap (λ i. not (nat_eq i point)) (sym (same w)))
 
   entries_step : (w : Waiting T) (ws : List (Waiting T)) (ms : List M) → map (λ (v : Waiting T). v.entry) ws ≡ map entry_of ms → (a b : Bool) → a ≡ b →
-      map (λ (v : Waiting T). v.entry) (cond a (w ∷ ws) ws) ≡ map entry_of (cond b (as w ∷ ms) ms)
-  entries_step w ws ms e true true q = ap (λ x. x ∷ map (λ (v : Waiting T). v.entry) ws) (sym (is w)) ∙ ap (λ xs. entry_of (as w) ∷ xs) e
+      map (λ (v : Waiting T). v.entry) (cond a (w ∷ ws) ws) ≡ map entry_of (cond b (shown w ∷ ms) ms)
+  entries_step w ws ms e true true q = ap (λ x. x ∷ map (λ (v : Waiting T). v.entry) ws) (sym (is w)) ∙ ap (λ xs. entry_of (shown w) ∷ xs) e
   entries_step w ws ms e false false q = e
   entries_step w ws ms e true false q = cc
   entries_step w ws ms e false true q = cc
 
-  entries_are : (point : ℕ) (ws : List (Waiting T)) → entries_in point ws ≡ map entry_of (filter (λ (m : M). nat_eq (interval_of m) point) (map as ws))
+  entries_are : (point : ℕ) (ws : List (Waiting T)) → entries_in point ws ≡ map entry_of (filter (λ (m : M). nat_eq (interval_of m) point) (map shown ws))
   entries_are point [] = refl
-  entries_are point (w ∷ ws) = entries_step w _ _ (entries_are point ws) (nat_eq w.interval point) (nat_eq (interval_of (as w)) point) (ap (λ i. nat_eq i point) (sym (same w)))
+  entries_are point (w ∷ ws) = entries_step w _ _ (entries_are point ws) (nat_eq w.interval point) (nat_eq (interval_of (shown w)) point) (ap (λ i. nat_eq i point) (sym (same w)))
 
   -- where none is below the point, what stays above it is what isn't of it, what is committed is what is of it, and nothing is below it
-  module _ (point : ℕ) (ws : List (Waiting T)) (all : All (λ (m : M). point ≤ interval_of m) (map as ws)) where
-    pub later : map as (waiting_from (point + 1) ws) ≡ filter (λ (m : M). not (nat_eq (interval_of m) point)) (map as ws)
-    later = ap (map as) (from-next point ws (reached point ws all)) ∙ others_are point ws
+  module _ (point : ℕ) (ws : List (Waiting T)) (all : All (λ (m : M). point ≤ interval_of m) (map shown ws)) where
+    pub later : map shown (waiting_from (point + 1) ws) ≡ filter (λ (m : M). not (nat_eq (interval_of m) point)) (map shown ws)
+    later = ap (map shown) (from-next point ws (reached point ws all)) ∙ others_are point ws
 
-    pub committed : entries_below (point + 1) ws ≡ map entry_of (filter (λ (m : M). nat_eq (interval_of m) point) (map as ws))
+    pub committed : entries_below (point + 1) ws ≡ map entry_of (filter (λ (m : M). nat_eq (interval_of m) point) (map shown ws))
     committed = below-next point ws (reached point ws all) ∙ entries_are point ws
 
     pub dropped : waiting_below point ws ≡ []
