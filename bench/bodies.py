@@ -397,15 +397,25 @@ HOME = {
     "src/main.rt": HEAD.replace("GHOST", """ghost use Rattle.std.specs.Prelude.{◌≡◌, ◌<◌, ◌≤◌};
 """) + """use home_directory::Home;
 use log_buffer::LogBuffer;
-use sn_base::{BlockNo, Image, NodeId};
+use sn_base::{BlockNo, Image, NodeId, Segment};
 use sn_msg::{Body, Message};
+use std::alloc::AllocError;
+
+// A program of one instruction.
+fn image(alloc: Global) -> Result<Image, AllocError> {
+    let mut bytes = Vec::new(alloc);
+    bytes.extend_from_slice(&[0x13, 0x05, 0x10, 0x04])?;
+    let mut segments = Vec::new(alloc);
+    segments.push(Segment { start: 0x8000_0000, size: 4, bytes, write: false, exec: true })?;
+    Ok(Image::new(segments, 0x8000_0000))
+}
 
 // A message about the block comes, which the home answers and which changes nothing.
 fn touch(home: &mut Home, log: &mut LogBuffer, here: NodeId, number: u16) -> bool
-    requires { home.old.node ≡ here }
-    requires { home.old.nodes ≡ 1 }
-    ensures { home.new.node ≡ home.old.node }
-    ensures { home.new.nodes ≡ home.old.nodes }
+    requires node { home.old.node ≡ here }
+    requires alone { home.old.nodes ≡ 1 }
+    ensures node { home.new.node ≡ home.old.node }
+    ensures alone { home.new.nodes ≡ home.old.nodes }
 {
     let block = BlockNo::new(number);
     if block.home(1) != here {
@@ -418,10 +428,10 @@ fn touch(home: &mut Home, log: &mut LogBuffer, here: NodeId, number: u16) -> boo
 
 // So it is for the first blocks; how many messages came.
 fn touch_all(home: &mut Home, log: &mut LogBuffer, here: NodeId, size: u32) -> u32
-    requires { home.old.node ≡ here }
-    requires { home.old.nodes ≡ 1 }
-    ensures { home.new.node ≡ home.old.node }
-    ensures { home.new.nodes ≡ home.old.nodes }
+    requires node { home.old.node ≡ here }
+    requires alone { home.old.nodes ≡ 1 }
+    ensures node { home.new.node ≡ home.old.node }
+    ensures alone { home.new.nodes ≡ home.old.nodes }
 {
     let mut came = 0u32;
     'each: for number in 0..size {
@@ -433,8 +443,8 @@ fn touch_all(home: &mut Home, log: &mut LogBuffer, here: NodeId, size: u32) -> u
 }
 
 fn time_restore(rt: &HostRuntime, home: &mut Home, size: u32) -> io::Result<()>
-    ensures { home.new.node ≡ home.old.node }
-    ensures { home.new.nodes ≡ home.old.nodes }
+    ensures node { home.new.node ≡ home.old.node }
+    ensures alone { home.new.nodes ≡ home.old.nodes }
 {
     let start = Instant::now(rt)?;
     home.begin_restore();
@@ -443,8 +453,8 @@ fn time_restore(rt: &HostRuntime, home: &mut Home, size: u32) -> io::Result<()>
 
 // The blocks are touched twice, so that memory that is new to the program counts in the first row alone.
 fn time_size(rt: &HostRuntime, home: &mut Home, log: &mut LogBuffer, here: NodeId, size: u32) -> io::Result<()>
-    requires { home.old.node ≡ here }
-    requires { home.old.nodes ≡ 1 }
+    requires node { home.old.node ≡ here }
+    requires alone { home.old.nodes ≡ 1 }
 {
     touch_all(home, log, here, size);
     time_restore(rt, home, size)?;
@@ -458,7 +468,9 @@ fn time_new(rt: &HostRuntime, size: u32) -> io::Result<()> {
     let Some(here) = NodeId::new(0) else {
         return Ok(());
     };
-    let image = Image::new(Vec::new(rt.alloc()), 0x8000_0000);
+    let Ok(image) = image(rt.alloc()) else {
+        return Ok(());
+    };
     let start = Instant::now(rt)?;
     let Ok(mut home) = Home::new(rt.alloc(), here, 1, &image) else {
         return Ok(());
