@@ -393,9 +393,116 @@ invariant-each l = l.net.routes ≡ l.initial.net.routes
 """,
 }
 
+HOME = {
+    "src/main.rt": HEAD.replace("GHOST", """ghost use Rattle.std.specs.Prelude.{◌≡◌, ◌<◌, ◌≤◌};
+""") + """use home_directory::Home;
+use log_buffer::LogBuffer;
+use sn_base::{BlockNo, Image, NodeId, Segment};
+use sn_msg::{Body, Message};
+use std::alloc::AllocError;
+
+// A program of one instruction.
+fn image(alloc: Global) -> Result<Image, AllocError> {
+    let mut bytes = Vec::new(alloc);
+    bytes.extend_from_slice(&[0x13, 0x05, 0x10, 0x04])?;
+    let mut segments = Vec::new(alloc);
+    segments.push(Segment { start: 0x8000_0000, size: 4, bytes, write: false, exec: true })?;
+    Ok(Image::new(segments, 0x8000_0000))
+}
+
+// A message about the block comes, which the home answers and which changes nothing.
+fn touch(home: &mut Home, log: &mut LogBuffer, here: NodeId, number: u16) -> bool
+    requires node { home.old.node ≡ here }
+    requires alone { home.old.nodes ≡ 1 }
+    ensures node { home.new.node ≡ home.old.node }
+    ensures alone { home.new.nodes ≡ home.old.nodes }
+{
+    let block = BlockNo::new(number);
+    if block.home(1) != here {
+        return false;
+    }
+    let message = Message { id: 1, from: here, to: here, tag: 0, block, body: Body::PutReq };
+    home.receive(&message, 0, log);
+    true
+}
+
+// So it is for the first blocks; how many messages came.
+fn touch_all(home: &mut Home, log: &mut LogBuffer, here: NodeId, size: u32) -> u32
+    requires node { home.old.node ≡ here }
+    requires alone { home.old.nodes ≡ 1 }
+    ensures node { home.new.node ≡ home.old.node }
+    ensures alone { home.new.nodes ≡ home.old.nodes }
+{
+    let mut came = 0u32;
+    'each: for number in 0..size {
+        if touch(home, log, here, (number & 0xffff) as u16) {
+            came = came.wrapping_add(1);
+        }
+    }
+    came
+}
+
+fn time_restore(rt: &HostRuntime, home: &mut Home, size: u32) -> io::Result<()>
+    ensures node { home.new.node ≡ home.old.node }
+    ensures alone { home.new.nodes ≡ home.old.nodes }
+{
+    let start = Instant::now(rt)?;
+    home.begin_restore();
+    println!(rt; "timed begin_restore {size} {} 1 0", start.elapsed(rt)?.as_nanos())
+}
+
+// The blocks are touched twice, so that memory that is new to the program counts in the first row alone.
+fn time_size(rt: &HostRuntime, home: &mut Home, log: &mut LogBuffer, here: NodeId, size: u32) -> io::Result<()>
+    requires node { home.old.node ≡ here }
+    requires alone { home.old.nodes ≡ 1 }
+{
+    touch_all(home, log, here, size);
+    time_restore(rt, home, size)?;
+    let start = Instant::now(rt)?;
+    let came = touch_all(home, log, here, size);
+    println!(rt; "timed receive {size} {} {} {came}", start.elapsed(rt)?.as_nanos(), size.max(1))?;
+    time_restore(rt, home, size)
+}
+
+fn time_new(rt: &HostRuntime, size: u32) -> io::Result<()> {
+    let Some(here) = NodeId::new(0) else {
+        return Ok(());
+    };
+    let Ok(image) = image(rt.alloc()) else {
+        return Ok(());
+    };
+    let start = Instant::now(rt)?;
+    let Ok(mut home) = Home::new(rt.alloc(), here, 1, &image) else {
+        return Ok(());
+    };
+    println!(rt; "timed new {size} {} 1 0", start.elapsed(rt)?.as_nanos())?;
+    let Ok(mut log) = LogBuffer::new(rt.alloc(), 4) else {
+        return Ok(());
+    };
+    time_size(rt, &mut home, &mut log, here, size)
+}
+
+fn main(rt: HostRuntime) -> io::Result<()> {
+    time_new(&rt, 0)?;
+    time_new(&rt, 0)?;
+    time_new(&rt, 16)?;
+    time_new(&rt, 256)?;
+    time_new(&rt, 4096)?;
+    time_new(&rt, 65536)
+}
+""",
+    "proofs/touch_all/Invariants.antt": """use Rattle.std.proofs.Common.{◌≡◌}
+use Rattle.timed.proofs.touch_all.Given as goal
+
+abbrev pub invariant-each : goal.invariant-each
+invariant-each l = (l.home.node ≡ l.initial.home.node) × (l.home.nodes ≡ l.initial.home.nodes)
+""",
+}
+
 # each structure: the crates that its program names, and the program
 STRUCTURES = {
     "log": ("log_buffer sn_base byteorder", LOG),
+    "home": ("home_directory sn_base sn_msg rv_core rv_decode log_buffer route_plan sn_model byteorder rollback", HOME),
     "net": ("switch_net sn_msg sn_base route_plan byteorder indexmap", NET),
 }
 

@@ -6,49 +6,37 @@
 //! each node has taken follows from both. Only `reserve` takes memory.
 #![tactic(auto)]
 
-ghost use Rattle.std.specs.Prelude.{◌≡◌, ℕ, ◌+◌, ◌-◌, ◌<◌, ◌≤◌, ◌^◌, max, [], ◌∷◌, ◌++◌, map, length, slice_index, OnOk, OnErr, vec_len, vec_capacity};
-ghost use Rattle.std.specs.List.{All};
-ghost use Rattle.sn_history.specs.History.{Pending, HistoryData, records_in, records_below, pending_from, reads_of, taken_by};
+ghost use Rattle.std.specs.Prelude.{◌≡◌, ℕ, ◌+◌, ◌-◌, ◌<◌, ◌≤◌, ◌^◌, max, [], ◌∷◌, ◌++◌, length, slice_index, OnOk, OnErr};
+ghost use Rattle.interval_list.specs.Waits.{entries_below, waiting_from};
+ghost use Rattle.sn_history.specs.History.{HistoryData, taken_by};
 
-mod order;
 mod reads;
 
-use order::{append, commit_in_order};
+use interval_list::{IntervalList, Waiting};
 use reads::{forget_reads, note_read};
 use rv_core::Record;
 use sn_base::{Interval, Memory, NodeId};
 use std::alloc::Global;
 use std::marker::Model;
 
-/// A record that a recovery may still undo, and the interval that it belongs to.
-#[derive(Clone, Copy, PartialEq, Eq, Debug)]
-pub struct Pending {
-    pub interval: Interval,
-    pub taken: Record,
-}
-
 /// The records of a machine. Contracts see the pending and the committed ones, and how many more may be added.
 #[derive(Drop)]
 pub struct History {
-    pending: Vec<Pending>,
-    committed: Vec<Record>,
-    room: usize,
+    records: IntervalList<Record>,
     reads: [u32; 16],
 }
 
 impl Model for History {
-    ghost use Rattle.std.specs.Prelude.{◌≡◌, ℕ, ◌+◌, ◌<◌, ◌≤◌, ◌^◌, slice_index, vec_len, vec_capacity};
+    ghost use Rattle.std.specs.Prelude.{◌≡◌, ℕ, ◌+◌, ◌<◌, ◌^◌, length, slice_index};
     ghost use Rattle.sn_history.specs.History.{HistoryData, taken_by};
 
     ghost Value = { HistoryData };
 
-    ghost view = { λ h. record { pending = h.pending.items; committed = h.committed.items; room = h.room } };
+    ghost view = { λ h. record { pending = h.records.waiting; committed = h.records.committed; room = h.records.room } };
 
     ghost invariant = { λ h.
-        (vec_len h.pending + h.room ≤ vec_capacity h.pending)
-        × (vec_len h.committed + vec_len h.pending + h.room ≤ vec_capacity h.committed)
-        × (vec_len h.committed + vec_len h.pending + h.room < 2 ^ 32)
-        × ((n : ℕ) → n < 16 → slice_index h.reads n ≡ taken_by (record { pending = h.pending.items; committed = h.committed.items; room = h.room }) n) };
+        (length h.records.committed + length h.records.waiting + h.records.room < 2 ^ 32)
+        × ((n : ℕ) → n < 16 → slice_index h.reads n ≡ taken_by (record { pending = h.records.waiting; committed = h.records.committed; room = h.records.room }) n) };
 }
 
 impl History {
@@ -56,9 +44,7 @@ impl History {
         ensures { result ≡ record { pending = []; committed = []; room = 0 } }
     {
         History {
-            pending: Vec::new(alloc),
-            committed: Vec::new(alloc),
-            room: 0,
+            records: IntervalList::new(alloc),
             reads: [0; 16],
         }
     }
@@ -69,63 +55,58 @@ impl History {
         ensures ok { OnOk result (self.new ≡ record self.old { room = max self.old.room records }) }
         ensures err { OnErr result (self.new ≡ self.old) }
     {
-        if records <= self.room {
+        if records <= self.records.spare() {
             return Ok(());
         }
-        let held = self.committed.len() + self.pending.len();
+        let held = self.records.committed().len() + self.records.waiting().len();
         if records > 0xffff_ffff - held {
             return Err(Memory);
         }
-        self.pending.reserve(records)?;
-        self.committed.reserve(self.pending.len() + records)?;
-        self.room = records;
-        Ok(())
+        self.records.reserve(records)
     }
 
     /// How many more records may be added.
     pub fn spare(&self) -> usize
         ensures { result ≡ self.now.room }
     {
-        self.room
+        self.records.spare()
     }
 
     /// Adds the record of an instruction that retired in this interval.
     pub fn add(&mut self, interval: Interval, taken: Record)
         requires { 0 < self.old.room }
-        ensures { self.new ≡ record self.old { pending = self.old.pending ++ record { interval = interval; taken = taken } ∷ []; room = self.old.room - 1 } }
+        ensures { self.new ≡ record self.old { pending = self.old.pending ++ record { interval = interval; entry = taken } ∷ []; room = self.old.room - 1 } }
     {
         note_read(&mut self.reads, &taken);
-        append(&mut self.pending, Pending { interval, taken });
-        self.room -= 1;
+        self.records.add(interval, taken);
     }
 
     /// Commits the records of the intervals below k, once checkpoint k is validated.
     pub fn commit_below(&mut self, k: Interval)
-        ensures { self.new ≡ record self.old { pending = pending_from k self.old.pending; committed = self.old.committed ++ records_below k self.old.pending } }
+        ensures { self.new ≡ record self.old { pending = waiting_from k self.old.pending; committed = self.old.committed ++ entries_below k self.old.pending } }
     {
-        commit_in_order(self.pending.as_slice(), &mut self.committed, k);
-        self.pending.retain(|one| one.interval >= k);
+        self.records.commit_below(k);
     }
 
     /// Drops what is pending, which a recovery undoes.
     pub fn drop_pending(&mut self)
         ensures { self.new ≡ record self.old { pending = [] } }
     {
-        forget_reads(self.pending.as_slice(), &mut self.reads);
-        self.pending.clear();
+        forget_reads(self.records.waiting(), &mut self.reads);
+        self.records.drop_from(0);
     }
 
     /// The records that a recovery would undo, in order of retirement.
-    pub fn pending(&self) -> &[Pending]
+    pub fn pending(&self) -> &[Waiting<Record>]
         ensures { result.now ≡ self.now.pending }
     {
-        self.pending.as_slice()
+        self.records.waiting()
     }
 
     pub fn committed(&self) -> &[Record]
         ensures { result.now ≡ self.now.committed }
     {
-        self.committed.as_slice()
+        self.records.committed()
     }
 
     /// How many bytes of its input the node has taken, in records that are committed or pending.

@@ -1,8 +1,8 @@
 //! Counting the bytes of input that each node has taken.
-ghost use Rattle.std.specs.Prelude.{◌≡◌, ℕ, ◌+◌, ◌-◌, ◌<◌, ◌≤◌, ◌^◌, [], ◌∷◌, map, slice_index};
-ghost use Rattle.sn_history.specs.History.{Pending, reads_of};
+ghost use Rattle.std.specs.Prelude.{◌≡◌, ℕ, ◌+◌, ◌-◌, ◌<◌, ◌≤◌, ◌^◌, [], ◌∷◌, slice_index};
+ghost use Rattle.sn_history.specs.History.{reads_of, pending_records};
 
-use crate::Pending;
+use interval_list::Waiting;
 use rv_core::Record;
 
 pub(crate) fn note_read(reads: &mut [u32; 16], taken: &Record)
@@ -25,11 +25,11 @@ fn forget_read(reads: &mut [u32; 16], taken: &Record)
     }
 }
 
-pub(crate) fn forget_reads(pending: &[Pending], reads: &mut [u32; 16])
-    requires { (n : ℕ) → n < 16 → reads_of n (map (λ p. p.taken) pending.now) ≤ slice_index reads.old n }
-    ensures { (n : ℕ) → n < 16 → slice_index reads.new n + reads_of n (map (λ p. p.taken) pending.now) ≡ slice_index reads.old n }
+pub(crate) fn forget_reads(pending: &[Waiting<Record>], reads: &mut [u32; 16])
+    requires { (n : ℕ) → n < 16 → reads_of n (pending_records pending.now) ≤ slice_index reads.old n }
+    ensures { (n : ℕ) → n < 16 → slice_index reads.new n + reads_of n (pending_records pending.now) ≡ slice_index reads.old n }
 {
     'pending: for one in pending.iter() {
-        forget_read(reads, &one.taken);
+        forget_read(reads, &one.entry);
     }
 }

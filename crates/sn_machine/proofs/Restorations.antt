@@ -8,7 +8,7 @@ use Rattle.sn_base.specs.declared.event.Answer.TheVariants.{Recovered, CutOff}
 use Rattle.sn_base.specs.declared.event.Undo.{Undo}
 use Rattle.rv_core.specs.declared.state.CoreState.{CoreState}
 use Rattle.reg_ckpt.specs.Kept.{Kept, IsKept, core_at, freed_below, dropped_above}
-use Rattle.output_commit.specs.Output.{held_below}
+use Rattle.interval_list.specs.Waits.{waiting_below}
 use Rattle.route_plan.specs.Routes.{first_cut_off}
 use Rattle.fabric_coherence.proofs.Recovery.{each_node}
 use Rattle.sn_model.specs.Fabric.{Fabric, node_at, refused}
@@ -102,7 +102,7 @@ module _ (h g : Hardware) (w : IsWhole h) (sound : IsSound (state_of h)) where
 
   -- one that is back
   pub recover-done : (answer : Answer) (undo : Undo) → answer ≡ Recovered undo → IsAfter h.fabric g.fabric answer (recovered s s.point) → g.processors.items ≡ map (restored_seat s.point) h.processors.items →
-      g.controller ≡ record h.controller { reported = replicate (length h.controller.reported) h.controller.point } → g.history ≡ record h.history { pending = [] } → g.output ≡ record h.output { held = held_below s.point h.output.held } → g.is_carried ≡ true →
+      g.controller ≡ record h.controller { reported = replicate (length h.controller.reported) h.controller.point } → g.history ≡ record h.history { pending = [] } → g.output ≡ record h.output { held = waiting_below s.point h.output.held } → g.is_carried ≡ true →
       Does h g answer (restores (state_of h) (recovered s s.point))
   unfolding restored_rest
   recover-done answer undo said after processors controller history output is = go (first_cut_off (living_switches s)) after

@@ -74,7 +74,7 @@ can-write image h n did core effect w can found is does =
 pub retire-does : (image : ImageData) (h g : Hardware) (n place interval : ℕ) (did : Record) (x : Seat) (core : CoreState) (effect : Effect) → IsWhole h → CanRetire image h.fabric.config (state_of h) n → did ≡ record_with n (found_at image (state_of h) n) →
     interval ≡ (node_at h.fabric.fabric n).now → place ≡ n → x ≡ get_or h.processors.items place x → core ≡ (next_of image x.core did.seen did.sc_done did.read).core → effect ≡ (next_of image x.core did.seen did.sc_done did.read).effect →
     g.fabric.fabric ≡ written_by h.fabric.fabric n effect.write → g.fabric.config ≡ h.fabric.config → HasSeat h (record g { history = h.history; output = h.output }) place (record x { core = core }) →
-    g.history ≡ record h.history { pending = h.history.pending ++ record { interval = interval; taken = did } ∷ []; room = h.history.room - 1 } → PutsOut h.output g.output interval effect.out → g.is_carried ≡ false →
+    g.history ≡ record h.history { pending = h.history.pending ++ record { interval = interval; entry = did } ∷ []; room = h.history.room - 1 } → PutsOut h.output g.output interval effect.out → g.is_carried ≡ false →
     Does h g Retired (retired image (state_of h) n)
 retire-does image h g n place interval did x core effect w can found at i r cores effects fabric sizes seat history puts is =
     let here = is_here h n w can.node in

@@ -5,8 +5,7 @@ use Rattle.sn_base.specs.declared.event.Answer.{Answer}
 use Rattle.sn_base.specs.declared.event.Answer.TheVariants.{Validated, NetFull}
 use Rattle.validation.specs.declared.NotReady.{NotReady as Behind}
 use Rattle.validation.specs.Ready.{Reports, least_behind, next_or_behind, checked}
-use Rattle.sn_history.specs.History.{records_below, pending_from}
-use Rattle.output_commit.specs.Output.{bytes_below, held_from}
+use Rattle.interval_list.specs.Waits.{entries_below, waiting_from}
 use Rattle.sn_model.specs.Fabric.{Fabric, refused}
 use Rattle.sn_model.specs.MachineEvents.{commits, validated, unready_node}
 use Rattle.sn_model.specs.Net.{sending, is_full}
@@ -56,8 +55,8 @@ module _ (h g : Hardware) (k : ℕ) (w : IsWhole h) (next : k ≡ h.fabric.fabri
 
   -- the interval before the point is committed
   pub commit-done : (answer : Answer) (j : ℕ) → answer ≡ Validated j → IsSound (state_of h) → IsAfter h.fabric g.fabric answer (advanced s k) → g.processors.items ≡ h.processors.items → g.controller ≡ record h.controller { point = h.controller.point + 1 } →
-      g.history ≡ record h.history { pending = pending_from k h.history.pending; committed = h.history.committed ++ records_below k h.history.pending } →
-      g.output ≡ record h.output { held = held_from k h.output.held; released = h.output.released ++ bytes_below k h.output.held } → g.is_carried ≡ true →
+      g.history ≡ record h.history { pending = waiting_from k h.history.pending; committed = h.history.committed ++ entries_below k h.history.pending } →
+      g.output ≡ record h.output { held = waiting_from k h.output.held; released = h.output.released ++ entries_below k h.output.held } → g.is_carried ≡ true →
       Does h g answer (commits (state_of h) (advanced s k))
   commit-done answer j said sound after processors controller history output is = go (is_full s (length s.nodes)) after
     where

@@ -2,8 +2,8 @@
 use Rattle.std.specs.Prelude.{◌≡◌, ℕ, ◌+◌, ◌<◌, ◌≤◌, if◌then◌else◌, List, [], length, map, slice_index_or}
 use Rattle.sn_base.specs.declared.event.Answer.{Answer}
 use Rattle.rv_core.specs.Core.{start_of as start_core}
-use Rattle.sn_history.specs.declared.Pending.{Pending}
-use Rattle.output_commit.specs.declared.HeldByte.{HeldByte as Held}
+use Rattle.rv_core.specs.declared.step.Record.{Record}
+use Rattle.interval_list.specs.declared.Waiting.{Waiting}
 use Rattle.sn_model.specs.declared.net.Sent.{Sent}
 use Rattle.sn_model.specs.Fabric.{node_at}
 use Rattle.sn_model.specs.Machine.{State, Processor, Retirement, HeldByte}
@@ -15,11 +15,11 @@ use Rattle.sn_machine.specs.declared.hardware.Hardware.{Hardware}
 abbrev pub processor_as : Seat → Processor
 processor_as x = record { core = x.core; checkpoints = x.checkpoints.cores; given = x.input.given }
 
-abbrev pub retirement_as : Pending → Retirement
-retirement_as p = record { interval = p.interval; did = p.taken }
+abbrev pub retirement_as : Waiting Record → Retirement
+retirement_as p = record { interval = p.interval; did = p.entry }
 
-abbrev pub held_as : Held → HeldByte
-held_as h = record { interval = h.interval; byte = h.byte }
+abbrev pub held_as : Waiting ℕ → HeldByte
+held_as h = record { interval = h.interval; byte = h.entry }
 
 -- the state that the parts stand for
 abbrev pub state_of : Hardware → State

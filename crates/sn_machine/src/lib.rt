@@ -27,8 +27,8 @@ mod steps;
 mod tests;
 mod view;
 
+pub use interval_list::Waiting;
 pub use machine::Machine;
 pub use sn_fabric::{Line, OpenMiss, OpenPut, Owner, Transaction};
-pub use sn_history::Pending;
 pub use sn_model::Sent;
 pub use view::View;

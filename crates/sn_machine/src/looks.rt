@@ -15,11 +15,11 @@ ghost use Rattle.sn_machine.specs.Looks.{wanted_block, can_go_from, have_ended};
 use crate::machine::Machine;
 use crate::processor::is_running;
 use crate::steps::block_at;
+use interval_list::Waiting;
 use log_buffer::LogBuffer;
-use rv_core::{CoreState, Want};
+use rv_core::{CoreState, Record, Want};
 use sn_base::{Answer, BlockNo, Event, Image, Interval, NodeId, NodeSet, SwitchId};
 use sn_fabric::{Line, OpenMiss, OpenPut, Owner, Transaction};
-use sn_history::Pending;
 use switch_net::Net;
 
 /// The block that a core's next instruction wants.
@@ -127,7 +127,7 @@ impl Machine {
     }
 
     /// The records of the instructions that wait for the validation of their intervals, in order of retirement.
-    pub fn pending(&self) -> &[Pending]
+    pub fn pending(&self) -> &[Waiting<Record>]
         ensures { map retirement_as result.now ≡ self.now.state.pending }
     {
         self.hardware.history.pending()
