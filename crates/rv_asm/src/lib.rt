@@ -6,8 +6,6 @@
 
 mod assembling;
 mod fault;
-#[cfg(test)]
-mod tests;
 mod writing;
 
 pub use assembling::assemble;

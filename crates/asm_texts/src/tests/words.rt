@@ -1,5 +1,5 @@
 //! Lines and their words, as another assembler writes them (LLVM's, for riscv32 with A).
-use crate::{assemble, disassemble};
+use rv_asm::{assemble, disassemble};
 use sn_base::Memory;
 use std::alloc::Global;
 

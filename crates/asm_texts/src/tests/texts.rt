@@ -1,5 +1,5 @@
 //! Texts, what they are, and why some are refused.
-use crate::{AsmCause, AsmFault, assemble};
+use rv_asm::{AsmCause, AsmFault, assemble};
 use std::alloc::Global;
 
 fn is_text_of(alloc: Global, text: &[u8], words: &[u32]) -> bool {

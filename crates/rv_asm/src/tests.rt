@@ -1,4 +1,0 @@
-//! Lines and their words.
-
-mod texts;
-mod words;
