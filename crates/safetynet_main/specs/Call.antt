@@ -9,7 +9,7 @@ use Rattle.sn_io.specs.Outside.{Found, File, TooLong, Missing, Rose, found_in}
 use Rattle.command_words.specs.Request.{Request, Replay, Assemble, Disassemble}
 use Rattle.sink_pieces.specs.Pieces.{Piece, Ends, after, Breaks, console_piece}
 use Rattle.script_replay.specs.declared.job.Showing.{Showing}
-use Rattle.script_replay.specs.Played.{IsWatchable, MayBegin}
+use Rattle.script_replay.specs.Played.{MayBegin}
 use Rattle.script_replay.specs.Shown.{pieces_due, IsShown, IsShownInPart}
 use Rattle.safetynet_main.specs.Files.{program_limit, script_limit, program_in, script_in, assembly_in, listing_of}
 use Rattle.safetynet_main.specs.Errand.{Errand, Due, Fetch, due_by, Loads}
@@ -105,11 +105,6 @@ Follows (Ok job) status old new =
 -- what a call comes to, over any store
 abbrev pub Comes : {S : Type 0} → (S → List ℕ → ℕ → Found → S → Type 0) → Option Request → Status → S → S → Ends → Ends → Type 0
 Comes fetches ask status old new before behind = (job : Result Job Status) × Loads fetches (errand_of ask) job old new × Follows job status before behind
-
--- what a request watches is a word of memory
-abbrev pub Watches : Request → Type 0
-Watches (Replay config trace watch program script) = IsWatchable watch
-Watches _ = ⊤
 
 -- a job that may begin
 abbrev pub IsRead : Job → Type 0

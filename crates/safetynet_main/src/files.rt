@@ -3,11 +3,10 @@ ghost use Rattle.std.specs.Prelude.{◌≡◌, ◌≢◌, ◌≤◌, true, lengt
 ghost use Rattle.sn_base.specs.Config.{config_fits};
 ghost use Rattle.sn_io.specs.Outside.{Found};
 ghost use Rattle.consistent_cuts.specs.Runs.{AllFit};
-ghost use Rattle.command_words.specs.Request.{as_request, request_fits};
-ghost use Rattle.script_replay.specs.Played.{IsWatchable};
+ghost use Rattle.command_words.specs.Request.{as_request, watch_fits, request_fits};
 ghost use Rattle.safetynet_main.specs.Files.{program_in, script_in, assembly_in};
 ghost use Rattle.safetynet_main.specs.Errand.{Loads};
-ghost use Rattle.safetynet_main.specs.Call.{Fetches, found_by, errand_of, replay_errand, assembly_errand, listing_errand, AsksNothing, Watches, IsRead};
+ghost use Rattle.safetynet_main.specs.Call.{Fetches, found_by, errand_of, replay_errand, assembly_errand, listing_errand, AsksNothing, IsRead};
 
 use crate::job::{Job, Text};
 use crate::reading::{
@@ -98,13 +97,14 @@ fn fetch_assembly<S: Store>(alloc: Global, store: &mut S, name: &str) -> Result<
 }
 
 // The program and the script of a replay, in this order.
+#[tactic(auto, using(crate::proofs::Watched::watched_is))]
 fn load_replay<S: Store>(
     alloc: Global,
     store: &mut S,
     asked: &command_words::Replay,
 ) -> Result<Job, Status>
     requires sizes { config_fits asked.now.config ≡ true }
-    requires watched { IsWatchable asked.now.watch }
+    requires watched { watch_fits asked.now.watch ≡ true }
     ensures loads { result ≢ Err Status.Memory → Loads (Fetches S.files S.sure S.faults S.gave)
         (replay_errand asked.now.config (record { trace = asked.now.trace; watch = asked.now.watch }) (string_bytes asked.now.program) (string_bytes asked.now.script))
         result store.old store.new }
@@ -161,8 +161,7 @@ fn load_listing<S: Store>(alloc: Global, store: &mut S, program: &str) -> Result
 
 /// What is due for a request: its files are fetched and read one after another, and the first that is refused decides.
 pub fn load<S: Store>(alloc: Global, store: &mut S, request: &Request) -> Result<Job, Status>
-    requires fits { request_fits (as_request request.now) ≡ true }
-    requires watched { Watches (as_request request.now) }
+    requires { request_fits (as_request request.now) ≡ true }
     ensures loads { result ≢ Err Status.Memory →
         Loads (Fetches S.files S.sure S.faults S.gave) (errand_of (Some (as_request request.now))) result store.old store.new }
     ensures no_command { AsksNothing (Some (as_request request.now)) → (result ≡ Err Status.Usage) × (store.new ≡ store.old) }

@@ -323,8 +323,24 @@ fn a_replay_puts_what_was_validated_and_reports_each_event(rt: HostRuntime) -> R
     Ok(())
 }
 
+fn check_command(
+    rt: &impl Abort,
+    alloc: Global,
+    words: &str,
+    file: &str,
+    script: &str,
+    console: &str,
+    report: &str,
+) -> Result<(), Fail> {
+    let left = call(alloc, words, file.as_bytes(), script, NO_FAULT)?;
+    assert_eq!(rt; left.status, Status::Done, "of {words}");
+    assert_eq!(rt; left.console.as_slice(), console.as_bytes(), "of {words}");
+    assert_eq!(rt; left.report.as_slice(), report.as_bytes(), "of {words}");
+    Ok(())
+}
+
 #[test]
-fn a_command_puts_what_its_options_ask(rt: HostRuntime) -> Result<(), Fail> {
+fn a_replay_shows_what_its_options_ask(rt: HostRuntime) -> Result<(), Fail> {
     for (words, file, script, console, report) in [
         (
             "safetynet replay --nodes 2 a.hex a.script",
@@ -354,14 +370,20 @@ fn a_command_puts_what_its_options_ask(rt: HostRuntime) -> Result<(), Fail> {
             "A",
             GIVEN_TRACE,
         ),
-        ("safetynet asm a.hex", COUNTER, "", COUNTER_WORDS, ""),
-        ("safetynet asm a.hex", "# no word\n", "", "", ""),
-        ("safetynet dis a.hex", PUTS_A, "", LISTING, ""),
     ] {
-        let left = call(rt.alloc(), words, file.as_bytes(), script, NO_FAULT)?;
-        assert_eq!(rt; left.status, Status::Done, "of {words}");
-        assert_eq!(rt; left.console.as_slice(), console.as_bytes(), "of {words}");
-        assert_eq!(rt; left.report.as_slice(), report.as_bytes(), "of {words}");
+        check_command(&rt, rt.alloc(), words, file, script, console, report)?;
+    }
+    Ok(())
+}
+
+#[test]
+fn a_text_becomes_words_and_words_a_text(rt: HostRuntime) -> Result<(), Fail> {
+    for (words, file, console) in [
+        ("safetynet asm a.hex", COUNTER, COUNTER_WORDS),
+        ("safetynet asm a.hex", "# no word\n", ""),
+        ("safetynet dis a.hex", PUTS_A, LISTING),
+    ] {
+        check_command(&rt, rt.alloc(), words, file, "", console, "")?;
     }
     Ok(())
 }

@@ -1,12 +1,8 @@
 use Rattle.std.proofs.Common.{ap, refl}
-use Rattle.std.specs.Prelude.{Err, map, string_bytes}
+use Rattle.std.specs.Prelude.{Err}
 use Rattle.safetynet_main.specs.Call.{Fetches}
 use Rattle.safetynet_main.proofs.CallLaws.{comes-none, comes-some}
-use Rattle.safetynet_main.proofs.Watched.{words-watch}
 use Rattle.safetynet_main.proofs.call.answer.Goals as goal
-
-pub load-requires-clause-watched : goal.load-requires-clause-watched
-load-requires-clause-watched g c = words-watch (map string_bytes c.args.words.now) _ c.in-Ok.ensures.ok
 
 pub returns-in-Err-Usage-clause-comes : goal.returns-in-Err-Usage-clause-comes
 returns-in-Err-Usage-clause-comes g c = λ no.
