@@ -1,0 +1,2 @@
+pub mod MayDo
+pub mod CoreReplay
