@@ -1,2 +1,4 @@
 pub mod MayDo
 pub mod CoreReplay
+pub mod CorePlaces
+pub mod Merged

@@ -12,4 +12,6 @@
 
 mod cell;
 mod core_replay;
+mod cores;
 mod deed;
+mod merge;
