@@ -13,7 +13,7 @@ use Rattle.projection_places.proofs.Fronts.{core_fewer, passes_both, passes_as}
 use Rattle.trace_check.specs.Slots.{AreInside, CoresBelow}
 
 -- the cores at the start
-count_cores : (entry n : ℕ) → length (first_cores n entry) ≡ n
+pub count_cores : (entry n : ℕ) → length (first_cores n entry) ≡ n
 count_cores entry zero = refl
 count_cores entry (suc n) = length_push (first_cores n entry) (start_of n entry) ∙ omega (arith, count_cores entry n)
 
@@ -44,7 +44,7 @@ module _ (image : ImageData) (N : ℕ) where
     inside_core n l (core_step image n c x) rs k (λ j r m e. g (suc j) r (omega (arith, m)) e),
   )
 
-  inside_from : (c : ℕ → CoreState) (rs : List Record) (k : ℕ) → ((n : ℕ) → CoreGood image N n (c n) (take k rs)) → AreInside N rs k
+  pub inside_from : (c : ℕ → CoreState) (rs : List Record) (k : ℕ) → ((n : ℕ) → CoreGood image N n (c n) (take k rs)) → AreInside N rs k
   inside_from c [] k g = λ j r l e. absurd (cc)
   inside_from c (x ∷ rs) zero g = λ j r l e. absurd (omega (arith, l))
   inside_from c (x ∷ rs) (suc k) g = go (inside_from (λ n. core_step image n (c n) x) rs k (λ n. (g n).1))

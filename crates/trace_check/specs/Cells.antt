@@ -52,4 +52,10 @@ still_intact intact core reserves writes n =
 -- the cell of a block that stands so
 pub record Stands (cell : Cell) (v : BlockState) : Type 0 where
   pub content : cell.content ≡ v.content
-  pub intact : (n : ℕ) → n < 16 → has_node cell.intact n ≡ v.intact n
+  pub intact : (n : ℕ) → has_node cell.intact n ≡ v.intact n
+
+-- a cell after an access to its block
+abbrev pub IsAfter : Cell → Deed → Record → Cell → Type 0
+IsAfter old deed r new =
+    (new.content ≡ write_block deed.write old.content)
+    × ((n : ℕ) → has_node new.intact n ≡ still_intact old.intact r.core (is_lr deed.want) (is_some deed.write) n)

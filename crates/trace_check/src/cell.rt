@@ -1,9 +1,8 @@
 //! One block, as its accesses leave it.
-ghost use Rattle.std.specs.Prelude.{◌≡◌, ℕ, ◌↔◌, true, false, is_some, IsTrue};
+ghost use Rattle.std.specs.Prelude.{◌≡◌, ℕ, ◌↔◌, true, false, IsTrue};
 ghost use Rattle.sn_base.specs.Nodes.{has_node};
 ghost use Rattle.rv_core.specs.Wanted.{IsInside, IsAddress, WriteFits};
-ghost use Rattle.sn_consistency.specs.Words.{write_block};
-ghost use Rattle.trace_check.specs.Cells.{Finds, is_lr, still_intact, word_in};
+ghost use Rattle.trace_check.specs.Cells.{Finds, IsAfter, is_lr, still_intact, word_in};
 
 use crate::deed::Deed;
 use rv_core::{Record, Want};
@@ -44,8 +43,7 @@ impl Cell {
     /// What the access leaves.
     pub fn apply(&mut self, deed: &Deed, taken: &Record)
         requires { WriteFits deed.now.want taken.now.sc_done deed.now.write }
-        ensures content { self.new.content ≡ write_block deed.now.write self.old.content }
-        ensures intact { (n : ℕ) → has_node self.new.intact n ≡ still_intact self.old.intact taken.now.core (is_lr deed.now.want) (is_some deed.now.write) n }
+        ensures { IsAfter self.old deed.now taken.now self.new }
     {
         if let Some(write) = deed.write {
             let place = (write.address - 0x8000_0000) % 64;

@@ -10,6 +10,7 @@
 //! The cores are replayed in threads of their own, and then the blocks in as many parts as `block_parts` has.
 #![tactic(auto)]
 
+mod blocks;
 mod cell;
 mod core_replay;
 mod cores;

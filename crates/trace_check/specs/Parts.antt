@@ -1,0 +1,43 @@
+-- The parts into which the blocks are put: part k has the blocks whose number is k modulo 8, each in a cell of its own.
+use Rattle.std.specs.Prelude.{◌≡◌, ℕ, ◌+◌, ◌*◌, ◌/◌, ◌%◌, ◌<◌, Bool, false, ◌&&◌, nat_eq, List, length, get_or, replicate, slice_get, Some}
+use Rattle.sn_base.specs.Blocks.{ram_start}
+use Rattle.sn_base.specs.Image.{ImageData, bytes_from}
+use Rattle.rv_core.specs.declared.step.Record.{Record}
+use Rattle.rv_core.specs.declared.step.Want.{Want}
+use Rattle.rv_core.specs.Core.{block_of, is_access}
+use Rattle.rv_core.specs.Wanted.{wanted_address, IsInside, WriteFits}
+use Rattle.rv_core.specs.Flat.{flat_start}
+use Rattle.projection_places.specs.Passes.{BlockPasses}
+use Rattle.trace_check.specs.declared.deed.Deed.{Deed}
+use Rattle.trace_check.specs.declared.cell.Cell.{Cell}
+
+-- the block that it is an access to
+abbrev pub wanted_block : Want → ℕ
+wanted_block want = block_of (wanted_address want)
+
+-- whether it is an access to a block of the part
+abbrev pub is_in : ℕ → Want → Bool
+is_in part want = is_access want && nat_eq (wanted_block want % 8) part
+
+-- a deed lies in memory
+abbrev pub IsFitting : Deed → Record → Type 0
+IsFitting deed r = IsInside deed.want × WriteFits deed.want r.sc_done deed.write
+
+-- each does, of the records with which they stand
+abbrev pub AreFitting : List Record → List Deed → Type 0
+AreFitting rs did =
+    (k : ℕ) (r : Record) (deed : Deed) → slice_get rs k ≡ Some r → slice_get did k ≡ Some deed → IsFitting deed r
+
+-- a block's cell at the start: the bytes that the program gives it, and no core has an LR of it
+abbrev pub IsFirst : ImageData → ℕ → Cell → Type 0
+IsFirst image block cell =
+    (cell.content ≡ bytes_from 64 image.segments (ram_start + 64 * block)) × (cell.intact ≡ replicate 16 false)
+
+-- the first cells of a part
+pub record AreFirst (image : ImageData) (part count : ℕ) (cells : List Cell) : Type 0 where
+  pub size : length cells ≡ count
+  pub each : (j : ℕ) (d : Cell) → j < count → IsFirst image (8 * j + part) (get_or cells j d)
+
+-- each access to a block of the part, among the first k records, finds what the earlier ones leave
+abbrev pub PartPasses : ImageData → ℕ → ℕ → List Record → ℕ → Type 0
+PartPasses image N part rs k = (b : ℕ) → b % 8 ≡ part → BlockPasses image b (flat_start image N) rs k
