@@ -235,7 +235,7 @@ pick n m = go (cases_order n m)
     go (inr (inl l)) = inr (omega arith)
     go (inr (inr l)) = inr (omega arith)
 
-tested : (x : Bool) → (x ≡ true) ⊎ (x ≡ false)
+pub tested : (x : Bool) → (x ≡ true) ⊎ (x ≡ false)
 tested true = inl refl
 tested false = inr refl
 

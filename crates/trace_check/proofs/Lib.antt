@@ -2,6 +2,9 @@ pub mod MayDo
 pub mod CoreReplay
 pub mod CorePlaces
 pub mod Merged
+pub mod Joined
 pub mod Bytes
 pub mod BlockStart
 pub mod BlockReplay
+pub mod PartPlaces
+pub mod FirstRefused

@@ -2,3 +2,4 @@ pub mod Deeds
 pub mod Cells
 pub mod Slots
 pub mod Parts
+pub mod Verdict

@@ -1,15 +1,17 @@
 -- The parts into which the blocks are put: part k has the blocks whose number is k modulo 8, each in a cell of its own.
-use Rattle.std.specs.Prelude.{◌≡◌, ℕ, ◌+◌, ◌*◌, ◌/◌, ◌%◌, ◌<◌, Bool, false, ◌&&◌, nat_eq, List, length, get_or, replicate, slice_get, Some}
+use Rattle.std.specs.Prelude.{◌≡◌, ℕ, ◌+◌, ◌*◌, ◌/◌, ◌%◌, ◌<◌, Bool, false, ◌&&◌, nat_eq, List, length, get_or, replicate, slice_get, Some, Result, IfOk}
 use Rattle.sn_base.specs.Blocks.{ram_start}
 use Rattle.sn_base.specs.Image.{ImageData, bytes_from}
+use Rattle.sn_base.specs.declared.memory.Memory.{Memory}
 use Rattle.rv_core.specs.declared.step.Record.{Record}
 use Rattle.rv_core.specs.declared.step.Want.{Want}
 use Rattle.rv_core.specs.Core.{block_of, is_access}
 use Rattle.rv_core.specs.Wanted.{wanted_address, IsInside, WriteFits}
 use Rattle.rv_core.specs.Flat.{flat_start}
-use Rattle.projection_places.specs.Passes.{BlockPasses}
+use Rattle.projection_places.specs.Passes.{Passes, BlockPasses}
 use Rattle.trace_check.specs.declared.deed.Deed.{Deed}
 use Rattle.trace_check.specs.declared.cell.Cell.{Cell}
+use Rattle.trace_check.specs.Slots.{HasDeeds}
 
 -- the block that it is an access to
 abbrev pub wanted_block : Want → ℕ
@@ -41,3 +43,8 @@ pub record AreFirst (image : ImageData) (part count : ℕ) (cells : List Cell) :
 -- each access to a block of the part, among the first k records, finds what the earlier ones leave
 abbrev pub PartPasses : ImageData → ℕ → ℕ → List Record → ℕ → Type 0
 PartPasses image N part rs k = (b : ℕ) → b % 8 ≡ part → BlockPasses image b (flat_start image N) rs k
+
+-- so many records the blocks of the part pass, or memory was lacking
+abbrev pub HasPassed : ImageData → ℕ → List Record → List Deed → Result ℕ Memory → Type 0
+HasPassed image part rs did passed =
+    IfOk passed (λ p. (N : ℕ) → HasDeeds image N rs (length did) did → Passes (PartPasses image N part rs) (length did) p)

@@ -16,3 +16,7 @@ mod core_replay;
 mod cores;
 mod deed;
 mod merge;
+mod parts;
+mod verdict;
+
+pub use verdict::{CheckFault, check};
