@@ -269,9 +269,9 @@ part_start image N part rs cells f = record {
 }
 
 module _
-  (image : ImageData) (N part : ℕ) (rs : List Record) (k : ℕ) (cells : List Cell) (p : IsPartReplayed image N part rs k cells)
-  (r : Record) (e : slice_get rs k ≡ Some r) (deed : Deed)
-  (is : deed ≡ deed_of image (core_after image r.core (core_at (flat_start image N) r.core) (take k rs)) r) (fits : IsFitting deed r) where
+    (image : ImageData) (N part : ℕ) (rs : List Record) (k : ℕ) (cells : List Cell) (p : IsPartReplayed image N part rs k cells)
+    (r : Record) (e : slice_get rs k ≡ Some r) (deed : Deed)
+    (is : deed ≡ deed_of image (core_after image r.core (core_at (flat_start image N) r.core) (take k rs)) r) (fits : IsFitting deed r) where
   abbrev X : CoreState
   X = core_after image r.core (core_at (flat_start image N) r.core) (take k rs)
 

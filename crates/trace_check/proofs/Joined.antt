@@ -57,9 +57,9 @@ record Done (image : ImageData) (N n : ℕ) (rs : List Record) (slot : Slot) : T
   deeds : slot.deeds.items ≡ core_deeds image n (core_at (flat_start image N) n) (take count rs)
 
 module _
-  (image : ImageData) (N : ℕ) (rs : List Record) (slots : List Slot) (replayed : AreReplayed image N rs slots)
-  (done : (n : ℕ) (d : Slot) → n < N → is_ok (get_or slots n d).passed ≡ true)
-  (q : ℕ) (cores : Passes (CoresPass image N (flat_start image N) rs) (length rs) q) where
+    (image : ImageData) (N : ℕ) (rs : List Record) (slots : List Slot) (replayed : AreReplayed image N rs slots)
+    (done : (n : ℕ) (d : Slot) → n < N → is_ok (get_or slots n d).passed ≡ true)
+    (q : ℕ) (cores : Passes (CoresPass image N (flat_start image N) rs) (length rs) q) where
   done_in : (n : ℕ) → n < N → (slot : Slot) (core : ℕ) → core ≡ n → (passed : Result ℕ Memory) → is_ok passed ≡ true →
       IfOk passed (λ p. Passes (λ k. CoreGood image N core (start_of core image.entry) (take k rs)) (length rs) p
       × (slot.deeds.items ≡ core_deeds image core (start_of core image.entry) (take p rs))) → Done image N n rs slot

@@ -47,8 +47,7 @@ impl Cell {
     {
         if let Some(write) = deed.write {
             let place = (write.address - 0x8000_0000) % 64;
-            self.content
-                .store(place as usize, write.width, write.value);
+            self.content.store(place as usize, write.width, write.value);
         }
         self.intact = intact_after(
             self.intact,
@@ -71,16 +70,8 @@ fn is_lr(want: Want) -> bool
 fn intact_after(intact: NodeSet, core: NodeId, reserves: bool, writes: bool) -> NodeSet
     ensures { (n : ℕ) → has_node result n ≡ still_intact intact core reserves writes n }
 {
-    let kept = if writes {
-        only(intact, core)
-    } else {
-        intact
-    };
-    if reserves {
-        kept.with(core)
-    } else {
-        kept
-    }
+    let kept = if writes { only(intact, core) } else { intact };
+    if reserves { kept.with(core) } else { kept }
 }
 
 /// The set without the others.

@@ -95,7 +95,13 @@ pub fn count_inside(nodes: u8, records: &[Record]) -> usize
 }
 
 /// How many records, from the first on, all cores pass, where so many are of cores that are there.
-pub fn count_passed(image: &Image, nodes: u8, records: &[Record], slots: &[Slot], inside: usize) -> Result<usize, Memory>
+pub fn count_passed(
+    image: &Image,
+    nodes: u8,
+    records: &[Record],
+    slots: &[Slot],
+    inside: usize,
+) -> Result<usize, Memory>
     requires inside { Passes (AreInside nodes records.now) (length records.now) inside }
     requires replayed { AreReplayed image.now nodes records.now slots.now }
     ensures passed { IfOk result (λ p. Passes (CoresPass image.now nodes (flat_start image.now nodes) records.now) (length records.now) p) }

@@ -20,3 +20,6 @@ mod parts;
 mod verdict;
 
 pub use verdict::{CheckFault, check};
+
+#[cfg(test)]
+mod tests;

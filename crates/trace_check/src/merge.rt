@@ -9,7 +9,12 @@ use sn_base::Memory;
 use std::alloc::Global;
 
 /// For each of the first records the next deed of its core.
-pub fn merge(alloc: Global, slots: &[Slot], records: &[Record], count: usize) -> Result<Vec<Deed>, Memory>
+pub fn merge(
+    alloc: Global,
+    slots: &[Slot],
+    records: &[Record],
+    count: usize,
+) -> Result<Vec<Deed>, Memory>
     requires within { count ≤ length records.now }
     requires room { HasRoom slots.now records.now count }
     ensures { IfOk result (λ did. AreMerged slots.now records.now count did.items) }

@@ -57,7 +57,12 @@ fn replay_parts<T: Threads + Sync>(
 }
 
 /// The least number of all parts.
-fn least_of(image: &Image, records: &[Record], deeds: &[Deed], passed: &[Result<usize, Memory>]) -> Result<usize, Memory>
+fn least_of(
+    image: &Image,
+    records: &[Record],
+    deeds: &[Deed],
+    passed: &[Result<usize, Memory>],
+) -> Result<usize, Memory>
     requires size { length passed.now ≡ 8 }
     requires each { (part : ℕ) (d : Result ℕ Memory) → part < 8 → HasPassed image.now part records.now deeds.now (slice_index_or passed.now part d) }
     ensures { IfOk result (λ p. (nodes : ℕ) → HasDeeds image.now nodes records.now (length deeds.now) deeds.now →

@@ -47,10 +47,10 @@ pub returns-then-not-replay_access : goal.returns-then-not-replay_access
 returns-then-not-replay_access c =
     let at = (goal.at.returns-then-not-replay_access c).After-index-records-place in
     λ image N f h.
-        part_stops image N c.args.part c.args.records.now c.deeds.place c.deeds.cells (c.deeds.invariant.replayed image N f h)
-        c.index-records-place.result (record_at at) (deed_at at) (is_deed at image N h) (fitting at)
-        (length c.args.deeds.now) c.deeds-test.true inside
-        (λ d g. let t : c.replay_access.result ≡ true = (c.replay_access.ensures.finds d inside).1 g in absurd (refused t))
+    part_stops image N c.args.part c.args.records.now c.deeds.place c.deeds.cells (c.deeds.invariant.replayed image N f h)
+    c.index-records-place.result (record_at at) (deed_at at) (is_deed at image N h) (fitting at)
+    (length c.args.deeds.now) c.deeds-test.true inside
+    (λ d g. let t : c.replay_access.result ≡ true = (c.replay_access.ensures.finds d inside).1 g in absurd (refused t))
   where
     refused : c.replay_access.result ≡ true → ⊥
     refused t = let e : c.replay_access.result ≡ false = c.if-not-replay_access.true in let x : false ≡ true = sym e ∙ t in absurd (cc)

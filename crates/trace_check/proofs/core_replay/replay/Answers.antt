@@ -25,9 +25,9 @@ pub records-preserved : goal.records-preserved
 records-preserved c =
     let good = c.if-not-branch.false in
     let more = replayed_more c.args.image.now c.args.nodes c.args.core (start_of c.args.core c.args.image.now.entry) c.args.records.now
-        c.records.place c.records.state c.records.deeds.items c.records.invariant c.index-records-place.result (slice_get_read c.args.records.now (length c.args.records.now) c.records.place c.index-records-place.result refl (omega (arith, c.records-test.true)) c.index-records-place.is)
-        c.replay_record.new.state c.replay_record.new.deeds.items
-        (c.in_ok-replay_record.ensures.good.0 good) (c.in_ok-replay_record.ensures.state good) (c.in_ok-replay_record.ensures.deeds good) in
+    c.records.place c.records.state c.records.deeds.items c.records.invariant c.index-records-place.result (slice_get_read c.args.records.now (length c.args.records.now) c.records.place c.index-records-place.result refl (omega (arith, c.records-test.true)) c.index-records-place.is)
+    c.replay_record.new.state c.replay_record.new.deeds.items
+    (c.in_ok-replay_record.ensures.good.0 good) (c.in_ok-replay_record.ensures.state good) (c.in_ok-replay_record.ensures.deeds good) in
     subst (λ k. IsReplayed c.args.image.now c.args.nodes c.args.core (start_of c.args.core c.args.image.now.entry) c.args.records.now k c.replay_record.new.state c.replay_record.new.deeds.items)
     (omega arith) more
 
@@ -40,4 +40,3 @@ pub returns-clause-deeds : goal.returns-clause-deeds
 returns-clause-deeds c =
     deeds_all c.args.image.now c.args.nodes c.args.core (start_of c.args.core c.args.image.now.entry) c.args.records.now
     c.records.place c.records.state c.records.deeds.items c.records.invariant (omega (arith, c.records-test.false, c.records.auto.place-end))
-

@@ -18,17 +18,19 @@ allowed : (c : In_ok-push) → IsTrue c.may_do.result
 allowed c = c.if-not-may_do.false
 
 pub returns-then-not-may_do-clause-good : goal.returns-then-not-may_do-clause-good
-returns-then-not-may_do-clause-good c =
-    ((λ f. let g : false ≡ true = f in absurd (cc)),
-    λ h.
-        let m : c.may_do.result ≡ true = c.may_do.ensures.1 (replays_from c.args.image.now c.args.nodes c.args.state.now c.args.taken.now (h (same c))) in
-        sym c.if-not-may_do.true ∙ m)
+returns-then-not-may_do-clause-good c = (
+  (λ f. let g : false ≡ true = f in absurd (cc)),
+  λ h.
+      let m : c.may_do.result ≡ true = c.may_do.ensures.1 (replays_from c.args.image.now c.args.nodes c.args.state.now c.args.taken.now (h (same c))) in
+      sym c.if-not-may_do.true ∙ m,
+)
 
 pub returns-clause-good : goal.returns-clause-good
 returns-clause-good c =
-    let m = c.may_do.ensures.0 (allowed c) in
-    ((λ t e. replays_to c.args.image.now c.args.nodes c.args.state.now c.args.taken.now (let q = c.requires in omega (arith, e, q)) m.0 m.1),
-    λ h. refl)
+    let m = c.may_do.ensures.0 (allowed c) in (
+      (λ t e. replays_to c.args.image.now c.args.nodes c.args.state.now c.args.taken.now (let q = c.requires in omega (arith, e, q)) m.0 m.1),
+      λ h. refl,
+    )
 
 as_next : (c : In_ok-push) → c.take-deed.new.state ≡ next c.args.image.now c.args.state.now c.args.taken.now
 unfolding next

@@ -34,7 +34,6 @@ slots-preserved c =
           (subst (λ n. Passes (SoFar image c.args.nodes rs n) (length rs) (min c.slots.least c.in_ok-slots.field-0)) (omega arith) more);
       done = λ n d l. later n d l (cases_order n c.slots.place);
     }
-
   where
     later : (n : ℕ) (d : Slot) → n < c.slots.place + 1 → ((n ≡ c.slots.place) ⊎ ((n < c.slots.place) ⊎ (c.slots.place < n))) → is_ok (get_or c.args.slots.now n d).passed ≡ true
     later n d l (inl e) =
