@@ -1,5 +1,5 @@
 -- A list has at most one first record without a flat step, and an execution has none.
-use Rattle.std.proofs.Common.{◌≡◌, ℕ, zero, suc, ◌<◌, ◌≤◌, ◌⊎◌, inl, inr, List, [], ◌∷◌, take, length, refl, ap, sym, subst, ◌∙◌, arith}
+use Rattle.std.proofs.Common.{◌≡◌, ℕ, zero, suc, ◌<◌, ◌≤◌, ◌⊎◌, inl, inr, List, [], ◌∷◌, take, arith}
 use Rattle.std.proofs.lemmas.Bool.{cases_order}
 use Rattle.sn_base.specs.Image.{ImageData}
 use Rattle.rv_core.specs.declared.step.Record.{Record}

@@ -1,5 +1,5 @@
 -- From the cores' replays to what the records do.
-use Rattle.std.proofs.Common.{◌≡◌, ℕ, zero, suc, ◌+◌, ◌<◌, ◌≤◌, ◌⊎◌, inl, inr, Bool, true, false, cond, ◌==◌, is_ok, Result, Ok, Err, List, [], ◌∷◌, take, length, get_or, slice_get, Some, refl, sym, ap, subst, ◌∙◌, arith}
+use Rattle.std.proofs.Common.{◌≡◌, ℕ, zero, suc, ◌<◌, ◌≤◌, ◌⊎◌, inl, inr, Bool, true, false, cond, ◌==◌, is_ok, Result, Ok, Err, List, [], ◌∷◌, take, length, get_or, slice_get, Some, refl, sym, ap, subst, ◌∙◌, arith}
 use Rattle.std.specs.Prelude.{IfOk}
 use Rattle.std.proofs.lemmas.Bool.Decides.{nat_tests}
 use Rattle.std.proofs.lemmas.Bool.{cases_order}
@@ -9,7 +9,6 @@ use Rattle.sn_base.specs.declared.memory.Memory.{Memory}
 use Rattle.rv_core.specs.declared.state.CoreState.{CoreState}
 use Rattle.rv_core.specs.declared.step.Record.{Record}
 use Rattle.rv_core.specs.Core.{start_of}
-use Rattle.rv_core.specs.Step.{want_of, next_of}
 use Rattle.rv_core.specs.Flat.{flat_start, core_at}
 use Rattle.rv_core.proofs.CoreLaws.{want_inside, write_fits}
 use Rattle.sn_consistency.specs.Words.{next}
@@ -22,7 +21,7 @@ use Rattle.trace_check.specs.Verdict.{IsDone}
 use Rattle.trace_check.specs.declared.deed.Deed.{Deed}
 use Rattle.trace_check.specs.declared.cores.Slot.{Slot}
 use Rattle.trace_check.specs.Deeds.{deed_of, core_deeds}
-use Rattle.trace_check.specs.Slots.{HasReplayed, AreReplayed, AreInside, HasRoom, AreMerged, HasDeeds, own_before}
+use Rattle.trace_check.specs.Slots.{AreReplayed, AreInside, HasRoom, AreMerged, HasDeeds, own_before}
 use Rattle.trace_check.specs.Parts.{AreFitting, IsFitting}
 use Rattle.trace_check.proofs.CorePlaces.{core_of, inside_from}
 

@@ -4,6 +4,7 @@ pub mod CorePlaces
 pub mod Merged
 pub mod Joined
 pub mod Bytes
+pub mod Given
 pub mod BlockStart
 pub mod BlockReplay
 pub mod PartPlaces

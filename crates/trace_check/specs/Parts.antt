@@ -1,5 +1,5 @@
--- The parts into which the blocks are put: part k has the blocks whose number is k modulo 8, each in a cell of its own.
-use Rattle.std.specs.Prelude.{◌≡◌, ℕ, ◌+◌, ◌*◌, ◌/◌, ◌%◌, ◌<◌, Bool, false, ◌&&◌, nat_eq, List, length, get_or, replicate, slice_get, Some, Result, IfOk}
+-- The parts into which the blocks are put: part k has the blocks whose number is k modulo 4, each in a cell of its own.
+use Rattle.std.specs.Prelude.{◌≡◌, ℕ, ◌+◌, ◌*◌, ◌%◌, ◌<◌, Bool, false, ◌&&◌, nat_eq, List, length, get_or, replicate, slice_get, Some, Result, IfOk}
 use Rattle.sn_base.specs.Blocks.{ram_start}
 use Rattle.sn_base.specs.Image.{ImageData, bytes_from}
 use Rattle.sn_base.specs.declared.memory.Memory.{Memory}
@@ -19,7 +19,7 @@ wanted_block want = block_of (wanted_address want)
 
 -- whether it is an access to a block of the part
 abbrev pub is_in : ℕ → Want → Bool
-is_in part want = is_access want && nat_eq (wanted_block want % 8) part
+is_in part want = is_access want && nat_eq (wanted_block want % 4) part
 
 -- a deed lies in memory
 abbrev pub IsFitting : Deed → Record → Type 0
@@ -38,11 +38,11 @@ IsFirst image block cell =
 -- the first cells of a part
 pub record AreFirst (image : ImageData) (part count : ℕ) (cells : List Cell) : Type 0 where
   pub size : length cells ≡ count
-  pub each : (j : ℕ) (d : Cell) → j < count → IsFirst image (8 * j + part) (get_or cells j d)
+  pub each : (j : ℕ) (d : Cell) → j < count → IsFirst image (4 * j + part) (get_or cells j d)
 
 -- each access to a block of the part, among the first k records, finds what the earlier ones leave
 abbrev pub PartPasses : ImageData → ℕ → ℕ → List Record → ℕ → Type 0
-PartPasses image N part rs k = (b : ℕ) → b % 8 ≡ part → BlockPasses image b (flat_start image N) rs k
+PartPasses image N part rs k = (b : ℕ) → b % 4 ≡ part → BlockPasses image b (flat_start image N) rs k
 
 -- so many records the blocks of the part pass, or memory was lacking
 abbrev pub HasPassed : ImageData → ℕ → List Record → List Deed → Result ℕ Memory → Type 0

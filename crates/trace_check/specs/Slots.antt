@@ -1,5 +1,5 @@
 -- The slots of the cores, and what is in them.
-use Rattle.std.specs.Prelude.{◌≡◌, ℕ, ◌<◌, ◌≤◌, List, [], length, take, IfOk, get_or, slice_get, Some}
+use Rattle.std.specs.Prelude.{◌≡◌, ℕ, ◌<◌, List, [], length, take, IfOk, get_or, slice_get, Some}
 use Rattle.sn_base.specs.Image.{ImageData}
 use Rattle.rv_core.specs.declared.step.Record.{Record}
 use Rattle.rv_core.specs.Core.{start_of}

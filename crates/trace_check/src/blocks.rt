@@ -1,7 +1,7 @@
 //! The accesses to the blocks of one part, replayed by themselves.
-ghost use Rattle.std.specs.Prelude.{◌≡◌, ◌≢◌, ℕ, ◌+◌, ◌*◌, ◌/◌, ◌<◌, ◌≤◌, ◌^◌, ◌↔◌, true, false, length, slice_index_or, IfOk, IfSome, IsSome, IsTrue};
+ghost use Rattle.std.specs.Prelude.{◌≡◌, ◌≢◌, ℕ, ◌+◌, ◌*◌, ◌/◌, ◌<◌, ◌≤◌, ◌^◌, ◌↔◌, true, false, length, replicate, slice_index_or, IfOk, IfSome, IsSome, IsTrue};
 ghost use Rattle.sn_base.specs.Blocks.{ram_start};
-ghost use Rattle.sn_base.specs.Image.{ImageData, bytes_from};
+ghost use Rattle.sn_base.specs.Image.{ImageData, bytes_from, covers};
 ghost use Rattle.rv_core.specs.Core.{is_access};
 ghost use Rattle.rv_core.specs.Wanted.{wanted_address, IsInside};
 ghost use Rattle.projection_places.specs.Passes.{Passes};
@@ -12,7 +12,7 @@ ghost use Rattle.trace_check.specs.Slots.{HasDeeds};
 use crate::cell::Cell;
 use crate::deed::Deed;
 use rv_core::{Record, Want};
-use sn_base::{Block, BlockNo, Image, Memory, NodeSet, Width};
+use sn_base::{Block, BlockNo, Image, Memory, NodeSet, Segment, Width};
 use std::alloc::Global;
 
 /// How many records, from the first on, the blocks of the part pass, where `deeds` are what the records do.
@@ -23,7 +23,7 @@ pub fn replay_part(
     records: &[Record],
     deeds: &[Deed],
 ) -> Result<usize, Memory>
-    requires part { part < 8 }
+    requires part { part < 4 }
     requires within { length deeds.now ≤ length records.now }
     requires fits { AreFitting records.now deeds.now }
     ensures { IfOk result (λ p. (nodes : ℕ) → HasDeeds image.now nodes records.now (length deeds.now) deeds.now →
@@ -35,11 +35,11 @@ pub fn replay_part(
 
 /// The same in cells that are there.
 fn replay_deeds(part: u16, records: &[Record], deeds: &[Deed], cells: &mut [Cell]) -> usize
-    requires part { part < 8 }
+    requires part { part < 4 }
     requires within { length deeds.now ≤ length records.now }
     requires fits { AreFitting records.now deeds.now }
-    requires cells { length cells.old ≡ 8192 }
-    ensures { (image : ImageData) (nodes : ℕ) → AreFirst image part 8192 cells.old → HasDeeds image nodes records.now (length deeds.now) deeds.now →
+    requires cells { length cells.old ≡ 16384 }
+    ensures { (image : ImageData) (nodes : ℕ) → AreFirst image part 16384 cells.old → HasDeeds image nodes records.now (length deeds.now) deeds.now →
         Passes (PartPasses image nodes part records.now) (length deeds.now) result }
 {
     'deeds: for place in 0..deeds.len() {
@@ -54,14 +54,14 @@ fn replay_deeds(part: u16, records: &[Record], deeds: &[Deed], cells: &mut [Cell
 
 /// Whether an access finds what the earlier ones left, where its block is of this part. If so, it is done.
 fn replay_access(part: u16, cells: &mut [Cell], deed: &Deed, taken: &Record) -> bool
-    requires cells { length cells.old ≡ 8192 }
+    requires cells { length cells.old ≡ 16384 }
     requires fits { IsFitting deed.now taken.now }
     ensures size { length cells.new ≡ length cells.old }
     ensures away { is_in part deed.now.want ≡ false → (result ≡ true) × (cells.new ≡ cells.old) }
-    ensures finds { (d : Cell) → is_in part deed.now.want ≡ true → IsTrue result ↔ Finds (slice_index_or cells.old (wanted_block deed.now.want / 8) d) deed.now.want taken.now }
+    ensures finds { (d : Cell) → is_in part deed.now.want ≡ true → IsTrue result ↔ Finds (slice_index_or cells.old (wanted_block deed.now.want / 4) d) deed.now.want taken.now }
     ensures after { (d : Cell) → is_in part deed.now.want ≡ true → result ≡ true →
-        IsAfter (slice_index_or cells.old (wanted_block deed.now.want / 8) d) deed.now taken.now (slice_index_or cells.new (wanted_block deed.now.want / 8) d) }
-    ensures others { (j : ℕ) (d : Cell) → j ≢ wanted_block deed.now.want / 8 → slice_index_or cells.new j d ≡ slice_index_or cells.old j d }
+        IsAfter (slice_index_or cells.old (wanted_block deed.now.want / 4) d) deed.now taken.now (slice_index_or cells.new (wanted_block deed.now.want / 4) d) }
+    ensures others { (j : ℕ) (d : Cell) → j ≢ wanted_block deed.now.want / 4 → slice_index_or cells.new j d ≡ slice_index_or cells.old j d }
 {
     match place_in(part, deed.want) {
         None => true,
@@ -85,13 +85,13 @@ fn replay_cell(cell: &mut Cell, deed: &Deed, taken: &Record) -> bool
 fn place_in(part: u16, want: Want) -> Option<usize>
     requires { IsInside want }
     ensures some { IsSome result ↔ (is_in part want ≡ true) }
-    ensures place { IfSome result (λ place. (place ≡ wanted_block want / 8) × (place < 8192)) }
+    ensures place { IfSome result (λ place. (place ≡ wanted_block want / 4) × (place < 16384)) }
 {
     let block = block_in(want)?.number();
-    if block % 8 != part {
+    if block % 4 != part {
         return None;
     }
-    Some(usize::from(block / 8))
+    Some(usize::from(block / 4))
 }
 
 /// The block that is accessed.
@@ -112,12 +112,12 @@ fn block_in(want: Want) -> Option<BlockNo>
 
 /// The cells of a part at the start.
 fn first_cells(alloc: Global, image: &Image, part: u16) -> Result<Vec<Cell>, Memory>
-    requires { part < 8 }
-    ensures { IfOk result (λ cells. AreFirst image.now part 8192 cells.items) }
+    requires { part < 4 }
+    ensures { IfOk result (λ cells. AreFirst image.now part 16384 cells.items) }
 {
-    let mut cells = Vec::with_capacity(alloc, 8192)?;
-    'places: for place in 0..8192u16 {
-        cells.push(first_cell(image, BlockNo::new(8 * place + part)))?;
+    let mut cells = Vec::with_capacity(alloc, 16384)?;
+    'places: for place in 0..16384u16 {
+        cells.push(first_cell(image, BlockNo::new(4 * place + part)))?;
     }
     Ok(cells)
 }
@@ -133,6 +133,38 @@ fn first_cell(image: &Image, block: BlockNo) -> Cell
 
 /// The bytes that a program gives a block.
 fn first_content(image: &Image, block: BlockNo) -> Block
+    ensures { result ≡ bytes_from 64 image.now.segments (ram_start + 64 * block) }
+{
+    if is_given_none(image, block) {
+        return Block::zero();
+    }
+    given_content(image, block)
+}
+
+/// Whether no segment has an address of the block: then its bytes are 0.
+fn is_given_none(image: &Image, block: BlockNo) -> bool
+    ensures { result ≡ true → bytes_from 64 image.now.segments (ram_start + 64 * block) ≡ replicate 64 0 }
+{
+    let start = 0x8000_0000 + 64 * u64::from(block.number());
+    'segments: for segment in image.segments() {
+        if reaches(segment, start) {
+            return false;
+        }
+    }
+    true
+}
+
+/// Whether the segment has one of the 64 addresses.
+fn reaches(segment: &Segment, start: u64) -> bool
+    requires { start < 2 ^ 32 }
+    ensures { result ≡ false → (a : ℕ) → start ≤ a → a < start + 64 → covers segment.now a ≡ false }
+{
+    let first = u64::from(segment.start);
+    first < start + 64 && start < first + u64::from(segment.size)
+}
+
+/// The same byte by byte.
+fn given_content(image: &Image, block: BlockNo) -> Block
     ensures { result ≡ bytes_from 64 image.now.segments (ram_start + 64 * block) }
 {
     let start = 0x8000_0000 + 64 * u32::from(block.number());

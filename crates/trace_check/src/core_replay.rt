@@ -1,5 +1,5 @@
 //! One core's records, replayed by themselves.
-ghost use Rattle.std.specs.Prelude.{◌≡◌, ℕ, ◌<◌, ◌↔◌, ◌++◌, [], ◌∷◌, true, false, is_some, length, take, IfOk, IsTrue};
+ghost use Rattle.std.specs.Prelude.{◌≡◌, ℕ, ◌<◌, ◌↔◌, ◌++◌, [], ◌∷◌, true, false, is_some, length, take, IfOk, IfSome, IsSome, IsTrue};
 ghost use Rattle.rv_core.specs.Core.{start_of, is_running, is_input, holds_reservation};
 ghost use Rattle.rv_core.specs.Step.{want_of, next_of};
 ghost use Rattle.rv_core.specs.Wanted.{IsInside};
@@ -51,19 +51,27 @@ fn replay_record(
     if taken.core != core {
         return Ok(true);
     }
-    if !may_do(image, state, taken) {
+    let Some(want) = may_do(image, state, taken) else {
         return Ok(false);
-    }
-    let deed = take(image, state, taken);
+    };
+    let deed = take(image, state, want, taken);
     deeds.push(deed)?;
     Ok(true)
 }
 
-/// Whether the core may have done the record by itself.
-fn may_do(image: &Image, state: &CoreState, taken: &Record) -> bool
-    ensures { IsTrue result ↔ ((is_running state.now.end ≡ true) × MayDo state.now (want_of image.now state.now) taken.now) }
+/// What the core wants, where it may have done the record by itself.
+fn may_do(image: &Image, state: &CoreState, taken: &Record) -> Option<Want>
+    ensures some { IsSome result ↔ ((is_running state.now.end ≡ true) × MayDo state.now (want_of image.now state.now) taken.now) }
+    ensures want { IfSome result (λ want. want ≡ want_of image.now state.now) }
 {
-    state.end == End::Running && agrees(state, state.want(image), taken)
+    if state.end != End::Running {
+        return None;
+    }
+    let want = state.want(image);
+    if !agrees(state, want, taken) {
+        return None;
+    }
+    Some(want)
 }
 
 fn agrees(state: &CoreState, want: Want, taken: &Record) -> bool
@@ -98,13 +106,13 @@ fn holds(state: &CoreState, want: Want) -> bool
 }
 
 /// Does the record's step.
-fn take(image: &Image, state: &mut CoreState, taken: &Record) -> Deed
+fn take(image: &Image, state: &mut CoreState, want: Want, taken: &Record) -> Deed
+    requires want { want ≡ want_of image.now state.old }
     requires running { is_running state.old.end ≡ true }
     requires may { MayDo state.old (want_of image.now state.old) taken.now }
     ensures deed { result ≡ deed_of image.now state.old taken.now }
     ensures state { state.new ≡ (next_of image.now state.old taken.now.seen taken.now.sc_done taken.now.read).core }
 {
-    let want = state.want(image);
     let effect = state.finish(image, taken.seen, taken.sc_done, taken.read);
     Deed {
         want,

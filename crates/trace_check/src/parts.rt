@@ -27,7 +27,7 @@ pub fn replay_blocks<T: Threads + Sync>(
     ensures { IfOk result (λ p. (nodes : ℕ) → HasDeeds image.now nodes records.now (length deeds.now) deeds.now →
         Passes (BlocksPass image.now (flat_start image.now nodes) records.now) (length deeds.now) p) }
 {
-    let mut passed: [Result<usize, Memory>; 8] = [Ok(0); 8];
+    let mut passed: [Result<usize, Memory>; 4] = [Ok(0); 4];
     replay_parts(rt, alloc, image, records, deeds, &mut passed[..]);
     least_of(image, records, deeds, &passed[..])
 }
@@ -40,17 +40,17 @@ fn replay_parts<T: Threads + Sync>(
     deeds: &[Deed],
     passed: &mut [Result<usize, Memory>],
 )
-    requires size { length passed.old ≡ 8 }
+    requires size { length passed.old ≡ 4 }
     requires within { length deeds.now ≤ length records.now }
     requires fits { AreFitting records.now deeds.now }
-    ensures size { length passed.new ≡ 8 }
-    ensures each { (part : ℕ) (d : Result ℕ Memory) → part < 8 → HasPassed image.now part records.now deeds.now (slice_index_or passed.new part d) }
+    ensures size { length passed.new ≡ 4 }
+    ensures each { (part : ℕ) (d : Result ℕ Memory) → part < 4 → HasPassed image.now part records.now deeds.now (slice_index_or passed.new part d) }
 {
     par_for_each_mut(
         rt,
         passed,
         |part: usize, passed: &mut Result<usize, Memory>|
-            requires { (part < 8) × (length deeds.now ≤ length records.now) × AreFitting records.now deeds.now }
+            requires { (part < 4) × (length deeds.now ≤ length records.now) × AreFitting records.now deeds.now }
             ensures { HasPassed image.entry.now part records.entry.now deeds.entry.now passed.new }
         { *passed = replay_part(alloc, image, part as u16, records, deeds) },
     );
@@ -63,8 +63,8 @@ fn least_of(
     deeds: &[Deed],
     passed: &[Result<usize, Memory>],
 ) -> Result<usize, Memory>
-    requires size { length passed.now ≡ 8 }
-    requires each { (part : ℕ) (d : Result ℕ Memory) → part < 8 → HasPassed image.now part records.now deeds.now (slice_index_or passed.now part d) }
+    requires size { length passed.now ≡ 4 }
+    requires each { (part : ℕ) (d : Result ℕ Memory) → part < 4 → HasPassed image.now part records.now deeds.now (slice_index_or passed.now part d) }
     ensures { IfOk result (λ p. (nodes : ℕ) → HasDeeds image.now nodes records.now (length deeds.now) deeds.now →
         Passes (BlocksPass image.now (flat_start image.now nodes) records.now) (length deeds.now) p) }
 {

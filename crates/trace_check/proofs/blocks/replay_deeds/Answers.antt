@@ -1,14 +1,12 @@
-use Rattle.std.proofs.Common.{◌≡◌, ◌+◌, ◌/◌, ℕ, suc, ◌<◌, ◌⊎◌, inl, inr, true, false, List, length, get_or, slice_get, take, None, Some, sym, subst, refl, ap, ◌∙◌, arith}
+use Rattle.std.proofs.Common.{◌≡◌, ℕ, ◌⊎◌, inl, inr, true, false, length, get_or, slice_get, take, None, Some, sym, subst, refl, ◌∙◌, arith}
 use Rattle.std.proofs.lemmas.Option.{slice_get_read, slice_get-get_or}
 use Rattle.sn_base.specs.Image.{ImageData}
 use Rattle.rv_core.specs.declared.step.Want.TheVariants.{Nothing}
 use Rattle.rv_core.specs.Flat.{flat_start, core_at}
 use Rattle.sn_consistency.specs.Projections.{core_after}
 use Rattle.trace_check.specs.declared.deed.Deed.{Deed}
-use Rattle.trace_check.specs.declared.cell.Cell.{Cell}
 use Rattle.trace_check.specs.Deeds.{deed_of}
-use Rattle.trace_check.specs.Cells.{Finds}
-use Rattle.trace_check.specs.Parts.{AreFirst, IsFitting, is_in, wanted_block}
+use Rattle.trace_check.specs.Parts.{IsFitting, is_in}
 use Rattle.trace_check.specs.Slots.{HasDeeds}
 use Rattle.trace_check.proofs.BlockReplay.{IsPartReplayed, part_start, part_more, part_stops, part_all, tested}
 use Rattle.trace_check.proofs.blocks.replay_deeds.Goals as goal

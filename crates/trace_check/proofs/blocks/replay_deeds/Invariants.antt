@@ -8,7 +8,7 @@ use Rattle.trace_check.proofs.blocks.replay_deeds.Given as goal
 -- the blocks of the part, as the accesses so far leave them
 abbrev pub invariant-deeds : goal.invariant-deeds
 invariant-deeds l = record {
-  size : length l.cells ≡ 8192;
-  replayed : (image : ImageData) (N : ℕ) → AreFirst image l.part 8192 l.initial.cells → HasDeeds image N l.records (length l.deeds) l.deeds →
+  size : length l.cells ≡ 16384;
+  replayed : (image : ImageData) (N : ℕ) → AreFirst image l.part 16384 l.initial.cells → HasDeeds image N l.records (length l.deeds) l.deeds →
       IsPartReplayed image N l.part l.records l.place l.cells;
 }

@@ -1,4 +1,4 @@
-use Rattle.std.proofs.Common.{◌≡◌, ◌+◌, suc, true, false, ◌∙◌, sym, subst, refl, arith, ◌<◌, length, [], ◌∷◌}
+use Rattle.std.proofs.Common.{◌≡◌, true, false, ◌∙◌, subst, refl, arith, length}
 use Rattle.std.proofs.lemmas.Option.{slice_get_read}
 use Rattle.rv_core.specs.Core.{start_of}
 use Rattle.sn_consistency.specs.Projections.{Replays}

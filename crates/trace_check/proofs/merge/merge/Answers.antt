@@ -1,5 +1,5 @@
-use Rattle.std.proofs.Common.{◌≡◌, ◌≢◌, ◌+◌, ◌++◌, ◌∷◌, [], ℕ, suc, ◌<◌, ◌==◌, Bool, true, false, cond, length, get_or, slice_get, Some, List, set, ◌⊎◌, inl, inr, sym, subst, refl, ap, ◌∙◌, arith, rules}
-use Rattle.std.proofs.lemmas.Option.{slice_get_read, slice_get-get_or}
+use Rattle.std.proofs.Common.{◌≡◌, ◌≢◌, ◌+◌, ◌++◌, ◌∷◌, [], ℕ, suc, ◌<◌, ◌==◌, true, false, cond, length, get_or, slice_get, Some, set, ◌⊎◌, inl, inr, sym, subst, refl, ap, ◌∙◌, arith}
+use Rattle.std.proofs.lemmas.Option.{slice_get_read}
 use Rattle.std.proofs.lemmas.Bool.Decides.{nat_tests}
 use Rattle.std.proofs.lemmas.Bool.{cases_order}
 use Rattle.trace_check.specs.declared.cores.Slot.{Slot}

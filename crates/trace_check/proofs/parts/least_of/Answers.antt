@@ -1,5 +1,4 @@
-use Rattle.std.proofs.Common.{◌≡◌, ◌+◌, ◌<◌, ℕ, suc, length, get_or, min, Ok, Result, sym, subst, refl, ap, ◌∙◌, arith}
-use Rattle.sn_base.specs.declared.memory.Memory.{Memory}
+use Rattle.std.proofs.Common.{◌+◌, ◌<◌, length, min, Ok, sym, subst, arith}
 use Rattle.projection_places.specs.Passes.{Passes}
 use Rattle.trace_check.specs.Parts.{HasPassed}
 use Rattle.trace_check.proofs.PartPlaces.{PartsBelow, parts_none, parts_more, parts_all}
@@ -10,7 +9,7 @@ parts-init c = λ N h. parts_none c.args.image.now N c.args.records.now (length 
 
 pub parts-preserved : goal.parts-preserved
 parts-preserved c = λ N h.
-    let inside : c.parts.part < 8 = let s = c.requires.size in omega (arith, s, c.parts-test.true) in
+    let inside : c.parts.part < 4 = let s = c.requires.size in omega (arith, s, c.parts-test.true) in
     let at = subst (HasPassed c.args.image.now c.parts.part c.args.records.now c.args.deeds.now) c.in_ok-passed.was (c.requires.each c.parts.part (Ok 0) inside) in
     let more = parts_more c.args.image.now N c.args.records.now (length c.args.deeds.now) c.parts.part c.parts.least c.in_ok-passed.field-0 (c.parts.invariant N h) (at N h) in
     subst (Passes (PartsBelow c.args.image.now N c.args.records.now (c.parts.part + 1)) (length c.args.deeds.now)) (sym c.min-least.ensures)

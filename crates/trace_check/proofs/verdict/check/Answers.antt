@@ -1,8 +1,6 @@
-use Rattle.std.proofs.Common.{◌≡◌, ◌≢◌, ◌+◌, ◌<◌, ℕ, length, true, false, Ok, Err, Result, refl, sym, subst, ap, ◌∙◌, arith}
-use Rattle.std.proofs.lemmas.Bool.Decides.{nat_tests}
+use Rattle.std.proofs.Common.{◌≡◌, ◌+◌, Err, subst, ap, arith}
 use Rattle.rv_core.specs.Flat.{flat_start}
 use Rattle.sn_consistency.specs.Projections.{FirstWithoutStep}
-use Rattle.trace_check.specs.declared.verdict.CheckFault.{CheckFault}
 use Rattle.trace_check.specs.declared.verdict.CheckFault.TheVariants.{NotLegal}
 use Rattle.trace_check.proofs.FirstRefused.{none_first, one_first}
 use Rattle.trace_check.proofs.verdict.check.Goals as goal

@@ -1,8 +1,7 @@
-use Rattle.std.proofs.Common.{◌≡◌, ◌<◌, ◌≤◌, ℕ, List, length, sym, subst, ap, ◌∙◌, arith}
+use Rattle.std.proofs.Common.{ℕ, length, sym, subst}
 use Rattle.rv_core.specs.Flat.{flat_start}
 use Rattle.projection_places.specs.Passes.{Passes, BlocksPass}
 use Rattle.trace_check.specs.Slots.{AreMerged, HasDeeds}
-use Rattle.trace_check.specs.Parts.{AreFitting}
 use Rattle.trace_check.specs.Verdict.{IsDone}
 use Rattle.trace_check.proofs.Joined.{has_room, has_deeds, are_fitting, if_ok, is_done}
 use Rattle.trace_check.proofs.verdict.count_in_slots.Goals as goal

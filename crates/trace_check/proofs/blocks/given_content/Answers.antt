@@ -2,7 +2,7 @@ use Rattle.std.proofs.Common.{◌≡◌, ◌+◌, ◌*◌, ◌%◌, ◌<◌, [],
 use Rattle.sn_base.specs.Blocks.{stored_in}
 use Rattle.sn_base.specs.Image.{byte_at, bytes_from}
 use Rattle.trace_check.proofs.Bytes.{bytes_more, stored_more, whole_stored}
-use Rattle.trace_check.proofs.blocks.first_content.Goals as goal
+use Rattle.trace_check.proofs.blocks.given_content.Goals as goal
 
 -- one byte more is there
 pub bytes-preserved : goal.bytes-preserved
