@@ -1,5 +1,5 @@
 -- What a projection passes of a list it passes of each beginning of it, and two projections together pass the lesser number.
-use Rattle.std.proofs.Common.{◌≡◌, ℕ, zero, suc, ◌<◌, ◌≤◌, ◌⊎◌, inl, inr, List, [], ◌∷◌, take, min, arith, sym, subst}
+use Rattle.std.proofs.Common.{◌≡◌, ℕ, zero, suc, ◌<◌, ◌≤◌, ◌⊎◌, inl, inr, List, [], ◌∷◌, take, min, arith, subst}
 use Rattle.std.proofs.lemmas.Bool.{cases_order}
 use Rattle.sn_base.specs.Image.{ImageData}
 use Rattle.rv_core.specs.declared.state.CoreState.{CoreState}

@@ -1,12 +1,12 @@
 -- The least number of all is that of the records that the flat machine does.
-use Rattle.std.proofs.Common.{◌≡◌, ℕ, zero, suc, ◌<◌, ◌≤◌, ◌⊎◌, inl, inr, List, [], ◌∷◌, take, length, arith, refl, ap, sym, subst}
+use Rattle.std.proofs.Common.{◌≡◌, ℕ, zero, suc, ◌<◌, ◌⊎◌, inl, inr, List, [], ◌∷◌, take, length, arith, refl, ap, subst}
 use Rattle.std.proofs.lemmas.Bool.{cases_order}
 use Rattle.sn_base.specs.Image.{ImageData}
 use Rattle.rv_core.specs.declared.step.Record.{Record}
 use Rattle.rv_core.specs.Flat.{FlatState, core_at}
 use Rattle.rv_core.specs.Execution.{Executes}
 use Rattle.sn_consistency.specs.Shows.{Shows, places_of}
-use Rattle.sn_consistency.specs.Projections.{AllGood, FirstWithoutStep, LeastFailing}
+use Rattle.sn_consistency.specs.Projections.{AllGood, FirstWithoutStep}
 use Rattle.sn_consistency.proofs.ProjectionLaw.{law_from}
 use Rattle.sn_consistency.proofs.Places.{least_from}
 use Rattle.projection_places.specs.Passes.{Passes, CoresPass, BlocksPass}

@@ -7,7 +7,7 @@
 //! the earlier writes left, and no other core's write lies between a done SC and its core's last LR. That this judges
 //! the whole is the law of projections (sn_consistency, projection_places).
 //!
-//! The cores are replayed in threads of their own, and then the blocks in as many parts as `block_parts` has.
+//! The cores are replayed in threads of their own, and then the blocks in four parts, each with every fourth block.
 #![tactic(auto)]
 
 mod blocks;
