@@ -18,10 +18,9 @@ use Rattle.projection_places.proofs.Fronts.{core_fewer}
 use Rattle.projection_places.proofs.Least.{all_done, first_refused}
 use Rattle.sn_consistency.proofs.Start.{start_shows}
 use Rattle.trace_check.specs.Verdict.{IsDone}
-use Rattle.trace_check.specs.declared.deed.Deed.{Deed}
 use Rattle.trace_check.specs.declared.cores.Slot.{Slot}
 use Rattle.trace_check.specs.Deeds.{deed_of, core_deeds}
-use Rattle.trace_check.specs.Slots.{AreReplayed, AreInside, HasRoom, AreMerged, HasDeeds, own_before}
+use Rattle.trace_check.specs.Slots.{AreReplayed, AreInside, HasRoom, HasDeeds, own_before}
 use Rattle.trace_check.specs.Parts.{AreFitting, IsFitting}
 use Rattle.trace_check.proofs.CorePlaces.{core_of, inside_from}
 
@@ -43,12 +42,6 @@ core_deed_at image n c (x ∷ rs) (suc m) (suc k) r l e i = go (n == x.core) (λ
         ≡ Some (deed_of image (core_after image n (cond q (next image c x) c) (take k rs)) r)
     go true h = h (next image c x)
     go false h = h c
-
--- an element that is there
-item : {A : Type 0} (xs : List A) (n : ℕ) → n < length xs → A
-item [] n l = absurd (omega (arith, l))
-item (x ∷ xs) zero l = x
-item (x ∷ xs) (suc n) l = item xs n (omega (arith, l))
 
 record Done (image : ImageData) (N n : ℕ) (rs : List Record) (slot : Slot) : Type 0 where
   count : ℕ
@@ -101,22 +94,12 @@ module _
     room = λ k r d l e. slice_get_within (get_or slots r.core d).deeds.items (own_before rs r.core k) _ (deed_there k r l e d);
   }
 
-  pub has_deeds : (did : List Deed) → AreMerged slots rs q did → HasDeeds image N rs q did
-  has_deeds did m = record {
-    size = m.size;
-    each = λ k r l e.
-        let h = inside k r l e in
-        let c = replayed.count in
-        let d = item slots r.core (omega (arith, h, c)) in
-        m.each k r d l e ∙ deed_there k r l e d;
-  }
+  pub has_deeds : HasDeeds image N rs q slots
+  has_deeds = λ k r d l e. deed_there k r l e d
 
-  pub are_fitting : (did : List Deed) → AreMerged slots rs q did → AreFitting rs did
-  are_fitting did m = λ k r deed e f.
-      let h = has_deeds did m in
-      let s = h.size in
-      let l : k < q = let b = slice_get_within did k deed f in omega (arith, b, s) in
-      let a = h.each k r l e in
+  pub are_fitting : AreFitting rs q slots
+  are_fitting = λ k r d deed l e f.
+      let a = deed_there k r l e d in
       let c = core_after image r.core (core_at (flat_start image N) r.core) (take k rs) in
       let i : deed ≡ deed_of image c r = cc in
       subst (λ x. IsFitting x r) (sym i) (want_inside image c, write_fits image c r.seen r.sc_done r.read)

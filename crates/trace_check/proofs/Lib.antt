@@ -1,7 +1,7 @@
 pub mod MayDo
 pub mod CoreReplay
 pub mod CorePlaces
-pub mod Merged
+pub mod OwnBefore
 pub mod Joined
 pub mod Bytes
 pub mod Given

@@ -11,7 +11,8 @@ use Rattle.rv_core.specs.Flat.{flat_start}
 use Rattle.projection_places.specs.Passes.{Passes, BlockPasses}
 use Rattle.trace_check.specs.declared.deed.Deed.{Deed}
 use Rattle.trace_check.specs.declared.cell.Cell.{Cell}
-use Rattle.trace_check.specs.Slots.{HasDeeds}
+use Rattle.trace_check.specs.declared.cores.Slot.{Slot}
+use Rattle.trace_check.specs.Slots.{HasDeeds, own_before}
 
 -- the block that it is an access to
 abbrev pub wanted_block : Want → ℕ
@@ -25,10 +26,11 @@ is_in part want = is_access want && nat_eq (wanted_block want % 4) part
 abbrev pub IsFitting : Deed → Record → Type 0
 IsFitting deed r = IsInside deed.want × WriteFits deed.want r.sc_done deed.write
 
--- each does, of the records with which they stand
-abbrev pub AreFitting : List Record → List Deed → Type 0
-AreFitting rs did =
-    (k : ℕ) (r : Record) (deed : Deed) → slice_get rs k ≡ Some r → slice_get did k ≡ Some deed → IsFitting deed r
+-- each does that the slots have for the first records
+abbrev pub AreFitting : List Record → ℕ → List Slot → Type 0
+AreFitting rs count slots =
+    (k : ℕ) (r : Record) (d : Slot) (deed : Deed) → k < count → slice_get rs k ≡ Some r →
+    slice_get (get_or slots r.core d).deeds.items (own_before rs r.core k) ≡ Some deed → IsFitting deed r
 
 -- a block's cell at the start: the bytes that the program gives it, and no core has an LR of it
 abbrev pub IsFirst : ImageData → ℕ → Cell → Type 0
@@ -45,6 +47,6 @@ abbrev pub PartPasses : ImageData → ℕ → ℕ → List Record → ℕ → Ty
 PartPasses image N part rs k = (b : ℕ) → b % 4 ≡ part → BlockPasses image b (flat_start image N) rs k
 
 -- so many records the blocks of the part pass, or memory was lacking
-abbrev pub HasPassed : ImageData → ℕ → List Record → List Deed → Result ℕ Memory → Type 0
-HasPassed image part rs did passed =
-    IfOk passed (λ p. (N : ℕ) → HasDeeds image N rs (length did) did → Passes (PartPasses image N part rs) (length did) p)
+abbrev pub HasPassed : ImageData → ℕ → List Record → ℕ → List Slot → Result ℕ Memory → Type 0
+HasPassed image part rs count slots passed =
+    IfOk passed (λ p. (N : ℕ) → HasDeeds image N rs count slots → Passes (PartPasses image N part rs) count p)

@@ -6,7 +6,6 @@ use Rattle.rv_core.specs.Core.{start_of}
 use Rattle.rv_core.specs.Flat.{flat_start, core_at}
 use Rattle.sn_consistency.specs.Projections.{CoreGood, records_of, core_after}
 use Rattle.projection_places.specs.Passes.{Passes, CorePasses}
-use Rattle.trace_check.specs.declared.deed.Deed.{Deed}
 use Rattle.trace_check.specs.declared.cores.Slot.{Slot}
 use Rattle.trace_check.specs.Deeds.{core_deeds, deed_of}
 
@@ -48,14 +47,9 @@ pub record HasRoom (slots : List Slot) (rs : List Record) (count : ℕ) : Type 0
   pub room : (k : ℕ) (r : Record) (d : Slot) → k < count → slice_get rs k ≡ Some r →
       own_before rs r.core k < length (get_or slots r.core d).deeds.items
 
--- what the slots have, put together: for each record the next deed of its core
-pub record AreMerged (slots : List Slot) (rs : List Record) (count : ℕ) (did : List Deed) : Type 0 where
-  pub size : length did ≡ count
-  pub each : (k : ℕ) (r : Record) (d : Slot) → k < count → slice_get rs k ≡ Some r →
-      slice_get did k ≡ slice_get (get_or slots r.core d).deeds.items (own_before rs r.core k)
-
--- what the first records do, in their order
-pub record HasDeeds (image : ImageData) (N : ℕ) (rs : List Record) (count : ℕ) (did : List Deed) : Type 0 where
-  pub size : length did ≡ count
-  pub each : (k : ℕ) (r : Record) → k < count → slice_get rs k ≡ Some r →
-      slice_get did k ≡ Some (deed_of image (core_after image r.core (core_at (flat_start image N) r.core) (take k rs)) r)
+-- each of the first records has its deed in its core's slot, after those of the core's records before it
+abbrev pub HasDeeds : ImageData → ℕ → List Record → ℕ → List Slot → Type 0
+HasDeeds image N rs count slots =
+    (k : ℕ) (r : Record) (d : Slot) → k < count → slice_get rs k ≡ Some r →
+    slice_get (get_or slots r.core d).deeds.items (own_before rs r.core k)
+    ≡ Some (deed_of image (core_after image r.core (core_at (flat_start image N) r.core) (take k rs)) r)

@@ -6,50 +6,62 @@ ghost use Rattle.rv_core.specs.Core.{is_access};
 ghost use Rattle.rv_core.specs.Wanted.{wanted_address, IsInside};
 ghost use Rattle.projection_places.specs.Passes.{Passes};
 ghost use Rattle.trace_check.specs.Cells.{Finds, IsAfter};
-ghost use Rattle.trace_check.specs.Parts.{is_in, wanted_block, IsFitting, AreFitting, IsFirst, AreFirst, PartPasses};
-ghost use Rattle.trace_check.specs.Slots.{HasDeeds};
+ghost use Rattle.trace_check.specs.Parts.{is_in, wanted_block, IsFitting, AreFitting, IsFirst, AreFirst, PartPasses, HasPassed};
+ghost use Rattle.trace_check.specs.Slots.{HasRoom, HasDeeds};
 
 use crate::cell::Cell;
+use crate::cores::Slot;
 use crate::deed::Deed;
 use rv_core::{Record, Want};
 use sn_base::{Block, BlockNo, Image, Memory, NodeSet, Segment, Width};
 use std::alloc::Global;
 
-/// How many records, from the first on, the blocks of the part pass, where `deeds` are what the records do.
+/// How many of the first records the blocks of the part pass. The slots have what these do.
 pub fn replay_part(
     alloc: Global,
     image: &Image,
     part: u16,
     records: &[Record],
-    deeds: &[Deed],
+    count: usize,
+    slots: &[Slot],
 ) -> Result<usize, Memory>
     requires part { part < 4 }
-    requires within { length deeds.now ≤ length records.now }
-    requires fits { AreFitting records.now deeds.now }
-    ensures { IfOk result (λ p. (nodes : ℕ) → HasDeeds image.now nodes records.now (length deeds.now) deeds.now →
-        Passes (PartPasses image.now nodes part records.now) (length deeds.now) p) }
+    requires within { count ≤ length records.now }
+    requires room { HasRoom slots.now records.now count }
+    requires fits { AreFitting records.now count slots.now }
+    ensures { HasPassed image.now part records.now count slots.now result }
 {
     let mut cells = first_cells(alloc, image, part)?;
-    Ok(replay_deeds(part, records, deeds, cells.as_mut_slice()))
+    Ok(replay_deeds(part, records, count, slots, cells.as_mut_slice()))
 }
 
 /// The same in cells that are there.
-fn replay_deeds(part: u16, records: &[Record], deeds: &[Deed], cells: &mut [Cell]) -> usize
+fn replay_deeds(
+    part: u16,
+    records: &[Record],
+    count: usize,
+    slots: &[Slot],
+    cells: &mut [Cell],
+) -> usize
     requires part { part < 4 }
-    requires within { length deeds.now ≤ length records.now }
-    requires fits { AreFitting records.now deeds.now }
+    requires within { count ≤ length records.now }
+    requires room { HasRoom slots.now records.now count }
+    requires fits { AreFitting records.now count slots.now }
     requires cells { length cells.old ≡ 16384 }
-    ensures { (image : ImageData) (nodes : ℕ) → AreFirst image part 16384 cells.old → HasDeeds image nodes records.now (length deeds.now) deeds.now →
-        Passes (PartPasses image nodes part records.now) (length deeds.now) result }
+    ensures { (image : ImageData) (nodes : ℕ) → AreFirst image part 16384 cells.old → HasDeeds image nodes records.now count slots.now →
+        Passes (PartPasses image nodes part records.now) count result }
 {
-    'deeds: for place in 0..deeds.len() {
-        let deed = deeds[place];
+    let mut next = [0usize; 16];
+    'records: for place in 0..count {
         let taken = records[place];
+        let core = usize::from(taken.core.number());
+        let deed = slots[core].deeds[next[core]];
         if !replay_access(part, cells, &deed, &taken) {
             return place;
         }
+        next[core] += 1;
     }
-    deeds.len()
+    count
 }
 
 /// Whether an access finds what the earlier ones left, where its block is of this part. If so, it is done.

@@ -15,7 +15,6 @@ mod cell;
 mod core_replay;
 mod cores;
 mod deed;
-mod merge;
 mod parts;
 mod verdict;
 

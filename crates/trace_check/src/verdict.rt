@@ -8,7 +8,6 @@ ghost use Rattle.trace_check.specs.Verdict.{IsDecided, IsDone};
 ghost use Rattle.trace_check.specs.declared.verdict.CheckFault.TheVariants.{NotLegal};
 
 use crate::cores::{Slot, count_inside, count_passed, fresh_slots, replay_cores};
-use crate::merge::merge;
 use crate::parts::replay_blocks;
 use rv_core::Record;
 use sn_base::{Image, Memory};
@@ -84,6 +83,5 @@ fn count_in_slots<T: Threads + Sync, G: Gate + Sync>(
     replay_cores(rt, image, nodes, records, gate, slots);
     let inside = count_inside(nodes, records);
     let passed = count_passed(image, nodes, records, slots, inside)?;
-    let deeds = merge(alloc, slots, records, passed)?;
-    replay_blocks(rt, alloc, image, records, deeds.as_slice())
+    replay_blocks(rt, alloc, image, records, passed, slots)
 }
