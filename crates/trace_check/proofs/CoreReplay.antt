@@ -1,0 +1,78 @@
+-- One core's replay, record by record.
+use Rattle.std.proofs.Common.{◌≡◌, ◌≢◌, ℕ, zero, suc, ◌<◌, ◌==◌, Bool, true, false, cond, List, [], ◌∷◌, ◌++◌, take, length, slice_get, Some, refl, sym, ap, subst, ◌∙◌, arith}
+use Rattle.std.proofs.lemmas.Bool.Decides.{nat_tests}
+use Rattle.sn_base.specs.Image.{ImageData}
+use Rattle.rv_core.specs.declared.state.CoreState.{CoreState}
+use Rattle.rv_core.specs.declared.step.Record.{Record}
+use Rattle.sn_consistency.specs.Words.{next}
+use Rattle.sn_consistency.specs.Projections.{Replays, CoreGood, core_step, core_after}
+use Rattle.projection_places.specs.Passes.{Passes}
+use Rattle.projection_places.proofs.Folds.{core_more, core_last, core_next}
+use Rattle.trace_check.specs.declared.deed.Deed.{Deed}
+use Rattle.trace_check.specs.Deeds.{deed_of, core_deeds}
+
+-- a record that is the core's own, and one that is not
+pub own_step : (image : ImageData) (n : ℕ) (c : CoreState) (r : Record) → n ≡ r.core → core_step image n c r ≡ next image c r
+own_step image n c r e = let t : (n == r.core) ≡ true = grind (arith, nat_tests) in rw t refl
+
+pub other_step : (image : ImageData) (n : ℕ) (c : CoreState) (r : Record) → n ≢ r.core → core_step image n c r ≡ c
+other_step image n c r e = let t : (n == r.core) ≡ false = grind (arith, nat_tests) in rw t refl
+
+module _ (image : ImageData) (n : ℕ) where
+  deeds_next : (c : CoreState) (rs : List Record) (k : ℕ) (r : Record) → slice_get rs k ≡ Some r →
+      core_deeds image n c (take (suc k) rs)
+      ≡ core_deeds image n c (take k rs) ++ core_deeds image n (core_after image n c (take k rs)) (r ∷ [])
+  deeds_next c [] k r e = absurd (cc)
+  deeds_next c (x ∷ rs) zero r e =
+      let i : x ≡ r = cc in
+      subst (λ y. core_deeds image n c (x ∷ []) ≡ core_deeds image n c (y ∷ [])) i refl
+  deeds_next c (x ∷ rs) (suc k) r e = go (n == x.core) (λ d. deeds_next d rs k r e)
+    where
+      go : (q : Bool) →
+          ((d : CoreState) → core_deeds image n d (take (suc k) rs) ≡ core_deeds image n d (take k rs) ++ core_deeds image n (core_after image n d (take k rs)) (r ∷ [])) →
+          cond q (deed_of image c x ∷ core_deeds image n (next image c x) (take (suc k) rs)) (core_deeds image n c (take (suc k) rs))
+          ≡ cond q (deed_of image c x ∷ core_deeds image n (next image c x) (take k rs)) (core_deeds image n c (take k rs))
+          ++ core_deeds image n (core_after image n (cond q (next image c x) c) (take k rs)) (r ∷ [])
+      go true h = ap (λ l. deed_of image c x ∷ l) (h (next image c x))
+      go false h = h c
+
+-- the core after the first k records, which it passes, and what its own among them did
+pub record IsReplayed (image : ImageData) (N n : ℕ) (c : CoreState) (rs : List Record) (k : ℕ) (now : CoreState) (did : List Deed) : Type 0 where
+  pub good : CoreGood image N n c (take k rs)
+  pub state : now ≡ core_after image n c (take k rs)
+  pub deeds : did ≡ core_deeds image n c (take k rs)
+
+module _ (image : ImageData) (N n : ℕ) (c : CoreState) (rs : List Record) where
+  pub replayed_none : (did : List Deed) → did ≡ [] → IsReplayed image N n c rs zero c did
+  replayed_none did e = record { good = tt; state = refl; deeds = e }
+
+  module _ (k : ℕ) (now : CoreState) (did : List Deed) (p : IsReplayed image N n c rs k now did) where
+    module _ (r : Record) (e : slice_get rs k ≡ Some r) where
+      pub replayed_more : (later : CoreState) (done : List Deed) → (n ≡ r.core → Replays image N now r) →
+          later ≡ core_step image n now r → done ≡ did ++ core_deeds image n now (r ∷ []) →
+          IsReplayed image N n c rs (suc k) later done
+      replayed_more later done g s d = record {
+        good = core_more image N n c rs k r e p.good (λ i. subst (λ x. Replays image N x r) p.state (g i));
+        state = s ∙ ap (λ x. core_step image n x r) p.state ∙ sym (core_next image n c rs k r e);
+        deeds = d ∙ ap (λ x. x ++ core_deeds image n now (r ∷ [])) p.deeds
+            ∙ ap (λ x. core_deeds image n c (take k rs) ++ core_deeds image n x (r ∷ [])) p.state
+            ∙ sym (deeds_next image n c rs k r e);
+      }
+
+      pub replayed_stops : k < length rs → ((n ≡ r.core → Replays image N now r) → ⊥) →
+          Passes (λ j. CoreGood image N n c (take j rs)) (length rs) k
+      replayed_stops l h = record {
+        within = omega (arith, l);
+        good = p.good;
+        bad = λ m g. h (λ i. subst (λ x. Replays image N x r) (sym p.state) (core_last image N n c rs k r e g i));
+      }
+
+    pub replayed_all : k ≡ length rs → Passes (λ j. CoreGood image N n c (take j rs)) (length rs) (length rs)
+    replayed_all e = record {
+      within = omega arith;
+      good = subst (λ j. CoreGood image N n c (take j rs)) e p.good;
+      bad = λ m g. absurd (omega (arith, m));
+    }
+
+    pub deeds_all : k ≡ length rs → did ≡ core_deeds image n c (take (length rs) rs)
+    deeds_all e = subst (λ j. did ≡ core_deeds image n c (take j rs)) e p.deeds

@@ -1,0 +1,118 @@
+-- From the cores' replays to what the records do.
+use Rattle.std.proofs.Common.{◌≡◌, ℕ, zero, suc, ◌<◌, ◌≤◌, ◌⊎◌, inl, inr, Bool, true, false, cond, ◌==◌, is_ok, Result, Ok, Err, List, [], ◌∷◌, take, length, get_or, slice_get, Some, refl, sym, ap, subst, ◌∙◌, arith}
+use Rattle.std.specs.Prelude.{IfOk}
+use Rattle.std.proofs.lemmas.Bool.Decides.{nat_tests}
+use Rattle.std.proofs.lemmas.Bool.{cases_order}
+use Rattle.std.proofs.lemmas.Option.{slice_get_within}
+use Rattle.sn_base.specs.Image.{ImageData}
+use Rattle.sn_base.specs.declared.memory.Memory.{Memory}
+use Rattle.rv_core.specs.declared.state.CoreState.{CoreState}
+use Rattle.rv_core.specs.declared.step.Record.{Record}
+use Rattle.rv_core.specs.Core.{start_of}
+use Rattle.rv_core.specs.Flat.{flat_start, core_at}
+use Rattle.rv_core.proofs.CoreLaws.{want_inside, write_fits}
+use Rattle.sn_consistency.specs.Words.{next}
+use Rattle.sn_consistency.specs.Projections.{CoreGood, core_after, records_of}
+use Rattle.projection_places.specs.Passes.{Passes, CoresPass, BlocksPass}
+use Rattle.projection_places.proofs.Fronts.{core_fewer}
+use Rattle.projection_places.proofs.Least.{all_done, first_refused}
+use Rattle.sn_consistency.proofs.Start.{start_shows}
+use Rattle.trace_check.specs.Verdict.{IsDone}
+use Rattle.trace_check.specs.declared.cores.Slot.{Slot}
+use Rattle.trace_check.specs.Deeds.{deed_of, core_deeds}
+use Rattle.trace_check.specs.Slots.{AreReplayed, AreInside, HasRoom, HasDeeds, own_before}
+use Rattle.trace_check.specs.Parts.{AreFitting, IsFitting}
+use Rattle.trace_check.proofs.CorePlaces.{core_of, inside_from}
+
+-- the deed of a core's record stands where as many of the core's are before it
+core_deed_at : (image : ImageData) (n : ℕ) (c : CoreState) (rs : List Record) (m k : ℕ) (r : Record) → k < m → slice_get rs k ≡ Some r → n ≡ r.core →
+    slice_get (core_deeds image n c (take m rs)) (own_before rs n k) ≡ Some (deed_of image (core_after image n c (take k rs)) r)
+core_deed_at image n c [] m k r l e i = absurd (cc)
+core_deed_at image n c (x ∷ rs) zero k r l e i = absurd (omega (arith, l))
+core_deed_at image n c (x ∷ rs) (suc m) zero r l e i =
+    let j : x ≡ r = cc in
+    let t : (n == x.core) ≡ true = let f : n ≡ x.core = i ∙ sym (ap (λ y. y.core) j) in grind (arith, nat_tests) in
+    ap (λ q. slice_get (cond q (deed_of image c x ∷ core_deeds image n (next image c x) (take m rs)) (core_deeds image n c (take m rs))) 0) t
+    ∙ ap (λ y. Some (deed_of image c y)) j
+core_deed_at image n c (x ∷ rs) (suc m) (suc k) r l e i = go (n == x.core) (λ d. core_deed_at image n d rs m k r (omega (arith, l)) e i)
+  where
+    go : (q : Bool) → ((d : CoreState) → slice_get (core_deeds image n d (take m rs)) (own_before rs n k) ≡ Some (deed_of image (core_after image n d (take k rs)) r)) →
+        slice_get (cond q (deed_of image c x ∷ core_deeds image n (next image c x) (take m rs)) (core_deeds image n c (take m rs)))
+        (length (cond q (x ∷ records_of n (take k rs)) (records_of n (take k rs))))
+        ≡ Some (deed_of image (core_after image n (cond q (next image c x) c) (take k rs)) r)
+    go true h = h (next image c x)
+    go false h = h c
+
+record Done (image : ImageData) (N n : ℕ) (rs : List Record) (slot : Slot) : Type 0 where
+  count : ℕ
+  passes : Passes (λ k. CoreGood image N n (core_at (flat_start image N) n) (take k rs)) (length rs) count
+  deeds : slot.deeds.items ≡ core_deeds image n (core_at (flat_start image N) n) (take count rs)
+
+module _
+    (image : ImageData) (N : ℕ) (rs : List Record) (slots : List Slot) (replayed : AreReplayed image N rs slots)
+    (done : (n : ℕ) (d : Slot) → n < N → is_ok (get_or slots n d).passed ≡ true)
+    (q : ℕ) (cores : Passes (CoresPass image N (flat_start image N) rs) (length rs) q) where
+  done_in : (n : ℕ) → n < N → (slot : Slot) (core : ℕ) → core ≡ n → (passed : Result ℕ Memory) → is_ok passed ≡ true →
+      IfOk passed (λ p. Passes (λ k. CoreGood image N core (start_of core image.entry) (take k rs)) (length rs) p
+      × (slot.deeds.items ≡ core_deeds image core (start_of core image.entry) (take p rs))) → Done image N n rs slot
+  done_in n l slot core e (Ok p) t h =
+      let i : core_at (flat_start image N) n ≡ start_of n image.entry = core_of image N n l in
+      let g = subst (λ x. Passes (λ k. CoreGood image N x (start_of x image.entry) (take k rs)) (length rs) p × (slot.deeds.items ≡ core_deeds image x (start_of x image.entry) (take p rs))) e h in
+      record {
+        count = p;
+        passes = subst (λ x. Passes (λ k. CoreGood image N n x (take k rs)) (length rs) p) (sym i) g.0;
+        deeds = subst (λ x. slot.deeds.items ≡ core_deeds image n x (take p rs)) (sym i) g.1;
+      }
+  done_in n l slot core e (Err m) t h = absurd (cc)
+
+  of_core : (n : ℕ) (d : Slot) → n < N → Done image N n rs (get_or slots n d)
+  of_core n d l = let h = replayed.each n d l in done_in n l (get_or slots n d) (get_or slots n d).core h.0 (get_or slots n d).passed (done n d l) h.1
+
+  enough : (n : ℕ) (slot : Slot) (p : Done image N n rs slot) → q ≤ p.count
+  enough n slot p = go (cases_order q p.count)
+    where
+      go : ((q ≡ p.count) ⊎ ((q < p.count) ⊎ (p.count < q))) → q ≤ p.count
+      go (inl e) = omega (arith, e)
+      go (inr (inl l)) = omega (arith, l)
+      go (inr (inr l)) =
+          let w = cores.within in
+          absurd (p.passes.bad (omega (arith, l, w)) (core_fewer image N n (core_at (flat_start image N) n) rs (suc p.count) q (omega (arith, l)) (cores.good n)))
+
+  inside : AreInside N rs q
+  inside = inside_from image N (core_at (flat_start image N)) rs q cores.good
+
+  module _ (k : ℕ) (r : Record) (l : k < q) (e : slice_get rs k ≡ Some r) where
+    deed_there : (d : Slot) → slice_get (get_or slots r.core d).deeds.items (own_before rs r.core k) ≡ Some (deed_of image (core_after image r.core (core_at (flat_start image N) r.core) (take k rs)) r)
+    deed_there d =
+        let p = of_core r.core d (inside k r l e) in
+        let w = enough r.core (get_or slots r.core d) p in
+        ap (λ xs. slice_get xs (own_before rs r.core k)) p.deeds ∙ core_deed_at image r.core (core_at (flat_start image N) r.core) rs p.count k r (omega (arith, l, w)) e refl
+
+  pub has_room : HasRoom slots rs q
+  has_room = record {
+    inside = λ k r l e. let h = inside k r l e in let c = replayed.count in omega (arith, h, c);
+    room = λ k r d l e. slice_get_within (get_or slots r.core d).deeds.items (own_before rs r.core k) _ (deed_there k r l e d);
+  }
+
+  pub has_deeds : HasDeeds image N rs q slots
+  has_deeds = λ k r d l e. deed_there k r l e d
+
+  pub are_fitting : AreFitting rs q slots
+  are_fitting = λ k r d deed l e f.
+      let a = deed_there k r l e d in
+      let c = core_after image r.core (core_at (flat_start image N) r.core) (take k rs) in
+      let i : deed ≡ deed_of image c r = cc in
+      subst (λ x. IsFitting x r) (sym i) (want_inside image c, write_fits image c r.seen r.sc_done r.read)
+
+-- what holds of a result holds of it in other words
+pub if_ok : {A E : Type 0} (x : Result A E) (P Q : A → Type 0) → ((a : A) → P a → Q a) → IfOk x P → IfOk x Q
+if_ok (Ok a) P Q f h = f a h
+if_ok (Err e) P Q f h = h
+
+pub is_done : (image : ImageData) (N : ℕ) (rs : List Record) (q p : ℕ) → Passes (CoresPass image N (flat_start image N) rs) (length rs) q →
+    Passes (BlocksPass image (flat_start image N) rs) q p → IsDone image N rs p
+is_done image N rs q p cores blocks = record {
+  within = let a = cores.within in let b = blocks.within in omega (arith, a, b);
+  all = all_done image N (flat_start image N) (start_shows image N) rs q p cores blocks;
+  some = first_refused image N (flat_start image N) (start_shows image N) rs q p cores blocks;
+}

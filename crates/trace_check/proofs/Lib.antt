@@ -1,0 +1,11 @@
+pub mod MayDo
+pub mod CoreReplay
+pub mod CorePlaces
+pub mod OwnBefore
+pub mod Joined
+pub mod Bytes
+pub mod Given
+pub mod BlockStart
+pub mod BlockReplay
+pub mod PartPlaces
+pub mod FirstRefused

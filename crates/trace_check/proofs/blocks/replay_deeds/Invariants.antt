@@ -1,0 +1,16 @@
+use Rattle.std.proofs.Common.{◌≡◌, ℕ, ◌<◌, length, get_or}
+use Rattle.sn_base.specs.Image.{ImageData}
+use Rattle.trace_check.specs.Parts.{AreFirst}
+use Rattle.trace_check.specs.Slots.{HasDeeds, own_before}
+use Rattle.trace_check.proofs.BlockReplay.{IsPartReplayed}
+use Rattle.trace_check.proofs.blocks.replay_deeds.Given as goal
+
+-- how many of the records so far are each core's, and the blocks of the part as the accesses so far leave them
+abbrev pub invariant-records : goal.invariant-records
+invariant-records l = record {
+  width : length l.next ≡ 16;
+  next : (n : ℕ) → n < 16 → get_or l.next n 0 ≡ own_before l.records n l.place;
+  size : length l.cells ≡ 16384;
+  replayed : (image : ImageData) (N : ℕ) → AreFirst image l.part 16384 l.initial.cells → HasDeeds image N l.records l.count l.slots →
+      IsPartReplayed image N l.part l.records l.place l.cells;
+}

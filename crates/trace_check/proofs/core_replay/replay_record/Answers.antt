@@ -1,0 +1,33 @@
+use Rattle.std.proofs.Common.{◌≡◌, true, false, ◌∙◌, sym, refl, arith}
+use Rattle.std.proofs.lemmas.Bool.Decides.{nat_tests}
+use Rattle.sn_consistency.specs.Words.{next}
+use Rattle.trace_check.proofs.MayDo.{replays_to, replays_from}
+use Rattle.trace_check.proofs.CoreReplay.{own_step}
+use Rattle.trace_check.proofs.core_replay.replay_record.Goals as goal
+use Rattle.trace_check.proofs.core_replay.replay_record.Goals.{In_default, In_ok-push}
+
+same : (c : In_default) → c.args.core ≡ c.args.taken.now.core
+same c = let a = c.if-ne.false in let b = c.ne.ensures in grind (arith, nat_tests)
+
+own : (c : In_ok-push) → c.args.core ≡ c.args.taken.now.core
+own c = let a = c.if-ne.false in let b = c.ne.ensures in grind (arith, nat_tests)
+
+pub returns-in_default-clause-good : goal.returns-in_default-clause-good
+returns-in_default-clause-good c = (
+  (λ f. let g : false ≡ true = f in absurd (cc)),
+  λ h. c.in_default.ensures.some.1 (replays_from c.args.image.now c.args.nodes c.args.state.now c.args.taken.now (h (same c))),
+)
+
+pub returns-clause-good : goal.returns-clause-good
+returns-clause-good c =
+    let m = c.in-Some.ensures.some.0 refl in (
+      (λ t e. replays_to c.args.image.now c.args.nodes c.args.state.now c.args.taken.now (let q = c.requires in omega (arith, e, q)) m.0 m.1),
+      λ h. refl,
+    )
+
+as_next : (c : In_ok-push) → c.take-deed.new.state ≡ next c.args.image.now c.args.state.now c.args.taken.now
+unfolding next
+as_next c = c.take-deed.ensures.state
+
+pub returns-clause-state : goal.returns-clause-state
+returns-clause-state c = λ t. as_next c ∙ sym (own_step c.args.image.now c.args.core c.args.state.now c.args.taken.now (own c))

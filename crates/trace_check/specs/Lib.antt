@@ -1,0 +1,5 @@
+pub mod Deeds
+pub mod Cells
+pub mod Slots
+pub mod Parts
+pub mod Verdict

@@ -1,0 +1,55 @@
+-- The slots of the cores, and what is in them.
+use Rattle.std.specs.Prelude.{◌≡◌, ℕ, ◌<◌, List, [], length, take, IfOk, get_or, slice_get, Some}
+use Rattle.sn_base.specs.Image.{ImageData}
+use Rattle.rv_core.specs.declared.step.Record.{Record}
+use Rattle.rv_core.specs.Core.{start_of}
+use Rattle.rv_core.specs.Flat.{flat_start, core_at}
+use Rattle.sn_consistency.specs.Projections.{CoreGood, records_of, core_after}
+use Rattle.projection_places.specs.Passes.{Passes, CorePasses}
+use Rattle.trace_check.specs.declared.cores.Slot.{Slot}
+use Rattle.trace_check.specs.Deeds.{core_deeds, deed_of}
+
+-- a slot of core n that nothing was put into
+abbrev pub IsFresh : ℕ → Slot → Type 0
+IsFresh n slot = (slot.core ≡ n) × (slot.deeds.items ≡ [])
+
+-- one for each of N cores
+pub record AreFresh (N : ℕ) (slots : List Slot) : Type 0 where
+  pub count : length slots ≡ N
+  pub each : (n : ℕ) (d : Slot) → n < N → IsFresh n (get_or slots n d)
+
+-- how many records the core passes, and what its own among them do; or memory was lacking
+abbrev pub HasReplayed : ImageData → ℕ → List Record → Slot → Type 0
+HasReplayed image N rs slot =
+    IfOk slot.passed (λ p.
+    Passes (λ k. CoreGood image N slot.core (start_of slot.core image.entry) (take k rs)) (length rs) p
+    × (slot.deeds.items ≡ core_deeds image slot.core (start_of slot.core image.entry) (take p rs)))
+
+pub record AreReplayed (image : ImageData) (N : ℕ) (rs : List Record) (slots : List Slot) : Type 0 where
+  pub count : length slots ≡ N
+  pub each : (n : ℕ) (d : Slot) → n < N → ((get_or slots n d).core ≡ n) × HasReplayed image N rs (get_or slots n d)
+
+-- the first k records are of cores below N
+abbrev pub AreInside : ℕ → List Record → ℕ → Type 0
+AreInside N rs k = (j : ℕ) (r : Record) → j < k → slice_get rs j ≡ Some r → r.core < N
+
+-- they are passed by the first cores
+abbrev pub CoresBelow : ImageData → ℕ → List Record → ℕ → ℕ → Type 0
+CoresBelow image N rs count k = (n : ℕ) → n < count → CorePasses image N n (flat_start image N) rs k
+
+-- how many of the first k records are core n's
+abbrev pub own_before : List Record → ℕ → ℕ → ℕ
+own_before rs n k = length (records_of n (take k rs))
+
+-- each record's core has a slot, with what it does by the record
+pub record HasRoom (slots : List Slot) (rs : List Record) (count : ℕ) : Type 0 where
+  pub inside : (k : ℕ) (r : Record) → k < count → slice_get rs k ≡ Some r → r.core < length slots
+  pub room : (k : ℕ) (r : Record) (d : Slot) → k < count → slice_get rs k ≡ Some r →
+      own_before rs r.core k < length (get_or slots r.core d).deeds.items
+
+-- each of the first records has its deed in its core's slot, after those of the core's records before it
+abbrev pub HasDeeds : ImageData → ℕ → List Record → ℕ → List Slot → Type 0
+HasDeeds image N rs count slots =
+    (k : ℕ) (r : Record) (d : Slot) → k < count → slice_get rs k ≡ Some r →
+    slice_get (get_or slots r.core d).deeds.items (own_before rs r.core k)
+    ≡ Some (deed_of image (core_after image r.core (core_at (flat_start image N) r.core) (take k rs)) r)

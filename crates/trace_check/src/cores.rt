@@ -1,0 +1,115 @@
+//! The cores' replays: each in a thread of its own, into a slot of its own.
+ghost use Rattle.std.specs.Prelude.{◌≡◌, ℕ, ◌<◌, ◌≤◌, [], true, length, is_ok, slice_index_or, IfOk, OnOk};
+ghost use Rattle.projection_places.specs.Passes.{Passes, CoresPass};
+ghost use Rattle.rv_core.specs.Flat.{flat_start};
+ghost use Rattle.trace_check.specs.Slots.{IsFresh, AreFresh, HasReplayed, AreReplayed, AreInside};
+
+use crate::core_replay::replay;
+use crate::deed::Deed;
+use rv_core::Record;
+use sn_base::{Image, Memory, NodeId};
+use sn_io::Gate;
+use std::alloc::Global;
+use std::thread;
+use std::thread::Threads;
+
+/// A core, how many records it passes, and what its own among them do.
+#[derive(Drop)]
+pub struct Slot {
+    pub core: NodeId,
+    pub deeds: Vec<Deed>,
+    pub passed: Result<usize, Memory>,
+}
+
+/// A slot for each core, with room for what its records do.
+pub fn fresh_slots(alloc: Global, nodes: u8, records: &[Record]) -> Result<Vec<Slot>, Memory>
+    requires { nodes ≤ 16 }
+    ensures { IfOk result (λ slots. AreFresh nodes slots.items) }
+{
+    let mut slots = Vec::with_capacity(alloc, usize::from(nodes))?;
+    'nodes: for number in 0..nodes {
+        let slot = fresh_slot(alloc, number, records)?;
+        slots.push(slot)?;
+    }
+    Ok(slots)
+}
+
+fn fresh_slot(alloc: Global, number: u8, records: &[Record]) -> Result<Slot, Memory>
+    requires { number < 16 }
+    ensures { IfOk result (λ slot. IsFresh number slot) }
+{
+    let core = NodeId::new(number).unwrap();
+    let own = records.iter().filter(|taken| taken.core == core).count();
+    let deeds = Vec::with_capacity(alloc, own)?;
+    Ok(Slot {
+        core,
+        deeds,
+        passed: Ok(0),
+    })
+}
+
+/// Replays each core's records in its slot.
+pub fn replay_cores<T: Threads + Sync, G: Gate + Sync>(
+    rt: &T,
+    image: &Image,
+    nodes: u8,
+    records: &[Record],
+    gate: &G,
+    slots: &mut [Slot],
+)
+    requires some { 0 < nodes }
+    requires fresh { AreFresh nodes slots.old }
+    ensures { AreReplayed image.now nodes records.now slots.new }
+{
+    thread::for_each_mut(
+        rt,
+        slots,
+        usize::from(nodes),
+        &|_, slot: &mut Slot|
+            requires { (slot.old.core < nodes) × (slot.old.deeds.items ≡ []) }
+            ensures { (slot.new.core ≡ slot.old.core) × HasReplayed image.entry.now nodes records.entry.now slot.new }
+        { replay_slot(image, nodes, records, gate, slot) },
+    );
+}
+
+fn replay_slot<G: Gate>(image: &Image, nodes: u8, records: &[Record], gate: &G, slot: &mut Slot)
+    requires inside { slot.old.core < nodes }
+    requires fresh { slot.old.deeds.items ≡ [] }
+    ensures core { slot.new.core ≡ slot.old.core }
+    ensures replayed { HasReplayed image.now nodes records.now slot.new }
+{
+    gate.before(u32::from(slot.core.number()), 1);
+    slot.passed = replay(image, nodes, slot.core, records, &mut slot.deeds);
+}
+
+/// How many records, from the first on, are of cores that are there.
+pub fn count_inside(nodes: u8, records: &[Record]) -> usize
+    ensures { Passes (AreInside nodes records.now) (length records.now) result }
+{
+    'records: for place in 0..records.len() {
+        if records[place].core.number() >= nodes {
+            return place;
+        }
+    }
+    records.len()
+}
+
+/// How many records, from the first on, all cores pass, where so many are of cores that are there.
+pub fn count_passed(
+    image: &Image,
+    nodes: u8,
+    records: &[Record],
+    slots: &[Slot],
+    inside: usize,
+) -> Result<usize, Memory>
+    requires inside { Passes (AreInside nodes records.now) (length records.now) inside }
+    requires replayed { AreReplayed image.now nodes records.now slots.now }
+    ensures passed { IfOk result (λ p. Passes (CoresPass image.now nodes (flat_start image.now nodes) records.now) (length records.now) p) }
+    ensures done { OnOk result ((n : ℕ) (d : Slot) → n < nodes → is_ok (slice_index_or slots.now n d).passed ≡ true) }
+{
+    let mut least = inside;
+    'slots: for place in 0..slots.len() {
+        least = least.min(slots[place].passed?);
+    }
+    Ok(least)
+}

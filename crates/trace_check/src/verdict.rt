@@ -1,0 +1,87 @@
+//! The verdict on a trace.
+ghost use Rattle.std.specs.Prelude.{◌≡◌, ℕ, ◌+◌, ◌≤◌, ◌↔◌, Err, IfOk, IsOk};
+ghost use Rattle.rv_core.specs.Flat.{flat_start};
+ghost use Rattle.rv_core.specs.Execution.{IsExecution};
+ghost use Rattle.sn_consistency.specs.Projections.{FirstWithoutStep};
+ghost use Rattle.trace_check.specs.Slots.{AreFresh};
+ghost use Rattle.trace_check.specs.Verdict.{IsDecided, IsDone};
+ghost use Rattle.trace_check.specs.declared.verdict.CheckFault.TheVariants.{NotLegal};
+
+use crate::cores::{Slot, count_inside, count_passed, fresh_slots, replay_cores};
+use crate::parts::replay_blocks;
+use rv_core::Record;
+use sn_base::{Image, Memory};
+use sn_io::Gate;
+use std::alloc::Global;
+use std::thread::Threads;
+
+/// Why a trace isn't found to be an execution.
+#[derive(Clone, Copy, PartialEq, Eq, Debug)]
+pub enum CheckFault {
+    /// The place, counted from 1, of the first record that is no step of the flat machine after those before it.
+    NotLegal(u64),
+    /// Memory was wanted and not given. It says nothing of the trace.
+    Memory,
+}
+
+/// Judges the records as a trace of the program on 1 to 16 nodes. For each core `gate.before(core, 1)` is called before
+/// its records are replayed.
+pub fn check<T: Threads + Sync, G: Gate + Sync>(
+    rt: &T,
+    alloc: Global,
+    image: &Image,
+    nodes: u8,
+    records: &[Record],
+    gate: &G,
+) -> Result<(), CheckFault>
+    requires some { 1 ≤ nodes }
+    requires few { nodes ≤ 16 }
+    ensures legal { IsDecided result → IsOk result ↔ IsExecution image.now nodes records.now }
+    ensures refused { (place : ℕ) → IsDecided result →
+        (result ≡ Err (NotLegal (place + 1))) ↔ FirstWithoutStep image.now (flat_start image.now nodes) records.now place }
+{
+    let Ok(done) = count_done(rt, alloc, image, nodes, records, gate) else {
+        return Err(CheckFault::Memory);
+    };
+    if done == records.len() {
+        return Ok(());
+    }
+    Err(CheckFault::NotLegal(done as u64 + 1))
+}
+
+/// How many records, from the first on, the flat machine does.
+fn count_done<T: Threads + Sync, G: Gate + Sync>(
+    rt: &T,
+    alloc: Global,
+    image: &Image,
+    nodes: u8,
+    records: &[Record],
+    gate: &G,
+) -> Result<usize, Memory>
+    requires some { 1 ≤ nodes }
+    requires few { nodes ≤ 16 }
+    ensures { IfOk result (λ done. IsDone image.now nodes records.now done) }
+{
+    let mut slots = fresh_slots(alloc, nodes, records)?;
+    count_in_slots(rt, alloc, image, nodes, records, gate, slots.as_mut_slice())
+}
+
+/// The same with a slot for each core.
+fn count_in_slots<T: Threads + Sync, G: Gate + Sync>(
+    rt: &T,
+    alloc: Global,
+    image: &Image,
+    nodes: u8,
+    records: &[Record],
+    gate: &G,
+    slots: &mut [Slot],
+) -> Result<usize, Memory>
+    requires some { 1 ≤ nodes }
+    requires fresh { AreFresh nodes slots.old }
+    ensures { IfOk result (λ done. IsDone image.now nodes records.now done) }
+{
+    replay_cores(rt, image, nodes, records, gate, slots);
+    let inside = count_inside(nodes, records);
+    let passed = count_passed(image, nodes, records, slots, inside)?;
+    replay_blocks(rt, alloc, image, records, passed, slots)
+}
