@@ -98,12 +98,16 @@ validation image config s n = event_if (nat_eq n 0 && is_validated (foreseen ima
 abbrev pub step : ImageData → Config → State → ℕ → Option Event
 step image config s n = event_if (goes_on (foreseen image config s (Step n))) (Step n)
 
--- the places of node n's list in order, each with its event where there is one
+-- what node n may do itself
+abbrev pub own_places : Rules → ImageData → Config → State → Numbers → ℕ → List (Option Event)
+own_places rules image config s x n =
+    eviction image config s n ∷ edge rules image config s x n ∷ report image config s x n ∷ validation image config s n ∷ step image config s n ∷ []
+
+-- the places of node n's list in order, each with its event where there is one: the deliveries of messages, their hops, and what
+-- it may do itself
 abbrev pub places_of : Rules → ImageData → Config → State → Numbers → ℕ → List (Option Event)
 places_of rules image config s x n =
-    map (delivery image config s n) s.fabric.net.flights
-    ++ map (hop n) s.fabric.net.flights
-    ++ eviction image config s n ∷ edge rules image config s x n ∷ report image config s x n ∷ validation image config s n ∷ step image config s n ∷ []
+    map (delivery image config s n) s.fabric.net.flights ++ map (hop n) s.fabric.net.flights ++ own_places rules image config s x n
 
 -- node n's list
 abbrev pub list_of : Rules → ImageData → Config → State → Numbers → ℕ → List Event

@@ -1,0 +1,1 @@
+//! Turns against the reference simulator.
