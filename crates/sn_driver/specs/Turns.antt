@@ -1,5 +1,5 @@
 -- A turn: what it makes of a driver and of its machine.
-use Rattle.std.specs.Prelude.{◌≡◌, ℕ, true, false, Option, Some}
+use Rattle.std.specs.Prelude.{◌≡◌, ℕ, ◌+◌, ◌≤◌, true, false, Option, Some}
 use Rattle.sn_base.specs.declared.event.Event.{Event}
 use Rattle.sn_machine.specs.Machine.{MachineData, IsApplied}
 use Rattle.due_events.specs.Numbers.{numbers_after}
@@ -20,3 +20,12 @@ Took driver m worker pick (Did event answer) later after =
 Took driver m worker pick Over later after = (is_over m.image m.config m.state ≡ true) × (later ≡ driver) × (after ≡ m)
 Took driver m worker pick (CutOff a b) later after =
     (is_over m.image m.config m.state ≡ false) × (driver.numbers.cut_off ≡ Some (a, b)) × (later ≡ driver) × (after ≡ m)
+
+-- what a turn leaves in any case: the rules and the sizes; and it took one event at most
+pub record IsLater (driver : DriverData) (m : MachineData) (later : DriverData) (after : MachineData) : Type 0 where
+  pub rules : later.rules ≡ driver.rules
+  pub nodes : later.nodes ≡ driver.nodes
+  pub image : after.image ≡ m.image
+  pub config : after.config ≡ m.config
+  pub done : later.numbers.done ≤ driver.numbers.done + 1
+  pub spare : m.spare ≤ after.spare + 1

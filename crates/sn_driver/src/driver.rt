@@ -4,7 +4,7 @@ ghost use Rattle.sn_base.specs.Events.{event_fits};
 ghost use Rattle.due_events.specs.Numbers.{first_numbers, numbers_after};
 ghost use Rattle.due_events.specs.Due.{killing, or_loss, first_picked, listed, next_due, is_over};
 ghost use Rattle.sn_machine.specs.Machine.{IsApplied};
-ghost use Rattle.sn_driver.specs.Turns.{due_at, Took};
+ghost use Rattle.sn_driver.specs.Turns.{due_at, Took, IsLater};
 
 use crate::moves::node_of;
 use crate::turn::Turn;
@@ -86,7 +86,8 @@ impl Driver {
         requires worker { worker < self.old.nodes }
         requires life { self.old.numbers.done < 4000000000 }
         requires room { 1 ≤ machine.old.spare }
-        ensures { Took self.old machine.old worker pick result self.new machine.new }
+        ensures took { Took self.old machine.old worker pick result self.new machine.new }
+        ensures later { IsLater self.old machine.old self.new machine.new }
     {
         if machine.over() {
             return Turn::Over;
