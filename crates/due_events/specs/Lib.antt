@@ -1,0 +1,4 @@
+pub mod Numbers
+pub mod Lists
+pub mod Due
+pub mod Runs

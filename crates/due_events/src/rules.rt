@@ -1,0 +1,15 @@
+//! The rules by which events are picked.
+use sn_base::SwitchId;
+
+/// How a driver picks events.
+#[derive(Clone, Copy, PartialEq, Eq, Debug)]
+pub struct Rules {
+    /// How many instructions a node retires before its next clock edge is due, at least 1.
+    pub interval: u32,
+    /// After how many events in which the recovery point neither rose nor was gone back to a recovery is due, at least 1.
+    pub wait: u32,
+    /// Each so-manieth message that would move is lost instead; 0 where none is.
+    pub lose_every: u32,
+    /// A switch that dies, and after how many events.
+    pub kill: Option<(SwitchId, u32)>,
+}

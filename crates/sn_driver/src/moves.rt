@@ -1,0 +1,113 @@
+//! What may be due at a node by the machine alone.
+ghost use Rattle.std.specs.Prelude.{◌≡◌, ◌<◌, true, length, slice_get, IfSome};
+ghost use Rattle.sn_base.specs.Events.{event_fits};
+ghost use Rattle.rv_core.specs.Core.{is_running};
+ghost use Rattle.due_events.specs.Lists.{delivery, hop, eviction, validation, step, is_behind};
+
+use crate::answers::{goes_on, is_delivered, is_validated, needs_evict};
+use rv_core::{CoreState, End};
+use sn_base::{Event, NodeId};
+use sn_machine::Machine;
+
+/// The delivery of the message at a place of the network's list, where the node would take it now.
+pub fn delivery(machine: &Machine, node: NodeId, place: usize) -> Option<Event>
+    requires { place < length machine.now.state.fabric.net.flights }
+    ensures same { IfSome (slice_get machine.now.state.fabric.net.flights place) (λ f. result ≡ delivery machine.now.image machine.now.config machine.now.state node f) }
+    ensures fits { IfSome result (λ event. event_fits machine.now.config.nodes event ≡ true) }
+{
+    let (message, _switch) = machine.net().message(place);
+    if message.to == node && is_delivered(&machine.foresee(Event::Deliver(message.id))) {
+        Some(Event::Deliver(message.id))
+    } else {
+        None
+    }
+}
+
+/// The hop of the message at a place of the network's list, where it stands in a switch of the node and hasn't arrived.
+pub fn hop(machine: &Machine, node: NodeId, place: usize) -> Option<Event>
+    requires { place < length machine.now.state.fabric.net.flights }
+    ensures same { IfSome (slice_get machine.now.state.fabric.net.flights place) (λ f. result ≡ hop node f) }
+    ensures fits { IfSome result (λ event. event_fits machine.now.config.nodes event ≡ true) }
+{
+    let (message, switch) = machine.net().message(place);
+    let at = switch.number() / 2;
+    if at == node.number() && at != message.to.number() {
+        Some(Event::Hop(message.id))
+    } else {
+        None
+    }
+}
+
+/// The eviction of the least block that may leave, where the node's instruction waits for a frame.
+pub fn eviction(machine: &Machine, node: NodeId) -> Option<Event>
+    requires { node < machine.now.config.nodes }
+    ensures same { result ≡ eviction machine.now.image machine.now.config machine.now.state node }
+    ensures fits { IfSome result (λ event. event_fits machine.now.config.nodes event ≡ true) }
+{
+    if !needs_evict(&machine.foresee(Event::Step(node))) {
+        return None;
+    }
+    let block = machine.least_line(node)?;
+    let _number = block.number();
+    Some(Event::Evict(node, block))
+}
+
+/// The validation, which is node 0's.
+pub fn validation(machine: &Machine, node: NodeId) -> Option<Event>
+    requires { node < machine.now.config.nodes }
+    ensures same { result ≡ validation machine.now.image machine.now.config machine.now.state node }
+    ensures fits { IfSome result (λ event. event_fits machine.now.config.nodes event ≡ true) }
+{
+    if node.number() == 0 && is_validated(&machine.foresee(Event::Validate)) {
+        Some(Event::Validate)
+    } else {
+        None
+    }
+}
+
+/// The node's step, where its instruction comes further.
+pub fn step(machine: &Machine, node: NodeId) -> Option<Event>
+    requires { node < machine.now.config.nodes }
+    ensures same { result ≡ step machine.now.image machine.now.config machine.now.state node }
+    ensures fits { IfSome result (λ event. event_fits machine.now.config.nodes event ≡ true) }
+{
+    if goes_on(&machine.foresee(Event::Step(node))) {
+        Some(Event::Step(node))
+    } else {
+        None
+    }
+}
+
+/// Whether a core runs on.
+pub fn is_running(core: &CoreState) -> bool
+    ensures { result ≡ is_running core.now.end }
+{
+    match core.end {
+        End::Running => true,
+        End::Exited(_) | End::Trapped(_) => false,
+    }
+}
+
+/// Whether another node is ahead of the node.
+pub fn is_behind(machine: &Machine, node: NodeId) -> bool
+    requires { node < machine.now.config.nodes }
+    ensures { result ≡ is_behind machine.now.state.fabric node }
+{
+    // The cut that it shows has as many cores as the machine has nodes.
+    let _view = machine.recovered();
+    let now = machine.now(node);
+    'nodes: for number in 0..machine.config().nodes {
+        if now < machine.now(node_of(number)) {
+            return true;
+        }
+    }
+    false
+}
+
+/// The node of a number.
+pub fn node_of(number: u8) -> NodeId
+    requires { number < 16 }
+    ensures { result ≡ number }
+{
+    NodeId::new(number).unwrap()
+}

@@ -1,0 +1,139 @@
+//! A node's list, by its places: it is counted and read, and never made.
+ghost use Rattle.std.specs.Prelude.{◌≡◌, ◌*◌, ◌+◌, ◌<◌, ◌≤◌, true, None, length, slice_get, slice_index_or, IfSome};
+ghost use Rattle.sn_base.specs.Events.{event_fits};
+ghost use Rattle.due_events.specs.Lists.{edge, report, own_places, places_of, list_of};
+ghost use Rattle.due_events.specs.Due.{picked};
+
+use crate::answers::{is_edged, is_reported};
+use crate::driver::Driver;
+use crate::moves::{delivery, eviction, hop, is_behind, is_running, step, validation};
+use sn_base::{Event, NodeId};
+use sn_machine::Machine;
+
+impl Driver {
+    /// The node's clock edge, where it has retired enough, can't retire, or is behind.
+    fn edge(&self, machine: &Machine, node: NodeId) -> Option<Event>
+        requires { node < machine.now.config.nodes }
+        ensures same { result ≡ edge self.now.rules machine.now.image machine.now.config machine.now.state self.now.numbers node }
+        ensures fits { IfSome result (λ event. event_fits machine.now.config.nodes event ≡ true) }
+    {
+        if !is_edged(&machine.foresee(Event::Edge(node))) {
+            return None;
+        }
+        let has_retired = self.retired[usize::from(node.number())] >= self.rules.interval;
+        if has_retired || !is_running(machine.core(node)) || is_behind(machine, node) {
+            Some(Event::Edge(node))
+        } else {
+            None
+        }
+    }
+
+    /// The node's report, where it would tell of a later checkpoint than before.
+    fn report(&self, machine: &Machine, node: NodeId) -> Option<Event>
+        requires { node < machine.now.config.nodes }
+        ensures same { result ≡ report machine.now.image machine.now.config machine.now.state self.now.numbers node }
+        ensures fits { IfSome result (λ event. event_fits machine.now.config.nodes event ≡ true) }
+    {
+        let is_later = machine.ready(node) > self.told[usize::from(node.number())];
+        if is_later && is_reported(&machine.foresee(Event::Report(node))) {
+            Some(Event::Report(node))
+        } else {
+            None
+        }
+    }
+
+    /// The event at a place of what the node may do itself, where there is one.
+    fn own_event(&self, machine: &Machine, node: NodeId, place: usize) -> Option<Event>
+        requires here { node < machine.now.config.nodes }
+        requires there { place < 5 }
+        ensures same { result ≡ slice_index_or (own_places self.now.rules machine.now.image machine.now.config machine.now.state self.now.numbers node) place None }
+        ensures fits { IfSome result (λ event. event_fits machine.now.config.nodes event ≡ true) }
+    {
+        if place == 0 {
+            eviction(machine, node)
+        } else if place == 1 {
+            self.edge(machine, node)
+        } else if place == 2 {
+            self.report(machine, node)
+        } else if place == 3 {
+            validation(machine, node)
+        } else {
+            step(machine, node)
+        }
+    }
+
+    /// The event at a place of the node's list, where there is one: first those of the messages in flight, their deliveries
+    /// and then their hops, and then the node's own.
+    fn at_place(&self, machine: &Machine, node: NodeId, place: usize) -> Option<Event>
+        requires here { node < machine.now.config.nodes }
+        requires there { place < length (places_of self.now.rules machine.now.image machine.now.config machine.now.state self.now.numbers node) }
+        ensures same { result ≡ slice_index_or (places_of self.now.rules machine.now.image machine.now.config machine.now.state self.now.numbers node) place None }
+        ensures fits { IfSome result (λ event. event_fits machine.now.config.nodes event ≡ true) }
+    {
+        let flights = machine.net().count();
+        if place < flights {
+            return delivery(machine, node, place);
+        }
+        if place - flights < flights {
+            return hop(machine, node, place - flights);
+        }
+        self.own_event(machine, node, place - flights - flights)
+    }
+
+    /// How many places the node's list has.
+    fn places(&self, machine: &Machine, node: NodeId) -> usize
+        ensures same { result ≡ length (places_of self.now.rules machine.now.image machine.now.config machine.now.state self.now.numbers node) }
+        ensures few { result ≤ 2053 }
+    {
+        let flights = machine.net().count();
+        flights + flights + 5
+    }
+
+    /// How many events the node's list has.
+    #[tactic(auto, using(crate::proofs::Lists::from_place))]
+    fn count(&self, machine: &Machine, node: NodeId) -> usize
+        requires { node < machine.now.config.nodes }
+        ensures { result ≡ length (list_of self.now.rules machine.now.image machine.now.config machine.now.state self.now.numbers node) }
+    {
+        let mut count = 0;
+        'places: for place in 0..self.places(machine, node) {
+            if self.at_place(machine, node, place).is_some() {
+                count += 1;
+            }
+        }
+        count
+    }
+
+    /// The event of the node's list with so many before it.
+    #[tactic(auto, using(crate::proofs::Lists::from_place))]
+    fn nth(&self, machine: &Machine, node: NodeId, before: usize) -> Option<Event>
+        requires { node < machine.now.config.nodes }
+        ensures same { result ≡ slice_get (list_of self.now.rules machine.now.image machine.now.config machine.now.state self.now.numbers node) before }
+        ensures fits { IfSome result (λ event. event_fits machine.now.config.nodes event ≡ true) }
+    {
+        let mut left = before;
+        'places: for place in 0..self.places(machine, node) {
+            if let Some(event) = self.at_place(machine, node, place) {
+                if left == 0 {
+                    return Some(event);
+                }
+                left -= 1;
+            }
+        }
+        None
+    }
+
+    /// The event of the node's list that a pick names. None where the list is empty.
+    #[tactic(auto, using(crate::proofs::Lists::nothing_of_none))]
+    pub fn picked(&self, machine: &Machine, node: NodeId, pick: u32) -> Option<Event>
+        requires { node < machine.now.config.nodes }
+        ensures same { result ≡ picked pick (list_of self.now.rules machine.now.image machine.now.config machine.now.state self.now.numbers node) }
+        ensures fits { IfSome result (λ event. event_fits machine.now.config.nodes event ≡ true) }
+    {
+        let count = self.count(machine, node);
+        if count == 0 {
+            return None;
+        }
+        self.nth(machine, node, pick as usize % count)
+    }
+}
