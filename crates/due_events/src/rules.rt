@@ -8,7 +8,7 @@ pub struct Rules {
     pub interval: u32,
     /// After how many events in which the recovery point neither rose nor was gone back to a recovery is due, at least 1.
     pub wait: u32,
-    /// Each so-manieth message that would move is lost instead; 0 where none is.
+    /// Every so many moves of messages, a message is lost in place of its move; 0 where none is.
     pub lose_every: u32,
     /// A switch that dies, and after how many events.
     pub kill: Option<(SwitchId, u32)>,
