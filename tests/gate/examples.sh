@@ -87,6 +87,15 @@ else
   echo "a listing of examples/first/a.elf: status $status, or another listing of what it is assembled to" >&2
   failed=$((failed + 1))
 fi
+# Each text in examples/asm has the words of the file beside it.
+for text in examples/asm/*.s; do
+  if ./safetynet asm "$text" 2>"$work/report" | cmp -s - "${text%.s}.hex" && [ ! -s "$work/report" ]; then
+    passed=$((passed + 1))
+  else
+    echo "$text is assembled to other words than ${text%.s}.hex has" >&2
+    failed=$((failed + 1))
+  fi
+done
 refused 2 store examples/first/lacking.hex examples/first/a.script
 
 echo "examples: $passed passed, $failed failed"
