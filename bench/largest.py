@@ -1,0 +1,129 @@
+#!/usr/bin/env python3
+"""The memory, the stack and the time of the largest legal inputs.
+
+    bench/largest.py PROGRAM
+
+Each command is run on an input at its limits. Memory is the most that the whole process had; the stack is the least limit, of 64, 128,
+256 KiB and so on, under which the run ends as it does without a limit. The time is of one run.
+"""
+import os
+import resource
+import struct
+import subprocess
+import sys
+import tempfile
+import time
+from pathlib import Path
+
+START = 0x80000000
+MEMORY_SIZE = 4 << 20
+PROGRAM_LIMIT, SCRIPT_LIMIT, EVENT_LIMIT = 16 << 20, 32 << 20, 1_000_000
+WORD_LIMIT = 1_048_576
+
+NOP, JUMP_BACK = 0x00000013, 0xFFDFF06F
+LETTER = [0x04100513, 0x00100893, 0x00000073, 0xFF5FF06F]
+
+
+def image(words):
+    return "".join(f"{word:08x}\n" for word in words)
+
+
+def whole_memory_image():
+    """A word for each word of memory, and comments up to the limit of a program."""
+    text = image([NOP] * (MEMORY_SIZE // 4 - 1) + [JUMP_BACK])
+    return (text + "#" * (PROGRAM_LIMIT - len(text))).encode()
+
+
+def whole_memory_elf():
+    """One segment over all of memory, and bytes after it up to the limit."""
+    code = struct.pack("<I", NOP) * (MEMORY_SIZE // 4 - 1) + struct.pack("<I", JUMP_BACK)
+    identity = bytes([0x7F, 0x45, 0x4C, 0x46, 1, 1, 1]) + bytes(9)
+    header = identity + struct.pack("<HHIIIIIHHHHHH", 2, 243, 1, START, 52, 0, 0, 52, 32, 1, 40, 0, 0)
+    segment = struct.pack("<8I", 1, 84, START, START, len(code), len(code), 5, 4)
+    return (header + segment + code).ljust(PROGRAM_LIMIT, b"\0")
+
+
+def filled(lines):
+    """The lines, and one comment up to the limit of a script."""
+    text = "".join(line + "\n" for line in lines)
+    return (text + "#" * (SCRIPT_LIMIT - len(text))).encode()
+
+
+def checkpoints(nodes):
+    """Steps of all nodes, and now and then a checkpoint that is validated: all of what waits is committed."""
+    lines, message = [], 1
+    while len(lines) < EVENT_LIMIT - 200:
+        lines += [f"step {node}" for node in range(nodes) for _ in range(16)]
+        lines += [f"edge {node}" for node in range(nodes)]
+        for node in range(nodes):
+            lines.append(f"report {node}")
+            lines += [f"hop {message}"] * 6
+            lines.append(f"deliver {message}")
+            message += 1
+        lines.append("validate")
+        for _ in range(nodes):
+            lines += [f"hop {message}"] * 6
+            lines.append(f"deliver {message}")
+            message += 1
+    return lines[:EVENT_LIMIT] + ["recover"] * (EVENT_LIMIT - len(lines))
+
+
+LARGE = ["--nodes", "16", "--sets", "256", "--ways", "16", "--log", "4096"]
+
+RUNS = [
+    ("replay, 1,000,000 steps of 16 nodes with the largest caches and logs, a program of 16 MiB", ["replay", *LARGE, "a", "b"],
+     whole_memory_image, lambda: filled(f"step {place % 16}" for place in range(EVENT_LIMIT))),
+    ("the same with an ELF file, and the trace", ["replay", *LARGE, "--trace", "a", "b"],
+     whole_memory_elf, lambda: filled(f"step {place % 16}" for place in range(EVENT_LIMIT))),
+    ("replay, 1,000,000 events of 16 nodes with checkpoints that are validated", ["replay", *LARGE, "a", "b"],
+     lambda: image(LETTER).encode(), lambda: filled(checkpoints(16))),
+    ("replay, 1,000,000 bytes of input for one of 16 nodes", ["replay", *LARGE, "a", "b"],
+     lambda: image(LETTER).encode(), lambda: filled(f"input {place % 16} 41" for place in range(EVENT_LIMIT))),
+    ("check, 1,000,000 records of 16 nodes", ["check", "--nodes", "16", "a", "b"],
+     whole_memory_image, lambda: filled(f"{place % 16} 00000000 0" for place in range(EVENT_LIMIT))),
+    ("demo 1000000", ["demo", "1000000"], None, None),
+    ("asm, 1,048,576 statements", ["asm", "a"], lambda: b"nop\n" * WORD_LIMIT, None),
+    ("dis, a program of 16 MiB", ["dis", "a"], whole_memory_image, None),
+]
+
+
+def run(program, words, folder, stack=None):
+    """Status, digest of what was written, seconds and MiB."""
+    def limit():
+        if stack:
+            resource.setrlimit(resource.RLIMIT_STACK, (stack, stack))
+    begin = time.monotonic()
+    child = subprocess.Popen([program, *words], cwd=folder, stdout=subprocess.DEVNULL, stderr=open(Path(folder, "report"), "wb"), preexec_fn=limit)
+    _, status, used = os.wait4(child.pid, 0)
+    child.returncode = os.waitstatus_to_exitcode(status)
+    return child.returncode, time.monotonic() - begin, used.ru_maxrss / 1024, Path(folder, "report").read_bytes()[-200:]
+
+
+def least_stack(program, words, folder, expected):
+    stack = 64 << 10
+    while run(program, words, folder, stack)[::3] != expected:
+        stack *= 2
+        if stack > 64 << 20:
+            return "none"
+    return f"{stack >> 10} KiB"
+
+
+def main():
+    if len(sys.argv) != 2:
+        print(__doc__)
+        return 2
+    program = str(Path(sys.argv[1]).resolve())
+    print("| Input | Status | Time | Memory | Stack |\n|---|---|---|---|---|")
+    for name, words, first, second in RUNS:
+        with tempfile.TemporaryDirectory() as folder:
+            for file, make in (("a", first), ("b", second)):
+                if make:
+                    Path(folder, file).write_bytes(make())
+            status, seconds, memory, end = run(program, words, folder)
+            stack = least_stack(program, words, folder, (status, end))
+            print(f"| {name} | {status} | {seconds:.2f} s | {memory:.0f} MiB | {stack} |", flush=True)
+    return 0
+
+
+if __name__ == "__main__":
+    sys.exit(main())

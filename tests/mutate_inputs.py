@@ -1,0 +1,182 @@
+#!/usr/bin/env python3
+"""Gives the program spoiled programs, scripts, traces, texts and words for as long as it is told.
+
+    tests/mutate_inputs.py PROGRAM SIMULATOR COUNT [SEED] [PROCESSES]
+
+PROGRAM is the built program, SIMULATOR a reference simulator. Each case takes a good input of a command and spoils one or a few of
+its parts: bytes changed, cut, doubled or moved, numbers at their greatest, lines of other kinds. The program must end by itself,
+with a status that its page names; a second run must give the same bytes; and where the simulator has the command, console, report
+and status must be the simulator's. COUNT cases are shared among PROCESSES processes. The first difference is shown and kept.
+"""
+import random
+import subprocess
+import sys
+import tempfile
+from concurrent.futures import ProcessPoolExecutor
+from pathlib import Path
+
+sys.path.insert(0, str(Path(__file__).resolve().parent))
+import compare_replay  # noqa: E402
+
+STATUSES = {0, 1, 2, 3, 4, 5, 6, 7, 8, 9, 10, 13}
+
+# The longest that a case may take.
+SECONDS = 60
+
+LETTERS = b" \t\r\n#0123456789abcdefABCDEF-=@xx" + bytes([0, 0x7F, 0x80, 0xEF, 0xBB, 0xBF, 0xFF])
+
+GREAT = [b"18446744073709551615", b"18446744073709551616", b"4294967295", b"4294967296", b"65535", b"65536", b"1000000", b"1000001",
+         b"00", b"-1", b"99999999999999999999", b"999999999999999999999"]
+
+STATEMENTS = [b"addi a0, zero, 65", b"lui t0, 0x80001", b"amoadd.w t2, t1, (t0)", b"lw a1, 4(t0)", b"sw a1, -4(t0)", b"ecall", b"loop:",
+              b"jal zero, loop", b"beq a0, a1, loop", b".word 0x12345678", b"# a line", b"lr.w a2, (t0)", b"sc.w a3, a2, (t0)", b"nop"]
+
+RECORDS = [b"0 00000000 0", b"1 00000000 0", b"0 00000001 0", b"1 00000001 0", b"0 00000000 1", b"0 00000000 0 41", b"3 00000000 0", b"# a record"]
+
+
+def changed(choose, data):
+    """Some bytes of a file changed, cut, doubled or moved."""
+    data = bytearray(data)
+    for _ in range(choose.choice([1, 1, 1, 2, 5])):
+        if not data:
+            return bytes([choose.choice(LETTERS)])
+        place, length = choose.randrange(len(data)), choose.choice([1, 1, 2, 4, 16])
+        kind = choose.randrange(7)
+        if kind == 0:
+            data[place] = choose.randrange(256)
+        elif kind == 1:
+            data[place] = choose.choice(LETTERS)
+        elif kind == 2:
+            del data[place:place + length]
+        elif kind == 3:
+            data[place:place] = data[place:place + length]
+        elif kind == 4:
+            del data[place:]
+        elif kind == 5:
+            data[place:place] = choose.choice(GREAT)
+        else:
+            data[place:place + 4] = choose.choice([b"\xff\xff\xff\xff", b"\0\0\0\0", b"\0\0\0\x80", b"\xff\xff\xff\x7f"])
+    return bytes(data)
+
+
+def maybe_changed(choose, data, chance):
+    return changed(choose, data) if choose.random() < chance else data
+
+
+def program(choose):
+    make = choose.choice([compare_replay.hexadecimal_image, compare_replay.elf_file])
+    return make(choose, compare_replay.program(choose))
+
+
+def lines(choose, kinds, most):
+    end = choose.choice([b"\n", b"\n", b"\r\n", b"\r"])
+    return b"".join(choose.choice(kinds) + end for _ in range(choose.randrange(most)))
+
+
+def script(choose, nodes):
+    return b"".join(compare_replay.event(choose, nodes, place // 3).encode() + b"\n" for place in range(choose.randrange(30)))
+
+
+def spoiled_words(choose, words):
+    words = list(words)
+    for _ in range(choose.choice([0, 0, 0, 1, 1, 2])):
+        place = choose.randrange(len(words) + 1)
+        kind = choose.randrange(4)
+        if kind == 0:
+            words.insert(place, choose.choice(["--nodes", "--nodes=3", "--sets=1", "--ways=16", "--log=4", "--trace", "--trace=x", "--watch", "--watch=80001000",
+                                               "--", "-", "", "--help", "-h", "help", "--version", "b", "--nodes=0", "--nodes=99999999999999999999", "--journal"]))
+        elif kind == 1 and words:
+            del words[min(place, len(words) - 1)]
+        elif kind == 2 and words:
+            words[min(place, len(words) - 1)] = choose.choice(["replay", "check", "asm", "dis", "demo", "run", "a", "nowhere", "1", "é"])
+        elif words:
+            words.insert(place, words[min(place, len(words) - 1)])
+    return words
+
+
+def case_of(choose):
+    """Words, and the files that stand there."""
+    nodes = choose.choice([1, 1, 2, 4])
+    kind = choose.choices(["replay", "check", "asm", "dis", "demo"], [50, 20, 12, 14, 4])[0]
+    chance = choose.choice([0, 0.5, 1])
+    files = {"a": maybe_changed(choose, program(choose), 1 - chance)}
+    words = [kind, "a"]
+    if kind == "replay":
+        files["b"] = maybe_changed(choose, script(choose, nodes), chance)
+        words = [kind, "--nodes", str(nodes), "a", "b"]
+    elif kind == "check":
+        files["b"] = maybe_changed(choose, lines(choose, RECORDS, 12), chance)
+        words = [kind, f"--nodes={nodes}", "a", "b"]
+    elif kind == "asm":
+        files["a"] = maybe_changed(choose, lines(choose, STATEMENTS, 12), chance)
+    elif kind == "demo":
+        words = [kind, choose.choice(["0", "1", "50", "007", "1000001", "x", ""])]
+    return spoiled_words(choose, words), files
+
+
+def run(command, words, folder):
+    done = subprocess.run([*command, *words], cwd=folder, capture_output=True, timeout=SECONDS)
+    return done.returncode, done.stdout, done.stderr
+
+
+def is_own(words):
+    """Whether the program answers by itself, with its own pages."""
+    return not words or any(word in ("--help", "-h", "help", "--version") for word in words)
+
+
+def difference(built, simulator, seed, case):
+    choose = random.Random(f"{seed} {case}")
+    words, files = case_of(choose)
+    with tempfile.TemporaryDirectory() as folder:
+        for name, content in files.items():
+            Path(folder, name).write_bytes(content)
+        try:
+            found = run([built], words, folder)
+            again = run([built], words, folder) if case % 4 == 0 else found
+            expected = found if is_own(words) else run([simulator, "--main"], words, folder)
+        except subprocess.TimeoutExpired:
+            return f"case {case}, {words}: no end within {SECONDS} s; {files}", None
+    if found[0] not in STATUSES:
+        return f"case {case}, {words}: status {found[0]}; {found}; {files}", None
+    if found != again:
+        return f"case {case}, {words}: {found} and then {again}; {files}", None
+    if found != expected:
+        return f"case {case}, {words}: {found} and not {expected}; {files}", None
+    return None, found[0]
+
+
+def share(built, simulator, seed, cases):
+    counts = {}
+    for case in cases:
+        text, status = difference(built, simulator, seed, case)
+        if text:
+            return text, counts
+        counts[status] = counts.get(status, 0) + 1
+    return None, counts
+
+
+def main():
+    if len(sys.argv) < 4:
+        print(__doc__)
+        return 2
+    built, simulator = (str(Path(name).resolve()) for name in sys.argv[1:3])
+    count, seed = int(sys.argv[3]), sys.argv[4] if len(sys.argv) > 4 else "1"
+    processes = int(sys.argv[5]) if len(sys.argv) > 5 else 1
+    counts = {}
+    with ProcessPoolExecutor(processes) as pool:
+        shares = [pool.submit(share, built, simulator, seed, range(first, count, processes)) for first in range(processes)]
+        texts = []
+        for done in shares:
+            text, part = done.result()
+            texts += [text] if text else []
+            for status, times in part.items():
+                counts[status] = counts.get(status, 0) + times
+    for text in texts:
+        print(text)
+    told = ", ".join(f"{status}: {times}" for status, times in sorted(counts.items()))
+    print(f"{sum(counts.values())} cases, {len(texts)} differences; by status {told}")
+    return 1 if texts else 0
+
+
+if __name__ == "__main__":
+    sys.exit(main())

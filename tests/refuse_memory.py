@@ -1,0 +1,96 @@
+#!/usr/bin/env python3
+"""Refuses each call for memory of a run in turn, and looks at what the program makes of it.
+
+    tests/refuse_memory.py PROGRAM [MOST]
+
+PROGRAM is the built program. For each command on its own small input the run is done once with all memory, which counts its calls
+of the allocator, and then once for each of these calls with that one refused, and once with that one and all after it refused. It
+must end with the status of want of memory and the one line that says so, with nothing on standard output; or it must be as with
+all memory, byte for byte. MOST is the greatest number of calls that are refused one by one, evenly spread; without it all are.
+The library that refuses is built by cc from tests/refuse_memory/refuse.c.
+"""
+import os
+import subprocess
+import sys
+import tempfile
+from pathlib import Path
+
+HERE = Path(__file__).resolve().parent
+EXAMPLES = HERE.parent / "examples"
+
+MEMORY_STATUS, MEMORY_LINE = 7, b"# safetynet: memory\n"
+
+# The words of a command, and the files that they name with their bytes.
+COUNTING = "".join(f"{word:08x}\n" for word in [0x800012B7, 0x00100313, 0x0062A3AF, 0x05D00893, 0x00000073]).encode()
+LETTER = "".join(f"{word:08x}\n" for word in [0x04100513, 0x00100893, 0x00000073, 0x05D00893, 0x00000073]).encode()
+SCRIPT = b"step 0\nstep 0\nstep 0\nedge 0\nreport 0\ndeliver 1\nvalidate\n"
+RECOVERY = b"step 0\nstep 0\nstep 1\nstep 1\nstep 1\nrecover\nedge 0\n"
+TRACE = b"0 00000000 0\n" * 3 + b"1 00000000 0\n" * 2 + b"1 00000001 0\n"
+TEXT = b"start: addi a0, zero, 65\n  jal zero, start\n"
+
+RUNS = [
+    ("replay", ["replay", "--nodes", "1", "a", "b"], {"a": LETTER, "b": SCRIPT}),
+    ("replay, two nodes and a recovery", ["replay", "--nodes", "2", "--watch", "80001000", "a", "b"], {"a": COUNTING, "b": RECOVERY}),
+    ("replay with the trace", ["replay", "--nodes", "1", "--trace", "a", "b"], {"a": LETTER, "b": SCRIPT}),
+    ("replay of a bad script", ["replay", "--nodes", "1", "a", "b"], {"a": LETTER, "b": b"step 1\n"}),
+    ("check", ["check", "--nodes", "2", "a", "b"], {"a": COUNTING, "b": TRACE}),
+    ("check, refused", ["check", "--nodes", "2", "a", "b"], {"a": COUNTING, "b": TRACE[:-13] + b"1 00000000 0\n"}),
+    ("demo", ["demo", "100"], {}),
+    ("asm", ["asm", "a"], {"a": TEXT}),
+    ("dis", ["dis", "a"], {"a": COUNTING}),
+    ("words that are no command", ["fly"], {}),
+    ("help", ["--help"], {}),
+]
+
+
+def built_library(folder):
+    library = Path(folder, "refuse.so")
+    subprocess.run(["cc", "-shared", "-fPIC", "-O1", "-o", library, HERE / "refuse_memory" / "refuse.c", "-ldl"], check=True)
+    return library
+
+
+def run(program, words, folder, library, call=0, all_after=False):
+    """Status, standard output and standard error, and how often memory was asked for."""
+    count = Path(folder, "count")
+    count.unlink(missing_ok=True)
+    given = {**os.environ, "LD_PRELOAD": str(library), "REFUSE_COUNT": str(count), "REFUSE_CALL": str(call)}
+    if all_after:
+        given["REFUSE_ALL_AFTER"] = "1"
+    done = subprocess.run([program, *words], cwd=folder, capture_output=True, env=given)
+    made = int(count.read_text()) if count.exists() else None
+    return (done.returncode, done.stdout, done.stderr), made
+
+
+def is_right(found, ample):
+    return found == ample or found == (MEMORY_STATUS, b"", MEMORY_LINE) or found == (MEMORY_STATUS, b"", b"")
+
+
+def main():
+    if len(sys.argv) < 2:
+        print(__doc__)
+        return 2
+    program = str(Path(sys.argv[1]).resolve())
+    most = int(sys.argv[2]) if len(sys.argv) > 2 else None
+    wrong = 0
+    with tempfile.TemporaryDirectory() as folder:
+        library = built_library(folder)
+        for name, words, files in RUNS:
+            for file, content in files.items():
+                Path(folder, file).write_bytes(content)
+            ample, made = run(program, words, folder, library)
+            step = 1 if most is None else max(1, made // most)
+            refused = as_ample = 0
+            for call in range(1, made + 1, step):
+                for all_after in (False, True):
+                    found, _ = run(program, words, folder, library, call, all_after)
+                    if not is_right(found, ample):
+                        wrong += 1
+                        print(f"{name}: call {call} of {made} refused{' and all after' if all_after else ''}: {found}, and not {ample}")
+                    refused += found[0] == MEMORY_STATUS
+                    as_ample += found == ample
+            print(f"{name}: {made} calls for memory, status {ample[0]}; refused: {refused} times want of memory, {as_ample} times as with all")
+    return 1 if wrong else 0
+
+
+if __name__ == "__main__":
+    sys.exit(main())
