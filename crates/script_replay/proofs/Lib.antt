@@ -3,6 +3,8 @@ pub mod Releases
 pub mod Recoveries
 pub mod Groups
 pub mod PieceLaws
+pub mod Tallies
 pub mod SoFar
+pub mod ToldSoFar
 pub mod Shown
 pub mod Performed

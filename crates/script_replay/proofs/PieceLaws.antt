@@ -1,19 +1,21 @@
 -- Laws of the pieces of one event, and of the end.
 use Rattle.std.proofs.Common.{◌≡◌, ℕ, ◌+◌, ◌<◌, ◌≤◌, List, [], ◌∷◌, ◌++◌, drop, length, get_or, refl, ap, sym, subst, ◌∙◌, arith}
 use Rattle.std.proofs.lemmas.List.{length-append, drop_more, drop_all}
-use Rattle.std.specs.Prelude.{Bool, true, false, Option, codes}
+use Rattle.std.specs.Prelude.{Option, codes}
 use Rattle.sn_base.specs.declared.event.Event.{Event}
 use Rattle.sn_base.specs.declared.event.Answer.{Answer}
 use Rattle.rv_core.specs.declared.step.Record.{Record}
 use Rattle.sn_machine.specs.Machine.{MachineData, next_of, IsApplied}
 use Rattle.consistent_cuts.specs.Headline.{IsStepOfRun}
 use Rattle.sn_text.specs.Text.{trace_line}
-use Rattle.sink_pieces.specs.Pieces.{Piece, Report, Ends, ends, after, Breaks, console_piece}
+use Rattle.sink_pieces.specs.Pieces.{Piece, Report, Ends, after, Breaks, console_piece}
 use Rattle.sink_pieces.proofs.PieceLaws.{after-append, after-nil, Breaks-more, Breaks-after}
-use Rattle.sink_pieces.proofs.SoFar.{SoFar, SoFar-start, SoFar-more, SoFar-breaks, SoFar-whole}
+use Rattle.sink_pieces.proofs.SoFar.{SoFar, SoFar-more, SoFar-breaks, SoFar-whole}
 use Rattle.script_replay.specs.declared.job.Showing.{Showing}
-use Rattle.script_replay.specs.Pieces.{group_of, group_pieces, trace_pieces, end_pieces, last_pieces, turn_pieces}
-use Rattle.script_replay.specs.Played.{group_now, summary_now, end_now, turn_now, IsAlone}
+use Rattle.script_replay.specs.declared.job.ReportKind.{ReportKind}
+use Rattle.script_replay.specs.declared.job.ReportKind.TheVariants.{Events, Trace, Summary}
+use Rattle.script_replay.specs.Pieces.{group_of, group_pieces, trace_pieces, tally_pieces, end_pieces, last_pieces, turn_pieces}
+use Rattle.script_replay.specs.Played.{group_now, summary_now, summed_up, end_now, turn_now, IsAlone}
 use Rattle.script_replay.proofs.Recoveries.{recovery_is_alone}
 use Rattle.script_replay.proofs.Releases.{released-grows}
 
@@ -48,16 +50,16 @@ group-is m n watch event said applied =
     ap (λ t. group_now t watch event said) applied.left
     ∙ ap (λ a. group_of m.image m.config watch (m.applied + 1) event (record { state = (next_of m event).state; answer = a; sent = (next_of m event).sent })) applied.answer
 
-group_pieces-are : (m n : MachineData) (showing : Showing) (event : Event) (said : Answer) → IsApplied m n event said → group_pieces showing.trace (group_now n showing.watch event said) ≡ group_pieces showing.trace (group_of m.image m.config showing.watch (m.applied + 1) event (next_of m event))
-group_pieces-are m n showing event said applied = ap (group_pieces showing.trace) (group-is m n showing.watch event said applied)
+group_pieces-are : (m n : MachineData) (showing : Showing) (event : Event) (said : Answer) → IsApplied m n event said → group_pieces showing.report (group_now n showing.watch event said) ≡ group_pieces showing.report (group_of m.image m.config showing.watch (m.applied + 1) event (next_of m event))
+group_pieces-are m n showing event said applied = ap (group_pieces showing.report) (group-is m n showing.watch event said applied)
 
 -- one event: all of its pieces were put
-pub turn-whole : (m n : MachineData) (showing : Showing) (event : Event) (said : Answer) (fresh : List ℕ) (a b d : Ends) → IsFresh m event fresh → IsApplied m n event said → b ≡ after a (console_piece fresh) → d ≡ after b (group_pieces showing.trace (group_now n showing.watch event said)) → d ≡ after a (turn_now m showing event)
+pub turn-whole : (m n : MachineData) (showing : Showing) (event : Event) (said : Answer) (fresh : List ℕ) (a b d : Ends) → IsFresh m event fresh → IsApplied m n event said → b ≡ after a (console_piece fresh) → d ≡ after b (group_pieces showing.report (group_now n showing.watch event said)) → d ≡ after a (turn_now m showing event)
 unfolding turn_pieces
 turn-whole m n showing event said fresh a b d is_fresh applied first second =
     second ∙ ap (after b) (group_pieces-are m n showing event said applied)
-    ∙ ap (λ e. after e (group_pieces showing.trace (group_of m.image m.config showing.watch (m.applied + 1) event (next_of m event)))) first
-    ∙ after-append a (console_piece fresh) (group_pieces showing.trace (group_of m.image m.config showing.watch (m.applied + 1) event (next_of m event))) ∙ rw is_fresh refl
+    ∙ ap (λ e. after e (group_pieces showing.report (group_of m.image m.config showing.watch (m.applied + 1) event (next_of m event)))) first
+    ∙ after-append a (console_piece fresh) (group_pieces showing.report (group_of m.image m.config showing.watch (m.applied + 1) event (next_of m event))) ∙ rw is_fresh refl
 
 -- one event: what it releases was put in part
 pub turn-breaks_first : (m : MachineData) (showing : Showing) (event : Event) (fresh : List ℕ) (a b : Ends) → IsFresh m event fresh → Breaks (console_piece fresh) a b → Breaks (turn_now m showing event) a b
@@ -66,25 +68,24 @@ turn-breaks_first m showing event fresh a b is_fresh broken =
     Breaks-more _ _ a b (subst (λ (f : List ℕ). Breaks (console_piece f) a b) is_fresh broken)
 
 -- one event: its group was put in part
-pub turn-breaks_second : (m n : MachineData) (showing : Showing) (event : Event) (said : Answer) (fresh : List ℕ) (a b d : Ends) → IsFresh m event fresh → IsApplied m n event said → b ≡ after a (console_piece fresh) → Breaks (group_pieces showing.trace (group_now n showing.watch event said)) b d → Breaks (turn_now m showing event) a d
+pub turn-breaks_second : (m n : MachineData) (showing : Showing) (event : Event) (said : Answer) (fresh : List ℕ) (a b d : Ends) → IsFresh m event fresh → IsApplied m n event said → b ≡ after a (console_piece fresh) → Breaks (group_pieces showing.report (group_now n showing.watch event said)) b d → Breaks (turn_now m showing event) a d
 unfolding turn_pieces
 turn-breaks_second m n showing event said fresh a b d is_fresh applied first broken =
     rw (← is_fresh) (Breaks-after (console_piece fresh) _ a d
-    (subst (λ (e : Ends). Breaks (group_pieces showing.trace (group_of m.image m.config showing.watch (m.applied + 1) event (next_of m event))) e d) first
+    (subst (λ (e : Ends). Breaks (group_pieces showing.report (group_of m.image m.config showing.watch (m.applied + 1) event (next_of m event))) e d) first
     (subst (λ (ps : List Piece). Breaks ps b d) (group_pieces-are m n showing event said applied) broken)))
 
--- a group: there is none where the trace is asked for, and else it is one piece
-pub group-none : (trace : Bool) (text : List ℕ) (e : Ends) → trace ≡ true → e ≡ after e (group_pieces trace text)
-group-none true text e is = sym (after-nil e)
-group-none false text e is = absurd cc
+-- a group: one piece where the events are asked for, and else there is none
+pub group-none : (kind : ReportKind) (text : List ℕ) (e : Ends) → (kind ≡ Events → ⊥) → e ≡ after e (group_pieces kind text)
+group-none Events text e not = absurd (not refl)
+group-none Trace text e not = sym (after-nil e)
+group-none Summary text e not = sym (after-nil e)
 
-pub group-one : (trace : Bool) (text line : List ℕ) (a b : Ends) → trace ≡ false → line ≡ text → b ≡ after a (Report line ∷ []) → b ≡ after a (group_pieces trace text)
-group-one true text line a b is same put = absurd cc
-group-one false text line a b is same put = put ∙ ap (λ t. after a (Report t ∷ [])) same
+pub group-one : (kind : ReportKind) (text line : List ℕ) (a b : Ends) → kind ≡ Events → line ≡ text → b ≡ after a (Report line ∷ []) → b ≡ after a (group_pieces kind text)
+group-one kind text line a b is same put = rw is (put ∙ ap (λ t. after a (Report t ∷ [])) same)
 
-pub group-breaks : (trace : Bool) (text line : List ℕ) (a b : Ends) → trace ≡ false → line ≡ text → Breaks (Report line ∷ []) a b → Breaks (group_pieces trace text) a b
-group-breaks true text line a b is same broken = absurd cc
-group-breaks false text line a b is same broken = subst (λ (t : List ℕ). Breaks (Report t ∷ []) a b) same broken
+pub group-breaks : (kind : ReportKind) (text line : List ℕ) (a b : Ends) → kind ≡ Events → line ≡ text → Breaks (Report line ∷ []) a b → Breaks (group_pieces kind text) a b
+group-breaks kind text line a b is same broken = rw is (subst (λ (t : List ℕ). Breaks (Report t ∷ []) a b) same broken)
 
 -- the trace's lines, one after another
 trace_pieces-drop : (records : List Record) (i : ℕ) (taken : Record) → i < length records → taken ≡ get_or records i taken → trace_pieces (drop i records) ≡ Report (trace_line taken) ∷ trace_pieces (drop (i + 1) records)
@@ -116,31 +117,53 @@ pub trace-whole : (records : List Record) (i : ℕ) (a b : Ends) → length reco
 trace-whole records i a b e h =
     SoFar-whole (trace_pieces records) [] a b b (subst (λ (t : List Piece). SoFar (trace_pieces records) t a b) (trace_pieces-end records i e) h) (sym (after-nil b))
 
--- the end: the summary alone
-pub end-plain : (m : MachineData) (showing : Showing) (a b : Ends) → showing.trace ≡ false → b ≡ after a (Report (summary_now [] m showing.watch) ∷ []) → b ≡ after a (end_now m showing)
-unfolding end_pieces
-end-plain m showing a b is put = rw is put
+-- the summary: what it says of the machine, and then of the probes
+module _ (m : MachineData) (watch : Option ℕ) (before : List ℕ) (tallies : List (List ℕ)) (bytes : List ℕ) (same : bytes ≡ summary_now before m watch) where
+  pub summed-all : (a b d : Ends) → b ≡ after a (Report bytes ∷ []) → d ≡ after b (tally_pieces before 0 tallies) → d ≡ after a (summed_up before m watch tallies)
+  summed-all a b d first second =
+      second ∙ ap (λ e. after e (tally_pieces before 0 tallies)) (first ∙ ap (λ t. after a (Report t ∷ [])) same)
+      ∙ after-append a (Report (summary_now before m watch) ∷ []) (tally_pieces before 0 tallies)
 
-pub end-plain_breaks : (m : MachineData) (showing : Showing) (a b : Ends) → showing.trace ≡ false → Breaks (Report (summary_now [] m showing.watch) ∷ []) a b → Breaks (end_now m showing) a b
-unfolding end_pieces
-end-plain_breaks m showing a b is broken = rw is broken
+  pub summed-breaks_first : (a b : Ends) → Breaks (Report bytes ∷ []) a b → Breaks (summed_up before m watch tallies) a b
+  summed-breaks_first a b broken =
+      Breaks-more (Report (summary_now before m watch) ∷ []) (tally_pieces before 0 tallies) a b (subst (λ (t : List ℕ). Breaks (Report t ∷ []) a b) same broken)
+
+  pub summed-breaks_second : (a b d : Ends) → b ≡ after a (Report bytes ∷ []) → Breaks (tally_pieces before 0 tallies) b d → Breaks (summed_up before m watch tallies) a d
+  summed-breaks_second a b d first broken =
+      Breaks-after (Report (summary_now before m watch) ∷ []) (tally_pieces before 0 tallies) a d
+      (subst (λ (e : Ends). Breaks (tally_pieces before 0 tallies) e d) (first ∙ ap (λ t. after a (Report t ∷ [])) same) broken)
+
+-- the end: the summary alone
+plain-is : (m : MachineData) (watch : Option ℕ) (tallies : List (List ℕ)) (kind : ReportKind) → (kind ≡ Trace → ⊥) → last_pieces kind m.image m.config watch tallies m.applied m.state ≡ summed_up [] m watch tallies
+plain-is m watch tallies Events not = refl
+plain-is m watch tallies Trace not = absurd (not refl)
+plain-is m watch tallies Summary not = refl
+
+module _ (m : MachineData) (showing : Showing) (tallies : List (List ℕ)) (not : showing.report ≡ Trace → ⊥) where
+  pub end-plain : (a b : Ends) → b ≡ after a (summed_up [] m showing.watch tallies) → b ≡ after a (end_now m showing tallies)
+  unfolding end_pieces
+  end-plain a b put = put ∙ ap (after a) (sym (plain-is m showing.watch tallies showing.report not))
+
+  pub end-plain_breaks : (a b : Ends) → Breaks (summed_up [] m showing.watch tallies) a b → Breaks (end_now m showing tallies) a b
+  unfolding end_pieces
+  end-plain_breaks a b broken = subst (λ (ps : List Piece). Breaks ps a b) (sym (plain-is m showing.watch tallies showing.report not)) broken
 
 -- the end: the trace, and then the summary
-module _ (m : MachineData) (showing : Showing) (records : List Record) (is : showing.trace ≡ true) (same : records ≡ m.state.committed) where
-  pub end-traced : (a b d : Ends) → b ≡ after a (trace_pieces records) → d ≡ after b (Report (summary_now (codes "# ") m showing.watch) ∷ []) → d ≡ after a (end_now m showing)
+module _ (m : MachineData) (showing : Showing) (tallies : List (List ℕ)) (records : List Record) (is : showing.report ≡ Trace) (same : records ≡ m.state.committed) where
+  pub end-traced : (a b d : Ends) → b ≡ after a (trace_pieces records) → d ≡ after b (summed_up (codes "# ") m showing.watch tallies) → d ≡ after a (end_now m showing tallies)
   unfolding end_pieces
   end-traced a b d first second =
-      rw is (second ∙ ap (λ e. after e (Report (summary_now (codes "# ") m showing.watch) ∷ [])) (first ∙ ap (λ t. after a (trace_pieces t)) same)
-      ∙ after-append a (trace_pieces m.state.committed) (Report (summary_now (codes "# ") m showing.watch) ∷ []))
+      rw is (second ∙ ap (λ e. after e (summed_up (codes "# ") m showing.watch tallies)) (first ∙ ap (λ t. after a (trace_pieces t)) same)
+      ∙ after-append a (trace_pieces m.state.committed) (summed_up (codes "# ") m showing.watch tallies))
 
-  pub end-traced_breaks_first : (a b : Ends) → Breaks (trace_pieces records) a b → Breaks (end_now m showing) a b
+  pub end-traced_breaks_first : (a b : Ends) → Breaks (trace_pieces records) a b → Breaks (end_now m showing tallies) a b
   unfolding end_pieces
   end-traced_breaks_first a b broken =
-      rw is (Breaks-more (trace_pieces m.state.committed) (Report (summary_now (codes "# ") m showing.watch) ∷ []) a b
+      rw is (Breaks-more (trace_pieces m.state.committed) (summed_up (codes "# ") m showing.watch tallies) a b
       (subst (λ (t : List Record). Breaks (trace_pieces t) a b) same broken))
 
-  pub end-traced_breaks_second : (a b d : Ends) → b ≡ after a (trace_pieces records) → Breaks (Report (summary_now (codes "# ") m showing.watch) ∷ []) b d → Breaks (end_now m showing) a d
+  pub end-traced_breaks_second : (a b d : Ends) → b ≡ after a (trace_pieces records) → Breaks (summed_up (codes "# ") m showing.watch tallies) b d → Breaks (end_now m showing tallies) a d
   unfolding end_pieces
   end-traced_breaks_second a b d first broken =
-      rw is (Breaks-after (trace_pieces m.state.committed) (Report (summary_now (codes "# ") m showing.watch) ∷ []) a d
-      (subst (λ (e : Ends). Breaks (Report (summary_now (codes "# ") m showing.watch) ∷ []) e d) (first ∙ ap (λ t. after a (trace_pieces t)) same) broken))
+      rw is (Breaks-after (trace_pieces m.state.committed) (summed_up (codes "# ") m showing.watch tallies) a d
+      (subst (λ (e : Ends). Breaks (summed_up (codes "# ") m showing.watch tallies) e d) (first ∙ ap (λ t. after a (trace_pieces t)) same) broken))

@@ -1,3 +1,4 @@
 pub mod Pieces
+pub mod Probed
 pub mod Played
 pub mod Shown

@@ -1,5 +1,6 @@
--- The pieces that a replay puts: what each event releases, its group of lines, and at the end the summary.
-use Rattle.std.specs.Prelude.{ℕ, zero, suc, ◌+◌, Bool, true, false, List, [], ◌∷◌, ◌++◌, drop, length, codes, Option, Some, None}
+-- The pieces that a replay puts: what each event releases, its group of lines, and at the end the summary, with what the
+-- probes have measured.
+use Rattle.std.specs.Prelude.{ℕ, zero, suc, ◌+◌, List, [], ◌∷◌, ◌++◌, take, drop, length, codes, Option, Some, None}
 use Rattle.sn_base.specs.Image.{ImageData}
 use Rattle.sn_base.specs.declared.config.Config.{Config}
 use Rattle.sn_base.specs.declared.event.Event.{Event}
@@ -11,9 +12,11 @@ use Rattle.rv_core.specs.Execution.{end_of}
 use Rattle.sn_model.specs.Machine.{State, start_of}
 use Rattle.sn_model.specs.Instructions.{Stepped}
 use Rattle.sn_model.specs.Step.{step_of}
-use Rattle.sn_text.specs.Text.{event_line, sent_lines, core_line, count_line, watch_line, trace_line}
+use Rattle.sn_text.specs.Text.{event_line, sent_lines, core_line, count_line, watch_line, probe_line, trace_line}
 use Rattle.sink_pieces.specs.Pieces.{Piece, Report, console_piece}
 use Rattle.script_replay.specs.declared.job.Showing.{Showing}
+use Rattle.script_replay.specs.declared.job.ReportKind.{ReportKind}
+use Rattle.script_replay.specs.declared.job.ReportKind.TheVariants.{Events, Trace, Summary}
 
 -- the flat machine after the committed trace
 abbrev pub flat_at : ImageData → Config → State → FlatState
@@ -43,17 +46,34 @@ unfoldable pub group_of : ImageData → Config → Option ℕ → ℕ → Event 
 group_of image config watch place event step =
     event_line place event step.answer ++ sent_lines step.sent ++ recovered_lines image config watch step.answer step.state
 
--- how many events there were, and the recovery point, the committed trace, its output and the lines of the cut after it
+-- what the summary says of the machine: how many events there were, and the recovery point, the committed trace, its output
+-- and the lines of the cut after it
 unfoldable pub summary_of : List ℕ → ImageData → Config → Option ℕ → ℕ → State → List ℕ
 summary_of before image config watch events s =
     count_line before (codes "events") events ++ count_line before (codes "point") s.fabric.point
     ++ count_line before (codes "committed") (length s.committed) ++ count_line before (codes "released") (length s.released)
     ++ cut_lines before (flat_at image config s) config.nodes watch
 
--- a group of the report, where the trace isn't asked for in its place
-abbrev pub group_pieces : Bool → List ℕ → List Piece
-group_pieces true text = []
-group_pieces false text = Report text ∷ []
+-- what it says of a probe: its numbers from this place on
+unfoldable pub tally_lines : List ℕ → ℕ → ℕ → List ℕ → List ℕ
+tally_lines before probe place [] = []
+tally_lines before probe place (value ∷ values) = probe_line before probe place value ++ tally_lines before probe (place + 1) values
+
+-- the first 16 numbers of each of these probes, one piece a probe
+unfoldable pub tally_pieces : List ℕ → ℕ → List (List ℕ) → List Piece
+tally_pieces before probe [] = []
+tally_pieces before probe (tally ∷ tallies) = Report (tally_lines before probe 0 (take 16 tally)) ∷ tally_pieces before (probe + 1) tallies
+
+-- the summary: of the machine, and of the probes
+abbrev pub summary_pieces : List ℕ → ImageData → Config → Option ℕ → List (List ℕ) → ℕ → State → List Piece
+summary_pieces before image config watch tallies events s =
+    Report (summary_of before image config watch events s) ∷ tally_pieces before 0 tallies
+
+-- a group of the report, where the events are asked for
+abbrev pub group_pieces : ReportKind → List ℕ → List Piece
+group_pieces Events text = Report text ∷ []
+group_pieces Trace text = []
+group_pieces Summary text = []
 
 -- a trace, one piece a record
 unfoldable pub trace_pieces : List Record → List Piece
@@ -61,19 +81,20 @@ trace_pieces [] = []
 trace_pieces (taken ∷ records) = Report (trace_line taken) ∷ trace_pieces records
 
 -- at the end: the summary; or the committed trace and then the summary, each of its lines marked as a comment of a trace
-abbrev pub last_pieces : Bool → ImageData → Config → Option ℕ → ℕ → State → List Piece
-last_pieces false image config watch events s = Report (summary_of [] image config watch events s) ∷ []
-last_pieces true image config watch events s =
-    trace_pieces s.committed ++ Report (summary_of (codes "# ") image config watch events s) ∷ []
+abbrev pub last_pieces : ReportKind → ImageData → Config → Option ℕ → List (List ℕ) → ℕ → State → List Piece
+last_pieces Events image config watch tallies events s = summary_pieces [] image config watch tallies events s
+last_pieces Trace image config watch tallies events s =
+    trace_pieces s.committed ++ summary_pieces (codes "# ") image config watch tallies events s
+last_pieces Summary image config watch tallies events s = summary_pieces [] image config watch tallies events s
 
-unfoldable pub end_pieces : ImageData → Config → Showing → ℕ → State → List Piece
-end_pieces image config showing events s = last_pieces showing.trace image config showing.watch events s
+unfoldable pub end_pieces : ImageData → Config → Showing → List (List ℕ) → ℕ → State → List Piece
+end_pieces image config showing tallies events s = last_pieces showing.report image config showing.watch tallies events s
 
 -- one event: what it releases, and then its group
 unfoldable pub turn_pieces : ImageData → Config → Showing → ℕ → State → Event → List Piece
 turn_pieces image config showing place s event = let step = step_of image config s event in
     console_piece (drop (length s.released) step.state.released)
-    ++ group_pieces showing.trace (group_of image config showing.watch place event step)
+    ++ group_pieces showing.report (group_of image config showing.watch place event step)
 
 -- these events, after so many others
 unfoldable pub turns_from : ImageData → Config → Showing → ℕ → State → List Event → List Piece
@@ -82,16 +103,17 @@ turns_from image config showing done s (event ∷ events) =
     turn_pieces image config showing (done + 1) s event
     ++ turns_from image config showing (done + 1) (step_of image config s event).state events
 
--- these events, after so many others, and then the end
-unfoldable pub pieces_from : ImageData → Config → Showing → ℕ → State → List Event → List Piece
-pieces_from image config showing done s [] = end_pieces image config showing done s
-pieces_from image config showing done s (event ∷ events) =
+-- these events, after so many others, and then the end, where the probes have these tallies
+unfoldable pub pieces_from : ImageData → Config → Showing → List (List ℕ) → ℕ → State → List Event → List Piece
+pieces_from image config showing tallies done s [] = end_pieces image config showing tallies done s
+pieces_from image config showing tallies done s (event ∷ events) =
     turn_pieces image config showing (done + 1) s event
-    ++ pieces_from image config showing (done + 1) (step_of image config s event).state events
+    ++ pieces_from image config showing tallies (done + 1) (step_of image config s event).state events
 
--- the pieces of the events of a replay, and those of a whole replay: of a program on a machine of these sizes
+-- the pieces of the events of a replay, and those of a whole replay at whose end the probes have these tallies: of a program
+-- on a machine of these sizes
 unfoldable pub turns_of : ImageData → Config → Showing → List Event → List Piece
 turns_of image config showing events = turns_from image config showing 0 (start_of image config.nodes) events
 
-unfoldable pub pieces_of : ImageData → Config → Showing → List Event → List Piece
-pieces_of image config showing events = pieces_from image config showing 0 (start_of image config.nodes) events
+unfoldable pub pieces_of : ImageData → Config → Showing → List (List ℕ) → List Event → List Piece
+pieces_of image config showing tallies events = pieces_from image config showing tallies 0 (start_of image config.nodes) events

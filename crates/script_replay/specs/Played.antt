@@ -1,5 +1,6 @@
--- The pieces of a machine that has come to some state, and machines and replays that are good to begin with.
-use Rattle.std.specs.Prelude.{◌≡◌, ℕ, ◌+◌, ◌-◌, ◌%◌, ◌<◌, ◌≤◌, List, [], length, Option, IfSome}
+-- The pieces of a machine that has come to some state, what the probes are told from there, and machines and replays that are
+-- good to begin with.
+use Rattle.std.specs.Prelude.{◌≡◌, ℕ, ◌+◌, ◌-◌, ◌%◌, ◌<◌, ◌≤◌, List, [], map, take, length, Option, IfSome}
 use Rattle.sn_base.specs.Blocks.{ram_start, ram_size}
 use Rattle.sn_base.specs.Image.{ImageData}
 use Rattle.sn_base.specs.declared.config.Config.{Config}
@@ -12,9 +13,11 @@ use Rattle.sn_model.specs.Machine.{start_of}
 use Rattle.sn_machine.specs.Machine.{MachineData, next_of}
 use Rattle.consistent_cuts.specs.Headline.{IsRun}
 use Rattle.sink_pieces.specs.Pieces.{Piece}
+use Rattle.sn_probe.specs.Probes.{Meter, told_of, told_from}
 use Rattle.script_replay.specs.declared.job.Showing.{Showing}
 use Rattle.script_replay.specs.declared.job.Replay.{Replay}
-use Rattle.script_replay.specs.Pieces.{group_of, summary_of, end_pieces, turn_pieces, pieces_from}
+use Rattle.script_replay.specs.Pieces.{group_of, summary_of, summary_pieces, end_pieces, turn_pieces, pieces_from}
+use Rattle.script_replay.specs.Probed.{answered}
 
 -- the machine after an event
 abbrev pub after_event : MachineData → Event → MachineData
@@ -34,18 +37,35 @@ group_now m watch event answer =
 abbrev pub IsAlone : Answer → List Sent → Type 0
 IsAlone answer sent = (undo : Undo) → answer ≡ Recovered undo → sent ≡ []
 
+-- what the summary says of it, and the summary's pieces
 abbrev pub summary_now : List ℕ → MachineData → Option ℕ → List ℕ
 summary_now before m watch = summary_of before m.image m.config watch m.applied m.state
 
+abbrev pub summed_up : List ℕ → MachineData → Option ℕ → List (List ℕ) → List Piece
+summed_up before m watch tallies = summary_pieces before m.image m.config watch tallies m.applied m.state
+
 -- the pieces of its end, of its next event, and of all events that are left
-abbrev pub end_now : MachineData → Showing → List Piece
-end_now m showing = end_pieces m.image m.config showing m.applied m.state
+abbrev pub end_now : MachineData → Showing → List (List ℕ) → List Piece
+end_now m showing tallies = end_pieces m.image m.config showing tallies m.applied m.state
 
 abbrev pub turn_now : MachineData → Showing → Event → List Piece
 turn_now m showing event = turn_pieces m.image m.config showing (m.applied + 1) m.state event
 
-abbrev pub pieces_left : MachineData → Showing → List Event → List Piece
-pieces_left m showing events = pieces_from m.image m.config showing m.applied m.state events
+abbrev pub pieces_left : MachineData → Showing → List (List ℕ) → List Event → List Piece
+pieces_left m showing tallies events = pieces_from m.image m.config showing tallies m.applied m.state events
+
+-- probes that are told its next event, and all that are left
+abbrev pub told_next : MachineData → Event → List Meter → List Meter
+told_next m event probes = map (told_of (m.applied + 1) event (next_of m event).answer) probes
+
+abbrev pub told_left : MachineData → List Event → List Meter → List Meter
+told_left m events probes = map (told_from (m.applied + 1) (answered m.image m.config m.state events)) probes
+
+-- probes that were told the first so many of the events that are left, and no others
+pub record AreToldSoFar (m : MachineData) (events : List Event) (before behind : List Meter) : Type 0 where
+  pub count : ℕ
+  pub few : count ≤ length events
+  pub told : behind ≡ told_left m (take count events) before
 
 -- a word of memory that may be watched
 pub record IsWord (address : ℕ) : Type 0 where

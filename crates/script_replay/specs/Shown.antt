@@ -1,6 +1,6 @@
 -- What the sinks show of a replay: at every moment the committed trace is an execution of the program on the flat machine,
 -- without faults, and the console has the bytes that it puts out.
-use Rattle.std.specs.Prelude.{◌≡◌, ℕ, true, List, ◌++◌, take, length, codes, Option}
+use Rattle.std.specs.Prelude.{◌≡◌, ℕ, List, ◌++◌, take, length, codes, Option}
 use Rattle.sn_base.specs.Image.{ImageData}
 use Rattle.sn_base.specs.declared.config.Config.{Config}
 use Rattle.sn_base.specs.declared.event.Event.{Event}
@@ -9,10 +9,13 @@ use Rattle.rv_core.specs.Execution.{IsExecution, out_of}
 use Rattle.consistent_cuts.specs.Headline.{IsConsistent, reached, retirements}
 use Rattle.sn_io.specs.Outside.{followed_by}
 use Rattle.sn_text.specs.Written.{trace_text}
+use Rattle.sn_probe.specs.Probes.{Meter}
 use Rattle.sink_pieces.specs.Pieces.{Piece, Ends, after, Breaks, console_text, report_text, HasBeginning}
 use Rattle.script_replay.specs.declared.job.Showing.{Showing}
+use Rattle.script_replay.specs.declared.job.ReportKind.TheVariants.{Trace}
 use Rattle.script_replay.specs.declared.job.Replay.{Replay}
-use Rattle.script_replay.specs.Pieces.{summary_of, turns_of, pieces_of}
+use Rattle.script_replay.specs.Pieces.{summary_pieces, turns_of, pieces_of}
+use Rattle.script_replay.specs.Probed.{tallies_due}
 
 -- the committed trace after all events, and its output
 abbrev pub committed_by : ImageData → Config → List Event → List Record
@@ -22,47 +25,48 @@ abbrev pub output_of : ImageData → Config → List Event → List ℕ
 output_of image config events = out_of image config.nodes (committed_by image config events)
 
 -- what holds once these events, the first of a replay's, are applied and their pieces are put
-pub record IsMoment (image : ImageData) (config : Config) (showing : Showing) (first all : List Event) : Type 0 where
+pub record IsMoment (image : ImageData) (config : Config) (showing : Showing) (tallies : List (List ℕ)) (first all : List Event) : Type 0 where
   -- the committed trace is an execution without faults, and the recovery point a cut of it
   pub lawful : IsConsistent image config.nodes (reached image config first) (retirements image config first)
   -- these pieces are put before all others
   pub others : List Piece
-  pub order : turns_of image config showing first ++ others ≡ pieces_of image config showing all
+  pub order : turns_of image config showing first ++ others ≡ pieces_of image config showing tallies all
   -- and to the console they put the output of the committed trace
   pub output : console_text (turns_of image config showing first) ≡ output_of image config first
 
 -- so it is at the start, after each event, and at the end
-abbrev pub IsLawful : ImageData → Config → Showing → List Event → Type 0
-IsLawful image config showing events = (i : ℕ) → IsMoment image config showing (take i events) events
+abbrev pub IsLawful : ImageData → Config → Showing → List (List ℕ) → List Event → Type 0
+IsLawful image config showing tallies events = (i : ℕ) → IsMoment image config showing tallies (take i events) events
 
 -- the report is a trace: the records of an execution of the program, and then the summary, marked as comments
-pub record IsTrace (image : ImageData) (config : Config) (watch : Option ℕ) (events : List Event) (before behind : Option (List ℕ)) : Type 0 where
+pub record IsTrace (image : ImageData) (config : Config) (watch : Option ℕ) (tallies : List (List ℕ)) (events : List Event) (before behind : Option (List ℕ)) : Type 0 where
   pub execution : IsExecution image config.nodes (committed_by image config events)
   pub written : behind ≡ followed_by before
-      (trace_text (committed_by image config events) ++ summary_of (codes "# ") image config watch (length events) (reached image config events))
+      (trace_text (committed_by image config events)
+      ++ report_text (summary_pieces (codes "# ") image config watch tallies (length events) (reached image config events)))
 
 -- all is written: the console has the output of the committed trace, and where the trace is asked for, the report has it
-pub record IsShown (image : ImageData) (config : Config) (showing : Showing) (events : List Event) (before behind : Ends) : Type 0 where
-  pub lawful : IsLawful image config showing events
+pub record IsShown (image : ImageData) (config : Config) (showing : Showing) (tallies : List (List ℕ)) (events : List Event) (before behind : Ends) : Type 0 where
+  pub lawful : IsLawful image config showing tallies events
   pub output : behind.console ≡ followed_by before.console (output_of image config events)
-  pub traced : showing.trace ≡ true → IsTrace image config showing.watch events before.report behind.report
+  pub traced : showing.report ≡ Trace → IsTrace image config showing.watch tallies events before.report behind.report
 
 -- a sink broke: each has the beginning of its text, the console that of the output
-pub record IsShownInPart (image : ImageData) (config : Config) (showing : Showing) (events : List Event) (before behind : Ends) : Type 0 where
-  pub lawful : IsLawful image config showing events
+pub record IsShownInPart (image : ImageData) (config : Config) (showing : Showing) (tallies : List (List ℕ)) (events : List Event) (before behind : Ends) : Type 0 where
+  pub lawful : IsLawful image config showing tallies events
   pub output : HasBeginning (output_of image config events) before.console behind.console
-  pub report : HasBeginning (report_text (pieces_of image config showing events)) before.report behind.report
+  pub report : HasBeginning (report_text (pieces_of image config showing tallies events)) before.report behind.report
 
--- the pieces of a replay
-abbrev pub pieces_due : Replay → List Piece
-pieces_due r = pieces_of r.program r.config r.showing r.script
+-- the pieces of a replay that these probes are told
+abbrev pub pieces_due : Replay → List Meter → List Piece
+pieces_due r probes = pieces_of r.program r.config r.showing (tallies_due r probes) r.script
 
 -- a replay is done: all its pieces are put
-pub record IsReplayed (r : Replay) (before behind : Ends) : Type 0 where
-  pub put : behind ≡ after before (pieces_due r)
-  pub shown : IsShown r.program r.config r.showing r.script before behind
+pub record IsReplayed (r : Replay) (probes : List Meter) (before behind : Ends) : Type 0 where
+  pub put : behind ≡ after before (pieces_due r probes)
+  pub shown : IsShown r.program r.config r.showing (tallies_due r probes) r.script before behind
 
 -- a sink broke in a replay
-pub record IsBrokenOff (r : Replay) (before behind : Ends) : Type 0 where
-  pub broken : Breaks (pieces_due r) before behind
-  pub shown : IsShownInPart r.program r.config r.showing r.script before behind
+pub record IsBrokenOff (r : Replay) (probes : List Meter) (before behind : Ends) : Type 0 where
+  pub broken : Breaks (pieces_due r probes) before behind
+  pub shown : IsShownInPart r.program r.config r.showing (tallies_due r probes) r.script before behind

@@ -4,11 +4,21 @@ ghost use Rattle.std.specs.Prelude.{◌≡◌};
 use sn_base::{Config, Event, Image};
 use std::marker::Model;
 
-/// What a replay shows: each event with its answer, or the committed trace in its place; and a word of memory besides.
+/// What the report has of a replay before the summary, with which it ends in any case.
+#[derive(Clone, Copy, PartialEq, Eq, Debug)]
+pub enum ReportKind {
+    /// Each event with its answer, as a group of lines.
+    Events,
+    /// The committed trace, one record a line. The summary's lines are marked as comments of a trace.
+    Trace,
+    /// Nothing.
+    Summary,
+}
+
+/// What a replay shows: a report, and a word of memory besides.
 #[derive(Clone, Copy, PartialEq, Eq, Debug)]
 pub struct Showing {
-    /// Whether the report is the committed trace, one record a line, and not the events.
-    pub trace: bool,
+    pub report: ReportKind,
     /// The address of the word that is shown wherever the cores are.
     pub watch: Option<u32>,
 }

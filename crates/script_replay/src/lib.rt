@@ -1,8 +1,9 @@
 //! A replay: a script's events applied to a machine one after another, with all that is put of them.
 //!
-//! The layer above knows it as a list of pieces, a function of the program, the machine's sizes, the events and what is to
-//! be shown; and it knows that at every moment the committed trace is an execution of the program, whose output the console
-//! has. All memory is taken before the first event. Nothing here knows words, files or statuses.
+//! The layer above knows it as a list of pieces, a function of the program, the machine's sizes, the events, what is to be
+//! shown, and the probes that are told each event; and it knows that at every moment the committed trace is an execution of the
+//! program, whose output the console has. All memory is taken before the first event. Nothing here knows words, files or
+//! statuses.
 #![tactic(auto)]
 
 mod job;
@@ -10,5 +11,5 @@ mod lines;
 mod play;
 mod replaying;
 
-pub use job::{Replay, Script, Showing};
+pub use job::{Replay, ReportKind, Script, Showing};
 pub use replaying::{ReplayFault, replay};

@@ -1,12 +1,17 @@
 //! The lines of one event and of the end, written into a line.
-ghost use Rattle.std.specs.Prelude.{◌≡◌, ◌+◌, ◌≤◌, ◌++◌, length};
+ghost use Rattle.std.specs.Prelude.{◌≡◌, ◌+◌, ◌<◌, ◌≤◌, ◌++◌, take, length, slice_get, IfSome};
 ghost use Rattle.sn_machine.specs.Machine.{flat_of};
-ghost use Rattle.script_replay.specs.Pieces.{core_lines, watch_lines, cut_lines};
+ghost use Rattle.sn_probe.specs.Probes.{meters_in};
+ghost use Rattle.script_replay.specs.Pieces.{core_lines, watch_lines, cut_lines, tally_lines};
 ghost use Rattle.script_replay.specs.Played.{group_now, summary_now, IsAlone, IsWatchable};
 
 use sn_base::{Answer, Event, NodeId};
 use sn_machine::Machine;
+use sn_probe::ProbeSet;
 use sn_text::Line;
+
+// How many numbers of a probe the summary shows at most.
+const PLACES: usize = 16;
 
 // The lines of all cores at the recovery point.
 fn write_cores(line: &mut Line, before: &str, machine: &Machine)
@@ -66,7 +71,7 @@ pub fn write_group(
     }
 }
 
-/// The summary, with `before` before each of its lines.
+/// What the summary says of the machine, with `before` before each of its lines.
 #[tactic(auto, unfolding(crate::specs::Pieces::summary_of))]
 pub fn write_summary(line: &mut Line, before: &str, machine: &Machine, watch: Option<u32>)
     requires before_short { length before.now ≤ 2 }
@@ -80,4 +85,20 @@ pub fn write_summary(line: &mut Line, before: &str, machine: &Machine, watch: Op
     line.count(before, "committed", view.committed().len() as u64);
     line.count(before, "released", view.released().len() as u64);
     write_cut(line, before, machine, watch);
+}
+
+/// What the summary says of one probe, with `before` before each of its lines.
+pub fn write_tally(line: &mut Line, before: &str, probes: &ProbeSet, probe: usize)
+    requires before_short { length before.now ≤ 2 }
+    requires there { probe < length probes.now.probes.items }
+    ensures { IfSome (slice_get (meters_in first tally step probes.now.probes.items) probe) (λ m.
+        line.new ≡ tally_lines before.now probe 0 (take 16 m.tally)) }
+{
+    line.clear();
+    'places: for place in 0..PLACES {
+        let Some(value) = probes.line(probe, place) else {
+            return;
+        };
+        line.probe(before, probe as u64, place as u64, value);
+    }
 }

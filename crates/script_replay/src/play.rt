@@ -3,17 +3,20 @@ ghost use Rattle.std.specs.Prelude.{◌≡◌, ℕ, List, [], ◌∷◌, ◌+◌
 ghost use Rattle.sn_base.specs.Events.{event_fits};
 ghost use Rattle.sn_io.specs.Outside.{Rose};
 ghost use Rattle.consistent_cuts.specs.Runs.{AllFit};
-ghost use Rattle.sink_pieces.specs.Pieces.{Report, ends, after, Breaks};
-ghost use Rattle.script_replay.specs.Pieces.{group_pieces, trace_pieces};
-ghost use Rattle.script_replay.specs.Played.{after_event, group_now, summary_now, end_now, turn_now, pieces_left, IsAlone, IsWatchable};
+ghost use Rattle.sink_pieces.specs.Pieces.{ends, after, Breaks};
+ghost use Rattle.sn_probe.specs.Probes.{meters_in, tallies_of};
+ghost use Rattle.script_replay.specs.Pieces.{group_pieces, trace_pieces, tally_pieces};
+ghost use Rattle.script_replay.specs.Played.{after_event, group_now, summed_up, end_now, turn_now, pieces_left, told_next, told_left, AreToldSoFar};
+ghost use Rattle.script_replay.specs.Played.{IsAlone, IsWatchable};
 
-use crate::job::Showing;
-use crate::lines::{write_group, write_summary};
+use crate::job::{ReportKind, Showing};
+use crate::lines::{write_group, write_summary, write_tally};
 use rv_core::Record;
 use sink_pieces::{put_console, put_report};
 use sn_base::{Answer, Event};
 use sn_io::{Failed, Sink};
 use sn_machine::Machine;
+use sn_probe::ProbeSet;
 use sn_text::Line;
 
 // What was released since there were so many bytes.
@@ -24,7 +27,7 @@ fn fresh(released: &[u8], had: usize) -> &[u8]
     &released[had..]
 }
 
-// Puts the group of the machine's last event, where the trace isn't asked for in its place.
+// Puts the group of the machine's last event, where the events are asked for.
 fn put_group<R: Sink>(
     line: &mut Line,
     event: &Event,
@@ -36,19 +39,21 @@ fn put_group<R: Sink>(
     requires alone { IsAlone answer.now machine.now.sent }
     requires watched { IsWatchable showing.now.watch }
     ensures ok { OnOk result ((c : Option (List ℕ)) → ends c (R.written report.new)
-        ≡ after (ends c (R.written report.old)) (group_pieces showing.now.trace (group_now machine.now showing.now.watch event.now answer.now))) }
+        ≡ after (ends c (R.written report.old)) (group_pieces showing.now.report (group_now machine.now showing.now.watch event.now answer.now))) }
     ensures err { OnErr result ((c : Option (List ℕ)) →
-        Breaks (group_pieces showing.now.trace (group_now machine.now showing.now.watch event.now answer.now))
+        Breaks (group_pieces showing.now.report (group_now machine.now showing.now.watch event.now answer.now))
         (ends c (R.written report.old)) (ends c (R.written report.new))) }
     ensures later { R.faults report.old ≤ R.faults report.new }
     ensures cause { OnErr result (Rose (R.faults report.old) (R.faults report.new)) }
 {
-    if showing.trace {
-        return Ok(());
+    match showing.report {
+        ReportKind::Events => {
+            write_group(line, event, answer, machine, showing.watch);
+            put_report(report, line.bytes())?;
+            Ok(())
+        }
+        _ => Ok(()),
     }
-    write_group(line, event, answer, machine, showing.watch);
-    put_report(report, line.bytes())?;
-    Ok(())
 }
 
 // Puts the lines of a trace.
@@ -68,24 +73,50 @@ fn put_trace<R: Sink>(line: &mut Line, records: &[Record], report: &mut R) -> Re
     Ok(())
 }
 
+// Puts what the probes have measured.
+fn put_tallies<R: Sink>(
+    line: &mut Line,
+    before: &str,
+    probes: &ProbeSet,
+    report: &mut R,
+) -> Result<(), Failed>
+    requires before_short { length before.now ≤ 2 }
+    ensures ok { OnOk result ((c : Option (List ℕ)) → ends c (R.written report.new) ≡ after (ends c (R.written report.old))
+        (tally_pieces before.now 0 (tallies_of (meters_in first tally step probes.now.probes.items)))) }
+    ensures err { OnErr result ((c : Option (List ℕ)) →
+        Breaks (tally_pieces before.now 0 (tallies_of (meters_in first tally step probes.now.probes.items)))
+        (ends c (R.written report.old)) (ends c (R.written report.new))) }
+    ensures later { R.faults report.old ≤ R.faults report.new }
+    ensures cause { OnErr result (Rose (R.faults report.old) (R.faults report.new)) }
+{
+    'probes: for probe in 0..probes.count() {
+        write_tally(line, before, probes, probe);
+        put_report(report, line.bytes())?;
+    }
+    Ok(())
+}
+
 fn put_summary<R: Sink>(
     line: &mut Line,
     before: &str,
     machine: &Machine,
     watch: Option<u32>,
+    probes: &ProbeSet,
     report: &mut R,
 ) -> Result<(), Failed>
     requires before_short { length before.now ≤ 2 }
     requires watched { IsWatchable watch }
-    ensures ok { OnOk result ((c : Option (List ℕ)) → ends c (R.written report.new)
-        ≡ after (ends c (R.written report.old)) (Report (summary_now before.now machine.now watch) ∷ [])) }
-    ensures err { OnErr result ((c : Option (List ℕ)) → Breaks (Report (summary_now before.now machine.now watch) ∷ [])
+    ensures ok { OnOk result ((c : Option (List ℕ)) → ends c (R.written report.new) ≡ after (ends c (R.written report.old))
+        (summed_up before.now machine.now watch (tallies_of (meters_in first tally step probes.now.probes.items)))) }
+    ensures err { OnErr result ((c : Option (List ℕ)) →
+        Breaks (summed_up before.now machine.now watch (tallies_of (meters_in first tally step probes.now.probes.items)))
         (ends c (R.written report.old)) (ends c (R.written report.new))) }
     ensures later { R.faults report.old ≤ R.faults report.new }
     ensures cause { OnErr result (Rose (R.faults report.old) (R.faults report.new)) }
 {
     write_summary(line, before, machine, watch);
     put_report(report, line.bytes())?;
+    put_tallies(line, before, probes, report)?;
     Ok(())
 }
 
@@ -94,32 +125,39 @@ fn put_end<R: Sink>(
     line: &mut Line,
     machine: &Machine,
     showing: &Showing,
+    probes: &ProbeSet,
     report: &mut R,
 ) -> Result<(), Failed>
     requires watched { IsWatchable showing.now.watch }
-    ensures ok { OnOk result ((c : Option (List ℕ)) → ends c (R.written report.new)
-        ≡ after (ends c (R.written report.old)) (end_now machine.now showing.now)) }
-    ensures err { OnErr result ((c : Option (List ℕ)) → Breaks (end_now machine.now showing.now)
+    ensures ok { OnOk result ((c : Option (List ℕ)) → ends c (R.written report.new) ≡ after (ends c (R.written report.old))
+        (end_now machine.now showing.now (tallies_of (meters_in first tally step probes.now.probes.items)))) }
+    ensures err { OnErr result ((c : Option (List ℕ)) →
+        Breaks (end_now machine.now showing.now (tallies_of (meters_in first tally step probes.now.probes.items)))
         (ends c (R.written report.old)) (ends c (R.written report.new))) }
     ensures later { R.faults report.old ≤ R.faults report.new }
     ensures cause { OnErr result (Rose (R.faults report.old) (R.faults report.new)) }
 {
-    if showing.trace {
-        let view = machine.recovered();
-        put_trace(line, view.committed(), report)?;
-        put_summary(line, "# ", machine, showing.watch, report)?;
-        return Ok(());
+    match showing.report {
+        ReportKind::Trace => {
+            let view = machine.recovered();
+            put_trace(line, view.committed(), report)?;
+            put_summary(line, "# ", machine, showing.watch, probes, report)?;
+            Ok(())
+        }
+        _ => {
+            put_summary(line, "", machine, showing.watch, probes, report)?;
+            Ok(())
+        }
     }
-    put_summary(line, "", machine, showing.watch, report)?;
-    Ok(())
 }
 
-// One event: its piece for the console, where it releases bytes, and its group for the report.
+// One event: every probe is told it; then its piece for the console, where it releases bytes, and its group for the report.
 fn turn<C: Sink, R: Sink>(
     machine: &mut Machine,
     line: &mut Line,
     event: &Event,
     showing: &Showing,
+    probes: &mut ProbeSet,
     console: &mut C,
     report: &mut R,
 ) -> Result<(), Failed>
@@ -127,6 +165,8 @@ fn turn<C: Sink, R: Sink>(
     requires room { 1 ≤ machine.old.spare }
     requires watched { IsWatchable showing.now.watch }
     ensures next { machine.new ≡ after_event machine.old event.now }
+    ensures told { meters_in first tally step probes.new.probes.items
+        ≡ told_next machine.old event.now (meters_in first tally step probes.old.probes.items) }
     ensures ok { OnOk result (ends (C.written console.new) (R.written report.new)
         ≡ after (ends (C.written console.old) (R.written report.old)) (turn_now machine.old showing.now event.now)) }
     ensures err { OnErr result (Breaks (turn_now machine.old showing.now event.now)
@@ -138,18 +178,20 @@ fn turn<C: Sink, R: Sink>(
 {
     let had = machine.recovered().released().len();
     let answer = machine.apply(*event);
+    probes.told(u64::from(machine.applied()), event, &answer);
     let view = machine.recovered();
     put_console(console, fresh(view.released(), had))?;
     put_group(line, event, &answer, machine, showing, report)?;
     Ok(())
 }
 
-/// Applies all events and puts their pieces, and then those of the end.
+/// Applies all events, tells each to the probes and puts its pieces, and then puts those of the end.
 pub fn play<C: Sink, R: Sink>(
     machine: &mut Machine,
     line: &mut Line,
     events: &[Event],
     showing: &Showing,
+    probes: &mut ProbeSet,
     console: &mut C,
     report: &mut R,
 ) -> Result<(), Failed>
@@ -157,17 +199,23 @@ pub fn play<C: Sink, R: Sink>(
     requires room { length events.now ≤ machine.old.spare }
     requires watched { IsWatchable showing.now.watch }
     ensures ok { OnOk result (ends (C.written console.new) (R.written report.new)
-        ≡ after (ends (C.written console.old) (R.written report.old)) (pieces_left machine.old showing.now events.now)) }
-    ensures err { OnErr result (Breaks (pieces_left machine.old showing.now events.now)
+        ≡ after (ends (C.written console.old) (R.written report.old))
+        (pieces_left machine.old showing.now (tallies_of (told_left machine.old events.now (meters_in first tally step probes.old.probes.items))) events.now)) }
+    ensures told { OnOk result (meters_in first tally step probes.new.probes.items
+        ≡ told_left machine.old events.now (meters_in first tally step probes.old.probes.items)) }
+    ensures err { OnErr result (Breaks
+        (pieces_left machine.old showing.now (tallies_of (told_left machine.old events.now (meters_in first tally step probes.old.probes.items))) events.now)
         (ends (C.written console.old) (R.written report.old)) (ends (C.written console.new) (R.written report.new))) }
+    ensures told_in_part { OnErr result (AreToldSoFar machine.old events.now
+        (meters_in first tally step probes.old.probes.items) (meters_in first tally step probes.new.probes.items)) }
     ensures console_later { C.faults console.old ≤ C.faults console.new }
     ensures report_later { R.faults report.old ≤ R.faults report.new }
     ensures cause { OnErr result
         (Rose (C.faults console.old) (C.faults console.new) ⊎ Rose (R.faults report.old) (R.faults report.new)) }
 {
     'events: for event in events {
-        turn(machine, line, event, showing, console, report)?;
+        turn(machine, line, event, showing, probes, console, report)?;
     }
-    put_end(line, machine, showing, report)?;
+    put_end(line, machine, showing, probes, report)?;
     Ok(())
 }

@@ -3,7 +3,9 @@ ghost use Rattle.std.specs.Prelude.{◌≡◌, ◌≤◌, ◌⊎◌, true, OnOk,
 ghost use Rattle.sn_base.specs.Config.{config_fits};
 ghost use Rattle.sn_io.specs.Outside.{Rose};
 ghost use Rattle.sink_pieces.specs.Pieces.{ends};
+ghost use Rattle.sn_probe.specs.Probes.{meters_in};
 ghost use Rattle.script_replay.specs.Played.{MayBegin, IsReady};
+ghost use Rattle.script_replay.specs.Probed.{told_all, AreToldInPart};
 ghost use Rattle.script_replay.specs.Shown.{IsReplayed, IsBrokenOff};
 
 use crate::job::Replay;
@@ -11,6 +13,7 @@ use crate::play::play;
 use sn_base::{Config, Image};
 use sn_io::Sink;
 use sn_machine::Machine;
+use sn_probe::ProbeSet;
 use sn_text::Line;
 use std::alloc::Global;
 
@@ -38,19 +41,32 @@ fn machine_for(alloc: Global, program: Image, config: Config, events: u32) -> Op
     }
 }
 
-/// Applies the events in order, puts the released bytes to the console, and puts what is to be shown to the report.
+/// Applies the events in order, tells each to every probe, puts the released bytes to the console, and puts what is to be
+/// shown to the report.
 pub fn replay<C: Sink, R: Sink>(
     alloc: Global,
     job: Replay,
+    probes: &mut ProbeSet,
     console: &mut C,
     report: &mut R,
 ) -> Result<(), ReplayFault>
     requires { MayBegin job }
-    ensures ok { OnOk result (IsReplayed job
+
+    // All events are applied and told, and all pieces are put.
+    ensures ok { OnOk result (IsReplayed job (meters_in first tally step probes.old.probes.items)
         (ends (C.written console.old) (R.written report.old)) (ends (C.written console.new) (R.written report.new))) }
-    ensures sink { result ≡ Err ReplayFault.Sink → IsBrokenOff job
+    ensures told { OnOk result (meters_in first tally step probes.new.probes.items
+        ≡ told_all job (meters_in first tally step probes.old.probes.items)) }
+
+    // A sink broke, and the probes were told what had been applied.
+    ensures sink { result ≡ Err ReplayFault.Sink → IsBrokenOff job (meters_in first tally step probes.old.probes.items)
         (ends (C.written console.old) (R.written report.old)) (ends (C.written console.new) (R.written report.new)) }
-    ensures memory { result ≡ Err ReplayFault.Memory → (console.new ≡ console.old) × (report.new ≡ report.old) }
+    ensures told_in_part { result ≡ Err ReplayFault.Sink → AreToldInPart job
+        (meters_in first tally step probes.old.probes.items) (meters_in first tally step probes.new.probes.items) }
+
+    // Memory was lacking, and nothing is done.
+    ensures memory { result ≡ Err ReplayFault.Memory →
+        (console.new ≡ console.old) × (report.new ≡ report.old) × (probes.new ≡ probes.old) }
     ensures cause { result ≡ Err ReplayFault.Sink
         → Rose (C.faults console.old) (C.faults console.new) ⊎ Rose (R.faults report.old) (R.faults report.new) }
 {
@@ -67,7 +83,15 @@ pub fn replay<C: Sink, R: Sink>(
     let Ok(mut line) = Line::new(alloc) else {
         return Err(ReplayFault::Memory);
     };
-    match play(&mut machine, &mut line, events, &showing, console, report) {
+    match play(
+        &mut machine,
+        &mut line,
+        events,
+        &showing,
+        probes,
+        console,
+        report,
+    ) {
         Ok(()) => Ok(()),
         Err(_) => Err(ReplayFault::Sink),
     }

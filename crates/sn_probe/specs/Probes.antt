@@ -1,5 +1,7 @@
 -- What a probe is to a contract, and what being told of events makes of it.
 use Rattle.std.specs.Prelude.{◌≡◌, ℕ, ◌+◌, List, [], ◌∷◌, map}
+use Rattle.std.specs.declared.alloc.Global.{Global}
+use Rattle.std.specs.declared.dyn_box.DynBox.{DynBox}
 use Rattle.sn_base.specs.declared.event.Event.{Event}
 use Rattle.sn_base.specs.declared.event.Answer.{Answer}
 
@@ -12,6 +14,10 @@ pub record Meter : Type 0 where
 -- what these probes are, by what each has at first, has now and does
 abbrev pub meters_of : {B : Type 0} → (B → List ℕ) → (B → List ℕ) → (B → List ℕ → ℕ → Event → Answer → List ℕ) → List B → List Meter
 meters_of first tally step probes = map (λ b. record { first = first b; tally = tally b; step = step b }) probes
+
+-- the same of probes in boxes, where these are known by what stands in the boxes
+abbrev pub meters_in : {I : Type 0} → {D : I → Type 0} → ((x : I) × D x → List ℕ) → ((x : I) × D x → List ℕ) → ((x : I) × D x → List ℕ → ℕ → Event → Answer → List ℕ) → List (DynBox I Global D) → List Meter
+meters_in first tally step boxes = meters_of (λ b. first (b.vtable, b.value)) (λ b. tally (b.vtable, b.value)) (λ b. step (b.vtable, b.value)) boxes
 
 -- one that has been told one more event
 abbrev pub told_of : ℕ → Event → Answer → Meter → Meter

@@ -4,27 +4,37 @@ use Rattle.sn_machine.specs.Machine.{MachineData}
 use Rattle.script_replay.proofs.PieceLaws.{end-plain, end-plain_breaks, end-traced, end-traced_breaks_first, end-traced_breaks_second}
 use Rattle.script_replay.proofs.play.put_end.Goals as goal
 
-pub returns-in_err-put_trace-clause-err : goal.returns-in_err-put_trace-clause-err
-returns-in_err-put_trace-clause-err g c =
+pub returns-in_err-put_trace-in-Trace-clause-err : goal.returns-in_err-put_trace-in-Trace-clause-err
+returns-in_err-put_trace-in-Trace-clause-err g c =
     let p = err_from_is_err_and c.from_residual.result c.from_residual.ensures.1 in
-    rw p.1 (λ r. end-traced_breaks_first c.args.machine.now c.args.showing.now c.committed.result.now c.if-showing.true
-    (c.committed.ensures ∙ ap (λ (t : MachineData). t.state.committed) c.recovered-view.ensures.shown) _ _ (c.in_err-put_trace.ensures.err r))
+    rw p.1 (λ r. end-traced_breaks_first c.args.machine.now c.args.showing.now _ c.committed.result.now c.in-Trace.is
+    (c.committed.ensures ∙ ap (λ (t : MachineData). t.state.committed) c.recovered-view.ensures.shown) _ _ (c.in_err-put_trace-in-Trace.ensures.err r))
 
-pub returns-in_err-put_summary-clause-err : goal.returns-in_err-put_summary-clause-err
-returns-in_err-put_summary-clause-err g c =
-    let p = err_from_is_err_and c.from_residual-in_err-put_summary.result c.from_residual-in_err-put_summary.ensures.1 in
-    rw p.1 (λ r. end-traced_breaks_second c.args.machine.now c.args.showing.now c.committed.result.now c.if-showing.true
-    (c.committed.ensures ∙ ap (λ (t : MachineData). t.state.committed) c.recovered-view.ensures.shown) _ _ _ (c.in_ok-put_trace.ensures.ok r) (c.in_err-put_summary.ensures.err r))
+pub returns-in_err-put_summary-in-Trace-clause-err : goal.returns-in_err-put_summary-in-Trace-clause-err
+returns-in_err-put_summary-in-Trace-clause-err g c =
+    let p = err_from_is_err_and c.from_residual-in_err-put_summary-in-Trace.result c.from_residual-in_err-put_summary-in-Trace.ensures.1 in
+    rw p.1 (λ r. end-traced_breaks_second c.args.machine.now c.args.showing.now _ c.committed.result.now c.in-Trace.is
+    (c.committed.ensures ∙ ap (λ (t : MachineData). t.state.committed) c.recovered-view.ensures.shown) _ _ _ (c.in_ok-put_trace-in-Trace.ensures.ok r) (c.in_err-put_summary-in-Trace.ensures.err r))
 
-pub returns-then-showing-clause-ok : goal.returns-then-showing-clause-ok
-returns-then-showing-clause-ok g c = λ r.
-    end-traced c.args.machine.now c.args.showing.now c.committed.result.now c.if-showing.true
-    (c.committed.ensures ∙ ap (λ (t : MachineData). t.state.committed) c.recovered-view.ensures.shown) _ _ _ (c.in_ok-put_trace.ensures.ok r) (c.in_ok-put_summary.ensures.ok r)
+pub returns-in_ok-put_summary-in-Trace-clause-ok : goal.returns-in_ok-put_summary-in-Trace-clause-ok
+returns-in_ok-put_summary-in-Trace-clause-ok g c = λ r.
+    end-traced c.args.machine.now c.args.showing.now _ c.committed.result.now c.in-Trace.is
+    (c.committed.ensures ∙ ap (λ (t : MachineData). t.state.committed) c.recovered-view.ensures.shown) _ _ _ (c.in_ok-put_trace-in-Trace.ensures.ok r) (c.in_ok-put_summary-in-Trace.ensures.ok r)
 
-pub returns-in_err-put_summary-2-clause-err : goal.returns-in_err-put_summary-2-clause-err
-returns-in_err-put_summary-2-clause-err g c =
-    let p = err_from_is_err_and c.from_residual-in_err-put_summary-2.result c.from_residual-in_err-put_summary-2.ensures.1 in
-    rw p.1 (λ r. end-plain_breaks c.args.machine.now c.args.showing.now _ _ c.if-showing.false (c.in_err-put_summary-2.ensures.err r))
+pub returns-in_err-put_summary-in_default : goal.returns-in_err-put_summary-in_default
+returns-in_err-put_summary-in_default g c =
+    let p = err_from_is_err_and c.from_residual-in_err-put_summary-in_default.result c.from_residual-in_err-put_summary-in_default.ensures.1 in
+    record {
+      ok = rw p.1 tt;
+      err = rw p.1 (λ r. end-plain_breaks c.args.machine.now c.args.showing.now _ c.in_default.not-Trace _ _ (c.in_err-put_summary-in_default.ensures.err r));
+      later = c.put_summary-in_default.ensures.later;
+      cause = rw p.1 c.in_err-put_summary-in_default.ensures.cause;
+    }
 
-pub returns-clause-ok : goal.returns-clause-ok
-returns-clause-ok g c = λ r. end-plain c.args.machine.now c.args.showing.now _ _ c.if-showing.false (c.in_ok-put_summary-2.ensures.ok r)
+pub returns-in_ok-put_summary-in_default : goal.returns-in_ok-put_summary-in_default
+returns-in_ok-put_summary-in_default g c = record {
+  ok = λ r. end-plain c.args.machine.now c.args.showing.now _ c.in_default.not-Trace _ _ (c.in_ok-put_summary-in_default.ensures.ok r);
+  err = tt;
+  later = c.put_summary-in_default.ensures.later;
+  cause = tt;
+}

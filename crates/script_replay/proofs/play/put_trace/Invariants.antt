@@ -1,4 +1,4 @@
-use Rattle.std.proofs.Common.{◌≡◌, ℕ, ◌≤◌, List, drop}
+use Rattle.std.proofs.Common.{ℕ, ◌≤◌, List, drop}
 use Rattle.std.specs.Prelude.{Option}
 use Rattle.sink_pieces.specs.Pieces.{ends}
 use Rattle.sink_pieces.proofs.SoFar.{SoFar}

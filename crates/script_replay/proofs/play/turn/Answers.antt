@@ -1,4 +1,6 @@
+use Rattle.std.proofs.Common.{◌∙◌}
 use Rattle.std.proofs.lemmas.Result.{err_from_is_err_and}
+use Rattle.script_replay.proofs.ToldSoFar.{told-applied}
 use Rattle.script_replay.proofs.PieceLaws.{fresh-is, had-few, alone-after, turn-whole, turn-breaks_first, turn-breaks_second}
 use Rattle.script_replay.proofs.play.turn.Goals as goal
 
@@ -34,3 +36,15 @@ returns-clause-ok g c =
     c.recovered.ensures.shown c.released-had.ensures c.recovered-view.ensures.shown c.released.ensures c.fresh.ensures c.apply-answer.ensures.applied)
     c.apply-answer.ensures.applied
     (c.in_ok-put_console.ensures.ok _) (c.in_ok-put_group.ensures.ok _)
+
+pub returns-in_err-put_console-clause-told : goal.returns-in_err-put_console-clause-told
+returns-in_err-put_console-clause-told g c =
+    told-applied c.args.machine.now c.apply-answer.new.self c.args.event.now c.apply-answer.result c.from.result _ _ c.apply-answer.ensures.applied (c.from.ensures ∙ c.applied.ensures.same) c.told.ensures
+
+pub returns-in_err-put_group-clause-told : goal.returns-in_err-put_group-clause-told
+returns-in_err-put_group-clause-told g c =
+    told-applied c.args.machine.now c.apply-answer.new.self c.args.event.now c.apply-answer.result c.from.result _ _ c.apply-answer.ensures.applied (c.from.ensures ∙ c.applied.ensures.same) c.told.ensures
+
+pub returns-clause-told : goal.returns-clause-told
+returns-clause-told g c =
+    told-applied c.args.machine.now c.apply-answer.new.self c.args.event.now c.apply-answer.result c.from.result _ _ c.apply-answer.ensures.applied (c.from.ensures ∙ c.applied.ensures.same) c.told.ensures
