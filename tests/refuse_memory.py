@@ -26,7 +26,7 @@ LETTER = "".join(f"{word:08x}\n" for word in [0x04100513, 0x00100893, 0x00000073
 SCRIPT = b"step 0\nstep 0\nstep 0\nedge 0\nreport 0\ndeliver 1\nvalidate\n"
 RECOVERY = b"step 0\nstep 0\nstep 1\nstep 1\nstep 1\nrecover\nedge 0\n"
 TRACE = b"0 00000000 0\n" * 3 + b"1 00000000 0\n" * 2 + b"1 00000001 0\n"
-TEXT = b"start: addi a0, zero, 65\n  jal zero, start\n"
+TEXT = b"start:\naddi a0, zero, 65\njal zero, start\n"
 
 RUNS = [
     ("replay", ["replay", "--nodes", "1", "a", "b"], {"a": LETTER, "b": SCRIPT}),
