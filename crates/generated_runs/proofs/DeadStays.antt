@@ -1,0 +1,207 @@
+-- A switch dies by its own event alone, and where no nodes are cut off no recovery answers that some are.
+use Rattle.std.proofs.Common.{◌≡◌, ℕ, ◌+◌, ◌-◌, Bool, true, false, not, ◌&&◌, List, [], ◌∷◌, length, refl, ◌∙◌, if◌then◌else◌, nat_eq, nat_lt, nat_le, Option, Some, None}
+use Rattle.sn_base.specs.declared.config.Config.{Config}
+use Rattle.sn_base.specs.declared.event.Answer.{Answer}
+use Rattle.sn_base.specs.declared.event.Answer.TheVariants.{CutOff, Retired, Missed, PutBegun, Validated, Reported, Waits, Ended, LogFull, NetFull, NeedsEvict, PutOpen, MissOpen, CheckpointsFull, Arrived, NotArrived, Held}
+use Rattle.sn_msg.specs.declared.Message.{Message}
+use Rattle.sn_msg.specs.declared.Body.{Body}
+use Rattle.sn_msg.specs.declared.Body.TheVariants.{GetS, GetM, FwdGetS, FwdGetM, Inv, DataS, DataM, DataE, UpgOk, InvAck, Unblock, PutReq, PutGo, PutData, PutDone, Ready, Advance}
+use Rattle.sn_model.specs.declared.cache.LineState.{LineState}
+use Rattle.sn_model.specs.declared.cache.LineState.TheVariants as state
+use Rattle.sn_model.specs.declared.cache.Need.{Need}
+use Rattle.sn_model.specs.Caches.{line_of, is_present, misses_on, puts_on, frames_taken}
+use Rattle.sn_model.specs.CacheRows.{CacheReply, send, forward_read, forward_write, invalidate, data_shared, data_modified, data_exclusive, upgrade_granted, acknowledge, put_go, put_done}
+use Rattle.sn_model.specs.HomeRows.{HomeReply, unblock, put_data}
+use Rattle.sn_model.specs.Homes.{Transaction}
+use Rattle.sn_model.specs.Access.{missing, request_for, missed, misses, has_miss, serves, lacks_room, accesses, accessed}
+use Rattle.sn_model.specs.Fabric.{Fabric, Net, Flight, Moved, node_at, with_node, home_of, home_node, refused, answered}
+use Rattle.sn_model.specs.Net.{net_limit, routes_of, flight_of, is_there, is_full, next_switch, message_of, post, posted, sending}
+use Rattle.sn_model.specs.NodeEvents.{evicts, begins_put, has_put, with_put, ready_of, checkpoint_limit}
+use Rattle.sn_model.specs.NetEvents.{AtCache, AtHome, logged_at, kept_at, get_shared, get_modified, put_request, unless_busy, outcome_of, delivers, delivers_flight, hops, hops_to, loses}
+use Rattle.sn_model.specs.PointEvents.{advances, recovers, restored, living_switches}
+use Rattle.route_plan.specs.Distances.{is_dead}
+use Rattle.route_plan.specs.Routes.{first_cut_off}
+use Rattle.sn_base.specs.Image.{ImageData}
+use Rattle.sn_base.specs.declared.block.Write.{Write}
+use Rattle.sn_base.specs.declared.event.Event.{Event}
+use Rattle.sn_base.specs.declared.event.Event.TheVariants as event
+use Rattle.rv_core.specs.declared.step.Want.{Want}
+use Rattle.rv_core.specs.declared.step.Want.TheVariants as want
+use Rattle.rv_core.specs.Core.{block_of, is_reserved, is_running}
+use Rattle.rv_core.specs.Step.{want_of}
+use Rattle.route_plan.specs.Distances.{Switches}
+use Rattle.sn_model.specs.declared.cache.Need.TheVariants as need
+use Rattle.sn_model.specs.declared.cache.Out.{Out}
+use Rattle.sn_model.specs.Instructions as machine
+use Rattle.sn_model.specs.Instructions.{Stepped, is_retired, carried, retired, written_by, found_at, next_with, stepped, step_wanting, accessing, takes_input, next_byte}
+use Rattle.sn_model.specs.Machine.{State, processor_at}
+use Rattle.sn_model.specs.MachineEvents.{validates, unready_node}
+use Rattle.sn_model.specs.NodeEvents.{evicted}
+use Rattle.sn_model.specs.Step.{step_of}
+
+abbrev pub is_kill : Event → Bool
+is_kill (event.Kill switch) = true
+is_kill _ = false
+
+abbrev pub is_cut : Answer → Bool
+is_cut (CutOff a b) = true
+is_cut _ = false
+
+abbrev Stays : Fabric → Moved → Type 0
+Stays s x = (x.fabric.net.dead ≡ s.net.dead) × (is_cut x.answer ≡ false)
+
+by_test : (s : Fabric) (test : Bool) (a b : Moved) → Stays s a → Stays s b → Stays s (if test then a else b)
+by_test s true a b first second = first
+by_test s false a b first second = second
+
+-- messages are sent
+stays_posted : (routes : Switches) (net : Net) (from tag block : ℕ) (outs : List Out) → (posted routes net from tag block outs).dead ≡ net.dead
+stays_posted routes net from tag block [] = refl
+stays_posted routes net from tag block (out ∷ outs) = stays_posted routes (post routes net (message_of net from tag block out)) from tag block outs
+
+-- what an event sends is said of the network alone
+stays_sending : (before s : Fabric) (from block : ℕ) (outs : List Out) (answer : Answer) → s.net.dead ≡ before.net.dead → is_cut answer ≡ false → Stays before (sending s from block outs answer)
+stays_sending before s from block outs answer same uncut = (stays_posted (routes_of s) s.net from (node_at s from).now block outs ∙ same, uncut)
+
+stays_missed : (s : Fabric) (n block : ℕ) (need : Need) → Stays s (missed s n block need)
+stays_missed s n block need = stays_sending s (with_node s n (missing (node_at s n) block need)) n block (send (home_node s block) (request_for need) ∷ []) Missed refl refl
+
+stays_accessed : (config : Config) (s : Fabric) (n block : ℕ) (need : Need) → Stays s (accessed config s n block need)
+stays_accessed config s n block need =
+    by_test s (has_miss (node_at s n).cache.miss) (refused s Waits) (accesses config s n block need) (refl, refl)
+    (by_test s (puts_on (node_at s n).cache.put block) (refused s Waits) _ (refl, refl)
+    (by_test s (serves need (line_of (node_at s n).cache block).state) _ (misses config s n block need)
+    (by_test s (lacks_room config (node_at s n) block need) (refused s LogFull) (answered s Retired) (refl, refl) (refl, refl))
+    (by_test s (not (is_present (line_of (node_at s n).cache block).state) && nat_le config.ways (frames_taken (node_at s n).cache config.sets block)) (refused s NeedsEvict) _ (refl, refl)
+    (by_test s (is_full s 1) (refused s NetFull) (missed s n block need) (refl, refl) (stays_missed s n block need)))))
+
+stays_begins_put : (s : Fabric) (n block : ℕ) → Stays s (begins_put s n block)
+stays_begins_put s n block =
+    let sends = sending (with_node s n (with_put (node_at s n) block)) n block (send (home_node s block) PutReq ∷ []) PutBegun in
+    by_test s (has_put (node_at s n).cache.put) (refused s PutOpen) (if is_full s 1 then refused s NetFull else sends) (refl, refl)
+    (by_test s (is_full s 1) (refused s NetFull) sends (refl, refl)
+    (stays_sending s (with_node s n (with_put (node_at s n) block)) n block (send (home_node s block) PutReq ∷ []) PutBegun refl refl))
+
+stays_evicts : (s : Fabric) (n block : ℕ) (line : LineState) → Stays s (evicts s n block line)
+stays_evicts s n block state.Absent = (refl, refl)
+stays_evicts s n block state.Shared = (refl, refl)
+stays_evicts s n block state.Owned = stays_begins_put s n block
+stays_evicts s n block state.Modified = stays_begins_put s n block
+stays_evicts s n block state.Exclusive = stays_begins_put s n block
+
+stays_evicted : (s : Fabric) (n block : ℕ) → Stays s (evicted s n block)
+stays_evicted s n block = by_test s (misses_on (node_at s n).cache.miss block) (refused s MissOpen) _ (refl, refl) (stays_evicts s n block (line_of (node_at s n).cache block).state)
+
+stays_hops : (s : Fabric) (found : Option Flight) → Stays s (hops s found)
+stays_hops s None = (refl, refl)
+stays_hops s (Some f) = by_test s (is_there f) (refused s Arrived) (hops_to s f (next_switch (routes_of s) f)) (refl, refl) (by_test s (is_dead s.net.dead (next_switch (routes_of s) f)) _ _ (refl, refl) (refl, refl))
+
+stays_loses : (s : Fabric) (found : Option Flight) → Stays s (loses s found)
+stays_loses s None = (refl, refl)
+stays_loses s (Some f) = (refl, refl)
+
+-- a delivery
+module _ (config : Config) (s : Fabric) (m : Message) where
+  at_cache : (reply : CacheReply) → Stays s (delivers config s m (AtCache reply))
+  at_cache reply = by_test s (nat_lt config.log (length reply.after.log)) (refused s LogFull) _ (refl, refl)
+      (by_test s (nat_lt (net_limit + 1) (length s.net.flights + length reply.sends)) (refused s NetFull) _ (refl, refl) (stays_posted _ _ m.to _ m.block reply.sends, refl))
+
+  at_home : (reply : HomeReply) → Stays s (delivers config s m (AtHome reply))
+  at_home reply = by_test s (nat_lt config.log (length reply.after.log)) (refused s LogFull) _ (refl, refl)
+      (by_test s (nat_lt (net_limit + 1) (length s.net.flights + length reply.sends)) (refused s NetFull) _ (refl, refl) (stays_posted _ _ m.to _ m.block reply.sends, refl))
+
+  request : (open_one : Option Transaction) (reply : HomeReply) → Stays s (delivers config s m (unless_busy open_one reply))
+  request None reply = at_home reply
+  request (Some transaction) reply = (refl, refl)
+
+  by_body : (x : Body) → Stays s (delivers config s m (outcome_of s m x))
+  by_body GetS = request (home_of s m.block).transaction (get_shared (kept_at s m.to m.block) m.block (node_at s m.to).now m.from (home_of s m.block).holder)
+  by_body GetM = request (home_of s m.block).transaction (get_modified (kept_at s m.to m.block) m.block (node_at s m.to).now m.from (home_of s m.block).holder)
+  by_body PutReq = request (home_of s m.block).transaction (put_request (kept_at s m.to m.block) (node_at s m.to).now m.from)
+  by_body (Unblock fixed) = at_home (unblock (kept_at s m.to m.block) m.block fixed (home_of s m.block).transaction)
+  by_body (PutData content) = at_home (put_data (kept_at s m.to m.block) m.block m.tag m.from content)
+  by_body (FwdGetS r) = at_cache (forward_read (logged_at s m.to) m.block r)
+  by_body (FwdGetM r due) = at_cache (forward_write (logged_at s m.to) m.block (node_at s m.to).now r due)
+  by_body (Inv r) = at_cache (invalidate (logged_at s m.to) m.block r)
+  by_body (DataS content) = at_cache (data_shared (logged_at s m.to) (home_node s m.block) m.block m.tag content)
+  by_body (DataM content due) = at_cache (data_modified (logged_at s m.to) (home_node s m.block) m.block m.tag content due)
+  by_body (DataE content) = at_cache (data_exclusive (logged_at s m.to) (home_node s m.block) m.block m.tag content)
+  by_body (UpgOk due) = at_cache (upgrade_granted (logged_at s m.to) (home_node s m.block) m.tag due)
+  by_body InvAck = at_cache (acknowledge (logged_at s m.to) (home_node s m.block))
+  by_body PutGo = at_cache (put_go (logged_at s m.to) (home_node s m.block) m.block (node_at s m.to).now)
+  by_body PutDone = at_cache (put_done (logged_at s m.to))
+  by_body (Ready k) = (refl, refl)
+  by_body (Advance k) = (refl, refl)
+
+stays_flight : (config : Config) (s : Fabric) (found : Option Flight) → Stays s (delivers_flight config s found)
+stays_flight config s None = (refl, refl)
+stays_flight config s (Some f) = by_test s (not (is_there f)) (refused s NotArrived) _ (refl, refl)
+    (by_test s (nat_lt (node_at s f.message.to).now f.message.tag) (refused s Held) (delivers config s f.message (outcome_of s f.message f.message.body)) (refl, refl) (by_body config s f.message f.message.body))
+
+stays_recovers : (s : Fabric) (k : ℕ) (cut : Option (ℕ × ℕ)) → cut ≡ None → Stays s (recovers s k cut)
+unfolding restored
+stays_recovers s k (Some pair) e = absurd cc
+stays_recovers s k None e = (refl, refl)
+
+stays_written : (s : Fabric) (n : ℕ) (w : Option Write) → (written_by s n w).net.dead ≡ s.net.dead
+stays_written s n None = refl
+stays_written s n (Some w) = refl
+
+-- the same of the machine
+module _ (image : ImageData) (config : Config) (s : State) where
+  abbrev Keeps : Stepped → Type 0
+  Keeps x = (x.state.fabric.net.dead ≡ s.fabric.net.dead) × (is_cut x.answer ≡ false)
+
+  either : (test : Bool) (a b : Stepped) → Keeps a → Keeps b → Keeps (if test then a else b)
+  either true a b first second = first
+  either false a b first second = second
+
+  keeps_retired : (n : ℕ) → Keeps (retired image s n)
+  keeps_retired n = (stays_written s.fabric n (next_with image (processor_at s n) (found_at image s n)).effect.write, refl)
+
+  keeps_accessing : (n address : ℕ) (access : Need) → Keeps (accessing image config s n address access)
+  keeps_accessing n address access =
+      either (is_retired (accessed config s.fabric n (block_of address) access).answer) (retired image s n) (carried s (accessed config s.fabric n (block_of address) access)) (keeps_retired n)
+      (stays_accessed config s.fabric n (block_of address) access)
+
+  keeps_input : (n : ℕ) (byte : Option ℕ) → Keeps (takes_input image s n byte)
+  keeps_input n None = (refl, refl)
+  keeps_input n (Some byte) = keeps_retired n
+
+  keeps_wanting : (n : ℕ) (w : Want) → Keeps (step_wanting image config s n w)
+  keeps_wanting n want.Nothing = keeps_retired n
+  keeps_wanting n want.Input = keeps_input n (next_byte s n)
+  keeps_wanting n (want.Load address) = keeps_accessing n address need.Read
+  keeps_wanting n (want.Lr address) = keeps_accessing n address need.Read
+  keeps_wanting n (want.Store address) = keeps_accessing n address need.Write
+  keeps_wanting n (want.Amo address) = keeps_accessing n address need.Write
+  keeps_wanting n (want.Sc address) =
+      either (is_reserved (processor_at s n).core.reservation (block_of address)) (accessing image config s n address need.Write) (retired image s n)
+      (keeps_accessing n address need.Write) (keeps_retired n)
+
+  keeps_stepped : (n : ℕ) → Keeps (stepped image config s n)
+  keeps_stepped n =
+      either (not (is_running (processor_at s n).core.end)) (machine.refused s Ended) _ (refl, refl)
+      (either (has_miss (node_at s.fabric n).cache.miss) (machine.refused s Waits) _ (refl, refl) (keeps_wanting n (want_of image (processor_at s n).core)))
+
+  keeps_validates : (unready : Option ℕ) → Keeps (validates s unready)
+  keeps_validates (Some n) = (refl, refl)
+  keeps_validates None =
+      let k = s.fabric.point + 1 in
+      by_test s.fabric (is_full s.fabric (length s.fabric.nodes)) (refused s.fabric NetFull) (sending (record s.fabric { point = k }) 0 0 (advances k 0 s.fabric.nodes) (Validated k)) (refl, refl)
+      (stays_sending s.fabric (record s.fabric { point = k }) 0 0 (advances k 0 s.fabric.nodes) (Validated k) refl refl)
+
+  -- every event but one that kills a switch
+  pub dead_stays : (e : Event) → is_kill e ≡ false → first_cut_off (living_switches s.fabric) ≡ None → Keeps (step_of image config s e)
+  unfolding step_of
+  dead_stays (event.Step n) k joined = keeps_stepped n
+  dead_stays (event.Evict n block) k joined = stays_evicted s.fabric n block
+  dead_stays (event.Edge n) k joined = by_test s.fabric (nat_eq ((node_at s.fabric n).now - (node_at s.fabric n).known) checkpoint_limit) (refused s.fabric CheckpointsFull) _ (refl, refl) (refl, refl)
+  dead_stays (event.Hop id) k joined = stays_hops s.fabric (flight_of s.fabric.net.flights id)
+  dead_stays (event.Deliver id) k joined = stays_flight config s.fabric (flight_of s.fabric.net.flights id)
+  dead_stays (event.Lose id) k joined = stays_loses s.fabric (flight_of s.fabric.net.flights id)
+  dead_stays (event.Kill switch) k joined = absurd cc
+  dead_stays (event.Report n) k joined = by_test s.fabric (is_full s.fabric 1) (refused s.fabric NetFull) _ (refl, refl) (stays_sending s.fabric s.fabric n 0 (send 0 (Ready (ready_of s.fabric n)) ∷ []) (Reported (ready_of s.fabric n)) refl refl)
+  dead_stays event.Validate k joined = keeps_validates (unready_node s)
+  dead_stays event.Recover k joined = stays_recovers s.fabric s.fabric.point (first_cut_off (living_switches s.fabric)) joined
+  dead_stays (event.Input n byte) k joined = (refl, refl)

@@ -1,0 +1,4 @@
+pub mod DeadStays
+pub mod NoKill
+pub mod Running
+pub mod Rest

@@ -1,0 +1,95 @@
+//! The text and the events.
+ghost use Rattle.std.specs.Prelude.{◌≡◌, ◌≤◌, ◌++◌, ◌*◌, true, IfOk, OnOk, length};
+ghost use Rattle.std.specs.List.{flat_map};
+ghost use Rattle.byteorder.specs.Endian.{little_bytes};
+ghost use Rattle.asm_texts.specs.Texts.{words_text};
+ghost use Rattle.counting_program.specs.Program.{counting_words, counting_image};
+ghost use Rattle.generated_runs.specs.Generated.{generated_events, IsFresh};
+
+use crate::turns::drive;
+use asm_texts::words_text;
+use byteorder::{ByteOrder, LittleEndian};
+use sn_base::{Config, Event, Image, Memory, Segment};
+use sn_driver::{Driver, Rules};
+use sn_machine::Machine;
+use std::alloc::Global;
+
+/// The words of the program.
+const COUNTING: [u32; 8] = [
+    0x8000_12b7,
+    0x0010_0313,
+    0x0062_a3af,
+    0x03f3_f513,
+    0x0305_0513,
+    0x0010_0893,
+    0x0000_0073,
+    0xfedf_f06f,
+];
+
+/// Appends words, each in four bytes.
+fn add_words(bytes: &mut Vec<u8>, words: &[u32]) -> Result<(), Memory>
+    ensures { OnOk result (bytes.new.items ≡ bytes.old.items ++ flat_map (little_bytes 4) words.now) }
+{
+    'words: for word in words {
+        let mut four = [0u8; 4];
+        LittleEndian::write_u32(&mut four, *word);
+        bytes.extend_from_slice(&four)?;
+    }
+    Ok(())
+}
+
+/// The program as an image.
+fn counting_image(alloc: Global) -> Result<Image, Memory>
+    ensures { IfOk result (λ image. image ≡ counting_image) }
+{
+    let mut bytes = Vec::new(alloc);
+    add_words(&mut bytes, &COUNTING)?;
+    let mut segments = Vec::new(alloc);
+    segments.push(Segment {
+        start: 0x8000_0000,
+        size: 32,
+        bytes,
+        write: false,
+        exec: true,
+    })?;
+    Ok(Image::new(segments, 0x8000_0000))
+}
+
+/// A fresh machine of the program, with room for so many events.
+fn start(alloc: Global, size: u32) -> Result<Machine, Memory>
+    requires { size ≤ 1000000 }
+    ensures fresh { IfOk result (λ machine. IsFresh machine) }
+    ensures room { IfOk result (λ machine. size ≤ machine.spare) }
+{
+    let image = counting_image(alloc)?;
+    let config = Config {
+        nodes: 4,
+        sets: 16,
+        ways: 4,
+        log: 256,
+    };
+    let mut machine = Machine::new(alloc, image, config)?;
+    machine.reserve(size)?;
+    Ok(machine)
+}
+
+/// The program's text, one word a line, and exactly so many events: those that are due, one after another, in turns of workers 0 to
+/// 3 and again from 0, with the numbers that the generator gives that the size seeds.
+pub fn generate(alloc: Global, size: u32) -> Result<(Vec<u8>, Vec<Event>), Memory>
+    requires some { 1 ≤ size }
+    requires few { size ≤ 1000000 }
+    ensures text { IfOk result (λ run. run.0.items ≡ words_text counting_words) }
+    ensures due { IfOk result (λ run. run.1.items ≡ generated_events size) }
+    ensures count { IfOk result (λ run. length run.1.items ≡ size) }
+{
+    let text = words_text(alloc, &COUNTING)?;
+    let machine = start(alloc, size)?;
+    let rules = Rules {
+        interval: 20,
+        wait: 2_000,
+        lose_every: 97,
+        kill: None,
+    };
+    let events = drive(alloc, machine, Driver::new(rules, 4), size)?;
+    Ok((text, events))
+}
