@@ -6,5 +6,6 @@ pub mod PieceLaws
 pub mod Tallies
 pub mod SoFar
 pub mod ToldSoFar
+pub mod Stops
 pub mod Shown
 pub mod Performed

@@ -1,5 +1,5 @@
 -- What a machine that is ready puts is what the definition says of its program and events.
-use Rattle.std.proofs.Common.{◌≡◌, ℕ, ◌+◌, ◌≤◌, List, map, length, take, ap, sym, subst, ◌∙◌}
+use Rattle.std.proofs.Common.{◌≡◌, ℕ, ◌+◌, ◌<◌, List, ◌++◌, map, length, take, ap, sym, subst, ◌∙◌, inl, inr}
 use Rattle.sn_base.specs.Image.{ImageData}
 use Rattle.sn_base.specs.declared.config.Config.{Config}
 use Rattle.sn_base.specs.declared.event.Event.{Event}
@@ -11,10 +11,10 @@ use Rattle.sink_pieces.specs.Pieces.{Piece, Ends, after, Breaks}
 use Rattle.sn_probe.specs.Probes.{Meter, told_from, tallies_of}
 use Rattle.script_replay.specs.declared.job.Showing.{Showing}
 use Rattle.script_replay.specs.declared.job.Replay.{Replay}
-use Rattle.script_replay.specs.Pieces.{pieces_from, pieces_of}
-use Rattle.script_replay.specs.Probed.{answered, told_of_run, told_all, tallies_due, AreToldInPart}
-use Rattle.script_replay.specs.Played.{pieces_left, told_left, AreToldSoFar, IsReady}
-use Rattle.script_replay.specs.Shown.{pieces_due, IsReplayed, IsBrokenOff}
+use Rattle.script_replay.specs.Pieces.{turns_from, turns_of, pieces_from, pieces_of}
+use Rattle.script_replay.specs.Probed.{answered, told_of_run, told_all, tallies_due}
+use Rattle.script_replay.specs.Played.{pieces_left, told_left, turns_left, StopsAt, StopsAtEnd, Stops, IsReady}
+use Rattle.script_replay.specs.Shown.{pieces_due, IsReplayed, IsBrokenOff, BreaksAt, BreaksAtEnd, KnowApplied}
 use Rattle.script_replay.proofs.Shown.{shown-all, shown-part}
 
 -- what the probes are told from the start on
@@ -24,6 +24,14 @@ ready-told m image config events probes room ready =
     ∙ ap (λ (t : State). map (told_from 1 (answered m.image m.config t events)) probes) ready.start
     ∙ ap (λ (t : Config). map (told_from 1 (answered m.image t (start_of image config.nodes) events)) probes) ready.sizes
     ∙ ap (λ (t : ImageData). map (told_from 1 (answered t config (start_of image config.nodes) events)) probes) ready.program
+
+ready-turns : (m : MachineData) (image : ImageData) (config : Config) (showing : Showing) (events : List Event) (room : ℕ) → IsReady m image config room → turns_left m showing events ≡ turns_of image config showing events
+unfolding turns_of
+ready-turns m image config showing events room ready =
+    ap (λ t. turns_from m.image m.config showing m.applied t events) ready.start
+    ∙ ap (λ t. turns_from m.image m.config showing t (start_of image config.nodes) events) ready.new
+    ∙ ap (λ (t : Config). turns_from m.image t showing 0 (start_of image config.nodes) events) ready.sizes
+    ∙ ap (λ t. turns_from t config showing 0 (start_of image config.nodes) events) ready.program
 
 ready-pieces : (m : MachineData) (image : ImageData) (config : Config) (showing : Showing) (tallies : List (List ℕ)) (events script : List Event) (room : ℕ) → IsReady m image config room → events ≡ script → pieces_left m showing tallies events ≡ pieces_of image config showing tallies script
 unfolding pieces_of
@@ -50,13 +58,6 @@ module _ (m : MachineData) (r : Replay) (events : List Event) (room : ℕ) (prob
   pub performed-told : (now_ : List Meter) → now_ ≡ told_left m events probes → now_ ≡ told_all r probes
   performed-told now_ told = told ∙ all-told
 
-  pub performed-told_part : (now_ : List Meter) → AreToldSoFar m events probes now_ → AreToldInPart r probes now_
-  performed-told_part now_ part = record {
-    count = part.count;
-    few = subst (λ (t : List Event). part.count ≤ length t) same part.few;
-    told = part.told ∙ ap (λ t. told_left m (take part.count t) probes) same ∙ ready-told m r.program r.config (take part.count r.script) probes room ready;
-  }
-
 module _ (m : MachineData) (r : Replay) (events : List Event) (room : ℕ) (probes : List Meter) (before behind : Ends) (ready : IsReady m r.program r.config room) (same : events ≡ r.script) (run : IsRun r.config r.script) where
   pub performed-all : behind ≡ after before (pieces_left m r.showing (tallies_of (told_left m events probes)) events) → IsReplayed r probes before behind
   performed-all put =
@@ -67,3 +68,35 @@ module _ (m : MachineData) (r : Replay) (events : List Event) (room : ℕ) (prob
   performed-part broken =
       let part : Breaks (pieces_due r probes) before behind = subst (λ (t : List Piece). Breaks t before behind) (pieces-due m r events room probes ready same) broken in
       record { broken = part; shown = shown-part r.program r.config r.showing (tallies_due r probes) r.script before behind run part }
+
+-- where a sink broke
+module _ (m : MachineData) (r : Replay) (events : List Event) (room : ℕ) (probes : List Meter) (before behind : Ends) (told : List Meter) (ready : IsReady m r.program r.config room) (same : events ≡ r.script) where
+  turns-are : (first : List Event) → turns_left m r.showing first ≡ turns_of r.program r.config r.showing first
+  turns-are first = ready-turns m r.program r.config r.showing first room ready
+
+  turns-first : (i : ℕ) → turns_left m r.showing (take i events) ≡ turns_of r.program r.config r.showing (take i r.script)
+  turns-first i = turns-are (take i events) ∙ ap (λ t. turns_of r.program r.config r.showing (take i t)) same
+
+  breaks-at : (i : ℕ) → StopsAt m r.showing events i before probes behind told → BreaksAt r probes i before behind told
+  breaks-at i stops = record {
+    below = subst (λ (t : List Event). i < length t) same stops.below;
+    pieces = stops.pieces;
+    are = sym (turns-first (i + 1)) ∙ stops.are ∙ ap (λ t. t ++ stops.pieces) (turns-first i);
+    broken = subst (λ (t : List Piece). Breaks stops.pieces (after before t) behind) (turns-first i) stops.broken;
+    knows = stops.knows ∙ ready-told m r.program r.config (take (i + 1) events) probes room ready ∙ ap (λ t. told_of_run r.program r.config (take (i + 1) t) probes) same;
+  }
+
+  turns-all : turns_left m r.showing events ≡ turns_of r.program r.config r.showing r.script
+  turns-all = turns-are events ∙ ap (turns_of r.program r.config r.showing) same
+
+  breaks-at_end : StopsAtEnd m r.showing events before probes behind told → BreaksAtEnd r probes before behind told
+  breaks-at_end stops = record {
+    pieces = stops.pieces;
+    are = sym (pieces-due m r events room probes ready same) ∙ stops.are ∙ ap (λ t. t ++ stops.pieces) turns-all;
+    broken = subst (λ (t : List Piece). Breaks stops.pieces (after before t) behind) turns-all stops.broken;
+    knows = performed-told m r events room probes ready same told stops.knows;
+  }
+
+  pub performed-applied : Stops m r.showing events before probes behind told → KnowApplied r probes before behind told
+  performed-applied (inl (i, stops)) = inl (i, breaks-at i stops)
+  performed-applied (inr stops) = inr (breaks-at_end stops)

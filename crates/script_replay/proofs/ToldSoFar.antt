@@ -1,12 +1,12 @@
 -- What the probes were told so far, and what is left.
-use Rattle.std.proofs.Common.{◌≡◌, ℕ, ◌+◌, ◌<◌, ◌≤◌, List, [], ◌∷◌, ◌++◌, map, take, length, get_or, ap, sym, ◌∙◌, append_assoc, append-nil, arith}
+use Rattle.std.proofs.Common.{◌≡◌, ℕ, ◌+◌, ◌<◌, List, [], ◌∷◌, ◌++◌, map, take, length, get_or, ap, sym, ◌∙◌, append_assoc, append-nil, arith}
 use Rattle.std.proofs.lemmas.List.{take_more, take_all, map-id}
 use Rattle.std.proofs.lemmas.Simd.{map-map}
 use Rattle.sn_base.specs.declared.event.Event.{Event}
 use Rattle.sn_base.specs.declared.event.Answer.{Answer}
 use Rattle.sn_machine.specs.Machine.{MachineData, IsApplied}
 use Rattle.sn_probe.specs.Probes.{Meter, told_of}
-use Rattle.script_replay.specs.Played.{after_event, told_next, told_left, AreToldSoFar}
+use Rattle.script_replay.specs.Played.{after_event, told_next, told_left}
 
 -- one event and then the others are all of them
 told_left-event : (m : MachineData) (event : Event) (events : List Event) (probes : List Meter) → told_left (after_event m event) events (told_next m event probes) ≡ told_left m (event ∷ events) probes
@@ -23,12 +23,9 @@ told-next start m next events before now_ behind i event below is_event is told 
     ∙ ap (λ t. told_left start t before) (ap (λ e. take i events ++ e ∷ rest) is_event ∙ sym (ap (λ t. t ++ rest) (take_more events i event below) ∙ append_assoc (take i events) (get_or events i event ∷ []) rest))
 
 -- the first so many were told and no others
-told-first : (start m : MachineData) (events : List Event) (before now_ : List Meter) (i : ℕ) → IsToldSoFar start events before i m now_ → now_ ≡ told_left start (take i events) before
+pub told-first : (start m : MachineData) (events : List Event) (before now_ : List Meter) (i : ℕ) → IsToldSoFar start events before i m now_ → now_ ≡ told_left start (take i events) before
 told-first start m events before now_ i h =
     sym (map-id now_) ∙ h [] ∙ ap (λ t. told_left start t before) (append-nil (take i events))
-
-pub told-part : (start m : MachineData) (events : List Event) (before now_ : List Meter) (i : ℕ) → i ≤ length events → IsToldSoFar start events before i m now_ → AreToldSoFar start events before now_
-told-part start m events before now_ i few h = record { count = i; few = few; told = told-first start m events before now_ i h }
 
 -- all were told
 pub told-all : (start m : MachineData) (events : List Event) (before now_ : List Meter) (i : ℕ) → length events ≡ i → IsToldSoFar start events before i m now_ → now_ ≡ told_left start events before

@@ -1,6 +1,6 @@
 -- The pieces of a machine that has come to some state, what the probes are told from there, and machines and replays that are
 -- good to begin with.
-use Rattle.std.specs.Prelude.{◌≡◌, ℕ, ◌+◌, ◌-◌, ◌%◌, ◌<◌, ◌≤◌, List, [], map, take, length, Option, IfSome}
+use Rattle.std.specs.Prelude.{◌≡◌, ℕ, ◌+◌, ◌-◌, ◌%◌, ◌<◌, ◌≤◌, ◌⊎◌, List, [], ◌++◌, map, take, length, Option, IfSome}
 use Rattle.sn_base.specs.Blocks.{ram_start, ram_size}
 use Rattle.sn_base.specs.Image.{ImageData}
 use Rattle.sn_base.specs.declared.config.Config.{Config}
@@ -12,11 +12,11 @@ use Rattle.sn_model.specs.declared.net.Sent.{Sent}
 use Rattle.sn_model.specs.Machine.{start_of}
 use Rattle.sn_machine.specs.Machine.{MachineData, next_of}
 use Rattle.consistent_cuts.specs.Headline.{IsRun}
-use Rattle.sink_pieces.specs.Pieces.{Piece}
-use Rattle.sn_probe.specs.Probes.{Meter, told_of, told_from}
+use Rattle.sink_pieces.specs.Pieces.{Piece, Ends, after, Breaks}
+use Rattle.sn_probe.specs.Probes.{Meter, told_of, told_from, tallies_of}
 use Rattle.script_replay.specs.declared.job.Showing.{Showing}
 use Rattle.script_replay.specs.declared.job.Replay.{Replay}
-use Rattle.script_replay.specs.Pieces.{group_of, summary_of, summary_pieces, end_pieces, turn_pieces, pieces_from}
+use Rattle.script_replay.specs.Pieces.{group_of, summary_of, summary_pieces, end_pieces, turn_pieces, turns_from, pieces_from}
 use Rattle.script_replay.specs.Probed.{answered}
 
 -- the machine after an event
@@ -61,11 +61,28 @@ told_next m event probes = map (told_of (m.applied + 1) event (next_of m event).
 abbrev pub told_left : MachineData → List Event → List Meter → List Meter
 told_left m events probes = map (told_from (m.applied + 1) (answered m.image m.config m.state events)) probes
 
--- probes that were told the first so many of the events that are left, and no others
-pub record AreToldSoFar (m : MachineData) (events : List Event) (before behind : List Meter) : Type 0 where
-  pub count : ℕ
-  pub few : count ≤ length events
-  pub told : behind ≡ told_left m (take count events) before
+-- the pieces of the events that are left, without the end
+abbrev pub turns_left : MachineData → Showing → List Event → List Piece
+turns_left m showing events = turns_from m.image m.config showing m.applied m.state events
+
+-- a sink broke in the pieces of event i, counted from 0, and the probes were told the events up to that one
+pub record StopsAt (m : MachineData) (showing : Showing) (events : List Event) (i : ℕ) (before : Ends) (probes : List Meter) (behind : Ends) (told : List Meter) : Type 0 where
+  pub below : i < length events
+  pub pieces : List Piece
+  pub are : turns_left m showing (take (i + 1) events) ≡ turns_left m showing (take i events) ++ pieces
+  pub broken : Breaks pieces (after before (turns_left m showing (take i events))) behind
+  pub knows : told ≡ told_left m (take (i + 1) events) probes
+
+-- a sink broke in the pieces of the end, and the probes were told all events
+pub record StopsAtEnd (m : MachineData) (showing : Showing) (events : List Event) (before : Ends) (probes : List Meter) (behind : Ends) (told : List Meter) : Type 0 where
+  pub pieces : List Piece
+  pub are : pieces_left m showing (tallies_of (told_left m events probes)) events ≡ turns_left m showing events ++ pieces
+  pub broken : Breaks pieces (after before (turns_left m showing events)) behind
+  pub knows : told ≡ told_left m events probes
+
+abbrev pub Stops : MachineData → Showing → List Event → Ends → List Meter → Ends → List Meter → Type 0
+Stops m showing events before probes behind told =
+    ((i : ℕ) × StopsAt m showing events i before probes behind told) ⊎ StopsAtEnd m showing events before probes behind told
 
 -- a word of memory that may be watched
 pub record IsWord (address : ℕ) : Type 0 where

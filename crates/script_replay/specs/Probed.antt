@@ -1,5 +1,5 @@
 -- What the probes are told in a replay: each event that is applied, once and in order, with its answer, numbers from 1.
-use Rattle.std.specs.Prelude.{◌≡◌, ℕ, ◌≤◌, List, [], ◌∷◌, map, take, length}
+use Rattle.std.specs.Prelude.{ℕ, List, [], ◌∷◌, map}
 use Rattle.sn_base.specs.Image.{ImageData}
 use Rattle.sn_base.specs.declared.config.Config.{Config}
 use Rattle.sn_base.specs.declared.event.Event.{Event}
@@ -24,9 +24,3 @@ told_all r probes = told_of_run r.program r.config r.script probes
 
 abbrev pub tallies_due : Replay → List Meter → List (List ℕ)
 tallies_due r probes = tallies_of (told_all r probes)
-
--- probes that were told some first events of a replay and no others
-pub record AreToldInPart (r : Replay) (before behind : List Meter) : Type 0 where
-  pub count : ℕ
-  pub few : count ≤ length r.script
-  pub told : behind ≡ told_of_run r.program r.config (take count r.script) before

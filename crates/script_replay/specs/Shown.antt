@@ -1,6 +1,6 @@
 -- What the sinks show of a replay: at every moment the committed trace is an execution of the program on the flat machine,
 -- without faults, and the console has the bytes that it puts out.
-use Rattle.std.specs.Prelude.{◌≡◌, ℕ, List, ◌++◌, take, length, codes, Option}
+use Rattle.std.specs.Prelude.{◌≡◌, ℕ, ◌+◌, ◌<◌, ◌⊎◌, List, ◌++◌, take, length, codes, Option}
 use Rattle.sn_base.specs.Image.{ImageData}
 use Rattle.sn_base.specs.declared.config.Config.{Config}
 use Rattle.sn_base.specs.declared.event.Event.{Event}
@@ -15,7 +15,7 @@ use Rattle.script_replay.specs.declared.job.Showing.{Showing}
 use Rattle.script_replay.specs.declared.job.ReportKind.TheVariants.{Trace}
 use Rattle.script_replay.specs.declared.job.Replay.{Replay}
 use Rattle.script_replay.specs.Pieces.{summary_pieces, turns_of, pieces_of}
-use Rattle.script_replay.specs.Probed.{tallies_due}
+use Rattle.script_replay.specs.Probed.{told_of_run, told_all, tallies_due}
 
 -- the committed trace after all events, and its output
 abbrev pub committed_by : ImageData → Config → List Event → List Record
@@ -70,3 +70,22 @@ pub record IsReplayed (r : Replay) (probes : List Meter) (before behind : Ends) 
 pub record IsBrokenOff (r : Replay) (probes : List Meter) (before behind : Ends) : Type 0 where
   pub broken : Breaks (pieces_due r probes) before behind
   pub shown : IsShownInPart r.program r.config r.showing (tallies_due r probes) r.script before behind
+
+-- a sink broke in the pieces of event i, counted from 0, and the probes were told the events up to that one and no others
+pub record BreaksAt (r : Replay) (probes : List Meter) (i : ℕ) (before behind : Ends) (told : List Meter) : Type 0 where
+  pub below : i < length r.script
+  pub pieces : List Piece
+  pub are : turns_of r.program r.config r.showing (take (i + 1) r.script) ≡ turns_of r.program r.config r.showing (take i r.script) ++ pieces
+  pub broken : Breaks pieces (after before (turns_of r.program r.config r.showing (take i r.script))) behind
+  pub knows : told ≡ told_of_run r.program r.config (take (i + 1) r.script) probes
+
+-- a sink broke in the pieces of the end, and the probes were told all events
+pub record BreaksAtEnd (r : Replay) (probes : List Meter) (before behind : Ends) (told : List Meter) : Type 0 where
+  pub pieces : List Piece
+  pub are : pieces_due r probes ≡ turns_of r.program r.config r.showing r.script ++ pieces
+  pub broken : Breaks pieces (after before (turns_of r.program r.config r.showing r.script)) behind
+  pub knows : told ≡ told_all r probes
+
+-- so the probes know just the events that were applied
+abbrev pub KnowApplied : Replay → List Meter → Ends → Ends → List Meter → Type 0
+KnowApplied r probes before behind told = ((i : ℕ) × BreaksAt r probes i before behind told) ⊎ BreaksAtEnd r probes before behind told

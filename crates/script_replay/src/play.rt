@@ -6,7 +6,7 @@ ghost use Rattle.consistent_cuts.specs.Runs.{AllFit};
 ghost use Rattle.sink_pieces.specs.Pieces.{ends, after, Breaks};
 ghost use Rattle.sn_probe.specs.Probes.{meters_in, tallies_of};
 ghost use Rattle.script_replay.specs.Pieces.{group_pieces, trace_pieces, tally_pieces};
-ghost use Rattle.script_replay.specs.Played.{after_event, group_now, summed_up, end_now, turn_now, pieces_left, told_next, told_left, AreToldSoFar};
+ghost use Rattle.script_replay.specs.Played.{after_event, group_now, summed_up, end_now, turn_now, pieces_left, told_next, told_left, Stops};
 ghost use Rattle.script_replay.specs.Played.{IsAlone, IsWatchable};
 
 use crate::job::{ReportKind, Showing};
@@ -206,8 +206,9 @@ pub fn play<C: Sink, R: Sink>(
     ensures err { OnErr result (Breaks
         (pieces_left machine.old showing.now (tallies_of (told_left machine.old events.now (meters_in first tally step probes.old.probes.items))) events.now)
         (ends (C.written console.old) (R.written report.old)) (ends (C.written console.new) (R.written report.new))) }
-    ensures told_in_part { OnErr result (AreToldSoFar machine.old events.now
-        (meters_in first tally step probes.old.probes.items) (meters_in first tally step probes.new.probes.items)) }
+    ensures stops { OnErr result (Stops machine.old showing.now events.now
+        (ends (C.written console.old) (R.written report.old)) (meters_in first tally step probes.old.probes.items)
+        (ends (C.written console.new) (R.written report.new)) (meters_in first tally step probes.new.probes.items)) }
     ensures console_later { C.faults console.old ≤ C.faults console.new }
     ensures report_later { R.faults report.old ≤ R.faults report.new }
     ensures cause { OnErr result

@@ -5,8 +5,8 @@ ghost use Rattle.sn_io.specs.Outside.{Rose};
 ghost use Rattle.sink_pieces.specs.Pieces.{ends};
 ghost use Rattle.sn_probe.specs.Probes.{meters_in};
 ghost use Rattle.script_replay.specs.Played.{MayBegin, IsReady};
-ghost use Rattle.script_replay.specs.Probed.{told_all, AreToldInPart};
-ghost use Rattle.script_replay.specs.Shown.{IsReplayed, IsBrokenOff};
+ghost use Rattle.script_replay.specs.Probed.{told_all};
+ghost use Rattle.script_replay.specs.Shown.{IsReplayed, IsBrokenOff, KnowApplied};
 
 use crate::job::Replay;
 use crate::play::play;
@@ -58,11 +58,12 @@ pub fn replay<C: Sink, R: Sink>(
     ensures told { OnOk result (meters_in first tally step probes.new.probes.items
         ≡ told_all job (meters_in first tally step probes.old.probes.items)) }
 
-    // A sink broke, and the probes were told what had been applied.
+    // A sink broke, and the probes were told just the events that were applied.
     ensures sink { result ≡ Err ReplayFault.Sink → IsBrokenOff job (meters_in first tally step probes.old.probes.items)
         (ends (C.written console.old) (R.written report.old)) (ends (C.written console.new) (R.written report.new)) }
-    ensures told_in_part { result ≡ Err ReplayFault.Sink → AreToldInPart job
-        (meters_in first tally step probes.old.probes.items) (meters_in first tally step probes.new.probes.items) }
+    ensures applied { result ≡ Err ReplayFault.Sink → KnowApplied job (meters_in first tally step probes.old.probes.items)
+        (ends (C.written console.old) (R.written report.old)) (ends (C.written console.new) (R.written report.new))
+        (meters_in first tally step probes.new.probes.items) }
 
     // Memory was lacking, and nothing is done.
     ensures memory { result ≡ Err ReplayFault.Memory →

@@ -4,6 +4,7 @@ use Rattle.sink_pieces.specs.Pieces.{ends}
 use Rattle.sink_pieces.proofs.SoFar.{SoFar}
 use Rattle.script_replay.specs.Played.{pieces_left, told_left}
 use Rattle.script_replay.proofs.ToldSoFar.{IsToldSoFar}
+use Rattle.script_replay.proofs.Stops.{IsPutSoFar}
 use Rattle.script_replay.proofs.play.play.Given as goal
 
 abbrev pub invariant-events : goal.invariant-events
@@ -13,6 +14,8 @@ invariant-events g l =
     let tallies = tallies_of (told_left l.initial.machine l.events before) in
     record {
       played : SoFar (pieces_left l.initial.machine l.showing tallies l.events) (pieces_left l.machine l.showing tallies (drop l.event-index l.events))
+          (ends (g.C.Sink.written l.initial.console) (g.R.Sink.written l.initial.report)) (ends (g.C.Sink.written l.console) (g.R.Sink.written l.report));
+      put : IsPutSoFar l.initial.machine l.showing tallies l.events l.event-index l.machine
           (ends (g.C.Sink.written l.initial.console) (g.R.Sink.written l.initial.report)) (ends (g.C.Sink.written l.console) (g.R.Sink.written l.report));
       told : IsToldSoFar l.initial.machine l.events before l.event-index l.machine meters;
       sizes : l.machine.config ≡ l.initial.machine.config;

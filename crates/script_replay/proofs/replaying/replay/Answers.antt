@@ -1,4 +1,4 @@
-use Rattle.script_replay.proofs.Performed.{ready-fit, performed-all, performed-part, performed-told, performed-told_part}
+use Rattle.script_replay.proofs.Performed.{ready-fit, performed-all, performed-part, performed-told, performed-applied}
 use Rattle.script_replay.proofs.replaying.replay.Goals as goal
 
 pub play-requires-clause-fit : goal.play-requires-clause-fit
@@ -16,6 +16,6 @@ pub returns-clause-sink : goal.returns-clause-sink
 returns-clause-sink g c = λ no.
     performed-part c.in-Some.machine c.args.job c.events-events.result.now _ _ _ _ c.in-Some.ensures c.events-events.ensures c.requires.run c.in-Err.ensures.err
 
-pub returns-clause-told_in_part : goal.returns-clause-told_in_part
-returns-clause-told_in_part g c = λ no.
-    performed-told_part c.in-Some.machine c.args.job c.events-events.result.now _ _ c.in-Some.ensures c.events-events.ensures _ c.in-Err.ensures.told_in_part
+pub returns-clause-applied : goal.returns-clause-applied
+returns-clause-applied g c = λ no.
+    performed-applied c.in-Some.machine c.args.job c.events-events.result.now _ _ _ _ _ c.in-Some.ensures c.events-events.ensures c.in-Err.ensures.stops
