@@ -1,7 +1,8 @@
 #!/usr/bin/env bash
 # Runs each example by the README's first command and compares console, report and status with the files beside it: the first
-# program once as hexadecimal words and once as an ELF file, and those of examples/shared and examples/asm by the words that
-# their scripts begin with. Then runs programs, scripts and words that are refused, and compares the status and its word.
+# program once as hexadecimal words and once as an ELF file, and those of examples/shared, examples/asm and examples/traces by the
+# words that their scripts and traces begin with. What a replay shows as its trace is to be legal. Then runs programs, scripts and
+# words that are refused, and compares the status and its word.
 set -u
 cd "$(dirname "$0")/../.." || exit 1
 failed=0 passed=0
@@ -10,13 +11,16 @@ trap 'rm -rf "$work"' EXIT
 
 ./safetynet --build || { echo "the program was not built" >&2; exit 1; }
 
-# Replays an example, whose console and report stand beside its script.
-shows() { # script, the command's words before it
-  local script=$1 name=${1%.script} status
+# Runs an example, whose report stands beside its script or trace, and its console too where it has one. A trace that is refused
+# has the status 9.
+shows() { # script or trace, the command's words before it
+  local file=$1 name=${1%.*} console=${1%.*}.console want=0 status
   shift
-  ./safetynet "$@" "$script" >"$work/console" 2>"$work/report"
+  [ -e "$console" ] || console=/dev/null
+  ! grep -q '^refused ' "$name.report" || want=9
+  ./safetynet "$@" "$file" >"$work/console" 2>"$work/report"
   status=$?
-  if [ "$status" -eq 0 ] && cmp -s "$work/console" "$name.console" && diff "$name.report" "$work/report"; then
+  if [ "$status" -eq "$want" ] && cmp -s "$work/console" "$console" && diff "$name.report" "$work/report"; then
     passed=$((passed + 1))
   else
     echo "example $name by $*: status $status, or another console or report" >&2
@@ -29,16 +33,34 @@ for script in examples/first/*.script; do
     shows "$script" replay --nodes 1 "$program"
   done
 done
+for file in examples/shared/*.script examples/asm/*.script examples/traces/*.trace; do
+  read -r _ line <"$file"
+  read -ra words <<<"$line"
+  last=$((${#words[@]} - 1))
+  shows "$file" "${words[@]:0:last}" "${file%/*}/${words[last]}"
+done
+
+# What a replay shows as its trace is judged legal, with as many records as its summary says.
 for script in examples/shared/*.script examples/asm/*.script; do
   read -r _ line <"$script"
   read -ra words <<<"$line"
-  last=$((${#words[@]} - 1))
-  shows "$script" "${words[@]:0:last}" "${script%/*}/${words[last]}"
+  last=$((${#words[@]} - 1)) nodes=()
+  [[ "$line" =~ (--nodes [0-9]+) ]] && read -ra nodes <<<"${BASH_REMATCH[1]}"
+  program=${script%/*}/${words[last]}
+  ./safetynet "${words[@]:0:last}" --trace "$program" "$script" >/dev/null 2>"$work/trace"
+  ./safetynet check ${nodes[@]+"${nodes[@]}"} "$program" "$work/trace" 2>"$work/report"
+  status=$?
+  if [ "$status" -eq 0 ] && diff <(sed -n 's/^# committed/legal/p' "$work/trace") "$work/report"; then
+    passed=$((passed + 1))
+  else
+    echo "the trace of $script: status $status, or another verdict" >&2
+    failed=$((failed + 1))
+  fi
 done
 
-# Replays these files, which are to be refused with this status and this word.
-refused() { # status, word, program, script, nodes
-  ./safetynet replay --nodes "${5:-1}" "$3" "$4" >"$work/console" 2>"$work/report"
+# Replays these files, or judges them, which are to be refused with this status and this word.
+refused() { # status, word, program, script, nodes, command
+  ./safetynet "${6:-replay}" --nodes "${5:-1}" "$3" "$4" >"$work/console" 2>"$work/report"
   local status=$?
   if [ "$status" -eq "$1" ] && [ ! -s "$work/console" ] && diff <(echo "# safetynet: $2") "$work/report"; then
     passed=$((passed + 1))
@@ -73,6 +95,12 @@ refused_script 'script toomany'
 # A comment of 32 MiB is a script without an event, and one of a byte more is too long.
 head -c 33554433 /dev/zero | tr '\0' '#' >"$work/script"
 refused_script 'script toolong'
+
+printf '2 00000000 0\n' >"$work/trace"
+refused 4 'script outofrange' examples/shared/count.hex "$work/trace" 2 check
+printf '0 00000000 0\n0 00000000 0 4G\n' >"$work/trace"
+refused 4 'script badline' examples/shared/echo.hex "$work/trace" 1 check
+refused 2 store examples/shared/count.hex examples/traces/lacking.trace 2 check
 
 for nodes in 0 17 x; do
   refused 1 usage examples/first/a.hex examples/first/a.script "$nodes"

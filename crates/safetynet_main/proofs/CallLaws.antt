@@ -5,26 +5,28 @@ use Rattle.sn_io.specs.Outside.{Found, Rose}
 use Rattle.command_words.specs.Request.{Request}
 use Rattle.sink_pieces.specs.Pieces.{Ends}
 use Rattle.safetynet_main.specs.Errand.{Loads}
-use Rattle.safetynet_main.specs.Call.{Fetches, AsksNothing, errand_of, due_of, status_of_job, Follows, Comes}
+use Rattle.safetynet_main.specs.Call.{Fetches, AsksNothing, errand_of, due_of, EndsIn, Follows, Comes}
+use Rattle.safetynet_main.specs.Outcome.{status_of}
 use Rattle.safetynet_main.specs.declared.job.Job.{Job}
-use Rattle.safetynet_main.specs.declared.job.Job.TheVariants.{Replay as ReplayJob, Text}
+use Rattle.safetynet_main.specs.declared.job.Outcome.{Outcome}
+use Rattle.safetynet_main.specs.declared.job.Outcome.TheVariants.{Finished, Refused as RefusedOutcome}
 use Rattle.safetynet_main.specs.declared.status.Status.{Status}
-use Rattle.safetynet_main.specs.declared.status.Status.TheVariants.{Done, Usage, StoreFault, BadProgram, BadScript, BadAsm, SinkFault, Memory}
+use Rattle.safetynet_main.specs.declared.status.Status.TheVariants.{Done, Usage, StoreFault, BadProgram, BadScript, BadAsm, SinkFault, Memory, Refused}
 use Rattle.safetynet_main.proofs.Errands.{errand-of_words, if_some-intro, loads-sure, loads-told, loads-rose, loads-usage}
 
 -- a job ends in no refusal
-not_refused : (job : Job) (refusal : Status) → (refusal ≡ StoreFault) ⊎ (refusal ≡ Usage) → status_of_job job ≡ refusal → ⊥
-not_refused (ReplayJob r) refusal (inl w) e = cc
-not_refused (ReplayJob r) refusal (inr w) e = cc
-not_refused (Text text) refusal (inl w) e = cc
-not_refused (Text text) refusal (inr w) e = cc
+not_refused : (outcome : Outcome) (refusal : Status) → (refusal ≡ StoreFault) ⊎ (refusal ≡ Usage) → status_of outcome ≡ refusal → ⊥
+not_refused Finished refusal (inl w) e = cc
+not_refused Finished refusal (inr w) e = cc
+not_refused (RefusedOutcome place) refusal (inl w) e = cc
+not_refused (RefusedOutcome place) refusal (inr w) e = cc
 
 -- the status of a job that is refused is its refusal
 refused-job : (status refusal : Status) (job : Result Job Status) (before behind : Ends) → Follows job status before behind → status ≡ refusal → (refusal ≡ StoreFault) ⊎ (refusal ≡ Usage) → job ≡ Err refusal
 refused-job status refusal (Err s) before behind h e which = ap (λ t. Err t) (sym h.0 ∙ e)
-refused-job status refusal (Ok job) before behind (inl h) e which = absurd (not_refused job refusal which (sym h.0 ∙ e))
-refused-job status refusal (Ok job) before behind (inr h) e (inl w) = cc
-refused-job status refusal (Ok job) before behind (inr h) e (inr w) = cc
+refused-job status refusal (Ok job) before behind (outcome, is, inl h) e which = absurd (not_refused outcome refusal which (sym h.0 ∙ e))
+refused-job status refusal (Ok job) before behind (outcome, is, inr h) e (inl w) = cc
+refused-job status refusal (Ok job) before behind (outcome, is, inr h) e (inr w) = cc
 
 store_fault-status : (status : Status) (job : Result Job Status) (before behind : Ends) → Follows job status before behind → job ≡ Err StoreFault → status ≡ StoreFault
 store_fault-status status (Err s) before behind h e = h.0 ∙ cc
@@ -39,16 +41,17 @@ is_memory (BadProgram cause) = inr (λ e. cc)
 is_memory (BadScript cause) = inr (λ e. cc)
 is_memory (BadAsm cause) = inr (λ e. cc)
 is_memory SinkFault = inr (λ e. cc)
+is_memory (Refused place) = inr (λ e. cc)
 
-done-or_fault : (job : Job) (status : Status) (before behind : Ends) (R : Type 0) → Follows (Ok job) status before behind → (status ≡ SinkFault → R) → (R → ⊥) → status ≡ status_of_job job
-done-or_fault job status before behind R (inl h) cause quiet = h.0
-done-or_fault job status before behind R (inr h) cause quiet = absurd (quiet (cause h.0))
+done-or_fault : (job : Job) (status : Status) (before behind : Ends) (R : Type 0) → Follows (Ok job) status before behind → (status ≡ SinkFault → R) → (R → ⊥) → EndsIn job status
+done-or_fault job status before behind R (outcome, is, inl h) cause quiet = (outcome, is, h.0)
+done-or_fault job status before behind R (outcome, is, inr h) cause quiet = absurd (quiet (cause h.0))
 
 -- where all is good and no sink's count rose
-is-complete : (due : Result Job Status) (status : Status) (before behind : Ends) (R : Type 0) → ((status ≡ Memory → ⊥) → Follows due status before behind) → (status ≡ SinkFault → R) → IfOk due (λ job. (R → ⊥) → (status ≡ status_of_job job) ⊎ (status ≡ Memory))
+is-complete : (due : Result Job Status) (status : Status) (before behind : Ends) (R : Type 0) → ((status ≡ Memory → ⊥) → Follows due status before behind) → (status ≡ SinkFault → R) → IfOk due (λ job. (R → ⊥) → EndsIn job status ⊎ (status ≡ Memory))
 is-complete (Err refusal) status before behind R follows cause = tt
 is-complete (Ok job) status before behind R follows cause = λ quiet. by_memory quiet (is_memory status) where
-  by_memory : (R → ⊥) → (status ≡ Memory) ⊎ (status ≡ Memory → ⊥) → (status ≡ status_of_job job) ⊎ (status ≡ Memory)
+  by_memory : (R → ⊥) → (status ≡ Memory) ⊎ (status ≡ Memory → ⊥) → EndsIn job status ⊎ (status ≡ Memory)
   by_memory quiet (inl m) = inr m
   by_memory quiet (inr m) = inl (done-or_fault job status before behind R (follows m) cause quiet)
 
@@ -78,9 +81,9 @@ module _ {S : Type 0} (files : S → Option (List ℕ → Option (List ℕ))) (s
   clause-told h =
       if_some-intro (files old) (λ held. (status ≡ Memory → ⊥) → (status ≡ StoreFault → ⊥) → Follows (due_of held ask) status before behind) (λ held e m fine. comes-told held (h m) e fine)
 
-  pub clause-complete : (R : Type 0) → ((status ≡ Memory → ⊥) → Comes (Fetches files sure faults gave) ask status old new before behind) → (status ≡ SinkFault → R) → sure old → IfSome (files old) (λ held. IfOk (due_of held ask) (λ job. (R → ⊥) → (status ≡ status_of_job job) ⊎ (status ≡ Memory)))
+  pub clause-complete : (R : Type 0) → ((status ≡ Memory → ⊥) → Comes (Fetches files sure faults gave) ask status old new before behind) → (status ≡ SinkFault → R) → sure old → IfSome (files old) (λ held. IfOk (due_of held ask) (λ job. (R → ⊥) → EndsIn job status ⊎ (status ≡ Memory)))
   clause-complete R h cause s =
-      if_some-intro (files old) (λ held. IfOk (due_of held ask) (λ job. (R → ⊥) → (status ≡ status_of_job job) ⊎ (status ≡ Memory)))
+      if_some-intro (files old) (λ held. IfOk (due_of held ask) (λ job. (R → ⊥) → EndsIn job status ⊎ (status ≡ Memory)))
       (λ held e. is-complete (due_of held ask) status before behind R (λ m. comes-sure held (h m) s e) cause)
 
 -- words that ask for nothing: nothing is fetched, and the status is Usage

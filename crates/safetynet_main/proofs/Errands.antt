@@ -4,6 +4,7 @@ use Rattle.std.specs.Prelude.{Option, Some, None, IfSome, Result, Ok, Err, Bool,
 use Rattle.sn_base.specs.Image.{ImageData}
 use Rattle.sn_base.specs.declared.config.Config.{Config}
 use Rattle.sn_base.specs.declared.event.Event.{Event}
+use Rattle.rv_core.specs.declared.step.Record.{Record}
 use Rattle.sn_io.specs.Outside.{Found, File, TooLong, Missing, Rose, found_in}
 use Rattle.elf_load.specs.declared.fault.LoadCause.{LoadCause}
 use Rattle.elf_load.specs.Loading.{image_of}
@@ -11,13 +12,14 @@ use Rattle.rv_asm.specs.Assembly.{asm_of}
 use Rattle.rv_asm.specs.declared.fault.AsmCause.{AsmCause}
 use Rattle.rv_asm.specs.declared.fault.AsmCause.TheVariants.{TooLong as AsmTooLong}
 use Rattle.sn_text.specs.Script.{script_of}
+use Rattle.sn_text.specs.Trace.{trace_of}
 use Rattle.sn_text.specs.declared.cause.ScriptCause.{ScriptCause}
 use Rattle.sn_text.specs.declared.cause.ScriptCause.TheVariants.{TooLong as ScriptTooLong}
 use Rattle.command_words.specs.Request.{Request, Replay, Check, Demo, Assemble, Disassemble}
 use Rattle.script_replay.specs.declared.job.Showing.{Showing}
-use Rattle.safetynet_main.specs.Files.{program_limit, script_limit, if_loaded, program_of, program_in, if_read, events_of, script_in, if_assembled, assembly_of, assembly_in, listing_of}
+use Rattle.safetynet_main.specs.Files.{program_limit, script_limit, if_loaded, program_of, if_read, events_of, records_of, if_assembled, assembly_of, listing_of}
 use Rattle.safetynet_main.specs.Errand.{Errand, Due, Fetch, due_by, Loads}
-use Rattle.safetynet_main.specs.Call.{Fetches, job_with, text_job, script_errand, replay_errand, assembly_errand, listing_errand, errand_of}
+use Rattle.safetynet_main.specs.Call.{Fetches, job_with, check_with, text_job, script_errand, trace_errand, errand_of}
 use Rattle.safetynet_main.specs.declared.job.Job.{Job}
 use Rattle.safetynet_main.specs.declared.status.ProgramCause.TheVariants.{TooLong as ProgramTooLong}
 use Rattle.safetynet_main.specs.declared.status.Status.{Status}
@@ -50,9 +52,9 @@ loaded r true = (λ e. cc, λ e. cc)
 loaded (Ok image) false = (λ e. cc, λ e. cc)
 loaded (Err cause) false = (λ e. cc, λ e. cc)
 
-read : (r : Result (List Event) ScriptCause) (long : Bool) → IsOfBytes (if long then Err (BadScript ScriptTooLong) else if_read r)
+read : {A : Type 0} (r : Result (List A) ScriptCause) (long : Bool) → IsOfBytes (if long then Err (BadScript ScriptTooLong) else if_read r)
 read r true = (λ e. cc, λ e. cc)
-read (Ok events) false = (λ e. cc, λ e. cc)
+read (Ok items) false = (λ e. cc, λ e. cc)
 read (Err cause) false = (λ e. cc, λ e. cc)
 
 assembled : (r : Result (List ℕ) AsmCause) (long : Bool) → IsOfBytes (if long then Err (BadAsm AsmTooLong) else if_assembled r)
@@ -63,6 +65,10 @@ assembled (Err cause) false = (λ e. cc, λ e. cc)
 plain-job : (config : Config) (showing : Showing) (image : ImageData) (events : Result (List Event) Status) → IsOfBytes events → IsOfBytes (job_with config showing image events)
 plain-job config showing image (Ok events) h = (λ e. cc, λ e. cc)
 plain-job config showing image (Err status) h = (λ e. h.0 cc, λ e. h.1 cc)
+
+plain-check : (nodes : ℕ) (image : ImageData) (records : Result (List Record) Status) → IsOfBytes records → IsOfBytes (check_with nodes image records)
+plain-check nodes image (Ok records) h = (λ e. cc, λ e. cc)
+plain-check nodes image (Err status) h = (λ e. h.0 cc, λ e. h.1 cc)
 
 plain-text : (text : Result (List ℕ) Status) → IsOfBytes text → IsOfBytes (text_job text)
 plain-text (Ok text) h = (λ e. cc, λ e. cc)
@@ -80,12 +86,24 @@ plain-script config showing script (Ok image) h = (
   λ bytes. plain-job config showing image (events_of config.nodes bytes) (read (script_of config.nodes bytes) (nat_lt script_limit (length bytes))),
 )
 
+plain-trace : (nodes : ℕ) (trace : List ℕ) (program : Result ImageData Status) → IsOfBytes program → IsPlain (trace_errand nodes trace program)
+plain-trace nodes trace (Err status) h = (λ e. h.0 cc, λ e. h.1 cc)
+plain-trace nodes trace (Ok image) h = (
+  refl,
+  plain-check nodes image (Err (BadScript ScriptTooLong)) (λ e. cc, λ e. cc),
+  λ bytes. plain-check nodes image (records_of nodes bytes) (read (trace_of nodes bytes) (nat_lt script_limit (length bytes))),
+)
+
 program-of_bytes : (bytes : List ℕ) → IsOfBytes (program_of bytes)
 program-of_bytes bytes = loaded (image_of bytes) (nat_lt program_limit (length bytes))
 
 pub errand-of_words : (ask : Option Request) → IsOfWords (errand_of ask)
 errand-of_words None = refl
-errand-of_words (Some (Check nodes program trace)) = refl
+errand-of_words (Some (Check nodes program trace)) = (
+  refl,
+  plain-trace nodes trace (Err (BadProgram ProgramTooLong)) (λ e. cc, λ e. cc),
+  λ bytes. plain-trace nodes trace (program_of bytes) (program-of_bytes bytes),
+)
 errand-of_words (Some (Demo size)) = refl
 errand-of_words (Some (Replay config trace watch program script)) =
     let showing : Showing = record { trace = trace; watch = watch } in (

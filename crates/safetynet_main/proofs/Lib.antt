@@ -2,4 +2,5 @@ pub mod Scripts
 pub mod Errands
 pub mod CallLaws
 pub mod Watched
+pub mod Verdicts
 pub mod Loading

@@ -2,6 +2,7 @@
 use Rattle.std.specs.Prelude.{ℕ, nat_lt, if◌then◌else◌, List, length, Result, Ok, Err}
 use Rattle.sn_base.specs.Image.{ImageData}
 use Rattle.sn_base.specs.declared.event.Event.{Event}
+use Rattle.rv_core.specs.declared.step.Record.{Record}
 use Rattle.sn_io.specs.Outside.{Found, File, TooLong, Missing}
 use Rattle.elf_load.specs.declared.fault.LoadCause.{LoadCause}
 use Rattle.elf_load.specs.Loading.{image_of}
@@ -10,6 +11,7 @@ use Rattle.rv_asm.specs.declared.fault.AsmCause.{AsmCause}
 use Rattle.rv_asm.specs.declared.fault.AsmCause.TheVariants.{TooLong as AsmTooLong}
 use Rattle.asm_texts.specs.Texts.{words_text, listing}
 use Rattle.sn_text.specs.Script.{script_of}
+use Rattle.sn_text.specs.Trace.{trace_of}
 use Rattle.sn_text.specs.declared.cause.ScriptCause.{ScriptCause}
 use Rattle.sn_text.specs.declared.cause.ScriptCause.TheVariants.{TooLong as ScriptTooLong}
 use Rattle.safetynet_main.specs.declared.status.ProgramCause.TheVariants.{TooLong as ProgramTooLong, Load}
@@ -20,7 +22,7 @@ use Rattle.safetynet_main.specs.declared.status.Status.TheVariants.{StoreFault, 
 abbrev pub program_limit : ℕ
 program_limit = 16777216
 
--- 32 MiB
+-- 32 MiB, of a script and of a trace
 abbrev pub script_limit : ℕ
 script_limit = 33554432
 
@@ -32,14 +34,18 @@ if_loaded (Ok image) = Ok image
 abbrev pub program_of : List ℕ → Result ImageData Status
 program_of bytes = if nat_lt program_limit (length bytes) then Err (BadProgram ProgramTooLong) else if_loaded (image_of bytes)
 
--- a script that is refused is the status
-abbrev pub if_read : Result (List Event) ScriptCause → Result (List Event) Status
-if_read (Ok events) = Ok events
+-- a script or a trace that is refused is the status
+abbrev pub if_read : {A : Type 0} → Result (List A) ScriptCause → Result (List A) Status
+if_read (Ok items) = Ok items
 if_read (Err cause) = Err (BadScript cause)
 
 -- the events for so many nodes
 abbrev pub events_of : ℕ → List ℕ → Result (List Event) Status
 events_of nodes bytes = if nat_lt script_limit (length bytes) then Err (BadScript ScriptTooLong) else if_read (script_of nodes bytes)
+
+-- the records of a trace of so many nodes
+abbrev pub records_of : ℕ → List ℕ → Result (List Record) Status
+records_of nodes bytes = if nat_lt script_limit (length bytes) then Err (BadScript ScriptTooLong) else if_read (trace_of nodes bytes)
 
 -- the words of a text, one a line
 abbrev pub if_assembled : Result (List ℕ) AsmCause → Result (List ℕ) Status
@@ -64,6 +70,11 @@ abbrev pub script_in : ℕ → Found → Result (List Event) Status
 script_in nodes Missing = Err StoreFault
 script_in nodes TooLong = Err (BadScript ScriptTooLong)
 script_in nodes (File bytes) = events_of nodes bytes
+
+abbrev pub trace_in : ℕ → Found → Result (List Record) Status
+trace_in nodes Missing = Err StoreFault
+trace_in nodes TooLong = Err (BadScript ScriptTooLong)
+trace_in nodes (File bytes) = records_of nodes bytes
 
 abbrev pub assembly_in : Found → Result (List ℕ) Status
 assembly_in Missing = Err StoreFault

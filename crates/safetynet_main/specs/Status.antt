@@ -1,5 +1,5 @@
 -- The numbers and words of the statuses.
-use Rattle.std.specs.Prelude.{ℕ, List, ◌++◌, codes}
+use Rattle.std.specs.Prelude.{ℕ, Bool, true, false, List, ◌++◌, codes, Option, Some, None}
 use Rattle.elf_load.specs.declared.fault.LoadCause.{LoadCause}
 use Rattle.elf_load.specs.declared.fault.LoadCause.TheVariants.{Empty, BadHexLine, TooManyWords, Truncated, WrongField, Compressed}
 use Rattle.elf_load.specs.declared.fault.LoadCause.TheVariants.{TooManySegments, FileLargerThanMemory, Outside, Overlap, WritableCode, BadEntry}
@@ -10,7 +10,7 @@ use Rattle.sn_text.specs.declared.cause.ScriptCause.TheVariants.{TooLong as Scri
 use Rattle.safetynet_main.specs.declared.status.ProgramCause.{ProgramCause}
 use Rattle.safetynet_main.specs.declared.status.ProgramCause.TheVariants.{TooLong, Load}
 use Rattle.safetynet_main.specs.declared.status.Status.{Status}
-use Rattle.safetynet_main.specs.declared.status.Status.TheVariants.{Done, Usage, StoreFault, BadProgram, BadScript, BadAsm, SinkFault, Memory}
+use Rattle.safetynet_main.specs.declared.status.Status.TheVariants.{Done, Usage, StoreFault, BadProgram, BadScript, BadAsm, SinkFault, Memory, Refused}
 
 abbrev pub number_of : Status → ℕ
 number_of Done = 0
@@ -20,6 +20,7 @@ number_of (BadProgram cause) = 3
 number_of (BadScript cause) = 4
 number_of SinkFault = 5
 number_of Memory = 7
+number_of (Refused place) = 9
 number_of (BadAsm cause) = 13
 
 -- the name of a cause, in lower case and without its fields
@@ -64,3 +65,16 @@ word_of (BadScript cause) = codes "script " ++ script_name cause
 word_of (BadAsm cause) = codes "asm " ++ asm_name cause
 word_of SinkFault = codes "sink"
 word_of Memory = codes "memory"
+word_of (Refused place) = codes "refused"
+
+-- the number that follows the word, where one does
+abbrev pub place_of : Status → Option ℕ
+place_of (Refused place) = Some place
+place_of _ = None
+
+-- whether a call that ends so has written all of a text, or as much of it as a sink took
+abbrev pub has_written : Status → Bool
+has_written Done = true
+has_written SinkFault = true
+has_written (Refused place) = true
+has_written _ = false

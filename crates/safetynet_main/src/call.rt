@@ -1,29 +1,38 @@
 //! The call: words, files in their order, memory, and then what is to be done.
-ghost use Rattle.std.specs.Prelude.{◌≡◌, ◌≢◌, ◌≤◌, ◌⊎◌, ℕ, List, map, string_bytes};
-ghost use Rattle.std.specs.Prelude.{Option, Some, None, Ok, Err, IfSome, IfOk};
+ghost use Rattle.std.specs.Prelude.{◌≡◌, ◌≢◌, ◌⊎◌, map, string_bytes, false, Some, Ok, Err, IfSome, IfOk};
 ghost use Rattle.sn_io.specs.Outside.{Rose};
 ghost use Rattle.command_words.specs.Request.{ask_of};
 ghost use Rattle.sink_pieces.specs.Pieces.{ends};
-ghost use Rattle.safetynet_main.specs.Call.{Fetches, Comes, Follows, AsksNothing, due_of, status_of_job, IsRead};
+ghost use Rattle.safetynet_main.specs.Status.{has_written};
+ghost use Rattle.safetynet_main.specs.Call.{Fetches, Comes, Follows, AsksNothing, due_of, EndsIn, IsRead};
 
+use crate::checking::check;
 use crate::files::load;
 use crate::job::Job;
 use crate::status::Status;
 use command_words::{WordsFault, read_words};
 use script_replay::{ReplayFault, replay};
 use sink_pieces::put_console;
-use sn_io::{Sink, Store};
+use sn_io::{Gate, Sink, Store};
 use std::alloc::Global;
+use std::sync::Wait;
+use std::thread::Threads;
 
 // Does what is due.
-fn perform<C: Sink, R: Sink>(alloc: Global, job: Job, console: &mut C, report: &mut R) -> Status
+fn perform<T: Threads + Sync, C: Sink, R: Sink, G: Gate + Sync>(
+    rt: &T,
+    alloc: Global,
+    job: Job,
+    console: &mut C,
+    report: &mut R,
+    gate: &G,
+) -> Status
     requires { IsRead job }
     ensures follows { result ≢ Status.Memory → Follows (Ok job) result
         (ends (C.written console.old) (R.written report.old)) (ends (C.written console.new) (R.written report.new)) }
-    ensures nothing { result ≡ Status.Memory → (console.new ≡ console.old) × (report.new ≡ report.old) }
+    ensures nothing { has_written result ≡ false → (console.new ≡ console.old) × (report.new ≡ report.old) }
     ensures cause { result ≡ Status.SinkFault
         → Rose (C.faults console.old) (C.faults console.new) ⊎ Rose (R.faults report.old) (R.faults report.new) }
-    ensures only { (result ≡ Status.Done) ⊎ (result ≡ Status.SinkFault) ⊎ (result ≡ Status.Memory) }
 {
     match job {
         Job::Replay(job) => match replay(alloc, job, console, report) {
@@ -31,6 +40,7 @@ fn perform<C: Sink, R: Sink>(alloc: Global, job: Job, console: &mut C, report: &
             Err(ReplayFault::Sink) => Status::SinkFault,
             Err(ReplayFault::Memory) => Status::Memory,
         },
+        Job::Check(job) => check(rt, alloc, &job, report, gate),
         Job::Text(text) => match put_console(console, text.bytes()) {
             Ok(()) => Status::Done,
             Err(_) => Status::SinkFault,
@@ -38,17 +48,19 @@ fn perform<C: Sink, R: Sink>(alloc: Global, job: Job, console: &mut C, report: &
     }
 }
 
-fn answer<S: Store, C: Sink, R: Sink>(
+fn answer<T: Threads + Sync, S: Store, C: Sink, R: Sink, G: Gate + Sync>(
+    rt: &T,
     alloc: Global,
     words: &[String],
     store: &mut S,
     console: &mut C,
     report: &mut R,
+    gate: &G,
 ) -> Status
     ensures comes { result ≢ Status.Memory → Comes (Fetches S.files S.sure S.faults S.gave)
         (ask_of (map string_bytes words.now)) result store.old store.new
         (ends (C.written console.old) (R.written report.old)) (ends (C.written console.new) (R.written report.new)) }
-    ensures nothing { result ≢ Status.Done → result ≢ Status.SinkFault → (console.new ≡ console.old) × (report.new ≡ report.old) }
+    ensures nothing { has_written result ≡ false → (console.new ≡ console.old) × (report.new ≡ report.old) }
     ensures sink_fault { result ≡ Status.SinkFault
         → Rose (C.faults console.old) (C.faults console.new) ⊎ Rose (R.faults report.old) (R.faults report.new) }
     ensures no_command { AsksNothing (ask_of (map string_bytes words.now)) →
@@ -61,19 +73,22 @@ fn answer<S: Store, C: Sink, R: Sink>(
         Err(WordsFault::Memory) => return Status::Memory,
     };
     match load(alloc, store, &request) {
-        Ok(job) => perform(alloc, job, console, report),
+        Ok(job) => perform(rt, alloc, job, console, report, gate),
         Err(status) => status,
     }
 }
 
 /// Does all that the program does: reads the words, fetches the files that they name from the store, and puts what the
-/// command writes to the console and the report. The first word is the program's name.
-pub fn safetynet<S: Store, C: Sink, R: Sink>(
+/// command writes to the console and the report. The first word is the program's name. A trace is judged in threads, one
+/// for each core, and each passes the gate once.
+pub fn safetynet<T: Threads + Wait + Sync, S: Store, C: Sink, R: Sink, G: Gate + Sync>(
+    rt: &T,
     alloc: Global,
     words: &[String],
     store: &mut S,
     console: &mut C,
     report: &mut R,
+    gate: &G,
 ) -> Status
     // Over any store "the file" is what a fetch of its name gave.
     ensures comes { result ≢ Status.Memory → Comes (Fetches S.files S.sure S.faults S.gave)
@@ -93,7 +108,7 @@ pub fn safetynet<S: Store, C: Sink, R: Sink>(
     // Where all is good and no sink's count rose, the job is done, or memory was lacking.
     ensures complete { S.sure store.old → IfSome (S.files store.old) (λ held. IfOk (due_of held (ask_of (map string_bytes words.now)))
         (λ job. ¬ (Rose (C.faults console.old) (C.faults console.new) ⊎ Rose (R.faults report.old) (R.faults report.new))
-        → (result ≡ status_of_job job) ⊎ (result ≡ Status.Memory))) }
+        → EndsIn job result ⊎ (result ≡ Status.Memory))) }
 
     // Each answer has its cause.
     ensures usage { result ≡ Status.Usage → AsksNothing (ask_of (map string_bytes words.now)) }
@@ -102,10 +117,10 @@ pub fn safetynet<S: Store, C: Sink, R: Sink>(
     ensures store_fault { result ≡ Status.StoreFault → Rose (S.faults store.old) (S.faults store.new) }
     ensures sink_fault { result ≡ Status.SinkFault
         → Rose (C.faults console.old) (C.faults console.new) ⊎ Rose (R.faults report.old) (R.faults report.new) }
-    ensures nothing { result ≢ Status.Done → result ≢ Status.SinkFault → (console.new ≡ console.old) × (report.new ≡ report.old) }
+    ensures nothing { has_written result ≡ false → (console.new ≡ console.old) × (report.new ≡ report.old) }
 
     // Whatever the answer is, the store's files are as before.
     ensures files { S.files store.new ≡ S.files store.old }
 {
-    answer(alloc, words, store, console, report)
+    answer(rt, alloc, words, store, console, report, gate)
 }

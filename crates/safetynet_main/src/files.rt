@@ -1,16 +1,16 @@
 //! Files fetched from the store, and read.
 ghost use Rattle.std.specs.Prelude.{◌≡◌, ◌≢◌, ◌≤◌, true, length, Some, Ok, Err, IfOk, string_bytes};
-ghost use Rattle.sn_base.specs.Config.{config_fits};
+ghost use Rattle.sn_base.specs.Config.{lies_in, config_fits};
 ghost use Rattle.sn_io.specs.Outside.{Found};
 ghost use Rattle.consistent_cuts.specs.Runs.{AllFit};
 ghost use Rattle.command_words.specs.Request.{as_request, watch_fits, request_fits};
-ghost use Rattle.safetynet_main.specs.Files.{program_in, script_in, assembly_in};
+ghost use Rattle.safetynet_main.specs.Files.{program_in, script_in, trace_in, assembly_in};
 ghost use Rattle.safetynet_main.specs.Errand.{Loads};
-ghost use Rattle.safetynet_main.specs.Call.{Fetches, found_by, errand_of, replay_errand, assembly_errand, listing_errand, AsksNothing, IsRead};
+ghost use Rattle.safetynet_main.specs.Call.{Fetches, found_by, errand_of, replay_errand, check_errand, assembly_errand, listing_errand, AsksNothing, IsRead};
 
-use crate::job::{Job, Text};
+use crate::job::{Check, Job, Text, Trace};
 use crate::reading::{
-    PROGRAM_LIMIT, SCRIPT_LIMIT, list_program, read_assembly, read_program, read_script,
+    PROGRAM_LIMIT, SCRIPT_LIMIT, list_program, read_assembly, read_program, read_script, read_trace,
 };
 use crate::status::{ProgramCause, Status};
 use command_words::Request;
@@ -82,6 +82,26 @@ fn fetch_script<S: Store>(
     }
 }
 
+fn fetch_trace<S: Store>(
+    alloc: Global,
+    store: &mut S,
+    name: &str,
+    nodes: u8,
+) -> Result<Trace, Status>
+    requires { nodes ≤ 16 }
+    ensures found { result ≢ Err Status.Memory → (found : Found)
+        × Fetches S.files S.sure S.faults S.gave store.old name.now 33554432 found store.new
+        × (result ≡ trace_in nodes found) }
+    ensures files { S.files store.new ≡ S.files store.old }
+{
+    match fetch_file(alloc, store, name, SCRIPT_LIMIT) {
+        Ok(bytes) => read_trace(alloc, bytes.as_slice(), nodes),
+        Err(Unread::Missing) => Err(Status::StoreFault),
+        Err(Unread::TooLong) => Err(Status::BadScript(ScriptCause::TooLong)),
+        Err(Unread::Memory) => Err(Status::Memory),
+    }
+}
+
 fn fetch_assembly<S: Store>(alloc: Global, store: &mut S, name: &str) -> Result<Text, Status>
     ensures found { result ≢ Err Status.Memory → (found : Found)
         × Fetches S.files S.sure S.faults S.gave store.old name.now 16777216 found store.new
@@ -131,6 +151,33 @@ fn load_replay<S: Store>(
     }
 }
 
+// The program and the trace of a check, in this order.
+fn load_check<S: Store>(
+    alloc: Global,
+    store: &mut S,
+    asked: &command_words::Check,
+) -> Result<Job, Status>
+    requires { lies_in 1 16 asked.now.nodes ≡ true }
+    ensures loads { result ≢ Err Status.Memory → Loads (Fetches S.files S.sure S.faults S.gave)
+        (check_errand asked.now.nodes (string_bytes asked.now.program) (string_bytes asked.now.trace)) result store.old store.new }
+    ensures read { IfOk result IsRead }
+    ensures files { S.files store.new ≡ S.files store.old }
+{
+    let program = match fetch_program(alloc, store, asked.program.as_str()) {
+        Ok(program) => program,
+        Err(status) => return Err(status),
+    };
+    let nodes = asked.nodes;
+    match fetch_trace(alloc, store, asked.trace.as_str(), nodes) {
+        Ok(trace) => Ok(Job::Check(Check {
+            program,
+            nodes,
+            trace,
+        })),
+        Err(status) => Err(status),
+    }
+}
+
 fn load_assembly<S: Store>(alloc: Global, store: &mut S, text: &str) -> Result<Job, Status>
     ensures loads { result ≢ Err Status.Memory →
         Loads (Fetches S.files S.sure S.faults S.gave) (assembly_errand text.now) result store.old store.new }
@@ -170,8 +217,9 @@ pub fn load<S: Store>(alloc: Global, store: &mut S, request: &Request) -> Result
 {
     match request {
         Request::Replay(asked) => load_replay(alloc, store, asked),
+        Request::Check(asked) => load_check(alloc, store, asked),
         Request::Assemble(text) => load_assembly(alloc, store, text.as_str()),
         Request::Disassemble(program) => load_listing(alloc, store, program.as_str()),
-        Request::Check(_) | Request::Demo(_) => Err(Status::Usage),
+        Request::Demo(_) => Err(Status::Usage),
     }
 }

@@ -1,7 +1,11 @@
 //! What is due once all files are read.
 ghost use Rattle.std.specs.Prelude.{◌≡◌};
+ghost use Rattle.safetynet_main.specs.Outcome.{status_of};
 
+use crate::status::Status;
+use rv_core::Record;
 use script_replay::Replay;
+use sn_base::Image;
 use std::marker::Model;
 
 /// A text for the console. Contracts see its bytes.
@@ -32,11 +36,72 @@ impl Text {
     }
 }
 
+/// The records of a trace. Contracts see the list of them.
+#[derive(Drop)]
+pub struct Trace {
+    records: Vec<Record>,
+}
+
+impl Model for Trace {
+    ghost use Rattle.std.specs.Prelude.{List};
+    ghost use Rattle.rv_core.specs.declared.step.Record.{Record};
+
+    ghost Value = { List Record };
+
+    ghost view = { λ t. t.records.items };
+}
+
+impl Trace {
+    pub fn new(records: Vec<Record>) -> Trace
+        ensures { result ≡ records.items }
+    {
+        Trace { records }
+    }
+
+    pub fn records(&self) -> &[Record]
+        ensures { result.now ≡ self.now }
+    {
+        self.records.as_slice()
+    }
+}
+
+/// A program, on how many nodes it runs, and the trace that is judged.
+#[derive(Drop)]
+pub struct Check {
+    pub program: Image,
+    pub nodes: u8,
+    pub trace: Trace,
+}
+
 /// What a command does once its files are read.
 #[derive(Drop)]
 pub enum Job {
     /// Events are applied.
     Replay(Replay),
+    /// A trace is judged, and the verdict is put to the report.
+    Check(Check),
     /// A text is put to the console, and nothing to the report.
     Text(Text),
+}
+
+/// What a job comes to.
+#[derive(Clone, Copy, PartialEq, Eq, Debug)]
+pub enum Outcome {
+    /// All of it is done. A trace is an execution of its program.
+    Finished,
+    /// The trace's record at this place, counted from 1, is the first that is no step of the flat machine after those
+    /// before it.
+    Refused(u64),
+}
+
+impl Outcome {
+    /// How a call ends in which all of the job's text is written.
+    pub fn status(self) -> Status
+        ensures { result ≡ status_of self }
+    {
+        match self {
+            Outcome::Finished => Status::Done,
+            Outcome::Refused(place) => Status::Refused(place),
+        }
+    }
 }

@@ -2,9 +2,9 @@
 ghost use Rattle.std.specs.Prelude.{◌≡◌, ◌≢◌, ◌≤◌, length, Ok, Err, IfOk};
 ghost use Rattle.consistent_cuts.specs.Runs.{AllFit};
 ghost use Rattle.asm_texts.specs.Texts.{words_text};
-ghost use Rattle.safetynet_main.specs.Files.{program_of, events_of, assembly_of, listing_of};
+ghost use Rattle.safetynet_main.specs.Files.{program_of, events_of, records_of, assembly_of, listing_of};
 
-use crate::job::Text;
+use crate::job::{Text, Trace};
 use crate::status::{ProgramCause, Status};
 use asm_texts::words_text;
 use elf_load::{LoadFault, load};
@@ -17,7 +17,7 @@ use std::alloc::Global;
 /// The most bytes of a program's file, and of a text that is assembled.
 pub const PROGRAM_LIMIT: usize = 16_777_216;
 
-/// The most bytes of a script's file.
+/// The most bytes of a script's file, and of a trace's.
 pub const SCRIPT_LIMIT: usize = 33_554_432;
 
 /// The program that the bytes of a file are: an ELF file or a hexadecimal image, as the loader reads them.
@@ -46,6 +46,21 @@ pub fn read_script(alloc: Global, bytes: &[u8], nodes: u8) -> Result<Script, Sta
     }
     match sn_text::read_script(alloc, bytes, nodes) {
         Ok(events) => Ok(Script::new(events)),
+        Err(ScriptFault::Refused(cause)) => Err(Status::BadScript(cause)),
+        Err(ScriptFault::Memory) => Err(Status::Memory),
+    }
+}
+
+/// The trace of so many nodes that the bytes of a file are.
+pub fn read_trace(alloc: Global, bytes: &[u8], nodes: u8) -> Result<Trace, Status>
+    requires { nodes ≤ 16 }
+    ensures { result ≢ Err Status.Memory → result ≡ records_of nodes bytes.now }
+{
+    if bytes.len() > SCRIPT_LIMIT {
+        return Err(Status::BadScript(ScriptCause::TooLong));
+    }
+    match sn_text::read_trace(alloc, bytes, nodes) {
+        Ok(records) => Ok(Trace::new(records)),
         Err(ScriptFault::Refused(cause)) => Err(Status::BadScript(cause)),
         Err(ScriptFault::Memory) => Err(Status::Memory),
     }

@@ -1,6 +1,6 @@
 //! How a call ends.
 ghost use Rattle.std.specs.Prelude.{◌≡◌, ◌++◌, codes};
-ghost use Rattle.safetynet_main.specs.Status.{number_of, load_name, program_name, script_name, asm_name, word_of};
+ghost use Rattle.safetynet_main.specs.Status.{number_of, load_name, program_name, script_name, asm_name, word_of, place_of};
 
 use elf_load::LoadCause;
 use rv_asm::AsmCause;
@@ -34,6 +34,9 @@ pub enum Status {
     SinkFault,
     /// Memory was wanted and not given. Nothing is written.
     Memory,
+    /// The trace's record at this place, counted from 1, is the first that is no step of the flat machine after those
+    /// before it. All text is written.
+    Refused(u64),
 }
 
 // The word `program`, and the name of the loader's cause.
@@ -105,6 +108,7 @@ impl Status {
             Status::BadScript(_) => 4,
             Status::SinkFault => 5,
             Status::Memory => 7,
+            Status::Refused(_) => 9,
             Status::BadAsm(_) => 13,
         }
     }
@@ -122,6 +126,17 @@ impl Status {
             Status::BadAsm(cause) => asm_word(cause),
             Status::SinkFault => "sink",
             Status::Memory => "memory",
+            Status::Refused(_) => "refused",
+        }
+    }
+
+    /// The number that follows the word: the place of the record that is refused.
+    pub fn place(self) -> Option<u64>
+        ensures { result ≡ place_of self }
+    {
+        match self {
+            Status::Refused(place) => Some(place),
+            _ => None,
         }
     }
 }

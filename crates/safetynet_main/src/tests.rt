@@ -2,11 +2,13 @@
 use crate::{ProgramCause, Status, safetynet};
 use elf_load::{LoadCause, load, write_elf};
 use rv_asm::AsmCause;
-use sn_io::{MemSink, MemStore};
+use sn_io::{MemSink, MemStore, OpenGate};
 use sn_text::ScriptCause;
 use std::alloc::Global;
 use std::process::Abort;
+use std::sync::Wait;
 use std::test::Fail;
+use std::thread::Threads;
 
 /// Puts `A` and ends with code 65.
 const PUTS_A: &str = "04100513\n00100893\n00000073\n05d00893\n00000073\n";
@@ -207,7 +209,23 @@ addi x17, x0, 93
 ecall
 ";
 
+/// Both cores have added, and the second has seen what the first added.
+const ADDED: &str = "\
+0 00000000 0\n0 00000000 0\n0 00000000 0\n1 00000000 0\n1 00000000 0\n1 00000001 0\n";
+
+/// The second core hasn't seen it.
+const UNSEEN: &str = "\
+0 00000000 0\n0 00000000 0\n0 00000000 0\n1 00000000 0\n1 00000000 0\n1 00000000 0\n";
+
+const ECHOED: &str = "0 00000000 0\n0 00000000 0 41\n0 00000000 0\n0 00000000 0\n";
+
+const UNREAD: &str = "0 00000000 0\n0 00000000 0\n0 00000000 0\n0 00000000 0\n";
+
 const WORDS: &str = "safetynet replay --nodes 1 a.hex a.script";
+
+const ONE_NODE: &str = "safetynet check --nodes 1 a.hex a.script";
+
+const TWO_NODES: &str = "safetynet check a.hex --nodes=2 a.script";
 
 /// What a call left.
 #[derive(Drop)]
@@ -240,6 +258,7 @@ fn words_in(alloc: Global, text: &str) -> Result<Vec<String>, Fail> {
 }
 
 fn call(
+    rt: &(impl Threads + Wait + Sync),
     alloc: Global,
     words: &str,
     program: &[u8],
@@ -255,12 +274,15 @@ fn call(
     console.fail_call(faults.console)?;
     let mut report = MemSink::with_room(alloc, 2000)?;
     report.fail_call(faults.report)?;
+    let gate = OpenGate::new();
     let status = safetynet(
+        rt,
         alloc,
         words.as_slice(),
         &mut store,
         &mut console,
         &mut report,
+        &gate,
     );
     Ok(Left {
         status,
@@ -270,14 +292,14 @@ fn call(
 }
 
 fn check_replay(
-    rt: &impl Abort,
+    rt: &(impl Abort + Threads + Wait + Sync),
     alloc: Global,
     program: &[u8],
     script: &str,
     output: &str,
     report: &str,
 ) -> Result<(), Fail> {
-    let left = call(alloc, WORDS, program, script, NO_FAULT)?;
+    let left = call(rt, alloc, WORDS, program, script, NO_FAULT)?;
     assert_eq!(rt; left.status, Status::Done);
     assert_eq!(rt; left.console.as_slice(), output.as_bytes());
     assert_eq!(rt; left.report.as_slice(), report.as_bytes());
@@ -285,28 +307,28 @@ fn check_replay(
 }
 
 fn check_refusal(
-    rt: &impl Abort,
+    rt: &(impl Abort + Threads + Wait + Sync),
     alloc: Global,
     words: &str,
     program: &[u8],
     script: &str,
     want: Status,
 ) -> Result<(), Fail> {
-    let left = call(alloc, words, program, script, NO_FAULT)?;
+    let left = call(rt, alloc, words, program, script, NO_FAULT)?;
     assert_eq!(rt; left.status, want, "at {words}, {script}");
     assert!(rt; left.console.is_empty() && left.report.is_empty());
     Ok(())
 }
 
 fn check_fault(
-    rt: &impl Abort,
+    rt: &(impl Abort + Threads + Wait + Sync),
     alloc: Global,
     faults: Faults,
     want: Status,
     output: &str,
     report: &str,
 ) -> Result<(), Fail> {
-    let left = call(alloc, WORDS, PUTS_A.as_bytes(), VALIDATED, faults)?;
+    let left = call(rt, alloc, WORDS, PUTS_A.as_bytes(), VALIDATED, faults)?;
     assert_eq!(rt; left.status, want);
     assert_eq!(rt; left.console.as_slice(), output.as_bytes());
     assert_eq!(rt; left.report.as_slice(), report.as_bytes());
@@ -315,16 +337,15 @@ fn check_fault(
 
 #[test]
 fn a_replay_puts_what_was_validated_and_reports_each_event(rt: HostRuntime) -> Result<(), Fail> {
-    let alloc = rt.alloc();
     let program = PUTS_A.as_bytes();
-    check_replay(&rt, alloc, program, VALIDATED, "A", VALIDATED_REPORT)?;
-    check_replay(&rt, alloc, program, RECOVERED, "", RECOVERED_REPORT)?;
-    check_replay(&rt, alloc, program, "", "", EMPTY_REPORT)?;
+    check_replay(&rt, rt.alloc(), program, VALIDATED, "A", VALIDATED_REPORT)?;
+    check_replay(&rt, rt.alloc(), program, RECOVERED, "", RECOVERED_REPORT)?;
+    check_replay(&rt, rt.alloc(), program, "", "", EMPTY_REPORT)?;
     Ok(())
 }
 
 fn check_command(
-    rt: &impl Abort,
+    rt: &(impl Abort + Threads + Wait + Sync),
     alloc: Global,
     words: &str,
     file: &str,
@@ -332,7 +353,7 @@ fn check_command(
     console: &str,
     report: &str,
 ) -> Result<(), Fail> {
-    let left = call(alloc, words, file.as_bytes(), script, NO_FAULT)?;
+    let left = call(rt, alloc, words, file.as_bytes(), script, NO_FAULT)?;
     assert_eq!(rt; left.status, Status::Done, "of {words}");
     assert_eq!(rt; left.console.as_slice(), console.as_bytes(), "of {words}");
     assert_eq!(rt; left.report.as_slice(), report.as_bytes(), "of {words}");
@@ -376,6 +397,75 @@ fn a_replay_shows_what_its_options_ask(rt: HostRuntime) -> Result<(), Fail> {
     Ok(())
 }
 
+fn check_verdict(
+    rt: &(impl Abort + Threads + Wait + Sync),
+    alloc: Global,
+    words: &str,
+    program: &str,
+    trace: &str,
+    faults: Faults,
+    want: Status,
+    report: &str,
+) -> Result<(), Fail> {
+    let left = call(rt, alloc, words, program.as_bytes(), trace, faults)?;
+    assert_eq!(rt; left.status, want, "of {trace}");
+    assert_eq!(rt; left.report.as_slice(), report.as_bytes(), "of {trace}");
+    assert!(rt; left.console.is_empty());
+    Ok(())
+}
+
+#[test]
+fn a_trace_is_judged_by_its_first_record_without_a_step(rt: HostRuntime) -> Result<(), Fail> {
+    let broken = Faults {
+        report: 1,
+        ..NO_FAULT
+    };
+    let absent = Status::BadScript(ScriptCause::OutOfRange(1));
+    let no_byte = Status::BadScript(ScriptCause::BadLine(2));
+    let spoiled = "0 00000000 0\n0 00000000 0 4G\n";
+    for (words, program, trace, faults, want, report) in [
+        (
+            TWO_NODES,
+            COUNTS,
+            ADDED,
+            NO_FAULT,
+            Status::Done,
+            "legal 6\n",
+        ),
+        (
+            TWO_NODES,
+            COUNTS,
+            UNSEEN,
+            NO_FAULT,
+            Status::Refused(6),
+            "refused 6\n",
+        ),
+        (TWO_NODES, COUNTS, "", NO_FAULT, Status::Done, "legal 0\n"),
+        (TWO_NODES, COUNTS, "2 00000000 0\n", NO_FAULT, absent, ""),
+        (
+            ONE_NODE,
+            ECHOES,
+            ECHOED,
+            NO_FAULT,
+            Status::Done,
+            "legal 4\n",
+        ),
+        (
+            ONE_NODE,
+            ECHOES,
+            UNREAD,
+            NO_FAULT,
+            Status::Refused(2),
+            "refused 2\n",
+        ),
+        (ONE_NODE, ECHOES, spoiled, NO_FAULT, no_byte, ""),
+        (ONE_NODE, ECHOES, UNREAD, broken, Status::SinkFault, ""),
+    ] {
+        check_verdict(&rt, rt.alloc(), words, program, trace, faults, want, report)?;
+    }
+    Ok(())
+}
+
 #[test]
 fn a_text_becomes_words_and_words_a_text(rt: HostRuntime) -> Result<(), Fail> {
     for (words, file, console) in [
@@ -390,7 +480,6 @@ fn a_text_becomes_words_and_words_a_text(rt: HostRuntime) -> Result<(), Fail> {
 
 #[test]
 fn words_that_are_no_command_are_usage(rt: HostRuntime) -> Result<(), Fail> {
-    let alloc = rt.alloc();
     for words in [
         "safetynet",
         "safetynet fly",
@@ -406,12 +495,13 @@ fn words_that_are_no_command_are_usage(rt: HostRuntime) -> Result<(), Fail> {
         "safetynet replay --nodes 1 a.hex a.script more",
         "safetynet asm a.hex a.script",
         "safetynet dis",
-        "safetynet check a.hex a.script",
+        "safetynet check --nodes 17 a.hex a.script",
+        "safetynet check a.hex",
         "safetynet demo 10",
     ] {
         check_refusal(
             &rt,
-            alloc,
+            rt.alloc(),
             words,
             PUTS_A.as_bytes(),
             VALIDATED,
@@ -423,16 +513,16 @@ fn words_that_are_no_command_are_usage(rt: HostRuntime) -> Result<(), Fail> {
 
 #[test]
 fn a_file_that_is_lacking_is_a_store_fault(rt: HostRuntime) -> Result<(), Fail> {
-    let alloc = rt.alloc();
     for words in [
         "safetynet replay --nodes 16 b.hex a.script",
         "safetynet replay --nodes 9 a.hex b.script",
+        "safetynet check a.hex b.script",
         "safetynet asm b.s",
         "safetynet dis b.hex",
     ] {
         check_refusal(
             &rt,
-            alloc,
+            rt.alloc(),
             words,
             PUTS_A.as_bytes(),
             VALIDATED,
@@ -444,7 +534,6 @@ fn a_file_that_is_lacking_is_a_store_fault(rt: HostRuntime) -> Result<(), Fail> 
 
 #[test]
 fn a_script_that_isnt_one_is_refused_by_its_first_cause(rt: HostRuntime) -> Result<(), Fail> {
-    let alloc = rt.alloc();
     for (script, cause) in [
         ("step 1\n", ScriptCause::OutOfRange(1)),
         (" step 0\n", ScriptCause::BadLine(1)),
@@ -455,7 +544,7 @@ fn a_script_that_isnt_one_is_refused_by_its_first_cause(rt: HostRuntime) -> Resu
         ("deliver 18446744073709551616", ScriptCause::BadLine(1)),
     ] {
         let want = Status::BadScript(cause);
-        check_refusal(&rt, alloc, WORDS, PUTS_A.as_bytes(), script, want)?;
+        check_refusal(&rt, rt.alloc(), WORDS, PUTS_A.as_bytes(), script, want)?;
     }
     Ok(())
 }
@@ -464,7 +553,6 @@ fn a_script_that_isnt_one_is_refused_by_its_first_cause(rt: HostRuntime) -> Resu
 fn a_text_that_cant_be_assembled_is_refused_by_its_first_cause(
     rt: HostRuntime,
 ) -> Result<(), Fail> {
-    let alloc = rt.alloc();
     for (text, cause) in [
         ("fly x1\n", AsmCause::BadLine(1)),
         ("\naddi x5, x5, 2048\n", AsmCause::OutOfRange(2)),
@@ -472,18 +560,29 @@ fn a_text_that_cant_be_assembled_is_refused_by_its_first_cause(
         ("jal x0, end\n", AsmCause::NoLabel(1)),
     ] {
         let want = Status::BadAsm(cause);
-        check_refusal(&rt, alloc, "safetynet asm a.hex", text.as_bytes(), "", want)?;
+        check_refusal(
+            &rt,
+            rt.alloc(),
+            "safetynet asm a.hex",
+            text.as_bytes(),
+            "",
+            want,
+        )?;
     }
     Ok(())
 }
 
-fn check_program(rt: &impl Abort, alloc: Global, program: &[u8], want: Status) -> Result<(), Fail> {
+fn check_program(
+    rt: &(impl Abort + Threads + Wait + Sync),
+    alloc: Global,
+    program: &[u8],
+    want: Status,
+) -> Result<(), Fail> {
     check_refusal(rt, alloc, WORDS, program, "step 1\n", want)
 }
 
 #[test]
 fn a_program_that_cant_be_loaded_is_refused_by_its_cause(rt: HostRuntime) -> Result<(), Fail> {
-    let alloc = rt.alloc();
     for (program, cause) in [
         ("", LoadCause::Empty),
         ("0410051", LoadCause::BadHexLine(1)),
@@ -491,7 +590,7 @@ fn a_program_that_cant_be_loaded_is_refused_by_its_cause(rt: HostRuntime) -> Res
         ("\u{7f}ELF", LoadCause::Truncated(52, 4)),
     ] {
         let want = Status::BadProgram(ProgramCause::Load(cause));
-        check_program(&rt, alloc, program.as_bytes(), want)?;
+        check_program(&rt, rt.alloc(), program.as_bytes(), want)?;
     }
     Ok(())
 }
@@ -509,7 +608,7 @@ fn an_elf_file_is_run_as_its_words_are(rt: HostRuntime) -> Result<(), Fail> {
     let file = elf_of(&rt, alloc, PUTS_A.as_bytes())?;
     check_replay(
         &rt,
-        alloc,
+        rt.alloc(),
         file.as_slice(),
         VALIDATED,
         "A",
@@ -526,7 +625,7 @@ fn a_cut_elf_file_is_refused(rt: HostRuntime) -> Result<(), Fail> {
     let cause = LoadCause::Truncated(104, 103);
     check_program(
         &rt,
-        alloc,
+        rt.alloc(),
         cut,
         Status::BadProgram(ProgramCause::Load(cause)),
     )?;
@@ -535,7 +634,6 @@ fn a_cut_elf_file_is_refused(rt: HostRuntime) -> Result<(), Fail> {
 
 #[test]
 fn a_call_that_fails_leaves_the_beginning_of_each_text(rt: HostRuntime) -> Result<(), Fail> {
-    let alloc = rt.alloc();
     for (store, console, report, want, output, lines) in [
         (1u64, 0u64, 0u64, Status::StoreFault, "", ""),
         (2, 0, 0, Status::StoreFault, "", ""),
@@ -549,7 +647,7 @@ fn a_call_that_fails_leaves_the_beginning_of_each_text(rt: HostRuntime) -> Resul
             console,
             report,
         };
-        check_fault(&rt, alloc, faults, want, output, lines)?;
+        check_fault(&rt, rt.alloc(), faults, want, output, lines)?;
     }
     Ok(())
 }
@@ -570,6 +668,7 @@ fn a_status_has_its_number_and_word(rt: HostRuntime) {
         ),
         (Status::SinkFault, 5, "sink"),
         (Status::Memory, 7, "memory"),
+        (Status::Refused(6), 9, "refused"),
         (
             Status::BadAsm(AsmCause::LabelTwice(4)),
             13,
@@ -579,4 +678,6 @@ fn a_status_has_its_number_and_word(rt: HostRuntime) {
         assert_eq!(rt; status.number(), number);
         assert_eq!(rt; status.word(), word);
     }
+    assert_eq!(rt; Status::Refused(6).place(), Some(6));
+    assert_eq!(rt; Status::Memory.place(), None);
 }

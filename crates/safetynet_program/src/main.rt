@@ -9,10 +9,14 @@ ghost use Rattle.std.specs.Prelude.{◌≡◌, map, string_bytes};
 ghost use Rattle.safetynet_program.specs.Own.{asked_by, is_command, own_of};
 
 use safetynet_main::{Status, safetynet};
-use sn_io::{FileStore, StdSink};
+use sn_io::{FileStore, OpenGate, StdSink};
+use std::alloc::Global;
 use std::env;
-use std::io::{BufWriter, ErrorKind, IsTerminal};
+use std::io::{BufWriter, ErrorKind, IsTerminal, Write};
 use std::process::ExitCode;
+use std::rt::Files;
+use std::sync::Wait;
+use std::thread::Threads;
 
 const VERSION: &str = "safetynet 0.1.0\n";
 
@@ -20,10 +24,11 @@ const VERSION: &str = "safetynet 0.1.0\n";
 const HELD_BACK: usize = 65_536;
 
 const HELP: &str = "\
-Replays a list of events on a simulated SafetyNet multiprocessor, and turns
-programs for it into words and back.
+Replays a list of events on a simulated SafetyNet multiprocessor, judges
+traces, and turns programs for it into words and back.
 
 usage: safetynet replay [OPTIONS] PROGRAM SCRIPT
+       safetynet check [--nodes N] PROGRAM TRACE
        safetynet asm TEXT
        safetynet dis PROGRAM
        safetynet --help        (also -h, help, after a command too, or no word)
@@ -42,6 +47,11 @@ replay applies the events of SCRIPT to a machine that runs PROGRAM. Options:
 
 An option stands before or after the files, at most once, and is written
 --nodes 2 or --nodes=2.
+
+check judges TRACE, the instructions of a run of PROGRAM on N nodes in their
+order. Where they are an execution on one memory, without faults, it reports
+\"legal\" and how many they are, and else \"refused\" and the place, from 1, of
+the first that isn't. What replay --trace reports is a TRACE.
 
 asm puts the words of TEXT, in the assembler's language, to standard output,
 one a line; what it puts is a PROGRAM. dis puts PROGRAM's executable words as
@@ -68,6 +78,12 @@ lines that begin with # are skipped:
   recover      the whole machine goes back to the recovery point
   input N BB   node N is given a byte, two hexadecimal digits
 
+TRACE has as many bytes and lines at most, and each instruction is one line:
+
+  N WORD F     the core of node N did one that saw WORD, eight hexadecimal
+               digits; F is 1 where a store-conditional was done, else 0
+  N WORD F BB  the same, and it read the byte BB
+
 Nodes count from 0. Block B is the 64 bytes from 80000000 + 64 B on. The
 report says which number each message has.
 
@@ -81,11 +97,13 @@ exit status, with the word that standard error ends with:
    1  usage: the words aren't a command, or a value isn't in its range
    2  store: a file is lacking or couldn't be read
    3  program CAUSE: PROGRAM is too long (toolong) or can't be loaded
-   4  script CAUSE: SCRIPT is too long (toolong, toomany), has a line that is
-      no event (badline), or names a node, a block or a switch that isn't
-      there (outofrange)
+   4  script CAUSE: SCRIPT or TRACE is too long (toolong, toomany), has a line
+      of another form (badline), or names a node, a block or a switch that
+      isn't there (outofrange)
    5  sink: not all of the output could be written
    7  memory: there was not enough of it
+   9  refused P: TRACE is no execution; its P-th instruction is the first
+      that can't come after those before it
   13  asm CAUSE: TEXT is too long (toolong, toomanywords), has a line that is
       no statement (badline), a number that doesn't fit (outofrange), a label
       twice (labeltwice) or one that stands nowhere (nolabel)
@@ -94,6 +112,8 @@ examples:
   safetynet replay --nodes 2 --watch 80001000 \\
       examples/shared/count.hex examples/shared/shared_word.script
   safetynet replay --nodes=1 --trace examples/first/a.hex examples/first/a.script
+  safetynet check --nodes 2 examples/shared/count.hex \\
+      examples/traces/additions.trace
   safetynet asm examples/asm/counter.s
 ";
 
@@ -117,7 +137,7 @@ fn asked_by(word: &str) -> Option<Own>
 fn is_command(word: &str) -> bool
     ensures { result ≡ is_command word.now }
 {
-    matches!(word, "replay" | "asm" | "dis")
+    matches!(word, "replay" | "check" | "asm" | "dis")
 }
 
 /// What the words ask of the program itself, before any command is done.
@@ -144,20 +164,41 @@ fn text_of(own: Own) -> &'static str {
 
 // Does a command over the system's files and streams. The report goes out in large pieces, which spares a call of the
 // system for each event, but at once where it goes to a terminal.
-fn perform(rt: &HostRuntime, words: &[String]) -> Status {
-    let stream = rt.stderr();
-    let held_back = if stream.is_terminal() { 0 } else { HELD_BACK };
-    let Ok(writer) = BufWriter::with_capacity(rt.alloc(), held_back, stream) else {
+fn perform<T, C, R>(rt: &T, alloc: Global, words: &[String], console: C, report: R) -> Status
+where
+    T: Files + Threads + Wait + Sync,
+    C: Write + Drop,
+    R: Write + IsTerminal + Drop,
+{
+    let held_back = if report.is_terminal() { 0 } else { HELD_BACK };
+    let Ok(writer) = BufWriter::with_capacity(alloc, held_back, report) else {
         return Status::Memory;
     };
     let mut report = StdSink::new(writer);
-    let mut console = StdSink::new(rt.stdout());
+    let mut console = StdSink::new(console);
     let mut store = FileStore::new(rt);
-    let status = safetynet(rt.alloc(), words, &mut store, &mut console, &mut report);
-    if report.finish().is_err() && status == Status::Done {
-        return Status::SinkFault;
+    let gate = OpenGate::new();
+    let status = safetynet(
+        rt,
+        alloc,
+        words,
+        &mut store,
+        &mut console,
+        &mut report,
+        &gate,
+    );
+    match status {
+        Status::Done | Status::Refused(_) if report.finish().is_err() => Status::SinkFault,
+        _ => status,
     }
-    status
+}
+
+// Names on standard error the status of a call in which not all is done, or a trace is refused.
+fn name_status(rt: &HostRuntime, status: Status) {
+    let _ = match status.place() {
+        Some(place) => eprintln!(rt; "# safetynet: {} {place}", status.word()),
+        None => eprintln!(rt; "# safetynet: {}", status.word()),
+    };
 }
 
 fn main(rt: HostRuntime) -> ExitCode {
@@ -173,7 +214,7 @@ fn main(rt: HostRuntime) -> ExitCode {
                         Status::SinkFault.number()
                     });
                 }
-                perform(&rt, words.as_slice())
+                perform(&rt, alloc, words.as_slice(), rt.stdout(), rt.stderr())
             }
             Err(_) => Status::Memory,
         },
@@ -182,7 +223,7 @@ fn main(rt: HostRuntime) -> ExitCode {
         Err(_) => Status::Memory,
     };
     if status != Status::Done {
-        let _ = eprintln!(rt; "# safetynet: {}", status.word());
+        name_status(&rt, status);
     }
     ExitCode::from(status.number())
 }

@@ -1,5 +1,5 @@
 use Rattle.std.proofs.Common.{ap, refl}
-use Rattle.std.specs.Prelude.{Err}
+use Rattle.std.specs.Prelude.{Ok, Err}
 use Rattle.safetynet_main.specs.Call.{Fetches}
 use Rattle.safetynet_main.proofs.CallLaws.{comes-none, comes-some}
 use Rattle.safetynet_main.proofs.call.answer.Goals as goal
@@ -11,3 +11,7 @@ returns-in-Err-Usage-clause-comes g c = λ no.
 pub returns-clause-comes : goal.returns-clause-comes
 returns-clause-comes g c = λ no.
     comes-some (Fetches g.S.Store.files g.S.Store.sure g.S.Store.faults g.S.Store.gave) _ _ (Err c.in-Err.status) _ _ _ _ _ c.in-Ok.ensures.ok (c.in-Err.ensures.loads (λ m. no cc)) (refl, refl)
+
+pub returns-in-Ok-load-clause-comes : goal.returns-in-Ok-load-clause-comes
+returns-in-Ok-load-clause-comes g c = λ m.
+    comes-some (Fetches g.S.Store.files g.S.Store.sure g.S.Store.faults g.S.Store.gave) _ _ (Ok c.in-Ok-load.job) _ _ _ _ _ c.in-Ok.ensures.ok (c.in-Ok-load.ensures.loads (λ e. cc)) (c.perform.ensures.follows m)

@@ -1,0 +1,84 @@
+//! A trace judged, and the line that says how.
+ghost use Rattle.std.specs.Prelude.{◌≡◌, ◌≢◌, ℕ, ◌≤◌, List, [], ◌∷◌, Option, IfOk, OnOk, OnErr, Ok, false};
+ghost use Rattle.sn_io.specs.Outside.{Rose};
+ghost use Rattle.sink_pieces.specs.Pieces.{Report, ends, after, Breaks};
+ghost use Rattle.safetynet_main.specs.Outcome.{IsVerdict, verdict_line};
+ghost use Rattle.safetynet_main.specs.Status.{has_written};
+ghost use Rattle.safetynet_main.specs.Call.{Follows, IsRead};
+
+use crate::job::{Check, Job, Outcome};
+use crate::status::Status;
+use sink_pieces::put_report;
+use sn_base::Memory;
+use sn_io::{Failed, Gate, Sink};
+use sn_text::Line;
+use std::alloc::Global;
+use std::thread::Threads;
+use trace_check::CheckFault;
+
+// What is found of the trace.
+fn judge<T: Threads + Sync, G: Gate + Sync>(
+    rt: &T,
+    alloc: Global,
+    job: &Check,
+    gate: &G,
+) -> Result<Outcome, Memory>
+    requires some { 1 ≤ job.now.nodes }
+    requires few { job.now.nodes ≤ 16 }
+    ensures { IfOk result (λ outcome. IsVerdict job.now outcome) }
+{
+    let records = job.trace.records();
+    match trace_check::check(rt, alloc, &job.program, job.nodes, records, gate) {
+        Ok(()) => Ok(Outcome::Finished),
+        Err(CheckFault::NotLegal(place)) => Ok(Outcome::Refused(place)),
+        Err(CheckFault::Memory) => Err(Memory),
+    }
+}
+
+// Puts the verdict.
+fn put_verdict<R: Sink>(
+    mut line: Line,
+    job: &Check,
+    outcome: Outcome,
+    report: &mut R,
+) -> Result<(), Failed>
+    requires { line ≡ [] }
+    ensures ok { OnOk result ((c : Option (List ℕ)) →
+        ends c (R.written report.new) ≡ after (ends c (R.written report.old)) (Report (verdict_line job.now outcome) ∷ [])) }
+    ensures err { OnErr result ((c : Option (List ℕ)) →
+        Breaks (Report (verdict_line job.now outcome) ∷ []) (ends c (R.written report.old)) (ends c (R.written report.new))) }
+    ensures cause { OnErr result (Rose (R.faults report.old) (R.faults report.new)) }
+{
+    match outcome {
+        Outcome::Finished => line.count("", "legal", job.trace.records().len() as u64),
+        Outcome::Refused(place) => line.count("", "refused", place),
+    }
+    put_report(report, line.bytes())?;
+    Ok(())
+}
+
+/// Judges the trace, for each core in a thread of its own, and puts the verdict.
+pub fn check<T: Threads + Sync, R: Sink, G: Gate + Sync>(
+    rt: &T,
+    alloc: Global,
+    job: &Check,
+    report: &mut R,
+    gate: &G,
+) -> Status
+    requires { IsRead (Job.Check job.now) }
+    ensures follows { result ≢ Status.Memory → (c : Option (List ℕ)) → Follows (Ok (Job.Check job.now)) result
+        (ends c (R.written report.old)) (ends c (R.written report.new)) }
+    ensures nothing { has_written result ≡ false → report.new ≡ report.old }
+    ensures cause { result ≡ Status.SinkFault → Rose (R.faults report.old) (R.faults report.new) }
+{
+    let Ok(line) = Line::new(alloc) else {
+        return Status::Memory;
+    };
+    let Ok(outcome) = judge(rt, alloc, job, gate) else {
+        return Status::Memory;
+    };
+    match put_verdict(line, job, outcome, report) {
+        Ok(()) => outcome.status(),
+        Err(_) => Status::SinkFault,
+    }
+}
