@@ -19,7 +19,7 @@ use Rattle.command_words.specs.Request.{Request, Replay, Check, Demo, Assemble, 
 use Rattle.script_replay.specs.declared.job.Showing.{Showing}
 use Rattle.safetynet_main.specs.Files.{program_limit, script_limit, if_loaded, program_of, if_read, events_of, records_of, if_assembled, assembly_of, listing_of}
 use Rattle.safetynet_main.specs.Errand.{Errand, Due, Fetch, due_by, Loads}
-use Rattle.safetynet_main.specs.Call.{Fetches, job_with, check_with, text_job, script_errand, trace_errand, errand_of}
+use Rattle.safetynet_main.specs.Call.{Fetches, report_of, job_with, check_with, text_job, script_errand, trace_errand, errand_of}
 use Rattle.safetynet_main.specs.declared.job.Job.{Job}
 use Rattle.safetynet_main.specs.declared.status.ProgramCause.TheVariants.{TooLong as ProgramTooLong}
 use Rattle.safetynet_main.specs.declared.status.Status.{Status}
@@ -106,7 +106,7 @@ errand-of_words (Some (Check nodes program trace)) = (
 )
 errand-of_words (Some (Demo size)) = refl
 errand-of_words (Some (Replay config trace watch program script)) =
-    let showing : Showing = record { trace = trace; watch = watch } in (
+    let showing : Showing = record { report = report_of trace; watch = watch } in (
       refl,
       plain-script config showing script (Err (BadProgram ProgramTooLong)) (λ e. cc, λ e. cc),
       λ bytes. plain-script config showing script (program_of bytes) (program-of_bytes bytes),

@@ -1,5 +1,5 @@
 -- What a call comes to: by the words, by what was found of the files, and by the sinks.
-use Rattle.std.specs.Prelude.{◌≡◌, ℕ, ◌≤◌, ◌⊎◌, ⊤, List, [], ◌∷◌, Vec}
+use Rattle.std.specs.Prelude.{◌≡◌, ℕ, ◌≤◌, ◌⊎◌, ⊤, Bool, true, false, List, [], ◌∷◌, Vec}
 use Rattle.std.specs.Prelude.{Option, Some, None, IfSome, Result, Ok, Err}
 use Rattle.std.specs.declared.alloc.Global.{Global}
 use Rattle.sn_base.specs.Image.{ImageData}
@@ -8,9 +8,13 @@ use Rattle.sn_base.specs.declared.event.Event.{Event}
 use Rattle.rv_core.specs.declared.step.Record.{Record}
 use Rattle.sn_io.specs.Outside.{Found, File, TooLong, Missing, Rose, found_in}
 use Rattle.command_words.specs.Request.{Request, Replay, Check, Assemble, Disassemble}
+use Rattle.sn_probe.specs.Probes.{Meter}
 use Rattle.sink_pieces.specs.Pieces.{Piece, Report, Ends, after, Breaks, console_piece}
 use Rattle.script_replay.specs.declared.job.Showing.{Showing}
+use Rattle.script_replay.specs.declared.job.ReportKind.{ReportKind}
+use Rattle.script_replay.specs.declared.job.ReportKind.TheVariants.{Events, Trace as TraceReport}
 use Rattle.script_replay.specs.Played.{MayBegin}
+use Rattle.script_replay.specs.Probed.{tallies_due}
 use Rattle.script_replay.specs.Shown.{pieces_due, IsShown, IsShownInPart}
 use Rattle.safetynet_main.specs.Files.{program_limit, script_limit, program_in, script_in, trace_in, assembly_in, listing_of}
 use Rattle.safetynet_main.specs.Errand.{Errand, Due, Fetch, due_by, Loads}
@@ -65,6 +69,11 @@ abbrev pub trace_errand : ℕ → List ℕ → Result ImageData Status → Erran
 trace_errand nodes trace (Ok image) = Fetch trace script_limit (λ found. Due (check_with nodes image (trace_in nodes found)))
 trace_errand nodes trace (Err status) = Due (Err status)
 
+-- the report that the words ask for
+abbrev pub report_of : Bool → ReportKind
+report_of true = TraceReport
+report_of false = Events
+
 -- what each command fetches, and what is due then
 abbrev pub replay_errand : Config → Showing → List ℕ → List ℕ → Errand
 replay_errand config showing program script = Fetch program program_limit (λ found. script_errand config showing script (program_in found))
@@ -80,7 +89,7 @@ listing_errand program = Fetch program program_limit (λ found. Due (text_job (l
 
 -- words that aren't a command's are refused, and so are for now those of `demo`
 abbrev pub errand_of : Option Request → Errand
-errand_of (Some (Replay config trace watch program script)) = replay_errand config (record { trace = trace; watch = watch }) program script
+errand_of (Some (Replay config trace watch program script)) = replay_errand config (record { report = report_of trace; watch = watch }) program script
 errand_of (Some (Check nodes program trace)) = check_errand nodes program trace
 errand_of (Some (Assemble text)) = assembly_errand text
 errand_of (Some (Disassemble program)) = listing_errand program
@@ -100,37 +109,38 @@ IsOutcome (ReplayJob r) outcome = outcome ≡ Finished
 IsOutcome (CheckJob c) outcome = IsVerdict c outcome
 IsOutcome (Text text) outcome = outcome ≡ Finished
 
--- all that a job puts that comes to this
-abbrev pub pieces_of_job : Job → Outcome → List Piece
-pieces_of_job (ReplayJob r) outcome = pieces_due r
-pieces_of_job (CheckJob c) outcome = Report (verdict_line c outcome) ∷ []
-pieces_of_job (Text text) outcome = console_piece text
+-- all that a job puts that comes to this, where these probes are told its events
+abbrev pub pieces_of_job : List Meter → Job → Outcome → List Piece
+pieces_of_job probes (ReplayJob r) outcome = pieces_due r probes
+pieces_of_job probes (CheckJob c) outcome = Report (verdict_line c outcome) ∷ []
+pieces_of_job probes (Text text) outcome = console_piece text
 
 -- a status in which a job ends where no sink breaks
 abbrev pub EndsIn : Job → Status → Type 0
 EndsIn job status = (outcome : Outcome) × IsOutcome job outcome × (status ≡ status_of outcome)
 
 -- what the sinks show of a job that was done, and of one that a sink broke
-abbrev pub Shows : Job → Ends → Ends → Type 0
-Shows (ReplayJob r) old new = IsShown r.program r.config r.showing r.script old new
-Shows (CheckJob c) old new = ⊤
-Shows (Text text) old new = ⊤
+abbrev pub Shows : List Meter → Job → Ends → Ends → Type 0
+Shows probes (ReplayJob r) old new = IsShown r.program r.config r.showing (tallies_due r probes) r.script old new
+Shows probes (CheckJob c) old new = ⊤
+Shows probes (Text text) old new = ⊤
 
-abbrev pub ShowsInPart : Job → Ends → Ends → Type 0
-ShowsInPart (ReplayJob r) old new = IsShownInPart r.program r.config r.showing r.script old new
-ShowsInPart (CheckJob c) old new = ⊤
-ShowsInPart (Text text) old new = ⊤
+abbrev pub ShowsInPart : List Meter → Job → Ends → Ends → Type 0
+ShowsInPart probes (ReplayJob r) old new = IsShownInPart r.program r.config r.showing (tallies_due r probes) r.script old new
+ShowsInPart probes (CheckJob c) old new = ⊤
+ShowsInPart probes (Text text) old new = ⊤
 
 -- what is due is done: a refusal is the status and nothing is written; else all pieces are put, or a sink broke
-abbrev pub Follows : Result Job Status → Status → Ends → Ends → Type 0
-Follows (Err refusal) status old new = (status ≡ refusal) × (new ≡ old)
-Follows (Ok job) status old new = (outcome : Outcome) × IsOutcome job outcome × (
-    ((status ≡ status_of outcome) × (new ≡ after old (pieces_of_job job outcome)) × Shows job old new)
-    ⊎ ((status ≡ SinkFault) × Breaks (pieces_of_job job outcome) old new × ShowsInPart job old new))
+abbrev pub Follows : List Meter → Result Job Status → Status → Ends → Ends → Type 0
+Follows probes (Err refusal) status old new = (status ≡ refusal) × (new ≡ old)
+Follows probes (Ok job) status old new = (outcome : Outcome) × IsOutcome job outcome × (
+    ((status ≡ status_of outcome) × (new ≡ after old (pieces_of_job probes job outcome)) × Shows probes job old new)
+    ⊎ ((status ≡ SinkFault) × Breaks (pieces_of_job probes job outcome) old new × ShowsInPart probes job old new))
 
--- what a call comes to, over any store
-abbrev pub Comes : {S : Type 0} → (S → List ℕ → ℕ → Found → S → Type 0) → Option Request → Status → S → S → Ends → Ends → Type 0
-Comes fetches ask status old new before behind = (job : Result Job Status) × Loads fetches (errand_of ask) job old new × Follows job status before behind
+-- what a call comes to that is given these probes, over any store
+abbrev pub Comes : {S : Type 0} → (S → List ℕ → ℕ → Found → S → Type 0) → List Meter → Option Request → Status → S → S → Ends → Ends → Type 0
+Comes fetches probes ask status old new before behind =
+    (job : Result Job Status) × Loads fetches (errand_of ask) job old new × Follows probes job status before behind
 
 -- a job that may begin
 abbrev pub IsRead : Job → Type 0

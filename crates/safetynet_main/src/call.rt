@@ -2,6 +2,7 @@
 ghost use Rattle.std.specs.Prelude.{◌≡◌, ◌≢◌, ◌⊎◌, map, string_bytes, false, Some, Ok, Err, IfSome, IfOk};
 ghost use Rattle.sn_io.specs.Outside.{Rose};
 ghost use Rattle.command_words.specs.Request.{ask_of};
+ghost use Rattle.sn_probe.specs.Probes.{meters_of, meters_in};
 ghost use Rattle.sink_pieces.specs.Pieces.{ends};
 ghost use Rattle.safetynet_main.specs.Status.{has_written};
 ghost use Rattle.safetynet_main.specs.Call.{Fetches, Comes, Follows, AsksNothing, due_of, EndsIn, IsRead};
@@ -14,6 +15,7 @@ use command_words::{WordsFault, read_words};
 use script_replay::{ReplayFault, replay};
 use sink_pieces::put_console;
 use sn_io::{Gate, Sink, Store};
+use sn_probe::{Probe, ProbeSet};
 use std::alloc::Global;
 use std::sync::Wait;
 use std::thread::Threads;
@@ -25,17 +27,18 @@ fn perform<T: Threads + Sync, C: Sink, R: Sink, G: Gate + Sync>(
     job: Job,
     console: &mut C,
     report: &mut R,
+    probes: &mut ProbeSet,
     gate: &G,
 ) -> Status
     requires { IsRead job }
-    ensures follows { result ≢ Status.Memory → Follows (Ok job) result
+    ensures follows { result ≢ Status.Memory → Follows (meters_in first tally step probes.old.probes.items) (Ok job) result
         (ends (C.written console.old) (R.written report.old)) (ends (C.written console.new) (R.written report.new)) }
     ensures nothing { has_written result ≡ false → (console.new ≡ console.old) × (report.new ≡ report.old) }
     ensures cause { result ≡ Status.SinkFault
         → Rose (C.faults console.old) (C.faults console.new) ⊎ Rose (R.faults report.old) (R.faults report.new) }
 {
     match job {
-        Job::Replay(job) => match replay(alloc, job, console, report) {
+        Job::Replay(job) => match replay(alloc, job, probes, console, report) {
             Ok(()) => Status::Done,
             Err(ReplayFault::Sink) => Status::SinkFault,
             Err(ReplayFault::Memory) => Status::Memory,
@@ -55,10 +58,11 @@ fn answer<T: Threads + Sync, S: Store, C: Sink, R: Sink, G: Gate + Sync>(
     store: &mut S,
     console: &mut C,
     report: &mut R,
+    probes: &mut ProbeSet,
     gate: &G,
 ) -> Status
     ensures comes { result ≢ Status.Memory → Comes (Fetches S.files S.sure S.faults S.gave)
-        (ask_of (map string_bytes words.now)) result store.old store.new
+        (meters_in first tally step probes.old.probes.items) (ask_of (map string_bytes words.now)) result store.old store.new
         (ends (C.written console.old) (R.written report.old)) (ends (C.written console.new) (R.written report.new)) }
     ensures nothing { has_written result ≡ false → (console.new ≡ console.old) × (report.new ≡ report.old) }
     ensures sink_fault { result ≡ Status.SinkFault
@@ -73,14 +77,15 @@ fn answer<T: Threads + Sync, S: Store, C: Sink, R: Sink, G: Gate + Sync>(
         Err(WordsFault::Memory) => return Status::Memory,
     };
     match load(alloc, store, &request) {
-        Ok(job) => perform(rt, alloc, job, console, report, gate),
+        Ok(job) => perform(rt, alloc, job, console, report, probes, gate),
         Err(status) => status,
     }
 }
 
 /// Does all that the program does: reads the words, fetches the files that they name from the store, and puts what the
-/// command writes to the console and the report. The first word is the program's name. A trace is judged in threads, one
-/// for each core, and each passes the gate once.
+/// command writes to the console and the report. The first word is the program's name. In a replay each probe is told each
+/// event that is applied, and each is dropped once, however the call ends. A trace is judged in threads, one for each core,
+/// and each passes the gate once.
 pub fn safetynet<T: Threads + Wait + Sync, S: Store, C: Sink, R: Sink, G: Gate + Sync>(
     rt: &T,
     alloc: Global,
@@ -88,21 +93,22 @@ pub fn safetynet<T: Threads + Wait + Sync, S: Store, C: Sink, R: Sink, G: Gate +
     store: &mut S,
     console: &mut C,
     report: &mut R,
+    probes: Vec<Box<dyn Probe + Send>>,
     gate: &G,
 ) -> Status
     // Over any store "the file" is what a fetch of its name gave.
     ensures comes { result ≢ Status.Memory → Comes (Fetches S.files S.sure S.faults S.gave)
-        (ask_of (map string_bytes words.now)) result store.old store.new
+        (meters_of first tally step probes.items) (ask_of (map string_bytes words.now)) result store.old store.new
         (ends (C.written console.old) (R.written report.old)) (ends (C.written console.new) (R.written report.new)) }
 
     // Over told files the words and the files say what is done.
     ensures told { IfSome (S.files store.old) (λ held. result ≢ Status.Memory → result ≢ Status.StoreFault
-        → Follows (due_of held (ask_of (map string_bytes words.now))) result
+        → Follows (meters_of first tally step probes.items) (due_of held (ask_of (map string_bytes words.now))) result
         (ends (C.written console.old) (R.written report.old)) (ends (C.written console.new) (R.written report.new))) }
 
     // Over a sure store the words and the files that it holds say what is done.
     ensures sure { S.sure store.old → IfSome (S.files store.old) (λ held. result ≢ Status.Memory
-        → Follows (due_of held (ask_of (map string_bytes words.now))) result
+        → Follows (meters_of first tally step probes.items) (due_of held (ask_of (map string_bytes words.now))) result
         (ends (C.written console.old) (R.written report.old)) (ends (C.written console.new) (R.written report.new))) }
 
     // Where all is good and no sink's count rose, the job is done, or memory was lacking.
@@ -122,5 +128,6 @@ pub fn safetynet<T: Threads + Wait + Sync, S: Store, C: Sink, R: Sink, G: Gate +
     // Whatever the answer is, the store's files are as before.
     ensures files { S.files store.new ≡ S.files store.old }
 {
-    answer(rt, alloc, words, store, console, report, gate)
+    let mut probes = ProbeSet::new(probes);
+    answer(rt, alloc, words, store, console, report, &mut probes, gate)
 }

@@ -1,6 +1,7 @@
 //! A trace judged, and the line that says how.
 ghost use Rattle.std.specs.Prelude.{◌≡◌, ◌≢◌, ℕ, ◌≤◌, List, [], ◌∷◌, Option, IfOk, OnOk, OnErr, Ok, false};
 ghost use Rattle.sn_io.specs.Outside.{Rose};
+ghost use Rattle.sn_probe.specs.Probes.{Meter};
 ghost use Rattle.sink_pieces.specs.Pieces.{Report, ends, after, Breaks};
 ghost use Rattle.safetynet_main.specs.Outcome.{IsVerdict, verdict_line};
 ghost use Rattle.safetynet_main.specs.Status.{has_written};
@@ -66,7 +67,7 @@ pub fn check<T: Threads + Sync, R: Sink, G: Gate + Sync>(
     gate: &G,
 ) -> Status
     requires { IsRead (Job.Check job.now) }
-    ensures follows { result ≢ Status.Memory → (c : Option (List ℕ)) → Follows (Ok (Job.Check job.now)) result
+    ensures follows { result ≢ Status.Memory → (probes : List Meter) (c : Option (List ℕ)) → Follows probes (Ok (Job.Check job.now)) result
         (ends c (R.written report.old)) (ends c (R.written report.new)) }
     ensures nothing { has_written result ≡ false → report.new ≡ report.old }
     ensures cause { result ≡ Status.SinkFault → Rose (R.faults report.old) (R.faults report.new) }

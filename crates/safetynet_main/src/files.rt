@@ -6,7 +6,7 @@ ghost use Rattle.consistent_cuts.specs.Runs.{AllFit};
 ghost use Rattle.command_words.specs.Request.{as_request, watch_fits, request_fits};
 ghost use Rattle.safetynet_main.specs.Files.{program_in, script_in, trace_in, assembly_in};
 ghost use Rattle.safetynet_main.specs.Errand.{Loads};
-ghost use Rattle.safetynet_main.specs.Call.{Fetches, found_by, errand_of, replay_errand, check_errand, assembly_errand, listing_errand, AsksNothing, IsRead};
+ghost use Rattle.safetynet_main.specs.Call.{Fetches, found_by, report_of, errand_of, replay_errand, check_errand, assembly_errand, listing_errand, AsksNothing, IsRead};
 
 use crate::job::{Check, Job, Text, Trace};
 use crate::reading::{
@@ -15,7 +15,7 @@ use crate::reading::{
 use crate::status::{ProgramCause, Status};
 use command_words::Request;
 use rv_asm::AsmCause;
-use script_replay::{Replay, Script, Showing};
+use script_replay::{Replay, ReportKind, Script, Showing};
 use sn_base::Image;
 use sn_io::{Fetched, Store, StoreFault};
 use sn_text::ScriptCause;
@@ -116,6 +116,16 @@ fn fetch_assembly<S: Store>(alloc: Global, store: &mut S, name: &str) -> Result<
     }
 }
 
+fn report_of(trace: bool) -> ReportKind
+    ensures { result ≡ report_of trace }
+{
+    if trace {
+        ReportKind::Trace
+    } else {
+        ReportKind::Events
+    }
+}
+
 // The program and the script of a replay, in this order.
 #[tactic(auto, using(crate::proofs::Watched::watched_is))]
 fn load_replay<S: Store>(
@@ -126,7 +136,7 @@ fn load_replay<S: Store>(
     requires sizes { config_fits asked.now.config ≡ true }
     requires watched { watch_fits asked.now.watch ≡ true }
     ensures loads { result ≢ Err Status.Memory → Loads (Fetches S.files S.sure S.faults S.gave)
-        (replay_errand asked.now.config (record { trace = asked.now.trace; watch = asked.now.watch }) (string_bytes asked.now.program) (string_bytes asked.now.script))
+        (replay_errand asked.now.config (record { report = report_of asked.now.trace; watch = asked.now.watch }) (string_bytes asked.now.program) (string_bytes asked.now.script))
         result store.old store.new }
     ensures read { IfOk result IsRead }
     ensures files { S.files store.new ≡ S.files store.old }
@@ -137,7 +147,7 @@ fn load_replay<S: Store>(
     };
     let config = asked.config;
     let showing = Showing {
-        trace: asked.trace,
+        report: report_of(asked.trace),
         watch: asked.watch,
     };
     match fetch_script(alloc, store, asked.script.as_str(), config.nodes) {

@@ -1,12 +1,17 @@
 //! Runs whose texts come from the rules and not from this program, and each way in which a call ends.
+ghost use Rattle.std.specs.Prelude.{[], ◌∷◌};
+
 use crate::{ProgramCause, Status, safetynet};
 use elf_load::{LoadCause, load, write_elf};
 use rv_asm::AsmCause;
+use sn_base::{Answer, Event};
 use sn_io::{MemSink, MemStore, OpenGate};
+use sn_probe::{EventTally, Probe};
 use sn_text::ScriptCause;
 use std::alloc::Global;
 use std::process::Abort;
-use std::sync::Wait;
+use std::sync::atomic::{AtomicU64, Ordering};
+use std::sync::{Arc, Wait};
 use std::test::Fail;
 use std::thread::Threads;
 
@@ -102,6 +107,20 @@ point 0
 committed 0
 released 0
 core 0 80000000 running
+";
+
+/// What a tally of the events of a validated byte is.
+const TALLIED: &str = "\
+probe 0 0 3
+probe 0 1 0
+probe 0 2 1
+probe 0 3 0
+probe 0 4 1
+probe 0 5 0
+probe 0 6 0
+probe 0 7 1
+probe 0 8 1
+probe 0 9 0
 ";
 
 const EMPTY_REPORT: &str = "\
@@ -257,6 +276,8 @@ fn words_in(alloc: Global, text: &str) -> Result<Vec<String>, Fail> {
     Ok(words)
 }
 
+type Probes = Vec<Box<dyn Probe + Send>>;
+
 fn call(
     rt: &(impl Threads + Wait + Sync),
     alloc: Global,
@@ -264,6 +285,18 @@ fn call(
     program: &[u8],
     script: &str,
     faults: Faults,
+) -> Result<Left, Fail> {
+    call_with(rt, alloc, words, program, script, faults, Vec::new(alloc))
+}
+
+fn call_with(
+    rt: &(impl Threads + Wait + Sync),
+    alloc: Global,
+    words: &str,
+    program: &[u8],
+    script: &str,
+    faults: Faults,
+    probes: Probes,
 ) -> Result<Left, Fail> {
     let words = words_in(alloc, words)?;
     let mut store = MemStore::new(alloc);
@@ -282,6 +315,7 @@ fn call(
         &mut store,
         &mut console,
         &mut report,
+        probes,
         &gate,
     );
     Ok(Left {
@@ -462,6 +496,85 @@ fn a_trace_is_judged_by_its_first_record_without_a_step(rt: HostRuntime) -> Resu
         (ONE_NODE, ECHOES, UNREAD, broken, Status::SinkFault, ""),
     ] {
         check_verdict(&rt, rt.alloc(), words, program, trace, faults, want, report)?;
+    }
+    Ok(())
+}
+
+#[test]
+fn the_summary_ends_with_what_the_probes_measured(rt: HostRuntime) -> Result<(), Fail> {
+    let alloc = rt.alloc();
+    let program = PUTS_A.as_bytes();
+    let mut probes: Probes = Vec::new(alloc);
+    probes.push(Box::new(alloc, EventTally::new())?)?;
+    let left = call_with(&rt, alloc, WORDS, program, VALIDATED, NO_FAULT, probes)?;
+    assert_eq!(rt; left.status, Status::Done);
+    let report = left.report.as_slice();
+    assert!(rt; report.starts_with(VALIDATED_REPORT.as_bytes()));
+    assert!(rt; report.ends_with(TALLIED.as_bytes()));
+    assert_eq!(rt; report.len(), VALIDATED_REPORT.len() + TALLIED.len());
+    Ok(())
+}
+
+/// Counts its drop.
+struct Witness {
+    drops: Arc<AtomicU64, Global>,
+}
+
+impl Drop for Witness {
+    fn drop(self) {
+        let Witness { drops } = self;
+        drops.fetch_add(1, Ordering::SeqCst);
+    }
+}
+
+impl Probe for Witness {
+    ghost first = { λ _. [] };
+
+    ghost tally = { λ _. [] };
+
+    ghost step = { λ _ tally number event answer. tally };
+
+    fn told(&mut self, _number: u64, _event: &Event, _answer: &Answer) {}
+
+    fn line(&self, _place: usize) -> Option<u64> {
+        None
+    }
+}
+
+/// How many of so many probes a call drops.
+fn drops_of(
+    rt: &(impl Threads + Wait + Sync),
+    alloc: Global,
+    words: &str,
+    count: u64,
+) -> Result<u64, Fail> {
+    let drops = Arc::new(alloc, AtomicU64::new(0))?;
+    let mut probes: Probes = Vec::new(alloc);
+    for _ in 0..count {
+        let witness = Witness {
+            drops: Arc::try_clone(&drops)?,
+        };
+        probes.push(Box::new(alloc, witness)?)?;
+    }
+    let program = PUTS_A.as_bytes();
+    call_with(rt, alloc, words, program, VALIDATED, NO_FAULT, probes)?;
+    Ok(drops.load(Ordering::SeqCst))
+}
+
+#[test]
+fn each_probe_is_dropped_once_however_the_call_ends(rt: HostRuntime) -> Result<(), Fail> {
+    for (words, count) in [
+        (WORDS, 0),
+        (WORDS, 1),
+        (WORDS, 100),
+        ("safetynet fly", 100),
+        ("safetynet replay a.hex b.script", 100),
+    ] {
+        assert_eq!(rt;
+            drops_of(&rt, rt.alloc(), words, count)?,
+            count,
+            "of {words}"
+        );
     }
     Ok(())
 }

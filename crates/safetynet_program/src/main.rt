@@ -2,7 +2,8 @@
 //!
 //! It makes a store over the system's files and a sink over each standard stream, the console on standard output and
 //! the report on standard error, calls `safetynet` with the words that it was given, and exits with the status's
-//! number. Where that isn't Done it names the status on standard error. Calls for help or the version are its own to answer.
+//! number. One probe is told the events, a tally of how often each kind came. Where the status isn't Done it is named on
+//! standard error. Calls for help or the version are its own to answer.
 #![tactic(auto)]
 
 ghost use Rattle.std.specs.Prelude.{◌≡◌, map, string_bytes};
@@ -10,6 +11,7 @@ ghost use Rattle.safetynet_program.specs.Own.{asked_by, is_command, own_of};
 
 use safetynet_main::{Status, safetynet};
 use sn_io::{FileStore, OpenGate, StdSink};
+use sn_probe::{EventTally, Probe};
 use std::alloc::Global;
 use std::env;
 use std::io::{BufWriter, ErrorKind, IsTerminal, Write};
@@ -90,7 +92,9 @@ report says which number each message has.
 The bytes that the program puts out go to standard output once their
 checkpoint is validated. The report goes to standard error: each event with
 its answer and the messages that it sent, after a recovery each core, and at
-the end a summary. docs/FORMATS.md has every format with an example.
+the end a summary, whose lines \"probe 0 0\" to \"probe 0 9\" count the events of
+each kind but input, in the order above. docs/FORMATS.md has every format
+with an example.
 
 exit status, with the word that standard error ends with:
    0  (none) all is done
@@ -174,6 +178,13 @@ where
     let Ok(writer) = BufWriter::with_capacity(alloc, held_back, report) else {
         return Status::Memory;
     };
+    let mut probes: Vec<Box<dyn Probe + Send>> = Vec::new(alloc);
+    let Ok(tally) = Box::new(alloc, EventTally::new()) else {
+        return Status::Memory;
+    };
+    if probes.push(tally).is_err() {
+        return Status::Memory;
+    }
     let mut report = StdSink::new(writer);
     let mut console = StdSink::new(console);
     let mut store = FileStore::new(rt);
@@ -185,6 +196,7 @@ where
         &mut store,
         &mut console,
         &mut report,
+        probes,
         &gate,
     );
     match status {
