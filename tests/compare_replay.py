@@ -5,9 +5,9 @@ its options.
     tests/compare_replay.py PROGRAM SIMULATOR [COUNT] [SEED]
 
 PROGRAM is the built program, SIMULATOR a reference simulator; both take `replay [OPTIONS] FILE SCRIPT`, and the simulator
-`--main` before it, to name a status as the program does. Console, report and exit status must be the same. Half of the calls have
-options beside --nodes: other sizes, a watched word, the trace in place of the events, in any order and either form; and a
-twentieth of these has a value out of its range.
+`--main --probe` before it, to name a status as the program does and to have its probe. Console, report and exit status must be
+the same. Half of the calls have options beside --nodes: other sizes, a watched word, the trace in place of the events, in any
+order and either form; and a twentieth of these has a value out of its range.
 
 The programs' cores share eight blocks, more than a set of a cache holds: they load, store, reserve, add, put bytes out and ask for
 them, branch and loop. Half of the files are hexadecimal images, half ELF files; a tenth is cut or has a byte changed. Most scripts
@@ -246,7 +246,7 @@ def main():
             if choose.random() < 0.1:
                 Path(folder, "program").write_bytes(spoiled(choose, file))
             given = words(choose, nodes)
-            found, expected = run([built], given, folder), run([simulator, "--main"], given, folder)
+            found, expected = run([built], given, folder), run([simulator, "--main", "--probe"], given, folder)
             if found != expected:
                 print(f"case {case}, {' '.join(given)}: {found} and not {expected}")
                 print(Path(folder, "program").read_bytes(), text)

@@ -133,7 +133,7 @@ def difference(built, simulator, seed, case):
         try:
             found = run([built], words, folder)
             again = run([built], words, folder) if case % 4 == 0 else found
-            expected = found if is_own(words) else run([simulator, "--main"], words, folder)
+            expected = found if is_own(words) else run([simulator, "--main", "--probe"], words, folder)
         except subprocess.TimeoutExpired:
             return f"case {case}, {words}: no end within {SECONDS} s; {files}", None
     if found[0] not in STATUSES:

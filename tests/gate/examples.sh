@@ -92,6 +92,11 @@ printf 'step 1\n' >"$work/script"
 refused_script 'script outofrange'
 yes validate | head -n 1000001 >"$work/script"
 refused_script 'script toomany'
+# A number of a million digits, and lines that lack all but the first half of their end.
+{ printf 'deliver '; head -c 1000000 /dev/zero | tr '\0' '7'; echo; } >"$work/script"
+refused_script 'script badline'
+printf '\r\r\r' >"$work/script"
+refused_script 'script badline'
 # A comment of 32 MiB is a script without an event, and one of a byte more is too long.
 head -c 33554433 /dev/zero | tr '\0' '#' >"$work/script"
 refused_script 'script toolong'
@@ -100,6 +105,12 @@ printf '2 00000000 0\n' >"$work/trace"
 refused 4 'script outofrange' examples/shared/count.hex "$work/trace" 2 check
 printf '0 00000000 0\n0 00000000 0 4G\n' >"$work/trace"
 refused 4 'script badline' examples/shared/echo.hex "$work/trace" 1 check
+printf '\r\r\r' >"$work/trace"
+refused 4 'script badline' examples/shared/count.hex "$work/trace" 2 check
+yes '0 00000000 0' | head -n 1000001 >"$work/trace"
+refused 4 'script toomany' examples/shared/count.hex "$work/trace" 2 check
+cp "$work/script" "$work/trace"
+refused 4 'script toolong' examples/shared/count.hex "$work/trace" 2 check
 refused 2 store examples/shared/count.hex examples/traces/lacking.trace 2 check
 
 for nodes in 0 17 x; do
