@@ -4,6 +4,7 @@ use Rattle.std.proofs.lemmas.List.{append-nil}
 use Rattle.sn_base.specs.declared.event.Event.{Event}
 use Rattle.rand_pcg.specs.Lcg.{Lcg}
 use Rattle.rand_pcg.specs.Pcg.{pcg32}
+use Rattle.consistent_cuts.specs.Runs.{Fits, AllFit}
 use Rattle.sn_model.specs.Machine.{State, start_of}
 use Rattle.sn_model.specs.Step.{step_of}
 use Rattle.sn_machine.specs.Machine.{MachineData}
@@ -53,3 +54,14 @@ starts driver m d f = record {
 
 pub last_rest : (s : State) (x : Numbers) (number : ℕ) (g : Lcg) (events : List Event) → events ≡ events ++ still_due s x 0 number g
 last_rest s x number g events = sym (append-nil events)
+
+-- events that fit, and one more
+all_fit-append : (nodes : ℕ) (events : List Event) (e : Event) → AllFit nodes events → Fits nodes e → AllFit nodes (events ++ e ∷ [])
+all_fit-append nodes [] e all fit = (fit, tt)
+all_fit-append nodes (event ∷ events) e all fit = (all.0, all_fit-append nodes events e all.1 fit)
+
+pub next_fit : (nodes : ℕ) (events more : List Event) (e : Event) → AllFit nodes events → Fits nodes e → more ≡ events ++ e ∷ [] → AllFit nodes more
+next_fit nodes events more e all fit is = subst (AllFit nodes) (sym is) (all_fit-append nodes events e all fit)
+
+pub none_fit : (nodes : ℕ) (events : List Event) → events ≡ [] → AllFit nodes events
+none_fit nodes events is = subst (AllFit nodes) (sym is) tt

@@ -1,6 +1,6 @@
 -- A machine of the counting program is never over, and without a dead switch no recovery finds nodes cut off: an event is always
 -- due, and it leaves the machine so.
-use Rattle.std.proofs.Common.{◌≡◌, Bool, true, false, not, ◌&&◌, suc, ℕ, List, length, Option, Some, None, refl, sym, ap, ◌∙◌, arith}
+use Rattle.std.proofs.Common.{◌≡◌, Bool, true, false, not, ◌&&◌, suc, ℕ, ◌<◌, List, length, Option, Some, None, refl, sym, ap, ◌∙◌, subst, arith}
 use Rattle.sn_base.specs.Image.{ImageData}
 use Rattle.sn_base.specs.declared.config.Config.{Config}
 use Rattle.sn_base.specs.declared.event.Event.{Event}
@@ -12,6 +12,7 @@ use Rattle.rv_core.specs.Execution.{end_of}
 use Rattle.route_plan.specs.Routes.{first_cut_off}
 use Rattle.route_plan.proofs.Whole.{whole}
 use Rattle.sn_model.specs.PointEvents.{living_switches}
+use Rattle.consistent_cuts.specs.Runs.{Fits}
 use Rattle.sn_machine.specs.Looks.{have_ended}
 use Rattle.sn_machine.specs.Machine.{MachineData, IsApplied, next_of}
 use Rattle.due_events.specs.declared.rules.Rules.{Rules}
@@ -25,7 +26,7 @@ use Rattle.counting_program.specs.Program.{counting_image}
 use Rattle.counting_program.proofs.Counting.{none_ends}
 use Rattle.generated_runs.specs.Generated.{generated_config, generated_rules, IsRunning}
 use Rattle.generated_runs.proofs.DeadStays.{is_cut, dead_stays}
-use Rattle.generated_runs.proofs.NoKill.{due_spares}
+use Rattle.generated_runs.proofs.DueEvents.{IsGood, due_good}
 
 and_not : (b c : Bool) → c ≡ true → b && not c ≡ false
 and_not true c e = rw e refl
@@ -65,11 +66,18 @@ all_joined driver m r count =
     let four : length m.state.fabric.nodes ≡ 4 = count ∙ ap (λ (c : Config). c.nodes) r.config in
     whole (living_switches m.state.fabric) (record { some = omega (arith, four); few = omega (arith, four) }) r.dead
 
-pub runs_on : (driver later : DriverData) (m after : MachineData) (worker pick : ℕ) (e : Event) (said : Answer) → IsRunning driver m → length m.state.fabric.nodes ≡ m.config.nodes →
+-- a due event of a worker that is there
+good_now : (driver : DriverData) (m : MachineData) (worker pick : ℕ) (e : Event) → IsRunning driver m → worker < 4 → due_at driver m worker pick ≡ Some e → IsGood m.config.nodes e
+good_now driver m worker pick e r below due =
+    due_good driver.rules m.image m.config m.state driver.numbers worker pick e (omega (arith, below, ap (λ (c : Config). c.nodes) r.config)) (ap (λ (q : Rules). q.kill) r.rules) due
+
+pub fits_now : (driver : DriverData) (m : MachineData) (worker pick : ℕ) (e : Event) → IsRunning driver m → worker < 4 → due_at driver m worker pick ≡ Some e → Fits 4 e
+fits_now driver m worker pick e r below due = subst (λ (n : ℕ). Fits n e) (ap (λ (c : Config). c.nodes) r.config) (good_now driver m worker pick e r below due).fits
+
+pub runs_on : (driver later : DriverData) (m after : MachineData) (worker pick : ℕ) (e : Event) (said : Answer) → IsRunning driver m → worker < 4 → length m.state.fabric.nodes ≡ m.config.nodes →
     due_at driver m worker pick ≡ Some e → IsApplied m after e said → later ≡ record driver { numbers = numbers_after driver.numbers e said } → IsRunning later after
-runs_on driver later m after worker pick e said r count due applied counted =
-    let kill : driver.rules.kill ≡ None = ap (λ (q : Rules). q.kill) r.rules in
-    let stays = dead_stays m.image m.config m.state e (due_spares driver.rules m.image m.config m.state driver.numbers worker pick e kill due) (all_joined driver m r count) in
+runs_on driver later m after worker pick e said r below count due applied counted =
+    let stays = dead_stays m.image m.config m.state e (good_now driver m worker pick e r below due).spares (all_joined driver m r count) in
     let uncut : is_cut said ≡ false = ap is_cut applied.answer ∙ stays.1 in
     record {
       rules = ap (λ (d : DriverData). d.rules) counted ∙ r.rules;

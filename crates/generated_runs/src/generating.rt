@@ -4,6 +4,7 @@ ghost use Rattle.std.specs.List.{flat_map};
 ghost use Rattle.byteorder.specs.Endian.{little_bytes};
 ghost use Rattle.asm_texts.specs.Texts.{words_text};
 ghost use Rattle.counting_program.specs.Program.{counting_words, counting_image};
+ghost use Rattle.consistent_cuts.specs.Runs.{AllFit};
 ghost use Rattle.generated_runs.specs.Generated.{generated_events, IsFresh};
 
 use crate::turns::drive;
@@ -81,6 +82,7 @@ pub fn generate(alloc: Global, size: u32) -> Result<(Vec<u8>, Vec<Event>), Memor
     ensures text { IfOk result (λ run. run.0.items ≡ words_text counting_words) }
     ensures due { IfOk result (λ run. run.1.items ≡ generated_events size) }
     ensures count { IfOk result (λ run. length run.1.items ≡ size) }
+    ensures fit { IfOk result (λ run. AllFit 4 run.1.items) }
 {
     let text = words_text(alloc, &COUNTING)?;
     let machine = start(alloc, size)?;

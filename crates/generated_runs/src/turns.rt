@@ -3,6 +3,7 @@ ghost use Rattle.std.specs.Prelude.{◌≡◌, ◌+◌, ◌<◌, ◌≤◌, Some
 ghost use Rattle.due_events.specs.Numbers.{first_numbers, numbers_after};
 ghost use Rattle.due_events.specs.Due.{due_of};
 ghost use Rattle.sn_model.specs.Step.{step_of};
+ghost use Rattle.consistent_cuts.specs.Runs.{Fits, AllFit};
 ghost use Rattle.counting_program.specs.Program.{counting_image};
 ghost use Rattle.generated_runs.specs.Generated.{generated_config, generated_rules, generated_events, IsFresh, IsRunning};
 
@@ -21,6 +22,7 @@ fn turn(driver: &mut Driver, machine: &mut Machine, worker: u32, pick: u32) -> E
     requires life { driver.old.numbers.done < 4000000000 }
     requires room { 1 ≤ machine.old.spare }
     ensures due { due_of generated_rules counting_image generated_config machine.old.state driver.old.numbers worker pick ≡ Some result }
+    ensures fits { Fits 4 result }
     ensures counted { driver.new.numbers ≡ numbers_after driver.old.numbers result (step_of counting_image generated_config machine.old.state result).answer }
     ensures applied { machine.new.state ≡ (step_of counting_image generated_config machine.old.state result).state }
     ensures running { IsRunning driver.new machine.new }
@@ -49,6 +51,7 @@ pub fn drive(
     requires driver { driver ≡ record { rules = generated_rules; nodes = 4; numbers = first_numbers } }
     ensures due { IfOk result (λ events. events.items ≡ generated_events size) }
     ensures count { IfOk result (λ events. length events.items ≡ size) }
+    ensures fit { IfOk result (λ events. AllFit 4 events.items) }
 {
     let mut generator = Pcg32::seed_from_u64(u64::from(size));
     let mut events = Vec::with_capacity(alloc, size as usize)?;

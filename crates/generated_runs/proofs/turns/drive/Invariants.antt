@@ -1,4 +1,5 @@
 use Rattle.std.proofs.Common.{◌≡◌, ℕ, ◌+◌, ◌≤◌, ◌++◌, length}
+use Rattle.consistent_cuts.specs.Runs.{AllFit}
 use Rattle.generated_runs.specs.Generated.{generated_events, IsRunning}
 use Rattle.generated_runs.proofs.Rest.{still_due}
 use Rattle.generated_runs.proofs.turns.drive.Given as goal
@@ -10,5 +11,6 @@ invariant-turns l = record {
   done : l.driver.numbers.done ≤ l.number;
   room : l.size ≤ l.machine.spare + l.number;
   count : length l.events.items ≡ l.number;
+  fit : AllFit 4 l.events.items;
   rest : (left : ℕ) → left + l.number ≡ l.size → l.events.items ++ still_due l.machine.state l.driver.numbers left l.number l.generator ≡ generated_events l.size;
 }
