@@ -58,6 +58,16 @@ for script in examples/shared/*.script examples/asm/*.script; do
   fi
 done
 
+# A demonstration has as many events as are asked for, and is the same each time.
+./safetynet demo 1000 >"$work/console" 2>"$work/report" && ./safetynet demo 1000 >"$work/text" 2>"$work/trace"
+status=$?
+if [ "$status" -eq 0 ] && cmp -s "$work/console" "$work/text" && cmp -s "$work/report" "$work/trace" && [ "$(head -n 1 "$work/report")" = "events 1000" ]; then
+  passed=$((passed + 1))
+else
+  echo "a demonstration of 1000 events: status $status, or another report the second time" >&2
+  failed=$((failed + 1))
+fi
+
 # Replays these files, or judges them, which are to be refused with this status and this word.
 refused() { # status, word, program, script, nodes, command
   ./safetynet "${6:-replay}" --nodes "${5:-1}" "$3" "$4" >"$work/console" 2>"$work/report"

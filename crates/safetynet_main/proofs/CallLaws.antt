@@ -19,7 +19,7 @@ use Rattle.safetynet_main.specs.declared.job.Outcome.{Outcome}
 use Rattle.safetynet_main.specs.declared.job.Outcome.TheVariants.{Finished, Refused as RefusedOutcome}
 use Rattle.safetynet_main.specs.declared.status.Status.{Status}
 use Rattle.safetynet_main.specs.declared.status.Status.TheVariants.{Done, Usage, StoreFault, BadProgram, BadScript, BadAsm, SinkFault, Memory, Refused}
-use Rattle.safetynet_main.proofs.Errands.{errand-of_words, if_some-intro, loads-sure, loads-told, loads-rose, loads-usage}
+use Rattle.safetynet_main.proofs.Errands.{errand-of_words, if_some-intro, loads-sure, loads-told, loads-rose, loads-usage, refused-at_once}
 
 -- a job ends in no refusal
 not_refused : (outcome : Outcome) (refusal : Status) → (refusal ≡ StoreFault) ⊎ (refusal ≡ Usage) → status_of outcome ≡ refusal → ⊥
@@ -71,7 +71,8 @@ module _ {S : Type 0} (files : S → Option (List ℕ → Option (List ℕ))) (s
   comes-rose h e = loads-rose files sure faults gave (errand_of ask) h.0 old new (errand-of_words ask) h.1 (refused-job probes status StoreFault h.0 before behind h.2 e (inl refl))
 
   pub comes-usage : Comes (Fetches files sure faults gave) probes ask status old new before behind → status ≡ Usage → AsksNothing ask
-  comes-usage h e = loads-usage files sure faults gave (errand_of ask) h.0 old new (errand-of_words ask) h.1 (refused-job probes status Usage h.0 before behind h.2 e (inr refl))
+  comes-usage h e =
+      refused-at_once ask (loads-usage files sure faults gave (errand_of ask) h.0 old new (errand-of_words ask) h.1 (refused-job probes status Usage h.0 before behind h.2 e (inr refl)))
 
   -- over a sure store a call does what is due
   comes-sure : (held : List ℕ → Option (List ℕ)) → Comes (Fetches files sure faults gave) probes ask status old new before behind → sure old → files old ≡ Some held → Follows probes (due_of held ask) status before behind

@@ -1,6 +1,6 @@
 -- What follows of an errand from how its files were found.
-use Rattle.std.proofs.Common.{◌≡◌, ℕ, ◌≤◌, List, length, refl, ap, sym, subst, ◌∙◌, arith}
-use Rattle.std.specs.Prelude.{Option, Some, None, IfSome, Result, Ok, Err, Bool, true, false, nat_lt, if◌then◌else◌}
+use Rattle.std.proofs.Common.{◌≡◌, ℕ, ◌≤◌, List, length, refl, ap, sym, subst, ◌∙◌, inl, inr, arith}
+use Rattle.std.specs.Prelude.{Option, Some, None, IfSome, Result, Ok, Err, Bool, true, false, nat_lt, if◌then◌else◌, ◌⊎◌}
 use Rattle.sn_base.specs.Image.{ImageData}
 use Rattle.sn_base.specs.declared.config.Config.{Config}
 use Rattle.sn_base.specs.declared.event.Event.{Event}
@@ -17,9 +17,11 @@ use Rattle.sn_text.specs.declared.cause.ScriptCause.{ScriptCause}
 use Rattle.sn_text.specs.declared.cause.ScriptCause.TheVariants.{TooLong as ScriptTooLong}
 use Rattle.command_words.specs.Request.{Request, Replay, Check, Demo, Assemble, Disassemble}
 use Rattle.script_replay.specs.declared.job.Showing.{Showing}
+use Rattle.asm_texts.specs.Texts.{words_text}
+use Rattle.counting_program.specs.Program.{counting_words}
 use Rattle.safetynet_main.specs.Files.{program_limit, script_limit, if_loaded, program_of, if_read, events_of, records_of, if_assembled, assembly_of, listing_of}
 use Rattle.safetynet_main.specs.Errand.{Errand, Due, Fetch, due_by, Loads}
-use Rattle.safetynet_main.specs.Call.{Fetches, report_of, job_with, check_with, text_job, script_errand, trace_errand, errand_of}
+use Rattle.safetynet_main.specs.Call.{Fetches, report_of, job_with, check_with, text_job, script_errand, trace_errand, generated_job, errand_of}
 use Rattle.safetynet_main.specs.declared.job.Job.{Job}
 use Rattle.safetynet_main.specs.declared.status.ProgramCause.TheVariants.{TooLong as ProgramTooLong}
 use Rattle.safetynet_main.specs.declared.status.Status.{Status}
@@ -34,9 +36,9 @@ abbrev pub IsPlain : Errand → Type 0
 IsPlain (Due job) = IsOfBytes job
 IsPlain (Fetch name limit next) = (next Missing ≡ Due (Err StoreFault)) × IsPlain (next TooLong) × ((bytes : List ℕ) → IsPlain (next (File bytes)))
 
--- the same, or the words' fault
+-- the same, or at once the words' fault
 abbrev pub IsOfWords : Errand → Type 0
-IsOfWords (Due job) = job ≡ Err Usage
+IsOfWords (Due job) = (job ≡ Err Usage) ⊎ IsOfBytes job
 IsOfWords (Fetch name limit next) = IsPlain (Fetch name limit next)
 
 -- the errands of the commands
@@ -97,14 +99,18 @@ plain-trace nodes trace (Ok image) h = (
 program-of_bytes : (bytes : List ℕ) → IsOfBytes (program_of bytes)
 program-of_bytes bytes = loaded (image_of bytes) (nat_lt program_limit (length bytes))
 
+plain-generated : (size : ℕ) (program : Result ImageData Status) → IsOfBytes program → IsOfBytes (generated_job size program)
+plain-generated size (Ok image) h = (λ e. cc, λ e. cc)
+plain-generated size (Err status) h = (λ e. h.0 cc, λ e. h.1 cc)
+
 pub errand-of_words : (ask : Option Request) → IsOfWords (errand_of ask)
-errand-of_words None = refl
+errand-of_words None = inl refl
 errand-of_words (Some (Check nodes program trace)) = (
   refl,
   plain-trace nodes trace (Err (BadProgram ProgramTooLong)) (λ e. cc, λ e. cc),
   λ bytes. plain-trace nodes trace (program_of bytes) (program-of_bytes bytes),
 )
-errand-of_words (Some (Demo size)) = refl
+errand-of_words (Some (Demo size)) = inr (plain-generated size (program_of (words_text counting_words)) (program-of_bytes (words_text counting_words)))
 errand-of_words (Some (Replay config trace watch program script)) =
     let showing : Showing = record { report = report_of trace; watch = watch } in (
       refl,
@@ -204,7 +210,8 @@ module _ {S : Type 0} (files : S → Option (List ℕ → Option (List ℕ))) (s
       by_found (File bytes) f l long whole = Rose-before (faults old) (faults h.1) (faults new) f.later (whole bytes l)
 
   pub loads-rose : (errand : Errand) (job : Result Job Status) (old new : S) → IsOfWords errand → Loads (Fetches files sure faults gave) errand job old new → job ≡ Err StoreFault → Rose (faults old) (faults new)
-  loads-rose (Due due) job old new good h e = absurd cc
+  loads-rose (Due due) job old new (inl words) h e = absurd cc
+  loads-rose (Due due) job old new (inr plain) h e = absurd (plain.0 (sym h.0 ∙ e))
   loads-rose (Fetch name limit next) job old new good h e = rose-plain (Fetch name limit next) job old new good h e
 
   -- the words' fault is no file's
@@ -223,5 +230,15 @@ module _ {S : Type 0} (files : S → Option (List ℕ → Option (List ℕ))) (s
       by_found (File bytes) l long whole = whole bytes l
 
   pub loads-usage : (errand : Errand) (job : Result Job Status) (old new : S) → IsOfWords errand → Loads (Fetches files sure faults gave) errand job old new → job ≡ Err Usage → errand ≡ Due (Err Usage)
-  loads-usage (Due due) job old new good h e = ap Due good
+  loads-usage (Due due) job old new good h e = ap Due (sym h.0 ∙ e)
   loads-usage (Fetch name limit next) job old new good h e = absurd (no_usage-plain (Fetch name limit next) job old new good h e)
+
+-- only words that are no command's are refused before any file
+pub refused-at_once : (ask : Option Request) → errand_of ask ≡ Due (Err Usage) → ask ≡ None
+refused-at_once None e = refl
+refused-at_once (Some (Check nodes program trace)) e = absurd cc
+refused-at_once (Some (Demo size)) e =
+    absurd ((plain-generated size (program_of (words_text counting_words)) (program-of_bytes (words_text counting_words))).1 cc)
+refused-at_once (Some (Replay config trace watch program script)) e = absurd cc
+refused-at_once (Some (Assemble text)) e = absurd cc
+refused-at_once (Some (Disassemble program)) e = absurd cc

@@ -7,16 +7,19 @@ use Rattle.sn_base.specs.declared.config.Config.{Config}
 use Rattle.sn_base.specs.declared.event.Event.{Event}
 use Rattle.rv_core.specs.declared.step.Record.{Record}
 use Rattle.sn_io.specs.Outside.{Found, File, TooLong, Missing, Rose, found_in}
-use Rattle.command_words.specs.Request.{Request, Replay, Check, Assemble, Disassemble}
+use Rattle.command_words.specs.Request.{Request, Replay, Check, Demo, Assemble, Disassemble}
 use Rattle.sn_probe.specs.Probes.{Meter}
 use Rattle.sink_pieces.specs.Pieces.{Piece, Report, Ends, after, Breaks, console_piece}
 use Rattle.script_replay.specs.declared.job.Showing.{Showing}
 use Rattle.script_replay.specs.declared.job.ReportKind.{ReportKind}
-use Rattle.script_replay.specs.declared.job.ReportKind.TheVariants.{Events, Trace as TraceReport}
+use Rattle.script_replay.specs.declared.job.ReportKind.TheVariants.{Events, Trace as TraceReport, Summary}
 use Rattle.script_replay.specs.Played.{MayBegin}
 use Rattle.script_replay.specs.Probed.{tallies_due}
 use Rattle.script_replay.specs.Shown.{pieces_due, IsShown, IsShownInPart}
-use Rattle.safetynet_main.specs.Files.{program_limit, script_limit, program_in, script_in, trace_in, assembly_in, listing_of}
+use Rattle.asm_texts.specs.Texts.{words_text}
+use Rattle.counting_program.specs.Program.{counting_words}
+use Rattle.generated_runs.specs.Generated.{generated_config, generated_events}
+use Rattle.safetynet_main.specs.Files.{program_limit, script_limit, program_of, program_in, script_in, trace_in, assembly_in, listing_of}
 use Rattle.safetynet_main.specs.Errand.{Errand, Due, Fetch, due_by, Loads}
 use Rattle.safetynet_main.specs.Outcome.{IsVerdict, verdict_line, status_of}
 use Rattle.safetynet_main.specs.declared.job.Job.{Job}
@@ -87,17 +90,27 @@ assembly_errand text = Fetch text program_limit (λ found. Due (text_job (assemb
 abbrev pub listing_errand : List ℕ → Errand
 listing_errand program = Fetch program program_limit (λ found. Due (text_job (listing_of (program_in found))))
 
--- words that aren't a command's are refused, and so are for now those of `demo`
+-- the job of a generated run, of which the summary alone is shown
+abbrev pub generated_job : ℕ → Result ImageData Status → Result Job Status
+generated_job size (Ok image) = job_with generated_config (record { report = Summary; watch = None }) image (Ok (generated_events size))
+generated_job size (Err status) = Err status
+
+-- it needs no file: its program is a text of this repository's own
+abbrev pub demo_errand : ℕ → Errand
+demo_errand size = Due (generated_job size (program_of (words_text counting_words)))
+
+-- words that aren't a command's are refused
 abbrev pub errand_of : Option Request → Errand
 errand_of (Some (Replay config trace watch program script)) = replay_errand config (record { report = report_of trace; watch = watch }) program script
 errand_of (Some (Check nodes program trace)) = check_errand nodes program trace
+errand_of (Some (Demo size)) = demo_errand size
 errand_of (Some (Assemble text)) = assembly_errand text
 errand_of (Some (Disassemble program)) = listing_errand program
-errand_of _ = Due (Err Usage)
+errand_of None = Due (Err Usage)
 
--- the words ask for nothing that is done here
+-- the words are no command's
 abbrev pub AsksNothing : Option Request → Type 0
-AsksNothing ask = errand_of ask ≡ Due (Err Usage)
+AsksNothing ask = ask ≡ None
 
 -- what is due over these files, by the words
 abbrev pub due_of : (List ℕ → Option (List ℕ)) → Option Request → Result Job Status

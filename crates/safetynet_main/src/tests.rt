@@ -215,6 +215,17 @@ const GIVEN_TRACE: &str = "\
 # core 0 80000010 running x10=00000041 x17=00000001
 ";
 
+const DEMO_REPORT: &str = "\
+events 20
+point 0
+committed 0
+released 0
+core 0 80000000 running
+core 1 80000000 running x10=00000001
+core 2 80000000 running x10=00000002
+core 3 80000000 running x10=00000003
+";
+
 const COUNTER: &str = "loop:\naddi t0, t0, 1\njal zero, loop\n";
 
 const COUNTER_WORDS: &str = "00128293\nffdff06f\n";
@@ -580,6 +591,20 @@ fn each_probe_is_dropped_once_however_the_call_ends(rt: HostRuntime) -> Result<(
 }
 
 #[test]
+fn a_demonstration_needs_no_file(rt: HostRuntime) -> Result<(), Fail> {
+    check_command(
+        &rt,
+        rt.alloc(),
+        "safetynet demo 20",
+        "",
+        "",
+        "",
+        DEMO_REPORT,
+    )?;
+    Ok(())
+}
+
+#[test]
 fn a_text_becomes_words_and_words_a_text(rt: HostRuntime) -> Result<(), Fail> {
     for (words, file, console) in [
         ("safetynet asm a.hex", COUNTER, COUNTER_WORDS),
@@ -610,7 +635,7 @@ fn words_that_are_no_command_are_usage(rt: HostRuntime) -> Result<(), Fail> {
         "safetynet dis",
         "safetynet check --nodes 17 a.hex a.script",
         "safetynet check a.hex",
-        "safetynet demo 10",
+        "safetynet demo 0",
     ] {
         check_refusal(
             &rt,

@@ -11,7 +11,7 @@ asked_by word =
 
 -- the commands
 abbrev pub is_command : List ℕ → Bool
-is_command word = bytes_eq word (codes "replay") || bytes_eq word (codes "check") || bytes_eq word (codes "asm") || bytes_eq word (codes "dis")
+is_command word = bytes_eq word (codes "replay") || bytes_eq word (codes "check") || bytes_eq word (codes "demo") || bytes_eq word (codes "asm") || bytes_eq word (codes "dis")
 
 -- no word after the program's name; such a word alone or after a command; and `help` before a command
 abbrev pub own_of : List (List ℕ) → Option Own

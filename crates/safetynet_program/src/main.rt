@@ -33,6 +33,7 @@ usage: safetynet replay [OPTIONS] PROGRAM SCRIPT
        safetynet check [--nodes N] PROGRAM TRACE
        safetynet asm TEXT
        safetynet dis PROGRAM
+       safetynet demo SIZE
        safetynet --help        (also -h, help, after a command too, or no word)
        safetynet --version
 
@@ -58,6 +59,10 @@ the first that isn't. What replay --trace reports is a TRACE.
 asm puts the words of TEXT, in the assembler's language, to standard output,
 one a line; what it puts is a PROGRAM. dis puts PROGRAM's executable words as
 lines of that language, with the address before each stretch of them.
+
+demo needs no file: it applies SIZE events, 1 to 1,000,000, that a driver
+picks, with losses and recoveries, to four nodes that add to one word, and
+reports the summary alone. One size gives one run.
 
 PROGRAM is a static ELF file for 32-bit RISC-V as a linker writes it, or a
 text with one word of eight hexadecimal digits a line, from 80000000 up, in
@@ -141,7 +146,7 @@ fn asked_by(word: &str) -> Option<Own>
 fn is_command(word: &str) -> bool
     ensures { result ≡ is_command word.now }
 {
-    matches!(word, "replay" | "check" | "asm" | "dis")
+    matches!(word, "replay" | "check" | "demo" | "asm" | "dis")
 }
 
 /// What the words ask of the program itself, before any command is done.
