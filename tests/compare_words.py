@@ -3,8 +3,8 @@
 
     tests/compare_words.py PROGRAM SIMULATOR [COUNT] [SEED]
 
-PROGRAM is the built program, SIMULATOR a reference simulator; it takes the same words, and `--main` before them, to name a status
-as the program does. Each of the COUNT (20,000) lines has a command with its files, and some of its options in any order and in either
+PROGRAM is the built program, SIMULATOR a reference simulator; it takes the same words, and `--main --probe` before them, to name a status
+as the program does and to have its probe. Each of the COUNT (20,000) lines has a command with its files, and some of its options in any order and in either
 form; two thirds then have something wrong: a value that is no number or out of its range, a word that is lacking, doubled, changed or
 strange, an option of another command, a file that isn't there. Console, report and exit status must be the same. The commands are
 those that the program's own page names. Lines that it answers itself, as those for help, are left out, and so are those with words
@@ -160,7 +160,7 @@ def main():
             if is_left_out(words, commands):
                 continue
             done += 1
-            found, expected = run([built], words, folder), run([simulator, "--main"], words, folder)
+            found, expected = run([built], words, folder), run([simulator, "--main", "--probe"], words, folder)
             if found != expected:
                 print(f"case {case}, {words}: {found} and not {expected}")
                 return 1
