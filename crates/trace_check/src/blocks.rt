@@ -2,8 +2,8 @@
 ghost use Rattle.std.specs.Prelude.{◌≡◌, ◌≢◌, ℕ, ◌+◌, ◌*◌, ◌/◌, ◌<◌, ◌≤◌, ◌^◌, ◌↔◌, true, false, length, replicate, slice_index_or, IfOk, IfSome, IsSome, IsTrue};
 ghost use Rattle.sn_base.specs.Blocks.{ram_start};
 ghost use Rattle.sn_base.specs.Image.{ImageData, bytes_from, covers};
-ghost use Rattle.rv_core.specs.Core.{is_access};
-ghost use Rattle.rv_core.specs.Wanted.{wanted_address, IsInside};
+ghost use Rattle.rv_core.specs.Core.{is_access, block_of};
+ghost use Rattle.rv_core.specs.Wanted.{wanted_address, IsAddress, IsInside};
 ghost use Rattle.projection_places.specs.Passes.{Passes};
 ghost use Rattle.trace_check.specs.Cells.{Finds, IsAfter};
 ghost use Rattle.trace_check.specs.Parts.{is_in, wanted_block, IsFitting, AreFitting, IsFirst, AreFirst, PartPasses, HasPassed};
@@ -117,9 +117,18 @@ fn block_in(want: Want) -> Option<BlockNo>
         | Want::Store(address)
         | Want::Amo(address)
         | Want::Lr(address)
-        | Want::Sc(address) => BlockNo::of(address),
+        | Want::Sc(address) => Some(block_at(address)),
         Want::Nothing | Want::Input => None,
     }
+}
+
+/// The block of an address of memory.
+fn block_at(address: u32) -> BlockNo
+    requires { IsAddress address }
+    ensures { result ≡ block_of address }
+{
+    // `BlockNo::of` would test for each record, in each part, what is known here.
+    BlockNo::new(((address - 0x8000_0000) / 64) as u16)
 }
 
 /// The cells of a part at the start.

@@ -10,8 +10,8 @@ use rv_core::Record;
 use sn_base::{Image, Memory, NodeId};
 use sn_io::Gate;
 use std::alloc::Global;
-use std::thread;
 use std::thread::Threads;
+use std::{mem, thread};
 
 /// A core, how many records it passes, and what its own among them do.
 #[derive(Drop)]
@@ -26,20 +26,33 @@ pub fn fresh_slots(alloc: Global, nodes: u8, records: &[Record]) -> Result<Vec<S
     requires { nodes ≤ 16 }
     ensures { IfOk result (λ slots. AreFresh nodes slots.items) }
 {
+    let counts = count_each(records);
     let mut slots = Vec::with_capacity(alloc, usize::from(nodes))?;
     'nodes: for number in 0..nodes {
-        let slot = fresh_slot(alloc, number, records)?;
+        let slot = fresh_slot(alloc, number, counts[usize::from(number)])?;
         slots.push(slot)?;
     }
     Ok(slots)
 }
 
-fn fresh_slot(alloc: Global, number: u8, records: &[Record]) -> Result<Slot, Memory>
+/// How many records each core has.
+fn count_each(records: &[Record]) -> [usize; 16]
+    ensures { length result ≡ 16 }
+{
+    let mut counts = [0usize; 16];
+    'records: for place in 0..records.len() {
+        let core = usize::from(records[place].core.number());
+        // Room is asked for by it, and no more rests on it.
+        counts[core] = counts[core].saturating_add(1);
+    }
+    counts
+}
+
+fn fresh_slot(alloc: Global, number: u8, own: usize) -> Result<Slot, Memory>
     requires { number < 16 }
     ensures { IfOk result (λ slot. IsFresh number slot) }
 {
     let core = NodeId::new(number).unwrap();
-    let own = records.iter().filter(|taken| taken.core == core).count();
     let deeds = Vec::with_capacity(alloc, own)?;
     Ok(Slot {
         core,
@@ -51,6 +64,7 @@ fn fresh_slot(alloc: Global, number: u8, records: &[Record]) -> Result<Slot, Mem
 /// Replays each core's records in its slot.
 pub fn replay_cores<T: Threads + Sync, G: Gate + Sync>(
     rt: &T,
+    alloc: Global,
     image: &Image,
     nodes: u8,
     records: &[Record],
@@ -68,18 +82,28 @@ pub fn replay_cores<T: Threads + Sync, G: Gate + Sync>(
         &|_, slot: &mut Slot|
             requires { (slot.old.core < nodes) × (slot.old.deeds.items ≡ []) }
             ensures { (slot.new.core ≡ slot.old.core) × HasReplayed image.entry.now nodes records.entry.now slot.new }
-        { replay_slot(image, nodes, records, gate, slot) },
+        { replay_slot(alloc, image, nodes, records, gate, slot) },
     );
 }
 
-fn replay_slot<G: Gate>(image: &Image, nodes: u8, records: &[Record], gate: &G, slot: &mut Slot)
+fn replay_slot<G: Gate>(
+    alloc: Global,
+    image: &Image,
+    nodes: u8,
+    records: &[Record],
+    gate: &G,
+    slot: &mut Slot,
+)
     requires inside { slot.old.core < nodes }
     requires fresh { slot.old.deeds.items ≡ [] }
     ensures core { slot.new.core ≡ slot.old.core }
     ensures replayed { HasReplayed image.now nodes records.now slot.new }
 {
     gate.before(u32::from(slot.core.number()), 1);
-    slot.passed = replay(image, nodes, slot.core, records, &mut slot.deeds);
+    // The slots lie side by side, and threads that write next to each other are slow: here each writes a vector of its own.
+    let mut deeds = mem::replace(&mut slot.deeds, Vec::new(alloc));
+    slot.passed = replay(image, nodes, slot.core, records, &mut deeds);
+    slot.deeds = deeds;
 }
 
 /// How many records, from the first on, are of cores that are there.

@@ -80,7 +80,7 @@ fn count_in_slots<T: Threads + Sync, G: Gate + Sync>(
     requires fresh { AreFresh nodes slots.old }
     ensures { IfOk result (λ done. IsDone image.now nodes records.now done) }
 {
-    replay_cores(rt, image, nodes, records, gate, slots);
+    replay_cores(rt, alloc, image, nodes, records, gate, slots);
     let inside = count_inside(nodes, records);
     let passed = count_passed(image, nodes, records, slots, inside)?;
     replay_blocks(rt, alloc, image, records, passed, slots)
