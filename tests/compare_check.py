@@ -29,7 +29,7 @@ def trace(choose, simulator, nodes, folder):
     options = ["--nodes", nodes, "--seed", choose.randrange(10**6), "--budget", choose.randrange(50, 2500), "--interval", choose.choice([1, 3, 10]),
                "--wait", choose.choice([100, 400]), "--lose-every", choose.choice([0, 0, 13, 60])]
     command = [simulator, "--schedule", str(choose.randrange(10**6)), "run", *map(str, options), "--trace", "program"]
-    return subprocess.run(command, cwd=folder, capture_output=True, text=True).stderr.splitlines()
+    return subprocess.run(command, cwd=folder, capture_output=True).stderr.decode().splitlines()
 
 
 def is_record(line):
