@@ -6,13 +6,10 @@
 Each command is run on an input at its limits. Memory is the most that the whole process had; the stack is the least limit, of 64, 128,
 256 KiB and so on, under which the run ends as it does without a limit. The time is of one run.
 """
-import os
-import resource
 import struct
 import subprocess
 import sys
 import tempfile
-import time
 from pathlib import Path
 
 START = 0x80000000
@@ -82,21 +79,30 @@ RUNS = [
     ("check, 1,000,000 records of 16 nodes", ["check", "--nodes", "16", "a", "b"],
      whole_memory_image, lambda: filled(f"{place % 16} 00000000 0" for place in range(EVENT_LIMIT))),
     ("demo 1000000", ["demo", "1000000"], None, None),
-    ("asm, 1,048,576 statements", ["asm", "a"], lambda: b"nop\n" * WORD_LIMIT, None),
+    ("asm, 1,048,576 statements", ["asm", "a"], lambda: b"ecall\n" * WORD_LIMIT, None),
     ("dis, a program of 16 MiB", ["dis", "a"], whole_memory_image, None),
 ]
 
 
-def run(program, words, folder, stack=None):
-    """Status, digest of what was written, seconds and MiB."""
-    def limit():
-        if stack:
-            resource.setrlimit(resource.RLIMIT_STACK, (stack, stack))
-    begin = time.monotonic()
-    child = subprocess.Popen([program, *words], cwd=folder, stdout=subprocess.DEVNULL, stderr=open(Path(folder, "report"), "wb"), preexec_fn=limit)
-    _, status, used = os.wait4(child.pid, 0)
-    child.returncode = os.waitstatus_to_exitcode(status)
-    return child.returncode, time.monotonic() - begin, used.ru_maxrss / 1024, Path(folder, "report").read_bytes()[-200:]
+# Runs a command from a small process: the system counts what a process had before it became another as the other's.
+LAUNCH = """
+import os, resource, subprocess, sys, time
+stack = int(sys.argv[1])
+def limit():
+    if stack:
+        resource.setrlimit(resource.RLIMIT_STACK, (stack, stack))
+begin = time.monotonic()
+child = subprocess.Popen(sys.argv[2:], stdout=subprocess.DEVNULL, stderr=open("report", "wb"), preexec_fn=limit)
+_, status, used = os.wait4(child.pid, 0)
+print(os.waitstatus_to_exitcode(status), time.monotonic() - begin, used.ru_maxrss / 1024)
+"""
+
+
+def run(program, words, folder, stack=0):
+    """Status, seconds, MiB, and the end of what was reported."""
+    done = subprocess.run([sys.executable, "-c", LAUNCH, str(stack), program, *words], cwd=folder, capture_output=True, check=True)
+    status, seconds, memory = done.stdout.split()
+    return int(status), float(seconds), float(memory), Path(folder, "report").read_bytes()[-200:]
 
 
 def least_stack(program, words, folder, expected):

@@ -1,5 +1,6 @@
 /* Stands before the C library's allocator: counts the program's calls for memory, and refuses the one whose number is in
-   REFUSE_CALL, and with REFUSE_ALL_AFTER each after it too. At the end the count goes to the file that REFUSE_COUNT names.
+   REFUSE_CALL, and with REFUSE_ALL_AFTER each after it too. At the end, by exit or by _exit, the count goes to the file that
+   REFUSE_COUNT names.
    Built by refuse_memory.py. Memory that the library itself wants before the program begins is counted too. */
 #define _GNU_SOURCE
 #include <dlfcn.h>
@@ -7,6 +8,8 @@
 #include <stddef.h>
 #include <stdio.h>
 #include <stdlib.h>
+#include <sys/syscall.h>
+#include <unistd.h>
 
 static unsigned long made;
 static unsigned long refused_call;
@@ -51,6 +54,12 @@ __attribute__((destructor)) static void end(void) {
     if (!file) return;
     fprintf(file, "%lu\n", count);
     fclose(file);
+}
+
+void _exit(int status) {
+    end();
+    syscall(SYS_exit_group, status);
+    __builtin_unreachable();
 }
 
 static int is_refused(void) {
