@@ -88,7 +88,7 @@ def spoiled_words(choose, words):
         elif kind == 1 and words:
             del words[min(place, len(words) - 1)]
         elif kind == 2 and words:
-            words[min(place, len(words) - 1)] = choose.choice(["replay", "check", "asm", "dis", "demo", "run", "a", "nowhere", "1", "é"])
+            words[min(place, len(words) - 1)] = choose.choice(["replay", "check", "asm", "dis", "demo", "fly", "a", "nowhere", "1", "é"])
         elif words:
             words.insert(place, words[min(place, len(words) - 1)])
     return words
