@@ -1,6 +1,5 @@
 pub mod Verdicts
 pub mod Opens
-pub mod Bytes
 pub mod Starts
 pub mod Agrees
 pub mod Restored

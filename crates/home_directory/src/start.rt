@@ -1,32 +1,19 @@
 //! The entries of a home at the start: it owns its blocks, with the bytes that the program gives them.
 ghost use Rattle.std.specs.Prelude.{◌≡◌, ◌+◌, ◌*◌, ◌<◌, ◌≤◌, IfOk};
-ghost use Rattle.sn_model.specs.Fabric.{first_home, initial_block};
+ghost use Rattle.sn_model.specs.Fabric.{first_home};
 ghost use Rattle.home_directory.specs.Home.{places_of, entries_below};
 
 use crate::entry::Entry;
-use sn_base::{Block, BlockNo, Image, Memory, NodeId, NodeSet, Width};
+use sn_base::{BlockNo, Image, Memory, NodeId, NodeSet};
 use sn_model::Owner;
 use std::alloc::Global;
-
-/// The bytes that a program gives a block.
-fn initial_block(image: &Image, block: BlockNo) -> Block
-    ensures { result ≡ initial_block image.now block }
-{
-    let start = 0x8000_0000 + 64 * u32::from(block.number());
-    let mut content = Block::zero();
-    'bytes: for place in 0..64u32 {
-        let byte = image.byte(start + place);
-        content.store(place as usize, Width::Byte, u32::from(byte));
-    }
-    content
-}
 
 fn first_entry(image: &Image, block: BlockNo) -> Entry
     ensures { result ≡ first_home image.now block }
 {
     Entry {
         owner: Owner::Home,
-        memory: initial_block(image, block),
+        memory: image.block(block),
         sharers: NodeSet::empty(),
         transaction: None,
     }

@@ -8,6 +8,7 @@
 
 mod block;
 mod config;
+mod content;
 mod event;
 mod image;
 mod log;

@@ -3,8 +3,6 @@ pub mod CoreReplay
 pub mod CorePlaces
 pub mod OwnBefore
 pub mod Joined
-pub mod Bytes
-pub mod Given
 pub mod BlockStart
 pub mod BlockReplay
 pub mod PartPlaces

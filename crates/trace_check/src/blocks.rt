@@ -1,9 +1,8 @@
 //! The accesses to the blocks of one part, replayed by themselves.
-ghost use Rattle.std.specs.Prelude.{◌≡◌, ◌≢◌, ℕ, ◌+◌, ◌*◌, ◌/◌, ◌<◌, ◌≤◌, ◌^◌, ◌↔◌, true, false, length, replicate, slice_index_or, IfOk, IfSome, IsSome, IsTrue};
-ghost use Rattle.sn_base.specs.Blocks.{ram_start};
-ghost use Rattle.sn_base.specs.Image.{ImageData, bytes_from, covers};
+ghost use Rattle.std.specs.Prelude.{◌≡◌, ◌≢◌, ℕ, ◌+◌, ◌*◌, ◌/◌, ◌<◌, ◌≤◌, ◌↔◌, true, false, length, slice_index_or, IfOk, IfSome, IsSome, IsTrue};
+ghost use Rattle.sn_base.specs.Image.{ImageData};
 ghost use Rattle.rv_core.specs.Core.{is_access, block_of};
-ghost use Rattle.rv_core.specs.Wanted.{wanted_address, IsAddress, IsInside};
+ghost use Rattle.rv_core.specs.Wanted.{IsAddress, IsInside};
 ghost use Rattle.projection_places.specs.Passes.{Passes};
 ghost use Rattle.trace_check.specs.Cells.{Finds, IsAfter};
 ghost use Rattle.trace_check.specs.Parts.{is_in, wanted_block, IsFitting, AreFitting, IsFirst, AreFirst, PartPasses, HasPassed};
@@ -13,7 +12,7 @@ use crate::cell::Cell;
 use crate::cores::Slot;
 use crate::deed::Deed;
 use rv_core::{Record, Want};
-use sn_base::{Block, BlockNo, Image, Memory, NodeSet, Segment, Width};
+use sn_base::{BlockNo, Image, Memory, NodeSet};
 use std::alloc::Global;
 
 /// How many of the first records the blocks of the part pass. The slots have what these do.
@@ -147,52 +146,7 @@ fn first_cell(image: &Image, block: BlockNo) -> Cell
     ensures { IsFirst image.now block result }
 {
     Cell {
-        content: first_content(image, block),
+        content: image.block(block),
         intact: NodeSet::empty(),
     }
-}
-
-/// The bytes that a program gives a block.
-fn first_content(image: &Image, block: BlockNo) -> Block
-    ensures { result ≡ bytes_from 64 image.now.segments (ram_start + 64 * block) }
-{
-    if is_given_none(image, block) {
-        return Block::zero();
-    }
-    given_content(image, block)
-}
-
-/// Whether no segment has an address of the block: then its bytes are 0.
-fn is_given_none(image: &Image, block: BlockNo) -> bool
-    ensures { result ≡ true → bytes_from 64 image.now.segments (ram_start + 64 * block) ≡ replicate 64 0 }
-{
-    let start = 0x8000_0000 + 64 * u64::from(block.number());
-    'segments: for segment in image.segments() {
-        if reaches(segment, start) {
-            return false;
-        }
-    }
-    true
-}
-
-/// Whether the segment has one of the 64 addresses.
-fn reaches(segment: &Segment, start: u64) -> bool
-    requires { start < 2 ^ 32 }
-    ensures { result ≡ false → (a : ℕ) → start ≤ a → a < start + 64 → covers segment.now a ≡ false }
-{
-    let first = u64::from(segment.start);
-    first < start + 64 && start < first + u64::from(segment.size)
-}
-
-/// The same byte by byte.
-fn given_content(image: &Image, block: BlockNo) -> Block
-    ensures { result ≡ bytes_from 64 image.now.segments (ram_start + 64 * block) }
-{
-    let start = 0x8000_0000 + 64 * u32::from(block.number());
-    let mut content = Block::zero();
-    'bytes: for place in 0..64u32 {
-        let byte = image.byte(start + place);
-        content.store(place as usize, Width::Byte, u32::from(byte));
-    }
-    content
 }

@@ -1,6 +1,6 @@
 use Rattle.std.proofs.Common.{◌≡◌, length, take}
 use Rattle.sn_base.specs.Image.{bytes_from}
-use Rattle.trace_check.proofs.blocks.given_content.Given as goal
+use Rattle.sn_base.proofs.content.given_content.Given as goal
 
 -- the first bytes are those of the program
 abbrev pub invariant-bytes : goal.invariant-bytes

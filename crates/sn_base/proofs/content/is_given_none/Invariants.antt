@@ -1,6 +1,6 @@
 use Rattle.std.proofs.Common.{◌≡◌, ℕ, ◌+◌, ◌<◌, ◌≤◌, take}
 use Rattle.sn_base.specs.Image.{byte_at}
-use Rattle.trace_check.proofs.blocks.is_given_none.Given as goal
+use Rattle.sn_base.proofs.content.is_given_none.Given as goal
 
 -- the segments so far give the block nothing
 abbrev pub invariant-segments : goal.invariant-segments

@@ -1,8 +1,8 @@
 use Rattle.std.proofs.Common.{◌≡◌, ◌+◌, ◌<◌, suc, length, get_or, refl, subst, ap, ◌∙◌, take, arith}
 use Rattle.std.proofs.lemmas.Option.{slice_get_read}
 use Rattle.sn_base.specs.Image.{byte_at}
-use Rattle.trace_check.proofs.Given.{given_more}
-use Rattle.trace_check.proofs.blocks.is_given_none.Goals as goal
+use Rattle.sn_base.proofs.Given.{given_more}
+use Rattle.sn_base.proofs.content.is_given_none.Goals as goal
 
 pub segments-preserved : goal.segments-preserved
 segments-preserved c = λ a l m.

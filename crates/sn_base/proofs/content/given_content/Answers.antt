@@ -1,8 +1,8 @@
 use Rattle.std.proofs.Common.{◌≡◌, ◌+◌, ◌*◌, ◌%◌, ◌<◌, [], ◌∷◌, ◌++◌, ap, sym, ◌∙◌, arith}
 use Rattle.sn_base.specs.Blocks.{stored_in}
 use Rattle.sn_base.specs.Image.{byte_at, bytes_from}
-use Rattle.home_directory.proofs.Bytes.{bytes_more, stored_more, whole_stored}
-use Rattle.home_directory.proofs.start.initial_block.Goals as goal
+use Rattle.sn_base.proofs.Bytes.{bytes_more, stored_more, whole_stored}
+use Rattle.sn_base.proofs.content.given_content.Goals as goal
 
 -- one byte more is there
 pub bytes-preserved : goal.bytes-preserved
