@@ -1,5 +1,5 @@
 //! Programs, as segments of memory.
-ghost use Rattle.std.specs.Prelude.{◌≡◌, ℕ, ◌+◌, ◌<◌, ◌≤◌, ◌/◌, List, Bool, true, false, ◌&&◌, nat_le, nat_lt};
+ghost use Rattle.std.specs.Prelude.{◌≡◌, ℕ, ◌+◌, ◌<◌, ◌≤◌, ◌/◌, List, ◌∷◌, length, Bool, true, false, ◌&&◌, nat_le, nat_lt, Some, IfSome};
 ghost use Rattle.sn_base.specs.Blocks.{bytes_of};
 ghost use Rattle.sn_base.specs.Image.{SegmentData, ImageData, IsImage, covers, byte_in, byte_at, is_executable, is_writable, all_executable, all_writable, fetched};
 
@@ -31,6 +31,26 @@ impl Segment {
         ensures { result ≡ covers self.now address }
     {
         self.start <= address && u64::from(address) < u64::from(self.start) + u64::from(self.size)
+    }
+
+    /// Whether one of the four addresses from this one on is the segment's.
+    fn reaches(&self, pc: u32) -> bool
+        ensures { result ≡ false → (rest : List SegmentData) → fetched (self.now ∷ rest) pc ≡ fetched rest pc }
+    {
+        let start = u64::from(self.start);
+        start < u64::from(pc) + 4 && u64::from(pc) < start + u64::from(self.size)
+    }
+
+    /// The word at an address, where it may be executed and the segment gives its four bytes.
+    fn given_word(&self, pc: u32) -> Option<u32>
+        requires { length self.now.bytes ≤ self.now.size }
+        ensures { IfSome result (λ word. (rest : List SegmentData) → fetched (self.now ∷ rest) pc ≡ Some word) }
+    {
+        if !self.exec || pc < self.start {
+            return None;
+        }
+        let given = self.bytes.get((pc - self.start) as usize..)?;
+        Some(u32::from_le_bytes(*given.first_chunk::<4>()?))
     }
 }
 
@@ -114,6 +134,21 @@ impl Image {
 
     /// The instruction word at an address. None where its four bytes aren't all executable.
     pub fn fetch(&self, pc: u32) -> Option<u32>
+        ensures { result ≡ fetched self.now.segments pc }
+    {
+        'segments: for segment in self.segments.iter() {
+            if let Some(word) = segment.given_word(pc) {
+                return Some(word);
+            }
+            if segment.reaches(pc) {
+                return self.fetch_by_bytes(pc);
+            }
+        }
+        None
+    }
+
+    /// The same byte by byte: the four may be of several segments, or past the bytes that one gives.
+    fn fetch_by_bytes(&self, pc: u32) -> Option<u32>
         ensures { result ≡ fetched self.now.segments pc }
     {
         let _ = &self.segments;

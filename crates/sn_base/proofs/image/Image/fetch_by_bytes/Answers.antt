@@ -1,6 +1,6 @@
 use Rattle.std.proofs.Common.{arith, refl, sym}
 use Rattle.sn_base.proofs.Outside.{is_executable-outside}
-use Rattle.sn_base.proofs.image.Image.fetch.Goals as goal
+use Rattle.sn_base.proofs.image.Image.fetch_by_bytes.Goals as goal
 
 -- so near the greatest address nothing is memory
 pub returns-then-pc : goal.returns-then-pc
