@@ -24,7 +24,7 @@ use Rattle.sn_model.specs.Net.{net_limit, sending, is_full, flight_of, without_f
 use Rattle.sn_model.specs.NodeEvents.{evicted, evicts, begins_put, has_put, with_put, without_copy}
 use Rattle.sn_model.specs.NetEvents.{delivered, delivers, delivers_flight, fits_in, outcome_of, unless_busy, learned, node_after, home_after, Outcome, AtCache, AtHome, copy_lost, logged_at, kept_at}
 use Rattle.sn_coherence.specs.Block as block
-use Rattle.fabric_coherence.specs.View.{Beside, block_of, message_seen}
+use Rattle.fabric_coherence.specs.View.{Beside, block_seen, message_seen}
 use Rattle.fabric_coherence.specs.Steps.{IsInFlight}
 use Rattle.fabric_coherence.specs.Coherent.{IsKept}
 use Rattle.consistent_cuts.proofs.Clocks.{IsSameClocks, same_clocks, part_set, same_with_node, same_nodes, same_then, cache_clocks, home_clocks}
@@ -100,10 +100,10 @@ module _ (config : Config) (s : Fabric) (t : Beside) (m : Message) (kept : IsKep
   -- news of a point: its number is not above the point
   low : (k : ℕ) → m.body ≡ body.Advance k → k ≤ s.point
   low k is =
-      let seen : (block_of s t m.block).net m.id ≡ message_seen m (body.Advance k) = flight.seen ∙ ap (message_seen m) is in
-      let named : ((block_of s t m.block).net m.id).body ≡ block.Advance = ap (λ x. x.body) seen in
-      let number : ((block_of s t m.block).net m.id).number ≡ k = ap (λ x. x.number) seen in
-      let bound : ((block_of s t m.block).net m.id).number ≤ s.point = (kept.blocks m.block flight.block).clocks.advance_point m.id named in
+      let seen : (block_seen s t m.block).net m.id ≡ message_seen m (body.Advance k) = flight.seen ∙ ap (message_seen m) is in
+      let named : ((block_seen s t m.block).net m.id).body ≡ block.Advance = ap (λ x. x.body) seen in
+      let number : ((block_seen s t m.block).net m.id).number ≡ k = ap (λ x. x.number) seen in
+      let bound : ((block_seen s t m.block).net m.id).number ≤ s.point = (kept.blocks m.block flight.block).clocks.advance_point m.id named in
       omega (arith, number, bound)
 
   news : (k : ℕ) → IsNews s (with_net (with_node s m.to (learned (node_at s m.to) k)) (without_flight s.net m.id)) m.to k

@@ -21,7 +21,7 @@ use Rattle.sn_consistency.specs.Entries.{Places}
 use Rattle.sn_consistency.specs.Kept.{begun}
 use Rattle.sn_consistency.specs.Words.{block_in}
 use Rattle.sn_consistency.proofs.Kept.{begun_keeps}
-use Rattle.fabric_coherence.specs.View.{block_of}
+use Rattle.fabric_coherence.specs.View.{block_seen}
 use Rattle.fabric_coherence.specs.Recorded.{KeepsRecords}
 use Rattle.consistent_cuts.specs.Outlined.{outline_of, start_places}
 use Rattle.consistent_cuts.specs.Joined.{Joins}
@@ -151,7 +151,7 @@ module _ (half : FabricHalf) (image : ImageData) (nodes : ℕ) (some : 1 ≤ nod
 
   kept : KeepsRecords s.fabric r
   kept = let k = half.start image nodes some few in
-      (k.0, k.1, λ b l. subst (λ v. KeptRecords (block_of s.fabric k.0 b) (no_records v)) (sym (initial_is image b l)) (k.2 b l))
+      (k.0, k.1, λ b l. subst (λ v. KeptRecords (block_seen s.fabric k.0 b) (no_records v)) (sym (initial_is image b l)) (k.2 b l))
 
   pub start_joins : Joins image s []
   start_joins = (

@@ -16,7 +16,7 @@ use Rattle.sn_model.specs.PointEvents.{restored_line, restored_lines}
 use Rattle.sn_coherence.specs.Block as block
 use Rattle.sn_coherence.specs.Log.{was_owned, told}
 use Rattle.mosi_cache.proofs.Taken.{TakesFewer}
-use Rattle.fabric_coherence.specs.View.{Beside, block_of, line_seen, miss_seen}
+use Rattle.fabric_coherence.specs.View.{Beside, block_seen, line_seen, miss_seen}
 use Rattle.fabric_coherence.specs.Leads.{is_framed}
 use Rattle.fabric_coherence.specs.Coherent.{IsKept}
 use Rattle.fabric_coherence.proofs.Recovery.{restored_line_at}
@@ -73,7 +73,7 @@ here_seen : (o : Option Miss) (b : ℕ) → block.is_here (miss_seen b o).want �
 here_seen None b = refl
 here_seen (Some miss) b = grind (arith, nat_tests)
 
-pub framed_takes : (s : Fabric) (t : Beside) (n b : ℕ) → is_framed (block_of s t b) n ≡ takes_frame (node_at s n).cache b
+pub framed_takes : (s : Fabric) (t : Beside) (n b : ℕ) → is_framed (block_seen s t b) n ≡ takes_frame (node_at s n).cache b
 framed_takes s t n b = framed_step (line_of (node_at s n).cache b).state (is_present (line_of (node_at s n).cache b).state) (misses_on (node_at s n).cache.miss b) (miss_seen b (node_at s n).cache.miss).want refl (here_seen (node_at s n).cache.miss b)
 
 -- the cache at a cut
@@ -96,7 +96,7 @@ takes_none node b k l = only_line (is_present (line_of (cache_at node k) b).stat
     ∙ ap (λ (x : Line). is_present x.state) (get_or_past (restored_lines node.log k 0 node.cache.lines) b no_line (subst (λ c. c ≤ b) (sym (as_long node.log k 0 node.cache.lines)) l))
 
 module _ (config : Config) (s : Fabric) (t : Beside) (kept : IsKept s t) (bounded : IsBounded config s t) (n k : ℕ) (l : n < length s.nodes) (from : s.point ≤ k) where
-  holds_of : (b : ℕ) → b < block_count → takes_frame (cache_at (node_at s n) k) b ≡ true → (block_of s t b).holds n k ≡ true
+  holds_of : (b : ℕ) → b < block_count → takes_frame (cache_at (node_at s n) k) b ≡ true → (block_seen s t b).holds n k ≡ true
   holds_of b low e = sym (held_told (old_at (node_at s n).log false b k) (line_of (node_at s n).cache b)) ∙ (sym (takes_held s t n b k kept l low) ∙ e)
 
   -- only blocks of memory are held
@@ -122,7 +122,7 @@ module _ (config : Config) (s : Fabric) (t : Beside) (kept : IsKept s t) (bounde
       still : (b : ℕ) → b < block_count → takes_frame (cache_at (node_at s n) k) b ≡ true → takes_frame (node_at s n).cache b ≡ true
       still b low e =
           let logs = (kept.blocks b low).logs in
-          let owns : block.is_owned (line_seen (line_of (node_at s n).cache b).state) ≡ true = sym (logs.holds_now n k (late ((block_of s t b).last n) (node_at s n).now (logs.own n) later)) ∙ holds_of b low e in
+          let owns : block.is_owned (line_seen (line_of (node_at s n).cache b).state) ≡ true = sym (logs.holds_now n k (late ((block_seen s t b).last n) (node_at s n).now (logs.own n) later)) ∙ holds_of b low e in
           let p : is_present (line_of (node_at s n).cache b).state ≡ true = owned_present (line_of (node_at s n).cache b).state owns in
           rw p refl
 

@@ -10,7 +10,7 @@ use Rattle.sn_model.specs.FabricEvents.{FabricEvent, Access, Write, Evict, Edge,
 use Rattle.sn_model.specs.PointEvents.{recovered, recovers, restored, restored_node, living_switches}
 use Rattle.route_plan.specs.Routes.{first_cut_off}
 use Rattle.mosi_cache.proofs.Fits.{fits-none}
-use Rattle.fabric_coherence.specs.View.{Beside, block_of}
+use Rattle.fabric_coherence.specs.View.{Beside, block_seen}
 use Rattle.fabric_coherence.specs.Leads.{is_framed, KeepsFrames}
 use Rattle.fabric_coherence.specs.Coherent.{IsKept}
 use Rattle.fabric_coherence.specs.Events.{MayBe}
@@ -48,7 +48,7 @@ edge_fits config s t u frames bounded n j l = either (frames n j)
     before : EdgeFits config t n j
     before = bounded.edges n j l
 
-    either : ((b : ℕ) → u.framed b n j ≡ t.framed b n j) ⊎ ((b : ℕ) → u.framed b n j ≡ is_framed (block_of s t b) n) → EdgeFits config u n j
+    either : ((b : ℕ) → u.framed b n j ≡ t.framed b n j) ⊎ ((b : ℕ) → u.framed b n j ≡ is_framed (block_seen s t b) n) → EdgeFits config u n j
     either (inl same) = (before.0, before.1, λ b low e. before.2 b low (sym (same b) ∙ e))
     either (inr new) = ((node_at s n).cache, bounded.frames n l, λ b low e. sym (framed_takes s t n b) ∙ (sym (new b) ∙ e))
 

@@ -15,7 +15,7 @@ use Rattle.sn_model.specs.NetEvents.{logged_at}
 use Rattle.sn_model.specs.CacheRows.{Logged, send, completed, waiting, settled, settled_by, fixed_at, acknowledged, with_miss, taken_over, line_when_done, AwaitsAnswer, forward_read, forward_write, invalidate, put_go, put_done, data_shared, data_modified, data_exclusive, upgrade_granted, acknowledge, MayTakeCopy, MayTakeOwnership, MayUpgrade, MayCount}
 use Rattle.sn_coherence.specs.Block as block
 use Rattle.sn_coherence.specs.OtherEvents.{end_miss_elsewhere, end_put_elsewhere}
-use Rattle.fabric_coherence.specs.View.{Beside, block_of, miss_seen, miss_here, put_seen, put_issued}
+use Rattle.fabric_coherence.specs.View.{Beside, block_seen, miss_seen, miss_here, put_seen, put_issued}
 use Rattle.fabric_coherence.specs.Steps.{elsewhere, IsShaped, IsInFlight}
 use Rattle.fabric_coherence.specs.CacheSeen.{KeepsHomeSide, KeepsCacheSide, IsElsewhere, settled_elsewhere}
 use Rattle.fabric_coherence.proofs.CacheSeen.{set_kept, home_side_same, home_side_noted_owned, home_side_noted_not, cache_side_same, cache_side_noted_owned, cache_side_noted_not, eq_other}
@@ -43,7 +43,7 @@ puts_elsewhere (Some put) b other may d = put_apart put.block b other may d
 
 module _ (s : Fabric) (t : Beside) (m : Message) (shape : IsShaped s) (flight : IsInFlight s m) (row : block.Block) (o : ℕ) (apart : o ≢ m.block) where
   abbrev there : block.Block
-  there = block_of s t o
+  there = block_seen s t o
 
   abbrev at : Logged
   at = logged_at s m.to
@@ -84,13 +84,13 @@ module _ (s : Fabric) (t : Beside) (m : Message) (shape : IsShaped s) (flight : 
   cache_same : KeepsCacheSide (node_at s m.to).log (node_at s m.to).log o
   cache_same = cache_side_same (node_at s m.to).log o
 
-  pub forward_read-elsewhere : (r : ℕ) → IsElsewhere s t m (forward_read (logged_at s m.to) m.block r) row o (elsewhere (block_of s t o) m.id 1)
+  pub forward_read-elsewhere : (r : ℕ) → IsElsewhere s t m (forward_read (logged_at s m.to) m.block r) row o (elsewhere (block_seen s t o) m.id 1)
   forward_read-elsewhere r = one_elsewhere s t m shape flight o apart row as_before (forward_read at m.block r).after None
       (record { line = unwritten _; home_side = home_same; cache_side = cache_same; miss = same_miss; putting = same_putting; put_issued = same_put_issued })
       (send r (DataS (line_of at.cache m.block).content)) refl
 
   pub forward_write-elsewhere : (r a : ℕ) → logged_to (node_at s m.to).log false m.block ≤ (node_at s m.to).now + 1 →
-      IsElsewhere s t m (forward_write (logged_at s m.to) m.block (node_at s m.to).now r a) row o (elsewhere (block_of s t o) m.id 1)
+      IsElsewhere s t m (forward_write (logged_at s m.to) m.block (node_at s m.to).now r a) row o (elsewhere (block_seen s t o) m.id 1)
   forward_write-elsewhere r a low = one_elsewhere s t m shape flight o apart row as_before (forward_write at m.block (node_at s m.to).now r a).after (Some m.block)
       (record {
         line = unwritten no_line;
@@ -102,13 +102,13 @@ module _ (s : Fabric) (t : Beside) (m : Message) (shape : IsShaped s) (flight : 
       })
       (send r (DataM (line_of at.cache m.block).content a)) refl
 
-  pub invalidate-elsewhere : (r : ℕ) → IsElsewhere s t m (invalidate (logged_at s m.to) m.block r) row o (elsewhere (block_of s t o) m.id 1)
+  pub invalidate-elsewhere : (r : ℕ) → IsElsewhere s t m (invalidate (logged_at s m.to) m.block r) row o (elsewhere (block_seen s t o) m.id 1)
   invalidate-elsewhere r = one_elsewhere s t m shape flight o apart row as_before (invalidate at m.block r).after (if is_present (line_of at.cache m.block).state then Some m.block else None)
       (record { line = unwritten no_line; home_side = home_same; cache_side = cache_same; miss = same_miss; putting = same_putting; put_issued = same_put_issued })
       (send r InvAck) refl
 
   pub put_go-elsewhere : logged_to (node_at s m.to).log false m.block ≤ (node_at s m.to).now + 1 →
-      IsElsewhere s t m (put_go (logged_at s m.to) (home_node s m.block) m.block (node_at s m.to).now) row o (end_put_elsewhere (elsewhere (block_of s t o) m.id 1) m.to)
+      IsElsewhere s t m (put_go (logged_at s m.to) (home_node s m.block) m.block (node_at s m.to).now) row o (end_put_elsewhere (elsewhere (block_seen s t o) m.id 1) m.to)
   put_go-elsewhere low = one_elsewhere s t m shape flight o apart row without_put (put_go at home m.block (node_at s m.to).now).after (Some m.block)
       (record {
         line = unwritten no_line;
@@ -120,7 +120,7 @@ module _ (s : Fabric) (t : Beside) (m : Message) (shape : IsShaped s) (flight : 
       })
       (send home (PutData (line_of at.cache m.block).content)) refl
 
-  pub put_done-elsewhere : IsElsewhere s t m (put_done (logged_at s m.to)) row o (end_put_elsewhere (elsewhere (block_of s t o) m.id 0) m.to)
+  pub put_done-elsewhere : IsElsewhere s t m (put_done (logged_at s m.to)) row o (end_put_elsewhere (elsewhere (block_seen s t o) m.id 0) m.to)
   put_done-elsewhere = none_elsewhere s t m shape flight o apart row without_put (put_done at).after None
       (record { line = refl; home_side = home_same; cache_side = cache_same; miss = same_miss; putting = λ n. refl; put_issued = λ n. refl })
 
@@ -166,7 +166,7 @@ module _ (s : Fabric) (t : Beside) (m : Message) (shape : IsShaped s) (flight : 
 
     -- whether all acknowledgements are in, as the block of the row sees it
     abbrev here : block.Miss
-    here = (block_of s t m.block).miss m.to
+    here = (block_seen s t m.block).miss m.to
 
     seen_miss : here ≡ miss_here miss
     seen_miss = miss_is s t m shape flight (node_at s m.to).cache.miss miss open_is on
@@ -184,7 +184,7 @@ module _ (s : Fabric) (t : Beside) (m : Message) (shape : IsShaped s) (flight : 
 
   -- the rows that answer a miss
   abbrev miss_here_now : block.Miss
-  miss_here_now = (block_of s t m.block).miss m.to
+  miss_here_now = (block_seen s t m.block).miss m.to
 
   taken_elsewhere : (state : LineState) (content : List ℕ) (a : ℕ) (need : Need) → AwaitsAnswer (node_at s m.to).cache.miss m.block need → logged_to (node_at s m.to).log false m.block ≤ m.tag + 1 →
       IsElsewhere s t m (settled (taken_over at m.block m.tag state content) home (fixed_at (node_at s m.to).cache.miss m.tag a)) row o (settled_elsewhere there m.id m.to (miss_here_now.acks == a))
@@ -197,29 +197,29 @@ module _ (s : Fabric) (t : Beside) (m : Message) (shape : IsShaped s) (flight : 
   none_due : (P : Bool → Type 0) → miss_here_now.acks ≡ 0 → P (miss_here_now.acks == 0) → P true
   none_due P e p = subst P (ap (λ x. x == 0) e) p
 
-  pub data_shared-elsewhere : (content : List ℕ) → MayTakeCopy (logged_at s m.to) m.block → ((block_of s t m.block).miss m.to).acks ≡ 0 →
-      IsElsewhere s t m (data_shared (logged_at s m.to) (home_node s m.block) m.block m.tag content) row o (end_miss_elsewhere (elsewhere (block_of s t o) m.id 1) m.to)
+  pub data_shared-elsewhere : (content : List ℕ) → MayTakeCopy (logged_at s m.to) m.block → ((block_seen s t m.block).miss m.to).acks ≡ 0 →
+      IsElsewhere s t m (data_shared (logged_at s m.to) (home_node s m.block) m.block m.tag content) row o (end_miss_elsewhere (elsewhere (block_seen s t o) m.id 1) m.to)
   data_shared-elsewhere content may acks = none_due (λ x. IsElsewhere s t m (data_shared at home m.block m.tag content) row o (settled_elsewhere there m.id m.to x)) acks
       (awaited (node_at s m.to).cache.miss m.block Read (IsElsewhere s t m (data_shared at home m.block m.tag content) row o (settled_elsewhere there m.id m.to (miss_here_now.acks == 0))) may.0
       (λ miss open_is on n. answered_miss miss open_is on (record at { cache = with_line at.cache m.block Shared content }) (as_long (record { state = Shared; content = content })) (unwritten (record { state = Shared; content = content })) refl home_same cache_same m.tag 0))
 
-  pub data_exclusive-elsewhere : (content : List ℕ) → MayTakeCopy (logged_at s m.to) m.block → ((block_of s t m.block).miss m.to).acks ≡ 0 → logged_to (node_at s m.to).log false m.block ≤ m.tag + 1 →
-      IsElsewhere s t m (data_exclusive (logged_at s m.to) (home_node s m.block) m.block m.tag content) row o (end_miss_elsewhere (elsewhere (block_of s t o) m.id 1) m.to)
+  pub data_exclusive-elsewhere : (content : List ℕ) → MayTakeCopy (logged_at s m.to) m.block → ((block_seen s t m.block).miss m.to).acks ≡ 0 → logged_to (node_at s m.to).log false m.block ≤ m.tag + 1 →
+      IsElsewhere s t m (data_exclusive (logged_at s m.to) (home_node s m.block) m.block m.tag content) row o (end_miss_elsewhere (elsewhere (block_seen s t o) m.id 1) m.to)
   data_exclusive-elsewhere content may acks low = none_due (λ x. IsElsewhere s t m (data_exclusive at home m.block m.tag content) row o (settled_elsewhere there m.id m.to x)) acks
       (taken_elsewhere Exclusive content 0 Read may.0 low)
 
   pub data_modified-elsewhere : (content : List ℕ) (a : ℕ) → MayTakeOwnership (logged_at s m.to) m.block → logged_to (node_at s m.to).log false m.block ≤ m.tag + 1 →
-      IsElsewhere s t m (data_modified (logged_at s m.to) (home_node s m.block) m.block m.tag content a) row o (settled_elsewhere (block_of s t o) m.id m.to (((block_of s t m.block).miss m.to).acks == a))
+      IsElsewhere s t m (data_modified (logged_at s m.to) (home_node s m.block) m.block m.tag content a) row o (settled_elsewhere (block_seen s t o) m.id m.to (((block_seen s t m.block).miss m.to).acks == a))
   data_modified-elsewhere content a may low = taken_elsewhere Modified content a Write may.0 low
 
   pub upgrade_granted-elsewhere : (a : ℕ) → MayUpgrade (logged_at s m.to) m.block →
-      IsElsewhere s t m (upgrade_granted (logged_at s m.to) (home_node s m.block) m.tag a) row o (settled_elsewhere (block_of s t o) m.id m.to (((block_of s t m.block).miss m.to).acks == a))
+      IsElsewhere s t m (upgrade_granted (logged_at s m.to) (home_node s m.block) m.tag a) row o (settled_elsewhere (block_seen s t o) m.id m.to (((block_seen s t m.block).miss m.to).acks == a))
   upgrade_granted-elsewhere a may = awaited (node_at s m.to).cache.miss m.block Write (IsElsewhere s t m (upgrade_granted at home m.tag a) row o (settled_elsewhere there m.id m.to (miss_here_now.acks == a))) may.0
       (λ miss open_is on n. answered_miss miss open_is on at (shape.lines m.to flight.to) refl refl home_same cache_same m.tag a)
 
   pub acknowledge-elsewhere : MayCount (node_at s m.to).cache.miss m.block →
       IsElsewhere s t m (acknowledge (logged_at s m.to) (home_node s m.block)) row o
-      (settled_elsewhere (block_of s t o) m.id m.to (((block_of s t m.block).miss m.to).is_fixed && (((block_of s t m.block).miss m.to).acks + 1 == ((block_of s t m.block).miss m.to).due)))
+      (settled_elsewhere (block_seen s t o) m.id m.to (((block_seen s t m.block).miss m.to).is_fixed && (((block_seen s t m.block).miss m.to).acks + 1 == ((block_seen s t m.block).miss m.to).due)))
   acknowledge-elsewhere may = counted (node_at s m.to).cache.miss m.block
       (IsElsewhere s t m (acknowledge at home) row o (settled_elsewhere there m.id m.to (miss_here_now.is_fixed && (miss_here_now.acks + 1 == miss_here_now.due)))) may
       (λ miss open_is on. counted_miss miss open_is on at (shape.lines m.to flight.to) refl refl home_same cache_same)

@@ -16,12 +16,12 @@ use Rattle.sn_coherence.specs.Block as block
 use Rattle.sn_coherence.specs.OtherEvents.{end_miss_elsewhere, end_put_elsewhere}
 use Rattle.sn_coherence.specs.Consequences.{MeetsRows, MeetsNotes}
 use Rattle.sn_coherence.specs.Events.{Event, ForwardRead, ForwardWrite, Invalidate, DataShared, DataModified, DataExclusive, UpgradeGranted, Acknowledge, PutGoes, PutIsDone, Allows, Arrives, after}
-use Rattle.sn_coherence.specs.Kept.{Kept}
+use Rattle.sn_coherence.specs.Kept.{AllSentences}
 use Rattle.sn_coherence.specs.Records.{Records, unreserves, recorded, MayHappen}
 use Rattle.fabric_coherence.specs.Leads.{Leads}
 use Rattle.fabric_coherence.specs.Recorded.{heard_by}
 use Rattle.sn_coherence.proofs.WhatFollows.{kept_meets_rows, kept_meets_notes}
-use Rattle.fabric_coherence.specs.View.{Beside, block_of, net_seen, message_seen}
+use Rattle.fabric_coherence.specs.View.{Beside, block_seen, net_seen, message_seen}
 use Rattle.fabric_coherence.specs.Steps.{IsShaped, IsInFlight, elsewhere, named}
 use Rattle.fabric_coherence.specs.Sends.{OutsWithin}
 use Rattle.fabric_coherence.specs.CacheSeen.{settled_elsewhere}
@@ -68,9 +68,9 @@ module _ (nodes home : ℕ) (some : 1 ≤ nodes) (home_low : home < nodes) (at :
   settled_fits None = (long, tt)
   settled_fits (Some miss) = settled_by_fits miss.fixed miss
 
-module _ (s : Fabric) (t : Beside) (m : Message) (shape : IsShaped s) (flight : IsInFlight s m) (kept : Kept (length s.nodes) (block_of s t m.block)) (reached : m.tag ≤ (node_at s m.to).now) where
+module _ (s : Fabric) (t : Beside) (m : Message) (shape : IsShaped s) (flight : IsInFlight s m) (kept : AllSentences (length s.nodes) (block_seen s t m.block)) (reached : m.tag ≤ (node_at s m.to).now) where
   abbrev here : block.Block
-  here = block_of s t m.block
+  here = block_seen s t m.block
 
   abbrev at : Logged
   at = logged_at s m.to
@@ -107,7 +107,7 @@ module _ (s : Fabric) (t : Beside) (m : Message) (shape : IsShaped s) (flight : 
   Becomes event = after (length s.nodes) here event
 
   abbrev Passing : ℕ → ℕ → block.Block
-  Passing count o = elsewhere (block_of s t o) m.id count
+  Passing count o = elsewhere (block_seen s t o) m.id count
 
   -- an event by which its receiver loses its copy
   to_is : (x : Body) → m.body ≡ x → (message_seen m x).to ≡ m.to → (here.net m.id).to ≡ m.to
@@ -127,9 +127,9 @@ module _ (s : Fabric) (t : Beside) (m : Message) (shape : IsShaped s) (flight : 
       (λ x. ap (unreserves x) (to_is (Inv r) is refl))
       (event_leads (length s.nodes) here (Invalidate m.id) (arrives (Inv r) block.Inv is refl refl refl) (λ x. arrives (Inv r) block.Inv is refl refl refl)))
 
-  passed_by : (c : Bool) (o : ℕ) (d : block.Block) → o ≢ m.block → Leads (length s.nodes) (block_of s t o) (λ r. r) d →
-      Leads (length s.nodes) (block_of s t o) (heard_by (told_of m.to (if c then Some m.block else None)) o) d
-  passed_by true o d other x = leads_as (length s.nodes) (block_of s t o) d (λ r. r) (heard_by (told_of m.to (Some m.block)) o) (told_there m.to m.block o other) x
+  passed_by : (c : Bool) (o : ℕ) (d : block.Block) → o ≢ m.block → Leads (length s.nodes) (block_seen s t o) (λ r. r) d →
+      Leads (length s.nodes) (block_seen s t o) (heard_by (told_of m.to (if c then Some m.block else None)) o) d
+  passed_by true o d other x = leads_as (length s.nodes) (block_seen s t o) d (λ r. r) (heard_by (told_of m.to (Some m.block)) o) (told_there m.to m.block o other) x
   passed_by false o d other x = x
 
   -- the node that the message names is there
@@ -142,7 +142,7 @@ module _ (s : Fabric) (t : Beside) (m : Message) (shape : IsShaped s) (flight : 
       own = forward_read-seen s t m shape flight r is (meets_forward_read s t m flight rows r is);
       leads = quiet_leads (length s.nodes) here (ForwardRead m.id) (arrives (FwdGetS r) block.FwdGetS is refl refl refl) tt;
       passes = λ o other. forward_read-elsewhere s t m shape flight (Becomes (ForwardRead m.id)) o other r;
-      passed = λ o other. elsewhere_leads (length s.nodes) (block_of s t o) m.id 1;
+      passed = λ o other. elsewhere_leads (length s.nodes) (block_seen s t o) m.id 1;
       loses = refl;
       lines = as_long (record { state = Owned; content = (line_of at.cache m.block).content });
       sends = ((names_in (FwdGetS r) is, shape.some), tt);
@@ -153,7 +153,7 @@ module _ (s : Fabric) (t : Beside) (m : Message) (shape : IsShaped s) (flight : 
       own = forward_write-seen s t m shape flight (meets_forward_write s t m flight rows r a is) (notes_forward_write s t m flight notes r a is) r a is;
       leads = lost_copy (ForwardWrite m.id) (arrives (FwdGetM r a) block.FwdGetM is refl refl refl) (λ x. arrives (FwdGetM r a) block.FwdGetM is refl refl refl) (λ x. ap (unreserves x) (to_is (FwdGetM r a) is refl));
       passes = λ o other. forward_write-elsewhere s t m shape flight (Becomes (ForwardWrite m.id)) o other r a (notes_forward_write s t m flight notes r a is);
-      passed = λ o other. passed_by true o (Passing 1 o) other (elsewhere_leads (length s.nodes) (block_of s t o) m.id 1);
+      passed = λ o other. passed_by true o (Passing 1 o) other (elsewhere_leads (length s.nodes) (block_seen s t o) m.id 1);
       loses = refl;
       lines = as_long no_line;
       sends = ((names_in (FwdGetM r a) is, shape.some), tt);
@@ -164,7 +164,7 @@ module _ (s : Fabric) (t : Beside) (m : Message) (shape : IsShaped s) (flight : 
       own = invalidate-seen s t m shape flight r is (meets_invalidate s t m flight rows r is);
       leads = lost_or_absent (is_present (line_of at.cache m.block).state) r is refl;
       passes = λ o other. invalidate-elsewhere s t m shape flight (Becomes (Invalidate m.id)) o other r;
-      passed = λ o other. passed_by (is_present (line_of at.cache m.block).state) o (Passing 1 o) other (elsewhere_leads (length s.nodes) (block_of s t o) m.id 1);
+      passed = λ o other. passed_by (is_present (line_of at.cache m.block).state) o (Passing 1 o) other (elsewhere_leads (length s.nodes) (block_seen s t o) m.id 1);
       loses = refl;
       lines = as_long no_line;
       sends = ((names_in (Inv r) is, shape.some), tt);
@@ -176,7 +176,7 @@ module _ (s : Fabric) (t : Beside) (m : Message) (shape : IsShaped s) (flight : 
     own = put_go-seen s t m shape flight may.0 low is;
     leads = lost_copy (PutGoes m.id) (arrives PutGo block.PutGo is refl refl refl) (λ x. arrives PutGo block.PutGo is refl refl refl) (λ x. ap (unreserves x) (to_is PutGo is refl));
     passes = λ o other. put_go-elsewhere s t m shape flight (Becomes (PutGoes m.id)) o other low;
-    passed = λ o other. passed_by true o (end_put_elsewhere (Passing 1 o) m.to) other (end_put_elsewhere_leads (length s.nodes) (block_of s t o) (Passing 1 o) m.to (elsewhere_leads (length s.nodes) (block_of s t o) m.id 1) (puts_elsewhere (node_at s m.to).cache.put m.block o may.1 other));
+    passed = λ o other. passed_by true o (end_put_elsewhere (Passing 1 o) m.to) other (end_put_elsewhere_leads (length s.nodes) (block_seen s t o) (Passing 1 o) m.to (elsewhere_leads (length s.nodes) (block_seen s t o) m.id 1) (puts_elsewhere (node_at s m.to).cache.put m.block o may.1 other));
     loses = refl;
     lines = as_long no_line;
     sends = ((kept.nodes.home_low, shape.some), tt);
@@ -193,7 +193,7 @@ module _ (s : Fabric) (t : Beside) (m : Message) (shape : IsShaped s) (flight : 
     own = put_done-seen s t m shape flight is;
     leads = quiet_leads (length s.nodes) here (PutIsDone m.id) (arrives PutDone block.PutDone is refl refl refl) tt;
     passes = λ o other. put_done-elsewhere s t m shape flight (Becomes (PutIsDone m.id)) o other;
-    passed = λ o other. end_put_elsewhere_leads (length s.nodes) (block_of s t o) (Passing 0 o) m.to (elsewhere_leads (length s.nodes) (block_of s t o) m.id 0)
+    passed = λ o other. end_put_elsewhere_leads (length s.nodes) (block_seen s t o) (Passing 0 o) m.to (elsewhere_leads (length s.nodes) (block_seen s t o) m.id 0)
         (puts_elsewhere (node_at s m.to).cache.put m.block o (meets_put_done s t m flight rows is) other);
     loses = refl;
     lines = long;
@@ -206,7 +206,7 @@ module _ (s : Fabric) (t : Beside) (m : Message) (shape : IsShaped s) (flight : 
     own = data_shared-seen s t m shape flight content is may.0 may.1;
     leads = quiet_leads (length s.nodes) here (DataShared m.id) (arrives (DataS content) block.DataS is refl refl refl) tt;
     passes = λ o other. data_shared-elsewhere s t m shape flight (Becomes (DataShared m.id)) o other content may.0 may.1;
-    passed = λ o other. end_miss_elsewhere_leads (length s.nodes) (block_of s t o) (Passing 1 o) m.to (elsewhere_leads (length s.nodes) (block_of s t o) m.id 1) (awaits_elsewhere (node_at s m.to).cache.miss m.block o Read may.0.0 other);
+    passed = λ o other. end_miss_elsewhere_leads (length s.nodes) (block_seen s t o) (Passing 1 o) m.to (elsewhere_leads (length s.nodes) (block_seen s t o) m.id 1) (awaits_elsewhere (node_at s m.to).cache.miss m.block o Read may.0.0 other);
     loses = settled_loses (record at { cache = with_line at.cache m.block Shared content }) home (fixed_at at.cache.miss m.tag 0);
     lines = settles.0;
     sends = settles.1;
@@ -223,7 +223,7 @@ module _ (s : Fabric) (t : Beside) (m : Message) (shape : IsShaped s) (flight : 
     own = data_exclusive-seen s t m shape flight content is may.0 may.1 low;
     leads = quiet_leads (length s.nodes) here (DataExclusive m.id) (arrives (DataE content) block.DataE is refl refl refl) tt;
     passes = λ o other. data_exclusive-elsewhere s t m shape flight (Becomes (DataExclusive m.id)) o other content may.0 may.1 low;
-    passed = λ o other. end_miss_elsewhere_leads (length s.nodes) (block_of s t o) (Passing 1 o) m.to (elsewhere_leads (length s.nodes) (block_of s t o) m.id 1) (awaits_elsewhere (node_at s m.to).cache.miss m.block o Read may.0.0 other);
+    passed = λ o other. end_miss_elsewhere_leads (length s.nodes) (block_seen s t o) (Passing 1 o) m.to (elsewhere_leads (length s.nodes) (block_seen s t o) m.id 1) (awaits_elsewhere (node_at s m.to).cache.miss m.block o Read may.0.0 other);
     loses = settled_loses (taken_over at m.block m.tag Exclusive content) home (fixed_at at.cache.miss m.tag 0);
     lines = settles.0;
     sends = settles.1;
@@ -238,12 +238,12 @@ module _ (s : Fabric) (t : Beside) (m : Message) (shape : IsShaped s) (flight : 
       settles : (length (data_exclusive at home m.block m.tag content).after.cache.lines ≡ block_count) × OutsWithin (data_exclusive at home m.block m.tag content).sends (length s.nodes)
       settles = settled_fits (length s.nodes) home shape.some kept.nodes.home_low (taken_over at m.block m.tag Exclusive content) (as_long (record { state = Exclusive; content = content })) (fixed_at at.cache.miss m.tag 0)
 
-  pub data_modified-event : (content : List ℕ) (a : ℕ) → m.body ≡ DataM content a → IsCacheEvent s t m (data_modified at home m.block m.tag content a) (DataModified m.id) (λ o. settled_elsewhere (block_of s t o) m.id m.to ((here.miss m.to).acks == a)) None
+  pub data_modified-event : (content : List ℕ) (a : ℕ) → m.body ≡ DataM content a → IsCacheEvent s t m (data_modified at home m.block m.tag content a) (DataModified m.id) (λ o. settled_elsewhere (block_seen s t o) m.id m.to ((here.miss m.to).acks == a)) None
   data_modified-event content a is = record {
     own = data_modified-seen s t m shape flight content a is may low;
     leads = quiet_leads (length s.nodes) here (DataModified m.id) (arrives (DataM content a) block.DataM is refl refl refl) tt;
     passes = λ o other. data_modified-elsewhere s t m shape flight (Becomes (DataModified m.id)) o other content a may low;
-    passed = λ o other. settled_leads (length s.nodes) (block_of s t o) m.id m.to ((here.miss m.to).acks == a) (awaits_elsewhere (node_at s m.to).cache.miss m.block o Write may.0 other);
+    passed = λ o other. settled_leads (length s.nodes) (block_seen s t o) m.id m.to ((here.miss m.to).acks == a) (awaits_elsewhere (node_at s m.to).cache.miss m.block o Write may.0 other);
     loses = settled_loses (taken_over at m.block m.tag Modified content) home (fixed_at at.cache.miss m.tag a);
     lines = settles.0;
     sends = settles.1;
@@ -258,12 +258,12 @@ module _ (s : Fabric) (t : Beside) (m : Message) (shape : IsShaped s) (flight : 
       settles : (length (data_modified at home m.block m.tag content a).after.cache.lines ≡ block_count) × OutsWithin (data_modified at home m.block m.tag content a).sends (length s.nodes)
       settles = settled_fits (length s.nodes) home shape.some kept.nodes.home_low (taken_over at m.block m.tag Modified content) (as_long (record { state = Modified; content = content })) (fixed_at at.cache.miss m.tag a)
 
-  pub upgrade_granted-event : (a : ℕ) → m.body ≡ UpgOk a → IsCacheEvent s t m (upgrade_granted at home m.tag a) (UpgradeGranted m.id) (λ o. settled_elsewhere (block_of s t o) m.id m.to ((here.miss m.to).acks == a)) None
+  pub upgrade_granted-event : (a : ℕ) → m.body ≡ UpgOk a → IsCacheEvent s t m (upgrade_granted at home m.tag a) (UpgradeGranted m.id) (λ o. settled_elsewhere (block_seen s t o) m.id m.to ((here.miss m.to).acks == a)) None
   upgrade_granted-event a is = record {
     own = upgrade_granted-seen s t m shape flight a is may;
     leads = quiet_leads (length s.nodes) here (UpgradeGranted m.id) (arrives (UpgOk a) block.UpgOk is refl refl refl) tt;
     passes = λ o other. upgrade_granted-elsewhere s t m shape flight (Becomes (UpgradeGranted m.id)) o other a may;
-    passed = λ o other. settled_leads (length s.nodes) (block_of s t o) m.id m.to ((here.miss m.to).acks == a) (awaits_elsewhere (node_at s m.to).cache.miss m.block o Write may.0 other);
+    passed = λ o other. settled_leads (length s.nodes) (block_seen s t o) m.id m.to ((here.miss m.to).acks == a) (awaits_elsewhere (node_at s m.to).cache.miss m.block o Write may.0 other);
     loses = settled_loses at home (fixed_at at.cache.miss m.tag a);
     lines = settles.0;
     sends = settles.1;
@@ -275,12 +275,12 @@ module _ (s : Fabric) (t : Beside) (m : Message) (shape : IsShaped s) (flight : 
       settles : (length (upgrade_granted at home m.tag a).after.cache.lines ≡ block_count) × OutsWithin (upgrade_granted at home m.tag a).sends (length s.nodes)
       settles = settled_fits (length s.nodes) home shape.some kept.nodes.home_low at long (fixed_at at.cache.miss m.tag a)
 
-  pub acknowledge-event : m.body ≡ InvAck → IsCacheEvent s t m (acknowledge at home) (Acknowledge m.id) (λ o. settled_elsewhere (block_of s t o) m.id m.to ((here.miss m.to).is_fixed && ((here.miss m.to).acks + 1 == (here.miss m.to).due))) None
+  pub acknowledge-event : m.body ≡ InvAck → IsCacheEvent s t m (acknowledge at home) (Acknowledge m.id) (λ o. settled_elsewhere (block_seen s t o) m.id m.to ((here.miss m.to).is_fixed && ((here.miss m.to).acks + 1 == (here.miss m.to).due))) None
   acknowledge-event is = record {
     own = acknowledge-seen s t m shape flight is may (fixed_owns s t m flight kept.stages);
     leads = quiet_leads (length s.nodes) here (Acknowledge m.id) (arrives InvAck block.InvAck is refl refl refl) tt;
     passes = λ o other. acknowledge-elsewhere s t m shape flight (Becomes (Acknowledge m.id)) o other may;
-    passed = λ o other. settled_leads (length s.nodes) (block_of s t o) m.id m.to ((here.miss m.to).is_fixed && ((here.miss m.to).acks + 1 == (here.miss m.to).due)) (counts_elsewhere (node_at s m.to).cache.miss m.block o may other);
+    passed = λ o other. settled_leads (length s.nodes) (block_seen s t o) m.id m.to ((here.miss m.to).is_fixed && ((here.miss m.to).acks + 1 == (here.miss m.to).due)) (counts_elsewhere (node_at s m.to).cache.miss m.block o may other);
     loses = settled_loses at home (acknowledged at.cache.miss);
     lines = settles.0;
     sends = settles.1;

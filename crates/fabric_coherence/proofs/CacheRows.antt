@@ -14,7 +14,7 @@ use Rattle.sn_coherence.specs.Block as block
 use Rattle.sn_coherence.specs.Log.{was_owned, old_content, told_at, NoteLaw}
 use Rattle.sn_coherence.specs.CacheRows as rows
 use Rattle.sn_coherence.proofs.Log.{note_law}
-use Rattle.fabric_coherence.specs.View.{Beside, block_of, message_seen}
+use Rattle.fabric_coherence.specs.View.{Beside, block_seen, message_seen}
 use Rattle.fabric_coherence.specs.Steps.{IsShaped, IsInFlight}
 use Rattle.fabric_coherence.specs.CacheSeen.{IsOwnRow}
 use Rattle.fabric_coherence.proofs.CacheSeen.{set_kept, home_side_same, home_side_noted_owned}
@@ -22,7 +22,7 @@ use Rattle.fabric_coherence.proofs.CacheSends.{line_written, one_sent, none_sent
 
 module _ (s : Fabric) (t : Beside) (m : Message) (shape : IsShaped s) (flight : IsInFlight s m) where
   abbrev pub here : block.Block
-  here = block_of s t m.block
+  here = block_seen s t m.block
 
   abbrev pub line_here : Line
   line_here = line_of (node_at s m.to).cache m.block

@@ -16,7 +16,7 @@ use Rattle.sn_coherence.specs.Block.{Block, Message as Seen, gone, set, set_row}
 use Rattle.sn_coherence.specs.Same.{IsSame}
 use Rattle.sn_coherence.specs.Log.{was_owned, old_content, was_home, old_cache, told_at}
 use Rattle.sn_coherence.proofs.Log.{note_law}
-use Rattle.fabric_coherence.specs.View.{Beside, block_of, line_seen, content_held, miss_seen, put_seen, put_issued, net_seen, is_for_all, message_seen, is_itself, owner_of, content_of}
+use Rattle.fabric_coherence.specs.View.{Beside, block_seen, line_seen, content_held, miss_seen, put_seen, put_issued, net_seen, is_for_all, message_seen, is_itself, owner_of, content_of}
 use Rattle.fabric_coherence.specs.Steps.{after_cache, beside_with, losing, Below}
 use Rattle.fabric_coherence.specs.CacheSeen.{cache_seen, KeepsHomeSide, KeepsCacheSide, with_row, IsRow}
 use Rattle.fabric_coherence.proofs.Base.{read_set, seen-answered}
@@ -124,14 +124,14 @@ module _ (s : Fabric) (t : Beside) (m : Message) (reply : CacheReply) (o : ℕ) 
   kept_at_home : {A : Type 0} (f : Node → A) → f after ≡ f (node_at s m.to) → f (slice_index_or nodes_after (o % length nodes_after) first_node) ≡ f (node_at s (o % length s.nodes))
   kept_at_home f e = ap (λ k. f (slice_index_or nodes_after (o % k) first_node)) as_many ∙ kept f (o % length s.nodes) e
 
-  pub row_seen : line_of reply.after.cache o ≡ line → KeepsHomeSide (node_at s m.to).log reply.after.log o → IsSame (block_of (after_cache s m reply).fabric t o) (cache_seen s t m reply line o)
+  pub row_seen : line_of reply.after.cache o ≡ line → KeepsHomeSide (node_at s m.to).log reply.after.log o → IsSame (block_seen (after_cache s m reply).fabric t o) (cache_seen s t m reply line o)
   row_seen e k = record {
     point = refl;
     home = ap (λ n. o % n) as_many;
     now = λ n. kept (λ x. x.now) n refl;
     known = λ n. kept (λ x. x.known) n refl;
-    line = λ n. through (λ x. line_seen (line_of x.cache o).state) n ∙ ap (λ l. set (block_of s t o).line m.to (line_seen l.state) n) e;
-    content = λ n. through (λ x. (line_of x.cache o).content) n ∙ ap (λ l. set (block_of s t o).content m.to l.content n) e;
+    line = λ n. through (λ x. line_seen (line_of x.cache o).state) n ∙ ap (λ l. set (block_seen s t o).line m.to (line_seen l.state) n) e;
+    content = λ n. through (λ x. (line_of x.cache o).content) n ∙ ap (λ l. set (block_seen s t o).content m.to l.content n) e;
     miss = through (λ x. miss_seen o x.cache.miss);
     putting = through (λ x. put_seen o x.cache.put);
     put_issued = through (λ x. put_issued x.cache.put);
@@ -144,8 +144,8 @@ module _ (s : Fabric) (t : Beside) (m : Message) (reply : CacheReply) (o : ℕ) 
     begun = refl;
     net = λ i. refl;
     next = refl;
-    holds = λ n j. through (λ x. told_at was_owned x.log false o (is_owned (line_of x.cache o).state) j) n ∙ ap (λ l. set_row (block_of s t o).holds m.to (told_at was_owned reply.after.log false o (is_owned l.state)) n j) e;
-    held = λ n j. through (λ x. told_at old_content x.log false o (content_held (line_of x.cache o)) j) n ∙ ap (λ l. set_row (block_of s t o).held m.to (told_at old_content reply.after.log false o (content_held l)) n j) e;
+    holds = λ n j. through (λ x. told_at was_owned x.log false o (is_owned (line_of x.cache o).state) j) n ∙ ap (λ l. set_row (block_seen s t o).holds m.to (told_at was_owned reply.after.log false o (is_owned l.state)) n j) e;
+    held = λ n j. through (λ x. told_at old_content x.log false o (content_held (line_of x.cache o)) j) n ∙ ap (λ l. set_row (block_seen s t o).held m.to (told_at old_content reply.after.log false o (content_held l)) n j) e;
     last = through (λ x. logged_to x.log false o);
     named_home = λ j. kept_at_home (λ x. told_at was_home x.log true o (is_itself (home_of s o).holder) j) (k.home (is_itself (home_of s o).holder) j);
     named = λ j. kept_at_home (λ x. told_at old_cache x.log true o (owner_of (home_of s o).holder) j) (k.cache (owner_of (home_of s o).holder) j);
@@ -159,7 +159,7 @@ module _ (s : Fabric) (t : Beside) (m : Message) (reply : CacheReply) (o : ℕ) 
 
   -- a row that is seen like this is the row of its own block
   pub own_row : (row : Block) → line_of reply.after.cache o ≡ line → KeepsHomeSide (node_at s m.to).log reply.after.log o → IsRow (cache_seen s t m reply line o) row →
-      IsSame (block_of (after_cache s m reply).fabric (beside_with t o row) o) (with_row (block_of s t o) row)
+      IsSame (block_seen (after_cache s m reply).fabric (beside_with t o row) o) (with_row (block_seen s t o) row)
   own_row row e k h = record {
     point = r.point;
     home = r.home;
@@ -192,7 +192,7 @@ module _ (s : Fabric) (t : Beside) (m : Message) (reply : CacheReply) (o : ℕ) 
     framed = λ n j. refl;
   }
     where
-      r : IsSame (block_of (after_cache s m reply).fabric t o) (cache_seen s t m reply line o)
+      r : IsSame (block_seen (after_cache s m reply).fabric t o) (cache_seen s t m reply line o)
       r = row_seen e k
 
   -- the interval under which the row sends

@@ -14,10 +14,10 @@ use Rattle.sn_model.specs.Homes.{Holder, Itself, OfCache, Transaction}
 use Rattle.sn_model.specs.Fabric.{Fabric, node_at, home_of, home_node}
 use Rattle.sn_coherence.specs.Block as block
 use Rattle.sn_coherence.specs.Consequences.{HasOneHolder as BlockHolder}
-use Rattle.sn_coherence.specs.Kept.{Kept}
+use Rattle.sn_coherence.specs.Kept.{AllSentences}
 use Rattle.sn_coherence.specs.Log.{was_owned, was_home, old_cache, told}
 use Rattle.sn_coherence.proofs.WhatFollows.{kept_one_holder}
-use Rattle.fabric_coherence.specs.View.{Beside, block_of, line_seen, miss_seen, is_itself, owner_of, kind_open, begun_of}
+use Rattle.fabric_coherence.specs.View.{Beside, block_seen, line_seen, miss_seen, is_itself, owner_of, kind_open, begun_of}
 use Rattle.fabric_coherence.specs.Coherent.{IsKept}
 use Rattle.sn_model.specs.RecoveryPoint.{IsHeld}
 use Rattle.fabric_coherence.specs.Holders.{HasOneWriter, HasHolder, IsCoherent}
@@ -88,13 +88,13 @@ module _ (s : Fabric) (b k : ℕ) (one : HasOneHolder s b k) where
   one_held = held_as (names_at s b k) refl
 
 module _ (s : Fabric) (t : Beside) (b : ℕ) where
-  pub holds_is : (n k : ℕ) → is_some (holds_at s n b k) ≡ (block_of s t b).holds n k
+  pub holds_is : (n k : ℕ) → is_some (holds_at s n b k) ≡ (block_seen s t b).holds n k
   holds_is n k = held_told (entry_at (node_at s n).log false b k) (line_of (node_at s n).cache b)
 
-  pub names_home : (k : ℕ) → is_itself (names_at s b k) ≡ (block_of s t b).named_home k
+  pub names_home : (k : ℕ) → is_itself (names_at s b k) ≡ (block_seen s t b).named_home k
   names_home k = (named_told (entry_at (node_at s (home_node s b)).log true b k) (home_of s b).holder (entry_sided (node_at s (home_node s b)).log true b k)).0
 
-  names_owner : (k : ℕ) → owner_of (names_at s b k) ≡ (block_of s t b).named k
+  names_owner : (k : ℕ) → owner_of (names_at s b k) ≡ (block_seen s t b).named k
   names_owner k = (named_told (entry_at (node_at s (home_node s b)).log true b k) (home_of s b).holder (entry_sided (node_at s (home_node s b)).log true b k)).1
 
   -- nothing was begun below k
@@ -102,19 +102,19 @@ module _ (s : Fabric) (t : Beside) (b : ℕ) where
   begun_by None k h is = absurd (is refl)
   begun_by (Some x) k h is = grind (arith, nat_tests)
 
-  names_cache : (n k : ℕ) → (block_of s t b).named_home k ≡ false → (block_of s t b).named k ≡ n → names_at s b k ≡ OfCache n
+  names_cache : (n k : ℕ) → (block_seen s t b).named_home k ≡ false → (block_seen s t b).named k ≡ n → names_at s b k ≡ OfCache n
   names_cache n k h e = of-cache (names_at s b k) (names_home k ∙ h) ∙ ap OfCache (names_owner k ∙ e)
 
-  pub holder_of : Kept (length s.nodes) (block_of s t b) → (k : ℕ) → s.point ≤ k → transaction_before (home_of s b).transaction k ≡ false → HasOneHolder s b k
-  holder_of kept k low begun = let one = kept_one_holder (length s.nodes) (block_of s t b) kept k low (begun_by (home_of s b).transaction k begun) in record {
+  pub holder_of : AllSentences (length s.nodes) (block_seen s t b) → (k : ℕ) → s.point ≤ k → transaction_before (home_of s b).transaction k ≡ false → HasOneHolder s b k
+  holder_of kept k low begun = let one = kept_one_holder (length s.nodes) (block_seen s t b) kept k low (begun_by (home_of s b).transaction k begun) in record {
     named = λ n l h. let e = one.named n (sym (holds_is n k) ∙ h) in names_cache n k e.0 e.1;
     holds = λ n e. cached one n (ap is_itself e) (ap owner_of e);
   }
     where
-      cached : BlockHolder (length s.nodes) (block_of s t b) k → (n : ℕ) → is_itself (names_at s b k) ≡ false → owner_of (names_at s b k) ≡ n → (n < length s.nodes) × (is_some (holds_at s n b k) ≡ true)
+      cached : BlockHolder (length s.nodes) (block_seen s t b) k → (n : ℕ) → is_itself (names_at s b k) ≡ false → owner_of (names_at s b k) ≡ n → (n < length s.nodes) × (is_some (holds_at s n b k) ≡ true)
       cached one n h e =
           let held = one.holds (sym (names_home k) ∙ h) in
-          subst (λ m. (m < length s.nodes) × (is_some (holds_at s m b k) ≡ true)) (sym (names_owner k) ∙ e) (held.0, holds_is ((block_of s t b).named k) k ∙ held.1)
+          subst (λ m. (m < length s.nodes) × (is_some (holds_at s m b k) ≡ true)) (sym (names_owner k) ∙ e) (held.0, holds_is ((block_seen s t b).named k) k ∙ held.1)
 
   pub writable_seen : (x : LineState) → is_writable_state x ≡ true → block.is_writable (line_seen x) ≡ true
   writable_seen x h = grind (arith, h)
@@ -126,7 +126,7 @@ module _ (s : Fabric) (t : Beside) (b : ℕ) where
   misses_seen None h = refl
   misses_seen (Some x) h = grind (arith, nat_tests)
 
-  pub writer_of : Kept (length s.nodes) (block_of s t b) → HasOneWriter s b
+  pub writer_of : AllSentences (length s.nodes) (block_seen s t b) → HasOneWriter s b
   writer_of kept n m l q apart writes none =
       absent_seen (line_of (node_at s m).cache b).state
       (kept.sharing.writer_alone n m (writable_seen (line_of (node_at s n).cache b).state writes) (misses_seen (node_at s n).cache.miss none) apart)

@@ -15,9 +15,9 @@ use Rattle.sn_model.specs.NetEvents.{Busy, AtHome, unless_busy, kept_at, get_sha
 use Rattle.sn_coherence.specs.Block as block
 use Rattle.sn_coherence.specs.Consequences.{MeetsRows, MeetsNotes}
 use Rattle.sn_coherence.specs.Events.{Event, GrantExclusive, ReadAtHome, Upgrades, MovesOwnership, PutBegins, PutIsStale, PutDataComes, Unblocks, Allows, Arrives, Lists, other_sharers, after}
-use Rattle.sn_coherence.specs.Kept.{Kept}
+use Rattle.sn_coherence.specs.Kept.{AllSentences}
 use Rattle.sn_coherence.proofs.WhatFollows.{kept_meets_rows, kept_meets_notes}
-use Rattle.fabric_coherence.specs.View.{Beside, block_of, net_seen, message_seen, is_itself, owner_of, kind_seen, kind_open, requester_of}
+use Rattle.fabric_coherence.specs.View.{Beside, block_seen, net_seen, message_seen, is_itself, owner_of, kind_seen, kind_open, requester_of}
 use Rattle.fabric_coherence.specs.Steps.{IsShaped, IsInFlight}
 use Rattle.fabric_coherence.specs.HomeSeen.{IsHomeRow, IsHomeElsewhere, other_targets}
 use Rattle.fabric_coherence.specs.HomeEvents.{other_count, read_event, write_event, home_event}
@@ -27,12 +27,12 @@ use Rattle.fabric_coherence.proofs.HomeElsewhere.{read_at_home-elsewhere, read_a
 reply_is : (a b : row.HomeReply) → AtHome a ≡ AtHome b → a ≡ b
 reply_is a b h = cc
 
-module _ (s : Fabric) (t : Beside) (m : Message) (shape : IsShaped s) (flight : IsInFlight s m) (kept : Kept (length s.nodes) (block_of s t m.block)) (reached : m.tag ≤ (node_at s m.to).now) where
-  rows : MeetsRows (block_of s t m.block)
-  rows = kept_meets_rows (length s.nodes) (block_of s t m.block) shape.few kept
+module _ (s : Fabric) (t : Beside) (m : Message) (shape : IsShaped s) (flight : IsInFlight s m) (kept : AllSentences (length s.nodes) (block_seen s t m.block)) (reached : m.tag ≤ (node_at s m.to).now) where
+  rows : MeetsRows (block_seen s t m.block)
+  rows = kept_meets_rows (length s.nodes) (block_seen s t m.block) shape.few kept
 
-  notes : MeetsNotes (block_of s t m.block)
-  notes = kept_meets_notes (length s.nodes) (block_of s t m.block) kept
+  notes : MeetsNotes (block_seen s t m.block)
+  notes = kept_meets_notes (length s.nodes) (block_seen s t m.block) kept
 
   -- the message as its block sees it
   seen_as : (x : Body) → m.body ≡ x → net_seen m.block s.net.flights m.id ≡ message_seen m x
@@ -43,7 +43,7 @@ module _ (s : Fabric) (t : Beside) (m : Message) (shape : IsShaped s) (flight : 
   comes_home x is h to = sym to ∙ (subst (λ y. block.is_to_home y.body ≡ true → y.to ≡ home_node s m.block) (seen_as x is) (rows.home m.id)) h
 
   -- it has arrived, and finds no transaction
-  arrives : (x : Body) (y : block.Body) → m.body ≡ x → (message_seen m x).body ≡ y → (message_seen m x).to ≡ m.to → (message_seen m x).tag ≡ m.tag → Arrives (block_of s t m.block) m.id y
+  arrives : (x : Body) (y : block.Body) → m.body ≡ x → (message_seen m x).body ≡ y → (message_seen m x).to ≡ m.to → (message_seen m x).tag ≡ m.tag → Arrives (block_seen s t m.block) m.id y
   arrives x y is e to tag = (
     (λ p. (seen_as x is p).body) ∙ e,
     subst (λ z. z.tag ≤ (node_at s z.to).now) (sym (seen_as x is)) (subst (λ n. (message_seen m x).tag ≤ (node_at s n).now) (sym to) (subst (λ n. n ≤ (node_at s m.to).now) (sym tag) reached)),
@@ -64,16 +64,16 @@ module _ (s : Fabric) (t : Beside) (m : Message) (shape : IsShaped s) (flight : 
 
   -- an event that is the row, and is allowed
   abbrev Does : row.HomeReply → Event → Type 0
-  Does reply event = IsHomeRow s t m reply (after (length s.nodes) (block_of s t m.block) event) × Allows (length s.nodes) (block_of s t m.block) event
+  Does reply event = IsHomeRow s t m reply (after (length s.nodes) (block_seen s t m.block) event) × Allows (length s.nodes) (block_seen s t m.block) event
 
   listed_for : (x : Body) → m.body ≡ x → (message_seen m x).from ≡ m.from → m.to ≡ home_node s m.block →
-      Lists (length s.nodes) (other_sharers (block_of s t m.block) m.id) (other_targets (home_of s m.block).sharers m.from) (other_count s m)
+      Lists (length s.nodes) (other_sharers (block_seen s t m.block) m.id) (other_targets (home_of s m.block).sharers m.from) (other_count s m)
   listed_for x is e home = other_sharers-listed s t m shape flight home x is e kept.nodes.sharer_low
 
   -- GetS
   read_chosen : (c : Bool) (content : List ℕ) → nat_eq (other_count s m) 0 ≡ c → m.body ≡ GetS → m.to ≡ home_node s m.block → (home_of s m.block).transaction ≡ None → (home_of s m.block).holder ≡ Itself content →
-      IsHomeRow s t m (if c then row.grant_exclusive (kept_at s m.to m.block) m.block (node_at s m.to).now m.from content else row.read_at_home (kept_at s m.to m.block) (node_at s m.to).now m.from content) (after (length s.nodes) (block_of s t m.block) (if c then GrantExclusive m.id else ReadAtHome m.id))
-      × Allows (length s.nodes) (block_of s t m.block) (if c then GrantExclusive m.id else ReadAtHome m.id)
+      IsHomeRow s t m (if c then row.grant_exclusive (kept_at s m.to m.block) m.block (node_at s m.to).now m.from content else row.read_at_home (kept_at s m.to m.block) (node_at s m.to).now m.from content) (after (length s.nodes) (block_seen s t m.block) (if c then GrantExclusive m.id else ReadAtHome m.id))
+      × Allows (length s.nodes) (block_seen s t m.block) (if c then GrantExclusive m.id else ReadAtHome m.id)
   read_chosen true content count is home idle holder = (
     grant_exclusive-seen s t m shape flight home content is holder (late_now home),
     ((arrives GetS block.GetS is refl refl refl, λ p. kind_open (idle p)), λ p. is_itself (holder p), (listed_for GetS is refl home).all ∙ grind (arith, nat_tests)),
@@ -95,9 +95,9 @@ module _ (s : Fabric) (t : Beside) (m : Message) (shape : IsShaped s) (flight : 
 
   -- GetM
   write_chosen : (c : Bool) (owner : ℕ) → nat_eq owner m.from ≡ c → m.body ≡ GetM → m.to ≡ home_node s m.block → (home_of s m.block).transaction ≡ None → (home_of s m.block).holder ≡ OfCache owner →
-      IsHomeRow s t m (if c then row.upgrade (kept_at s m.to m.block) (node_at s m.to).now m.from else row.move_ownership (kept_at s m.to m.block) (node_at s m.to).now m.from owner) (after (length s.nodes) (block_of s t m.block)
+      IsHomeRow s t m (if c then row.upgrade (kept_at s m.to m.block) (node_at s m.to).now m.from else row.move_ownership (kept_at s m.to m.block) (node_at s m.to).now m.from owner) (after (length s.nodes) (block_seen s t m.block)
       (if c then Upgrades m.id (other_targets (home_of s m.block).sharers m.from) (other_count s m) else MovesOwnership m.id (other_targets (home_of s m.block).sharers m.from) (other_count s m)))
-      × Allows (length s.nodes) (block_of s t m.block) (if c then Upgrades m.id (other_targets (home_of s m.block).sharers m.from) (other_count s m) else MovesOwnership m.id (other_targets (home_of s m.block).sharers m.from) (other_count s m))
+      × Allows (length s.nodes) (block_seen s t m.block) (if c then Upgrades m.id (other_targets (home_of s m.block).sharers m.from) (other_count s m) else MovesOwnership m.id (other_targets (home_of s m.block).sharers m.from) (other_count s m))
   write_chosen true owner own is home idle holder = (
     upgrade-seen s t m shape flight home is,
     ((arrives GetM block.GetM is refl refl refl, λ p. kind_open (idle p)), (λ p. is_itself (holder p), (λ p. owner_of (holder p)) ∙ (same ∙ sym (λ p. (seen_as GetM is p).from))), listed_for GetM is refl home),
@@ -122,8 +122,8 @@ module _ (s : Fabric) (t : Beside) (m : Message) (shape : IsShaped s) (flight : 
 
   -- PutReq
   put_chosen : (c : Bool) → is_owner (home_of s m.block).holder m.from ≡ c → m.body ≡ PutReq → m.to ≡ home_node s m.block → (home_of s m.block).transaction ≡ None →
-      IsHomeRow s t m (if c then row.put_begins (kept_at s m.to m.block) (node_at s m.to).now m.from else row.put_is_stale (kept_at s m.to m.block) m.from) (after (length s.nodes) (block_of s t m.block) (if c then PutBegins m.id else PutIsStale m.id))
-      × Allows (length s.nodes) (block_of s t m.block) (if c then PutBegins m.id else PutIsStale m.id)
+      IsHomeRow s t m (if c then row.put_begins (kept_at s m.to m.block) (node_at s m.to).now m.from else row.put_is_stale (kept_at s m.to m.block) m.from) (after (length s.nodes) (block_seen s t m.block) (if c then PutBegins m.id else PutIsStale m.id))
+      × Allows (length s.nodes) (block_seen s t m.block) (if c then PutBegins m.id else PutIsStale m.id)
   put_chosen true own is home idle = (
     put_begins-seen s t m shape flight home is,
     ((arrives PutReq block.PutReq is refl refl refl, λ p. kind_open (idle p)), ((owned (home_of s m.block).holder own).0, (owned (home_of s m.block).holder own).1 ∙ sym (λ p. (seen_as PutReq is p).from))),

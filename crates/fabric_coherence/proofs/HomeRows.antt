@@ -21,7 +21,7 @@ use Rattle.sn_coherence.specs.HomeRows as seen
 use Rattle.sn_coherence.specs.Events.{Lists, other_sharers}
 use Rattle.sn_coherence.specs.Log.{told_at, was_owned, old_content, was_home, old_cache}
 use Rattle.sn_coherence.proofs.Log.{note_law}
-use Rattle.fabric_coherence.specs.View.{Beside, block_of, net_seen, message_seen, is_itself, owner_of, content_of, kind_seen, kind_open}
+use Rattle.fabric_coherence.specs.View.{Beside, block_seen, net_seen, message_seen, is_itself, owner_of, content_of, kind_seen, kind_open}
 use Rattle.fabric_coherence.specs.Steps.{lost_at_once, IsShaped, IsInFlight}
 use Rattle.fabric_coherence.specs.HomeSeen.{IsSameCaches, IsHomeRow, net_losing, other_targets}
 use Rattle.fabric_coherence.proofs.Base.{read_set}
@@ -66,9 +66,9 @@ module _ (s : Fabric) (t : Beside) (m : Message) (shape : IsShaped s) (flight : 
       ∙ (λ p. cond (n == (sym e ∙ (λ q. (seen_as x is q).from)) p) true (slice_index_or (home_of s m.block).sharers n false))
 
   pub read_at_owner-seen : (owner : ℕ) → m.body ≡ GetS → (home_of s m.block).holder ≡ OfCache owner →
-      IsHomeRow s t m (row.read_at_owner (kept_at s m.to m.block) (node_at s m.to).now m.from owner) (seen.read_at_owner (block_of s t m.block) m.id)
+      IsHomeRow s t m (row.read_at_owner (kept_at s m.to m.block) (node_at s m.to).now m.from owner) (seen.read_at_owner (block_seen s t m.block) m.id)
   read_at_owner-seen owner is holder = own-seen s m (row.read_at_owner (kept_at s m.to m.block) (node_at s m.to).now m.from owner) shape flight.to flight.block t
-      (seen.read_at_owner (block_of s t m.block) m.id) home (same_caches (node_at s m.to).log m.block) (record {
+      (seen.read_at_owner (block_seen s t m.block) m.id) home (same_caches (node_at s m.to).log m.block) (record {
         at_home = refl;
         owner = refl;
         home_content = refl;
@@ -86,9 +86,9 @@ module _ (s : Fabric) (t : Beside) (m : Message) (shape : IsShaped s) (flight : 
         home_last = λ p. logged_to (node_at s (home p)).log true m.block;
       })
 
-  pub read_at_home-seen : (content : List ℕ) → m.body ≡ GetS → (home_of s m.block).holder ≡ Itself content → IsHomeRow s t m (row.read_at_home (kept_at s m.to m.block) (node_at s m.to).now m.from content) (seen.read_at_home (block_of s t m.block) m.id)
+  pub read_at_home-seen : (content : List ℕ) → m.body ≡ GetS → (home_of s m.block).holder ≡ Itself content → IsHomeRow s t m (row.read_at_home (kept_at s m.to m.block) (node_at s m.to).now m.from content) (seen.read_at_home (block_seen s t m.block) m.id)
   read_at_home-seen content is holder = own-seen s m (row.read_at_home (kept_at s m.to m.block) (node_at s m.to).now m.from content) shape flight.to flight.block t
-      (seen.read_at_home (block_of s t m.block) m.id) home (same_caches (node_at s m.to).log m.block) (record {
+      (seen.read_at_home (block_seen s t m.block) m.id) home (same_caches (node_at s m.to).log m.block) (record {
         at_home = refl;
         owner = refl;
         home_content = refl;
@@ -106,9 +106,9 @@ module _ (s : Fabric) (t : Beside) (m : Message) (shape : IsShaped s) (flight : 
         home_last = λ p. logged_to (node_at s (home p)).log true m.block;
       })
 
-  pub put_begins-seen : m.body ≡ PutReq → IsHomeRow s t m (row.put_begins (kept_at s m.to m.block) (node_at s m.to).now m.from) (seen.put_begins (block_of s t m.block) m.id)
+  pub put_begins-seen : m.body ≡ PutReq → IsHomeRow s t m (row.put_begins (kept_at s m.to m.block) (node_at s m.to).now m.from) (seen.put_begins (block_seen s t m.block) m.id)
   put_begins-seen is = own-seen s m (row.put_begins (kept_at s m.to m.block) (node_at s m.to).now m.from) shape flight.to flight.block t
-      (seen.put_begins (block_of s t m.block) m.id) home (same_caches (node_at s m.to).log m.block) (record {
+      (seen.put_begins (block_seen s t m.block) m.id) home (same_caches (node_at s m.to).log m.block) (record {
         at_home = refl;
         owner = refl;
         home_content = refl;
@@ -126,9 +126,9 @@ module _ (s : Fabric) (t : Beside) (m : Message) (shape : IsShaped s) (flight : 
         home_last = λ p. logged_to (node_at s (home p)).log true m.block;
       })
 
-  pub put_is_stale-seen : m.body ≡ PutReq → IsHomeRow s t m (row.put_is_stale (kept_at s m.to m.block) m.from) (seen.put_is_stale (block_of s t m.block) m.id)
+  pub put_is_stale-seen : m.body ≡ PutReq → IsHomeRow s t m (row.put_is_stale (kept_at s m.to m.block) m.from) (seen.put_is_stale (block_seen s t m.block) m.id)
   put_is_stale-seen is = own-seen s m (row.put_is_stale (kept_at s m.to m.block) m.from) shape flight.to flight.block t
-      (seen.put_is_stale (block_of s t m.block) m.id) home (same_caches (node_at s m.to).log m.block) (record {
+      (seen.put_is_stale (block_seen s t m.block) m.id) home (same_caches (node_at s m.to).log m.block) (record {
         at_home = refl;
         owner = refl;
         home_content = refl;
@@ -147,9 +147,9 @@ module _ (s : Fabric) (t : Beside) (m : Message) (shape : IsShaped s) (flight : 
       })
 
   -- the home names the sender, and its newest entry isn't above the tag
-  pub put_data-seen : (content : List ℕ) → m.body ≡ PutData content → (home_of s m.block).holder ≡ OfCache m.from → logged_to (node_at s m.to).log true m.block ≤ m.tag + 1 → IsHomeRow s t m (row.put_data (kept_at s m.to m.block) m.block m.tag m.from content) (seen.put_data (block_of s t m.block) m.id)
+  pub put_data-seen : (content : List ℕ) → m.body ≡ PutData content → (home_of s m.block).holder ≡ OfCache m.from → logged_to (node_at s m.to).log true m.block ≤ m.tag + 1 → IsHomeRow s t m (row.put_data (kept_at s m.to m.block) m.block m.tag m.from content) (seen.put_data (block_seen s t m.block) m.id)
   put_data-seen content is holder late = own-seen s m (row.put_data (kept_at s m.to m.block) m.block m.tag m.from content) shape flight.to flight.block t
-      (seen.put_data (block_of s t m.block) m.id) home (caches-noted (node_at s m.to).log m.tag m.block (WasCache m.from) (λ h. grind (arith, h)) late m.block) (record {
+      (seen.put_data (block_seen s t m.block) m.id) home (caches-noted (node_at s m.to).log m.tag m.block (WasCache m.from) (λ h. grind (arith, h)) late m.block) (record {
         at_home = refl;
         owner = refl;
         home_content = λ p. (seen_as (PutData content) is p).content;
@@ -168,9 +168,9 @@ module _ (s : Fabric) (t : Beside) (m : Message) (shape : IsShaped s) (flight : 
         home_last = (note_law Bool was_home (node_at s m.to).log m.tag m.block (WasCache m.from) false true late refl).newest ∙ (λ p. (seen_as (PutData content) is p).tag + 1);
       })
 
-  pub grant_exclusive-seen : (content : List ℕ) → m.body ≡ GetS → (home_of s m.block).holder ≡ Itself content → logged_to (node_at s m.to).log true m.block ≤ (node_at s m.to).now + 1 → IsHomeRow s t m (row.grant_exclusive (kept_at s m.to m.block) m.block (node_at s m.to).now m.from content) (seen.grant_exclusive (block_of s t m.block) m.id)
+  pub grant_exclusive-seen : (content : List ℕ) → m.body ≡ GetS → (home_of s m.block).holder ≡ Itself content → logged_to (node_at s m.to).log true m.block ≤ (node_at s m.to).now + 1 → IsHomeRow s t m (row.grant_exclusive (kept_at s m.to m.block) m.block (node_at s m.to).now m.from content) (seen.grant_exclusive (block_seen s t m.block) m.id)
   grant_exclusive-seen content is holder late = own-seen s m (row.grant_exclusive (kept_at s m.to m.block) m.block (node_at s m.to).now m.from content) shape flight.to flight.block t
-      (seen.grant_exclusive (block_of s t m.block) m.id) home (caches-noted (node_at s m.to).log (node_at s m.to).now m.block (WasHome content) (λ h. grind (arith, h)) late m.block) (record {
+      (seen.grant_exclusive (block_seen s t m.block) m.id) home (caches-noted (node_at s m.to).log (node_at s m.to).now m.block (WasHome content) (λ h. grind (arith, h)) late m.block) (record {
         at_home = refl;
         owner = λ p. (seen_as GetS is p).from;
         home_content = refl;
@@ -193,18 +193,18 @@ module _ (s : Fabric) (t : Beside) (m : Message) (shape : IsShaped s) (flight : 
 
   -- a message, and an Inv to each other sharer
   inv_seen : (routes : Switches) (first : Out) (msg : block.Message) (e : block.Block) → message_seen (message_of s.net m.to (node_at s m.to).now m.block first) first.body ≡ msg →
-      e.net ≡ block.invalidates (block_of s t m.block) m.id msg (other_targets (home_of s m.block).sharers m.from) (row.count_others (home_of s m.block).sharers m.from) → m.body ≡ GetM → (i : ℕ) →
+      e.net ≡ block.invalidates (block_seen s t m.block) m.id msg (other_targets (home_of s m.block).sharers m.from) (row.count_others (home_of s m.block).sharers m.from) → m.body ≡ GetM → (i : ℕ) →
       net_seen m.block (posted routes (without_flight s.net m.id) m.to (node_at s m.to).now m.block (first ∷ row.invalidations 0 (row.others (home_of s m.block).sharers m.from) m.from)).flights i
       ≡ net_losing e.net (lost_at_once (sent_by routes (without_flight s.net m.id) m.to (node_at s m.to).now m.block (first ∷ row.invalidations 0 (row.others (home_of s m.block).sharers m.from) m.from))) i
   inv_seen routes first msg e first_is nets is i =
-      seen-invalidates routes s.net m.id m.to (node_at s m.to).now m.block first (row.others (home_of s m.block).sharers m.from) m.from i (block_of s t m.block) e msg shape.below refl (sym home) (λ p. (node_at s (sym home p)).now)
+      seen-invalidates routes s.net m.id m.to (node_at s m.to).now m.block first (row.others (home_of s m.block).sharers m.from) m.from i (block_seen s t m.block) e msg shape.below refl (sym home) (λ p. (node_at s (sym home p)).now)
       (sym (λ p. (seen_as GetM is p).from)) (λ j. refl) first_is (λ p. nets p i)
       ∙ (λ p. (losing_is e (lost_at_once (sent_by routes (without_flight s.net m.id) m.to (node_at s m.to).now m.block (first ∷ row.invalidations 0 (row.others (home_of s m.block).sharers m.from) m.from))) p).net i)
 
   pub take-seen : (content : List ℕ) → m.body ≡ GetM → (home_of s m.block).holder ≡ Itself content → logged_to (node_at s m.to).log true m.block ≤ (node_at s m.to).now + 1 →
-      IsHomeRow s t m (row.take (kept_at s m.to m.block) m.block (node_at s m.to).now m.from content) (seen.take (block_of s t m.block) m.id (other_targets (home_of s m.block).sharers m.from) (row.count_others (home_of s m.block).sharers m.from))
+      IsHomeRow s t m (row.take (kept_at s m.to m.block) m.block (node_at s m.to).now m.from content) (seen.take (block_seen s t m.block) m.id (other_targets (home_of s m.block).sharers m.from) (row.count_others (home_of s m.block).sharers m.from))
   take-seen content is holder late = own-seen s m (row.take (kept_at s m.to m.block) m.block (node_at s m.to).now m.from content) shape flight.to flight.block t
-      (seen.take (block_of s t m.block) m.id (other_targets (home_of s m.block).sharers m.from) (row.count_others (home_of s m.block).sharers m.from)) home (caches-noted (node_at s m.to).log (node_at s m.to).now m.block (WasHome content) (λ h. grind (arith, h)) late m.block) (record {
+      (seen.take (block_seen s t m.block) m.id (other_targets (home_of s m.block).sharers m.from) (row.count_others (home_of s m.block).sharers m.from)) home (caches-noted (node_at s m.to).log (node_at s m.to).now m.block (WasHome content) (λ h. grind (arith, h)) late m.block) (record {
         at_home = refl;
         owner = λ p. (seen_as GetM is p).from;
         home_content = refl;
@@ -212,7 +212,7 @@ module _ (s : Fabric) (t : Beside) (m : Message) (shape : IsShaped s) (flight : 
         kind = refl;
         requester = λ p. (seen_as GetM is p).from;
         begun = λ p. (node_at s (home p)).now;
-        net = λ routes i. inv_seen routes (send m.from (DataM content (row.count_others (home_of s m.block).sharers m.from))) (block.answer block.DataM (home_node s m.block) (net_seen m.block s.net.flights m.id).from (node_at s (home_node s m.block)).now (row.count_others (home_of s m.block).sharers m.from) (content_of (home_of s m.block).holder)) (seen.take (block_of s t m.block) m.id (other_targets (home_of s m.block).sharers m.from) (row.count_others (home_of s m.block).sharers m.from)) (λ p. block.answer block.DataM (home p) (seen_as GetM is p).from (node_at s (home p)).now (row.count_others (home_of s m.block).sharers m.from) (content_of (sym holder p))) refl is i;
+        net = λ routes i. inv_seen routes (send m.from (DataM content (row.count_others (home_of s m.block).sharers m.from))) (block.answer block.DataM (home_node s m.block) (net_seen m.block s.net.flights m.id).from (node_at s (home_node s m.block)).now (row.count_others (home_of s m.block).sharers m.from) (content_of (home_of s m.block).holder)) (seen.take (block_seen s t m.block) m.id (other_targets (home_of s m.block).sharers m.from) (row.count_others (home_of s m.block).sharers m.from)) (λ p. block.answer block.DataM (home p) (seen_as GetM is p).from (node_at s (home p)).now (row.count_others (home_of s m.block).sharers m.from) (content_of (sym holder p))) refl is i;
         next = λ routes. next-invalidates routes s.net m.id m.to (node_at s m.to).now m.block (send m.from (DataM content (row.count_others (home_of s m.block).sharers m.from))) (row.others (home_of s m.block).sharers m.from) m.from;
         named_home = λ j. (note_law Bool was_home (node_at s m.to).log (node_at s m.to).now m.block (WasHome content) true false late refl).cuts j
             ∙ (λ p. block.above (told_at was_home (node_at s (home p)).log true m.block (is_itself (sym holder p))) (node_at s (home p)).now false j);
@@ -223,9 +223,9 @@ module _ (s : Fabric) (t : Beside) (m : Message) (shape : IsShaped s) (flight : 
         home_last = (note_law Bool was_home (node_at s m.to).log (node_at s m.to).now m.block (WasHome content) true false late refl).newest ∙ (λ p. (node_at s (home p)).now + 1);
       })
 
-  pub move_ownership-seen : (owner : ℕ) → m.body ≡ GetM → (home_of s m.block).holder ≡ OfCache owner → IsHomeRow s t m (row.move_ownership (kept_at s m.to m.block) (node_at s m.to).now m.from owner) (seen.move_ownership (block_of s t m.block) m.id (other_targets (home_of s m.block).sharers m.from) (row.count_others (home_of s m.block).sharers m.from))
+  pub move_ownership-seen : (owner : ℕ) → m.body ≡ GetM → (home_of s m.block).holder ≡ OfCache owner → IsHomeRow s t m (row.move_ownership (kept_at s m.to m.block) (node_at s m.to).now m.from owner) (seen.move_ownership (block_seen s t m.block) m.id (other_targets (home_of s m.block).sharers m.from) (row.count_others (home_of s m.block).sharers m.from))
   move_ownership-seen owner is holder = own-seen s m (row.move_ownership (kept_at s m.to m.block) (node_at s m.to).now m.from owner) shape flight.to flight.block t
-      (seen.move_ownership (block_of s t m.block) m.id (other_targets (home_of s m.block).sharers m.from) (row.count_others (home_of s m.block).sharers m.from)) home (same_caches (node_at s m.to).log m.block) (record {
+      (seen.move_ownership (block_seen s t m.block) m.id (other_targets (home_of s m.block).sharers m.from) (row.count_others (home_of s m.block).sharers m.from)) home (same_caches (node_at s m.to).log m.block) (record {
         at_home = refl;
         owner = refl;
         home_content = refl;
@@ -233,7 +233,7 @@ module _ (s : Fabric) (t : Beside) (m : Message) (shape : IsShaped s) (flight : 
         kind = refl;
         requester = λ p. (seen_as GetM is p).from;
         begun = λ p. (node_at s (home p)).now;
-        net = λ routes i. inv_seen routes (send owner (FwdGetM m.from (row.count_others (home_of s m.block).sharers m.from))) (block.forward block.FwdGetM (home_node s m.block) (owner_of (home_of s m.block).holder) (node_at s (home_node s m.block)).now (net_seen m.block s.net.flights m.id).from (row.count_others (home_of s m.block).sharers m.from)) (seen.move_ownership (block_of s t m.block) m.id (other_targets (home_of s m.block).sharers m.from) (row.count_others (home_of s m.block).sharers m.from)) (λ p. block.forward block.FwdGetM (home p) (owner_of (sym holder p)) (node_at s (home p)).now (seen_as GetM is p).from (row.count_others (home_of s m.block).sharers m.from)) refl is i;
+        net = λ routes i. inv_seen routes (send owner (FwdGetM m.from (row.count_others (home_of s m.block).sharers m.from))) (block.forward block.FwdGetM (home_node s m.block) (owner_of (home_of s m.block).holder) (node_at s (home_node s m.block)).now (net_seen m.block s.net.flights m.id).from (row.count_others (home_of s m.block).sharers m.from)) (seen.move_ownership (block_seen s t m.block) m.id (other_targets (home_of s m.block).sharers m.from) (row.count_others (home_of s m.block).sharers m.from)) (λ p. block.forward block.FwdGetM (home p) (owner_of (sym holder p)) (node_at s (home p)).now (seen_as GetM is p).from (row.count_others (home_of s m.block).sharers m.from)) refl is i;
         next = λ routes. next-invalidates routes s.net m.id m.to (node_at s m.to).now m.block (send owner (FwdGetM m.from (row.count_others (home_of s m.block).sharers m.from))) (row.others (home_of s m.block).sharers m.from) m.from;
         named_home = λ j p. told_at was_home (node_at s (home p)).log true m.block (is_itself (home_of s m.block).holder) j;
         named = λ j p. told_at old_cache (node_at s (home p)).log true m.block (owner_of (home_of s m.block).holder) j;
@@ -241,9 +241,9 @@ module _ (s : Fabric) (t : Beside) (m : Message) (shape : IsShaped s) (flight : 
         home_last = λ p. logged_to (node_at s (home p)).log true m.block;
       })
 
-  pub upgrade-seen : m.body ≡ GetM → IsHomeRow s t m (row.upgrade (kept_at s m.to m.block) (node_at s m.to).now m.from) (seen.upgrade (block_of s t m.block) m.id (other_targets (home_of s m.block).sharers m.from) (row.count_others (home_of s m.block).sharers m.from))
+  pub upgrade-seen : m.body ≡ GetM → IsHomeRow s t m (row.upgrade (kept_at s m.to m.block) (node_at s m.to).now m.from) (seen.upgrade (block_seen s t m.block) m.id (other_targets (home_of s m.block).sharers m.from) (row.count_others (home_of s m.block).sharers m.from))
   upgrade-seen is = own-seen s m (row.upgrade (kept_at s m.to m.block) (node_at s m.to).now m.from) shape flight.to flight.block t
-      (seen.upgrade (block_of s t m.block) m.id (other_targets (home_of s m.block).sharers m.from) (row.count_others (home_of s m.block).sharers m.from)) home (same_caches (node_at s m.to).log m.block) (record {
+      (seen.upgrade (block_seen s t m.block) m.id (other_targets (home_of s m.block).sharers m.from) (row.count_others (home_of s m.block).sharers m.from)) home (same_caches (node_at s m.to).log m.block) (record {
         at_home = refl;
         owner = refl;
         home_content = refl;
@@ -251,7 +251,7 @@ module _ (s : Fabric) (t : Beside) (m : Message) (shape : IsShaped s) (flight : 
         kind = refl;
         requester = λ p. (seen_as GetM is p).from;
         begun = λ p. (node_at s (home p)).now;
-        net = λ routes i. inv_seen routes (send m.from (UpgOk (row.count_others (home_of s m.block).sharers m.from))) (block.answer block.UpgOk (home_node s m.block) (net_seen m.block s.net.flights m.id).from (node_at s (home_node s m.block)).now (row.count_others (home_of s m.block).sharers m.from) []) (seen.upgrade (block_of s t m.block) m.id (other_targets (home_of s m.block).sharers m.from) (row.count_others (home_of s m.block).sharers m.from)) (λ p. block.answer block.UpgOk (home p) (seen_as GetM is p).from (node_at s (home p)).now (row.count_others (home_of s m.block).sharers m.from) []) refl is i;
+        net = λ routes i. inv_seen routes (send m.from (UpgOk (row.count_others (home_of s m.block).sharers m.from))) (block.answer block.UpgOk (home_node s m.block) (net_seen m.block s.net.flights m.id).from (node_at s (home_node s m.block)).now (row.count_others (home_of s m.block).sharers m.from) []) (seen.upgrade (block_seen s t m.block) m.id (other_targets (home_of s m.block).sharers m.from) (row.count_others (home_of s m.block).sharers m.from)) (λ p. block.answer block.UpgOk (home p) (seen_as GetM is p).from (node_at s (home p)).now (row.count_others (home_of s m.block).sharers m.from) []) refl is i;
         next = λ routes. next-invalidates routes s.net m.id m.to (node_at s m.to).now m.block (send m.from (UpgOk (row.count_others (home_of s m.block).sharers m.from))) (row.others (home_of s m.block).sharers m.from) m.from;
         named_home = λ j p. told_at was_home (node_at s (home p)).log true m.block (is_itself (home_of s m.block).holder) j;
         named = λ j p. told_at old_cache (node_at s (home p)).log true m.block (owner_of (home_of s m.block).holder) j;
@@ -261,9 +261,9 @@ module _ (s : Fabric) (t : Beside) (m : Message) (shape : IsShaped s) (flight : 
 
   -- Unblock: of a Move ..
   unblock_move-row : (fixed r owner : ℕ) → m.body ≡ Unblock fixed → r ≡ m.from → (home_of s m.block).holder ≡ OfCache owner → logged_to (node_at s m.to).log true m.block ≤ fixed + 1 →
-      IsHomeRow s t m (record { after = row.closed (record { entry = record (home_of s m.block) { holder = OfCache r }; log = row.noted_owner (node_at s m.to).log fixed m.block (home_of s m.block).holder }); sends = [] }) (seen.unblock_move (block_of s t m.block) m.id)
+      IsHomeRow s t m (record { after = row.closed (record { entry = record (home_of s m.block) { holder = OfCache r }; log = row.noted_owner (node_at s m.to).log fixed m.block (home_of s m.block).holder }); sends = [] }) (seen.unblock_move (block_seen s t m.block) m.id)
   unblock_move-row fixed r owner is from holder late = own-seen s m (record { after = row.closed (record { entry = record (home_of s m.block) { holder = OfCache r }; log = row.noted_owner (node_at s m.to).log fixed m.block (home_of s m.block).holder }); sends = [] }) shape flight.to flight.block t
-      (seen.unblock_move (block_of s t m.block) m.id) home (caches-noted_owner (node_at s m.to).log fixed m.block (home_of s m.block).holder late m.block) (record {
+      (seen.unblock_move (block_seen s t m.block) m.id) home (caches-noted_owner (node_at s m.to).log fixed m.block (home_of s m.block).holder late m.block) (record {
         at_home = λ p. is_itself (sym holder p);
         owner = from ∙ (λ p. (seen_as (Unblock fixed) is p).from);
         home_content = λ p. content_of (sym holder p);
@@ -283,9 +283,9 @@ module _ (s : Fabric) (t : Beside) (m : Message) (shape : IsShaped s) (flight : 
             ∙ (λ p. (seen_as (Unblock fixed) is p).number + 1);
       })
 
-  unblock_other-row : (fixed : ℕ) → m.body ≡ Unblock fixed → IsHomeRow s t m (record { after = row.closed (kept_at s m.to m.block); sends = [] }) (seen.unblock_other (block_of s t m.block) m.id)
+  unblock_other-row : (fixed : ℕ) → m.body ≡ Unblock fixed → IsHomeRow s t m (record { after = row.closed (kept_at s m.to m.block); sends = [] }) (seen.unblock_other (block_seen s t m.block) m.id)
   unblock_other-row fixed is = own-seen s m (record { after = row.closed (kept_at s m.to m.block); sends = [] }) shape flight.to flight.block t
-      (seen.unblock_other (block_of s t m.block) m.id) home (same_caches (node_at s m.to).log m.block) (record {
+      (seen.unblock_other (block_seen s t m.block) m.id) home (same_caches (node_at s m.to).log m.block) (record {
         at_home = refl;
         owner = refl;
         home_content = refl;
@@ -303,7 +303,7 @@ module _ (s : Fabric) (t : Beside) (m : Message) (shape : IsShaped s) (flight : 
 
   -- .. and of any
   unblock_by : (fixed r begun : ℕ) (k : Kind) → m.body ≡ Unblock fixed → r ≡ m.from → (k ≡ kind.Move → is_itself (home_of s m.block).holder ≡ false) → (k ≡ kind.Move → logged_to (node_at s m.to).log true m.block ≤ fixed + 1) →
-      IsHomeRow s t m (row.unblock (kept_at s m.to m.block) m.block fixed (Some (record { kind = k; requester = r; begun = begun }))) (cond (seen.is_move (kind_seen k)) (seen.unblock_move (block_of s t m.block) m.id) (seen.unblock_other (block_of s t m.block) m.id))
+      IsHomeRow s t m (row.unblock (kept_at s m.to m.block) m.block fixed (Some (record { kind = k; requester = r; begun = begun }))) (cond (seen.is_move (kind_seen k)) (seen.unblock_move (block_seen s t m.block) m.id) (seen.unblock_other (block_seen s t m.block) m.id))
   unblock_by fixed r begun kind.Move is from holder late = unblock_move-row fixed r (owner_of (home_of s m.block).holder) is from (of-cache (home_of s m.block).holder (holder refl)) (late refl)
   unblock_by fixed r begun kind.Read is from holder late = unblock_other-row fixed is
   unblock_by fixed r begun kind.Take is from holder late = unblock_other-row fixed is
@@ -313,21 +313,21 @@ module _ (s : Fabric) (t : Beside) (m : Message) (shape : IsShaped s) (flight : 
   -- the transaction is its sender's; the home names a cache in a Move, and its newest entry isn't above the Unblock's interval
   pub unblock-seen : (fixed : ℕ) (transaction : Transaction) → m.body ≡ Unblock fixed → (home_of s m.block).transaction ≡ Some transaction → transaction.requester ≡ m.from →
       (transaction.kind ≡ kind.Move → is_itself (home_of s m.block).holder ≡ false) → (transaction.kind ≡ kind.Move → logged_to (node_at s m.to).log true m.block ≤ fixed + 1) →
-      IsHomeRow s t m (row.unblock (kept_at s m.to m.block) m.block fixed (home_of s m.block).transaction) (seen.unblock (block_of s t m.block) m.id)
+      IsHomeRow s t m (row.unblock (kept_at s m.to m.block) m.block fixed (home_of s m.block).transaction) (seen.unblock (block_seen s t m.block) m.id)
   unblock-seen fixed transaction is begun from holder late =
-      subst (λ x. IsHomeRow s t m (row.unblock (kept_at s m.to m.block) m.block fixed x) (cond (seen.is_move (kind_open x)) (seen.unblock_move (block_of s t m.block) m.id) (seen.unblock_other (block_of s t m.block) m.id)))
+      subst (λ x. IsHomeRow s t m (row.unblock (kept_at s m.to m.block) m.block fixed x) (cond (seen.is_move (kind_open x)) (seen.unblock_move (block_seen s t m.block) m.id) (seen.unblock_other (block_seen s t m.block) m.id)))
       (sym begun) (unblock_by fixed transaction.requester transaction.begun transaction.kind is from holder late)
 
   -- whom a row asks to invalidate: each other sharer once, where no sharer's number is that of no node
   pub other_sharers-listed : (x : Body) → m.body ≡ x → (message_seen m x).from ≡ m.from → ((n : ℕ) → slice_index_or (home_of s m.block).sharers n false ≡ true → n < length s.nodes) →
-      Lists (length s.nodes) (other_sharers (block_of s t m.block) m.id) (other_targets (home_of s m.block).sharers m.from) (row.count_others (home_of s m.block).sharers m.from)
-  other_sharers-listed x is e low = listed (length s.nodes) (other_sharers (block_of s t m.block) m.id) (row.others (home_of s m.block).sharers m.from) (λ n. sym (marked n)) (λ n l. marked n ∙ above_all n l)
+      Lists (length s.nodes) (other_sharers (block_seen s t m.block) m.id) (other_targets (home_of s m.block).sharers m.from) (row.count_others (home_of s m.block).sharers m.from)
+  other_sharers-listed x is e low = listed (length s.nodes) (other_sharers (block_seen s t m.block) m.id) (row.others (home_of s m.block).sharers m.from) (λ n. sym (marked n)) (λ n l. marked n ∙ above_all n l)
     where
-      marked : (n : ℕ) → slice_index_or (row.others (home_of s m.block).sharers m.from) n false ≡ other_sharers (block_of s t m.block) m.id n
+      marked : (n : ℕ) → slice_index_or (row.others (home_of s m.block).sharers m.from) n false ≡ other_sharers (block_seen s t m.block) m.id n
       marked n = read_set (home_of s m.block).sharers m.from n false false (omega (arith, shape.sharers m.block flight.block, flight.from, shape.few))
           ∙ (λ p. cond (n == (sym e ∙ (λ q. (seen_as x is q).from)) p) false (slice_index_or (home_of s m.block).sharers n false))
 
-      above_all : (n : ℕ) → length s.nodes ≤ n → other_sharers (block_of s t m.block) m.id n ≡ false
+      above_all : (n : ℕ) → length s.nodes ≤ n → other_sharers (block_seen s t m.block) m.id n ≡ false
       above_all n l = unmarked (n == (net_seen m.block s.net.flights m.id).from) (slice_index_or (home_of s m.block).sharers n false) refl
         where
           unmarked : (c d : Bool) → slice_index_or (home_of s m.block).sharers n false ≡ d → cond c false d ≡ false

@@ -13,7 +13,7 @@ use Rattle.sn_model.specs.Net.{is_full}
 use Rattle.sn_coherence.specs.OtherEvents.{begin_miss_elsewhere, numbers_elsewhere}
 use Rattle.sn_coherence.specs.Events.{Event, BeginReadMiss, BeginWriteMiss, NumbersElsewhere, Free, Allows, after}
 use Rattle.sn_coherence.specs.Same.{IsSame}
-use Rattle.fabric_coherence.specs.View.{Beside, block_of}
+use Rattle.fabric_coherence.specs.View.{Beside, block_seen}
 use Rattle.fabric_coherence.specs.Steps.{IsShaped, losing, lost_at_once}
 use Rattle.fabric_coherence.specs.Coherent.{IsKept}
 use Rattle.fabric_coherence.specs.Leads.{Moves}
@@ -31,15 +31,15 @@ begins_quiet need.Read n = tt
 begins_quiet need.Write n = tt
 
 module _ (s : Fabric) (t : Beside) (n : ℕ) (kept : IsKept s t) (l : n < length s.nodes) (none : has_miss (node_at s n).cache.miss ≡ false) where
-  pub free : (b : ℕ) → puts_on (node_at s n).cache.put b ≡ false → Free (length s.nodes) (block_of s t b) n
+  pub free : (b : ℕ) → puts_on (node_at s n).cache.put b ≡ false → Free (length s.nodes) (block_seen s t b) n
   free b apart = (l, no_miss_seen b (node_at s n).cache.miss none, put_apart b (node_at s n).cache.put apart)
 
   module _ (b : ℕ) (low : b < block_count) where
-    miss-seen : (access : Need) → IsSame (block_of (missed s n b access).fabric t b) (losing (after (length s.nodes) (block_of s t b) (begins access n)) (lost_at_once (missed s n b access).sent))
+    miss-seen : (access : Need) → IsSame (block_seen (missed s n b access).fabric t b) (losing (after (length s.nodes) (block_seen s t b) (begins access n)) (lost_at_once (missed s n b access).sent))
     miss-seen need.Read = read_miss-seen s t n b kept.shape l
     miss-seen need.Write = write_miss-seen s t n b kept.shape l
 
-    may_miss : (access : Need) → puts_on (node_at s n).cache.put b ≡ false → serves access (old_line s n b).state ≡ false → Allows (length s.nodes) (block_of s t b) (begins access n)
+    may_miss : (access : Need) → puts_on (node_at s n).cache.put b ≡ false → serves access (old_line s n b).state ≡ false → Allows (length s.nodes) (block_seen s t b) (begins access n)
     may_miss need.Read apart e = (free b apart, absent_seen (old_line s n b).state e)
     may_miss need.Write apart e = (free b apart, not_writable_seen (old_line s n b).state e)
 
@@ -51,13 +51,13 @@ module _ (s : Fabric) (t : Beside) (n : ℕ) (kept : IsKept s t) (l : n < length
     missed_moves access apart e = (
       t,
       goes_own s t (λ o r. r) (missed s n b access).fabric t (length-set s.nodes n _) (frames_stay s t) (miss-shaped access)
-          b (losing (after (length s.nodes) (block_of s t b) (begins access n)) (lost_at_once (missed s n b access).sent)) (λ o. losing (numbers_elsewhere (begin_miss_elsewhere (block_of s t o) n) 1) (lost_at_once (missed s n b access).sent))
+          b (losing (after (length s.nodes) (block_seen s t b) (begins access n)) (lost_at_once (missed s n b access).sent)) (λ o. losing (numbers_elsewhere (begin_miss_elsewhere (block_seen s t o) n) 1) (lost_at_once (missed s n b access).sent))
           (miss-seen access)
-          (quiet_losing (length s.nodes) (block_of s t b) (begins access n) (lost_at_once (missed s n b access).sent) (may_miss access apart e) (begins_quiet access n))
+          (quiet_losing (length s.nodes) (block_seen s t b) (begins access n) (lost_at_once (missed s n b access).sent) (may_miss access apart e) (begins_quiet access n))
           (λ o m other. other_miss-seen s t n o b access kept.shape l other)
-          (λ o m other. then_losing (length s.nodes) (block_of s t o) (numbers_elsewhere (begin_miss_elsewhere (block_of s t o) n) 1) (λ r. r) (lost_at_once (missed s n b access).sent)
-          (then_quiet (length s.nodes) (block_of s t o) (begin_miss_elsewhere (block_of s t o) n) (NumbersElsewhere 1)
-          (begin_miss_elsewhere_leads (length s.nodes) (block_of s t o) n l (no_miss_seen o (node_at s n).cache.miss none)) tt tt)),
+          (λ o m other. then_losing (length s.nodes) (block_seen s t o) (numbers_elsewhere (begin_miss_elsewhere (block_seen s t o) n) 1) (λ r. r) (lost_at_once (missed s n b access).sent)
+          (then_quiet (length s.nodes) (block_seen s t o) (begin_miss_elsewhere (block_seen s t o) n) (NumbersElsewhere 1)
+          (begin_miss_elsewhere_leads (length s.nodes) (block_seen s t o) n l (no_miss_seen o (node_at s n).cache.miss none)) tt tt)),
     )
 
     misses_moves : (config : Config) (access : Need) → puts_on (node_at s n).cache.put b ≡ false → serves access (old_line s n b).state ≡ false → Moves s t (misses config s n b access)

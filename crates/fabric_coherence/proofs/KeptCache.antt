@@ -12,8 +12,8 @@ use Rattle.sn_model.specs.Net.{net_limit}
 use Rattle.sn_model.specs.NetEvents.{AtCache, node_after, outcome_of, delivers}
 use Rattle.sn_coherence.specs.Block as block
 use Rattle.sn_coherence.specs.Events.{Event, after}
-use Rattle.sn_coherence.specs.Kept.{Kept}
-use Rattle.fabric_coherence.specs.View.{Beside, block_of}
+use Rattle.sn_coherence.specs.Kept.{AllSentences}
+use Rattle.fabric_coherence.specs.View.{Beside, block_seen}
 use Rattle.fabric_coherence.specs.Steps.{IsInFlight, after_cache, beside_with, losing, lost_at_once, named}
 use Rattle.fabric_coherence.specs.Coherent.{IsKept}
 use Rattle.fabric_coherence.specs.Recorded.{heard_by}
@@ -25,7 +25,7 @@ use Rattle.fabric_coherence.proofs.KeptCommon.{frames_stay, then_losing, goes_ow
 
 -- a message that is in flight, and whose receiver's interval has reached its tag
 module _ (s : Fabric) (t : Beside) (m : Message) (kept : IsKept s t) (flight : IsInFlight s m) (reached : m.tag ≤ (node_at s m.to).now) where
-  of_block : Kept (length s.nodes) (block_of s t m.block)
+  of_block : AllSentences (length s.nodes) (block_seen s t m.block)
   of_block = kept.blocks m.block flight.block
 
   -- what a row of the cache leaves, and the copy that it says was lost
@@ -34,12 +34,12 @@ module _ (s : Fabric) (t : Beside) (m : Message) (kept : IsKept s t) (flight : I
     beside_with t m.block own,
     subst (λ x. Goes s t (heard_by (told_of m.to x)) (after_cache s m reply).fabric (beside_with t m.block own)) (sym does.loses) (goes_own s t (heard_by (told_of m.to lost)) (after_cache s m reply).fabric (beside_with t m.block own)
         (length-set s.nodes m.to (node_after (node_at s m.to) reply)) (frames_stay s t) (after_cache-shaped s m kept.shape flight.to flight.block reply does.lines does.sends) m.block (losing own (lost_at_once (after_cache s m reply).sent)) others
-        does.own (then_losing (length s.nodes) (block_of s t m.block) own (heard_by (told_of m.to lost) m.block) (lost_at_once (after_cache s m reply).sent) does.leads)
+        does.own (then_losing (length s.nodes) (block_seen s t m.block) own (heard_by (told_of m.to lost) m.block) (lost_at_once (after_cache s m reply).sent) does.leads)
         (λ o l other. does.passes o other) (λ o l other. does.passed o other)),
   )
     where
       own : block.Block
-      own = after (length s.nodes) (block_of s t m.block) event
+      own = after (length s.nodes) (block_seen s t m.block) event
 
   -- nothing, where the log or the net lacks the room
   room_moves : (full_log full_net : Bool) (done : Moved) → Moves s t done → Moves s t (if full_log then refused s LogFull else if full_net then refused s NetFull else done)

@@ -9,14 +9,14 @@ use Rattle.sn_model.specs.Fabric.{Fabric, Moved, refused}
 use Rattle.sn_coherence.specs.Block.{Block, NoLine, Nothing, Elsewhere, NoPut, PutElsewhere}
 use Rattle.sn_coherence.specs.OtherEvents.{lose, begin_miss_elsewhere, end_miss_elsewhere, begin_put_elsewhere, end_put_elsewhere}
 use Rattle.sn_coherence.specs.Events.{Event, ForwardWrite, Invalidate, PutGoes, DeliverReady, Lose, NumbersElsewhere, BeginMissElsewhere, EndMissElsewhere, BeginPutElsewhere, EndPutElsewhere, Load, LoadReserved, Store, StoreConditionalDone, StoreConditionalUndone, EvictShared, Edge, Validate, Recover, Allows, after}
-use Rattle.sn_coherence.specs.Kept.{Kept}
+use Rattle.sn_coherence.specs.Kept.{AllSentences}
 use Rattle.sn_coherence.specs.KeptRecords.{KeptRecords}
 use Rattle.sn_coherence.specs.Records.{Records, recorded, MayHappen, unreserves}
 use Rattle.sn_coherence.specs.Same.{IsSame}
 use Rattle.sn_coherence.proofs.Whole.{event_kept}
 use Rattle.sn_coherence.proofs.WholeRecords.{event_recorded}
 use Rattle.sn_coherence.proofs.Same.{same_block}
-use Rattle.fabric_coherence.specs.View.{Beside, block_of}
+use Rattle.fabric_coherence.specs.View.{Beside, block_seen}
 use Rattle.fabric_coherence.specs.Steps.{losing, elsewhere, IsShaped}
 use Rattle.fabric_coherence.specs.Coherent.{IsKept}
 use Rattle.fabric_coherence.specs.Recorded.{heard_by}
@@ -158,18 +158,18 @@ frames_stay s t n j = inl (λ b. refl)
 
 -- the fabric goes on, where each block does
 module _ (s : Fabric) (t : Beside) (f : ℕ → Records → Records) (after : Fabric) (u : Beside) (count : length after.nodes ≡ length s.nodes) (frames : KeepsFrames s t u) (shape : IsShaped after) where
-  pub goes_each : (each : ℕ → Block) → ((o : ℕ) → o < block_count → IsSame (block_of after u o) (each o)) → ((o : ℕ) → o < block_count → Leads (length s.nodes) (block_of s t o) (f o) (each o)) → Goes s t f after u
+  pub goes_each : (each : ℕ → Block) → ((o : ℕ) → o < block_count → IsSame (block_seen after u o) (each o)) → ((o : ℕ) → o < block_count → Leads (length s.nodes) (block_seen s t o) (f o) (each o)) → Goes s t f after u
   goes_each each sees leads = record {
     shape = shape;
     count = count;
     frames = frames;
-    blocks = λ o l. leads_seen (length s.nodes) (block_of s t o) (each o) (block_of after u o) (f o) (sees o l) (leads o l);
+    blocks = λ o l. leads_seen (length s.nodes) (block_seen s t o) (each o) (block_seen after u o) (f o) (sees o l) (leads o l);
   }
 
   -- its own block, and the others
   pub goes_own : (b : ℕ) (own : Block) (others : ℕ → Block) →
-      IsSame (block_of after u b) own → Leads (length s.nodes) (block_of s t b) (f b) own →
-      ((o : ℕ) → o < block_count → o ≢ b → IsSame (block_of after u o) (others o)) → ((o : ℕ) → o < block_count → o ≢ b → Leads (length s.nodes) (block_of s t o) (f o) (others o)) → Goes s t f after u
+      IsSame (block_seen after u b) own → Leads (length s.nodes) (block_seen s t b) (f b) own →
+      ((o : ℕ) → o < block_count → o ≢ b → IsSame (block_seen after u o) (others o)) → ((o : ℕ) → o < block_count → o ≢ b → Leads (length s.nodes) (block_seen s t o) (f o) (others o)) → Goes s t f after u
   goes_own b own others sees leads sees_others leads_others = record { shape = shape; count = count; frames = frames; blocks = λ o l. either o l (nat_eq o b) refl }
     where
       equal : (o : ℕ) → nat_eq o b ≡ true → o ≡ b
@@ -178,13 +178,13 @@ module _ (s : Fabric) (t : Beside) (f : ℕ → Records → Records) (after : Fa
       unequal : (o : ℕ) → nat_eq o b ≡ false → o ≢ b
       unequal o e = grind (arith, nat_tests)
 
-      either : (o : ℕ) → o < block_count → (c : Bool) → nat_eq o b ≡ c → Leads (length s.nodes) (block_of s t o) (f o) (block_of after u o)
-      either o l true e = subst (λ x. Leads (length s.nodes) (block_of s t x) (f x) (block_of after u x)) (sym (equal o e)) (leads_seen (length s.nodes) (block_of s t b) own (block_of after u b) (f b) sees leads)
-      either o l false e = leads_seen (length s.nodes) (block_of s t o) (others o) (block_of after u o) (f o) (sees_others o l (unequal o e)) (leads_others o l (unequal o e))
+      either : (o : ℕ) → o < block_count → (c : Bool) → nat_eq o b ≡ c → Leads (length s.nodes) (block_seen s t o) (f o) (block_seen after u o)
+      either o l true e = subst (λ x. Leads (length s.nodes) (block_seen s t x) (f x) (block_seen after u x)) (sym (equal o e)) (leads_seen (length s.nodes) (block_seen s t b) own (block_seen after u b) (f b) sees leads)
+      either o l false e = leads_seen (length s.nodes) (block_seen s t o) (others o) (block_seen after u o) (f o) (sees_others o l (unequal o e)) (leads_others o l (unequal o e))
 
 -- an event that changes nothing, and tells nothing
 pub as_it_is : (s : Fabric) (t : Beside) (answer : Answer) → IsShaped s → Moves s t (refused s answer)
-as_it_is s t answer shape = (t, record { shape = shape; count = refl; frames = frames_stay s t; blocks = λ o l. stays (length s.nodes) (block_of s t o) })
+as_it_is s t answer shape = (t, record { shape = shape; count = refl; frames = frames_stay s t; blocks = λ o l. stays (length s.nodes) (block_seen s t o) })
 
 -- a test of the fabric
 pub by_test : (s : Fabric) (t : Beside) (test : Bool) (a b : Moved) → (test ≡ true → Moves s t a) → (test ≡ false → Moves s t b) → Moves s t (if test then a else b)
@@ -193,8 +193,8 @@ by_test s t false a b first second = second refl
 
 -- what is kept, where the fabric goes on
 pub kept_on : (s : Fabric) (t : Beside) (f : ℕ → Records → Records) (after : Fabric) (u : Beside) → IsKept s t → Goes s t f after u → IsKept after u
-kept_on s t f after u k g = record { shape = g.shape; blocks = λ o l. subst (λ N. Kept N (block_of after u o)) (sym g.count) ((g.blocks o l).kept (k.blocks o l)) }
+kept_on s t f after u k g = record { shape = g.shape; blocks = λ o l. subst (λ N. AllSentences N (block_seen after u o)) (sym g.count) ((g.blocks o l).kept (k.blocks o l)) }
 
 pub recorded_on : (s : Fabric) (t : Beside) (f : ℕ → Records → Records) (after : Fabric) (u : Beside) (r : ℕ → Records) → IsKept s t → Goes s t f after u →
-    ((o : ℕ) → o < block_count → KeptRecords (block_of s t o) (r o)) → (o : ℕ) → o < block_count → KeptRecords (block_of after u o) (f o (r o))
+    ((o : ℕ) → o < block_count → KeptRecords (block_seen s t o) (r o)) → (o : ℕ) → o < block_count → KeptRecords (block_seen after u o) (f o (r o))
 recorded_on s t f after u r k g v o l = (g.blocks o l).records (r o) (k.blocks o l) (v o l)

@@ -13,7 +13,7 @@ use Rattle.sn_model.specs.NodeEvents.{evicted, evicts, begins_put, with_put, wit
 use Rattle.sn_coherence.specs.OtherEvents.{evict_shared, begin_put, begin_put_elsewhere, numbers_elsewhere}
 use Rattle.sn_coherence.specs.Events.{BeginPut, EvictShared, NumbersElsewhere, Allows}
 use Rattle.sn_coherence.specs.Records.{unreserves}
-use Rattle.fabric_coherence.specs.View.{Beside, block_of, line_seen}
+use Rattle.fabric_coherence.specs.View.{Beside, block_seen, line_seen}
 use Rattle.fabric_coherence.specs.Steps.{losing, lost_at_once}
 use Rattle.fabric_coherence.specs.Coherent.{IsKept}
 use Rattle.fabric_coherence.specs.Recorded.{heard_by}
@@ -34,14 +34,14 @@ module _ (s : Fabric) (t : Beside) (n b : ℕ) (kept : IsKept s t) (l : n < leng
     t,
     goes_own s t (λ o r. r) put_begun.fabric t (length-set s.nodes n _) (frames_stay s t)
         (sent-shaped s n kept.shape l (with_put (node_at s n) b) b (send (home_node s b) PutReq) PutBegun (kept.shape.lines n l) low (kept.blocks b low).nodes.home_low kept.shape.some)
-        b (losing (begin_put (block_of s t b) n) (lost_at_once put_begun.sent)) (λ o. losing (numbers_elsewhere (begin_put_elsewhere (block_of s t o) n) 1) (lost_at_once put_begun.sent))
+        b (losing (begin_put (block_seen s t b) n) (lost_at_once put_begun.sent)) (λ o. losing (numbers_elsewhere (begin_put_elsewhere (block_seen s t o) n) 1) (lost_at_once put_begun.sent))
         (put-seen s t n b kept.shape l)
-        (quiet_losing (length s.nodes) (block_of s t b) (BeginPut n) (lost_at_once put_begun.sent)
+        (quiet_losing (length s.nodes) (block_seen s t b) (BeginPut n) (lost_at_once put_begun.sent)
         (l, miss_apart b (node_at s n).cache.miss apart, no_put_seen b (node_at s n).cache.put none, owned_seen (line_of (node_at s n).cache b).state owned) tt)
         (λ o m other. other_put-seen s t n o b kept.shape l other)
-        (λ o m other. then_losing (length s.nodes) (block_of s t o) (numbers_elsewhere (begin_put_elsewhere (block_of s t o) n) 1) (λ r. r) (lost_at_once put_begun.sent)
-        (then_quiet (length s.nodes) (block_of s t o) (begin_put_elsewhere (block_of s t o) n) (NumbersElsewhere 1)
-        (begin_put_elsewhere_leads (length s.nodes) (block_of s t o) n l (no_put_seen o (node_at s n).cache.put none)) tt tt)),
+        (λ o m other. then_losing (length s.nodes) (block_seen s t o) (numbers_elsewhere (begin_put_elsewhere (block_seen s t o) n) 1) (λ r. r) (lost_at_once put_begun.sent)
+        (then_quiet (length s.nodes) (block_seen s t o) (begin_put_elsewhere (block_seen s t o) n) (NumbersElsewhere 1)
+        (begin_put_elsewhere_leads (length s.nodes) (block_seen s t o) n l (no_put_seen o (node_at s n).cache.put none)) tt tt)),
   )
 
   begins_put_moves : is_owned (line_of (node_at s n).cache b).state ≡ true → Moves s t (begins_put s n b)
@@ -54,15 +54,15 @@ module _ (s : Fabric) (t : Beside) (n b : ℕ) (kept : IsKept s t) (l : n < leng
     t,
     goes_own s t (heard_by (told_of n (Some b))) (with_node s n (without_copy (node_at s n) b)) t (length-set s.nodes n _) (frames_stay s t)
         (with_node-shaped s n (without_copy (node_at s n) b) kept.shape l (length-set (node_at s n).cache.lines b no_line ∙ kept.shape.lines n l))
-        b (evict_shared (block_of s t b) n) (λ o. block_of s t o)
+        b (evict_shared (block_seen s t b) n) (λ o. block_seen s t o)
         (drop-seen s t n b l shared)
-        (leads_as (length s.nodes) (block_of s t b) (evict_shared (block_of s t b) n) (λ r. unreserves r n) (heard_by (told_of n (Some b)) b) (told_here n b)
-        (event_leads (length s.nodes) (block_of s t b) (EvictShared n) may (λ r. may)))
+        (leads_as (length s.nodes) (block_seen s t b) (evict_shared (block_seen s t b) n) (λ r. unreserves r n) (heard_by (told_of n (Some b)) b) (told_here n b)
+        (event_leads (length s.nodes) (block_seen s t b) (EvictShared n) may (λ r. may)))
         (λ o m other. other_drop-seen s t n o b l other)
-        (λ o m other. leads_as (length s.nodes) (block_of s t o) (block_of s t o) (λ r. r) (heard_by (told_of n (Some b)) o) (told_there n b o other) (stays (length s.nodes) (block_of s t o))),
+        (λ o m other. leads_as (length s.nodes) (block_seen s t o) (block_seen s t o) (λ r. r) (heard_by (told_of n (Some b)) o) (told_there n b o other) (stays (length s.nodes) (block_seen s t o))),
   )
     where
-      may : Allows (length s.nodes) (block_of s t b) (EvictShared n)
+      may : Allows (length s.nodes) (block_seen s t b) (EvictShared n)
       may = (miss_apart b (node_at s n).cache.miss apart, ap line_seen shared)
 
   evicts_moves : (line : LineState) → (line_of (node_at s n).cache b).state ≡ line → Moves s t (evicts s n b line)

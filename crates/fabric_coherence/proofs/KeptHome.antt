@@ -15,8 +15,8 @@ use Rattle.sn_model.specs.Net.{net_limit}
 use Rattle.sn_model.specs.NetEvents.{AtHome, unless_busy, kept_at, get_shared, get_modified, put_request, outcome_of, delivers}
 use Rattle.sn_coherence.specs.Block as block
 use Rattle.sn_coherence.specs.Events.{Allows, after}
-use Rattle.sn_coherence.specs.Kept.{Kept}
-use Rattle.fabric_coherence.specs.View.{Beside, block_of, message_seen, is_itself, owner_of}
+use Rattle.sn_coherence.specs.Kept.{AllSentences}
+use Rattle.fabric_coherence.specs.View.{Beside, block_seen, message_seen, is_itself, owner_of}
 use Rattle.fabric_coherence.specs.Steps.{IsShaped, IsInFlight, after_home, beside_with, losing, lost_at_once, elsewhere}
 use Rattle.fabric_coherence.specs.Sends.{OutsWithin}
 use Rattle.fabric_coherence.specs.HomeSeen.{IsHomeRow}
@@ -35,7 +35,7 @@ reply_is : (a b : row.HomeReply) → AtHome a ≡ AtHome b → a ≡ b
 reply_is a b h = cc
 
 -- what a home sends goes to nodes that are there, and its entry keeps its length
-module _ (s : Fabric) (t : Beside) (m : Message) (shape : IsShaped s) (flight : IsInFlight s m) (kept : Kept (length s.nodes) (block_of s t m.block)) where
+module _ (s : Fabric) (t : Beside) (m : Message) (shape : IsShaped s) (flight : IsInFlight s m) (kept : AllSentences (length s.nodes) (block_seen s t m.block)) where
   abbrev Fits : row.HomeReply → Type 0
   Fits reply = (length reply.after.entry.sharers ≡ 16) × OutsWithin reply.sends (length s.nodes)
 
@@ -159,7 +159,7 @@ home-quiet s m (Advance k) = tt
 
 -- a message that is in flight, and whose receiver's interval has reached its tag
 module _ (s : Fabric) (t : Beside) (m : Message) (kept : IsKept s t) (flight : IsInFlight s m) (reached : m.tag ≤ (node_at s m.to).now) where
-  of_block : Kept (length s.nodes) (block_of s t m.block)
+  of_block : AllSentences (length s.nodes) (block_seen s t m.block)
   of_block = kept.blocks m.block flight.block
 
   -- what a row of the home leaves
@@ -167,23 +167,23 @@ module _ (s : Fabric) (t : Beside) (m : Message) (kept : IsKept s t) (flight : I
   row_moves x reply is h = (
     beside_with t m.block own,
     goes_own s t (λ o r. r) (after_home s m reply).fabric (beside_with t m.block own) (length-set s.nodes m.to (record (node_at s m.to) { log = reply.after.log })) (frames_stay s t) shaped m.block (losing own lost) others
-        does.0 (quiet_losing (length s.nodes) (block_of s t m.block) (home_event s m x) lost does.1 (home-quiet s m x))
-        (λ o l other. home-elsewhere s t m kept.shape flight of_block reached own o other x reply is h) (λ o l other. elsewhere_leads (length s.nodes) (block_of s t o) m.id (length reply.sends)),
+        does.0 (quiet_losing (length s.nodes) (block_seen s t m.block) (home_event s m x) lost does.1 (home-quiet s m x))
+        (λ o l other. home-elsewhere s t m kept.shape flight of_block reached own o other x reply is h) (λ o l other. elsewhere_leads (length s.nodes) (block_seen s t o) m.id (length reply.sends)),
   )
     where
       own : block.Block
-      own = after (length s.nodes) (block_of s t m.block) (home_event s m x)
+      own = after (length s.nodes) (block_seen s t m.block) (home_event s m x)
 
       lost : List ℕ
       lost = lost_at_once (after_home s m reply).sent
 
       others : ℕ → block.Block
-      others o = elsewhere (block_of s t o) m.id (length reply.sends)
+      others o = elsewhere (block_seen s t o) m.id (length reply.sends)
 
       shaped : IsShaped (after_home s m reply).fabric
       shaped = let fits = home-fits s t m kept.shape flight of_block x reply h in after_home-shaped s m kept.shape flight.to flight.block reply fits.0 fits.1
 
-      does : IsHomeRow s t m reply own × Allows (length s.nodes) (block_of s t m.block) (home_event s m x)
+      does : IsHomeRow s t m reply own × Allows (length s.nodes) (block_seen s t m.block) (home_event s m x)
       does = home-outcome s t m kept.shape flight of_block reached x reply is h
 
   -- nothing, where the log or the net lacks the room

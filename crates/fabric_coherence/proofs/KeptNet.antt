@@ -17,7 +17,7 @@ use Rattle.sn_coherence.specs.Block.{Block, Message, with_number}
 use Rattle.sn_coherence.specs.OtherEvents.{lose, deliver_ready, deliver_advance, validate}
 use Rattle.sn_coherence.specs.Events.{Lose, DeliverAdvance, Arrives, DeliverReady}
 use Rattle.sn_coherence.specs.Records.{hears}
-use Rattle.fabric_coherence.specs.View.{Beside, block_of, net_seen, message_seen}
+use Rattle.fabric_coherence.specs.View.{Beside, block_seen, net_seen, message_seen}
 use Rattle.fabric_coherence.specs.Steps.{losing, lost_at_once}
 use Rattle.fabric_coherence.specs.Flights.{standing}
 use Rattle.fabric_coherence.specs.Coherent.{IsKept}
@@ -33,17 +33,17 @@ module _ (s : Fabric) (t : Beside) (kept : IsKept s t) where
 
   -- a message is taken out, moves on, or is lost with its switch
   without_goes : (id : ℕ) → Goes s t (λ o r. r) (with_net s (without_flight s.net id)) t
-  without_goes id = goes_each s t (λ o r. r) (with_net s (without_flight s.net id)) t refl (frames_stay s t) (without-kept s kept.shape id) (λ o. lose (block_of s t o) id)
-      (λ o l. lose-seen s t o id) (λ o l. quiet_leads nodes (block_of s t o) (Lose id) tt tt)
+  without_goes id = goes_each s t (λ o r. r) (with_net s (without_flight s.net id)) t refl (frames_stay s t) (without-kept s kept.shape id) (λ o. lose (block_seen s t o) id)
+      (λ o l. lose-seen s t o id) (λ o l. quiet_leads nodes (block_seen s t o) (Lose id) tt tt)
 
   moved_goes : (id place : ℕ) → Goes s t (λ o r. r) (with_net s (moved s.net id place)) t
-  moved_goes id place = goes_each s t (λ o r. r) (with_net s (moved s.net id place)) t refl (frames_stay s t) (moved-kept s kept.shape id place) (block_of s t)
-      (λ o l. move-seen s t o id place) (λ o l. stays nodes (block_of s t o))
+  moved_goes id place = goes_each s t (λ o r. r) (with_net s (moved s.net id place)) t refl (frames_stay s t) (moved-kept s kept.shape id place) (block_seen s t)
+      (λ o l. move-seen s t o id place) (λ o l. stays nodes (block_seen s t o))
 
   kill_goes : (switch : ℕ) (dead : List Bool) → Goes s t (λ o r. r) (with_net s (record s.net { dead = dead; flights = filter (λ f. not (nat_eq f.place switch)) s.net.flights })) t
   kill_goes switch dead = goes_each s t (λ o r. r) (with_net s (record s.net { dead = dead; flights = filter (λ f. not (nat_eq f.place switch)) s.net.flights })) t refl (frames_stay s t) (kill-kept s kept.shape switch dead)
-      (λ o. losing (block_of s t o) (standing switch s.net.flights))
-      (λ o l. kill-seen s t o switch dead kept.shape.rising) (λ o l. losing_leads nodes (block_of s t o) (standing switch s.net.flights))
+      (λ o. losing (block_seen s t o) (standing switch s.net.flights))
+      (λ o l. kill-seen s t o switch dead kept.shape.rising) (λ o l. losing_leads nodes (block_seen s t o) (standing switch s.net.flights))
 
   -- a loss
   pub lost_moves : (id : ℕ) → Moves s t (lost s id)
@@ -72,31 +72,31 @@ module _ (s : Fabric) (t : Beside) (kept : IsKept s t) where
   killed_moves switch = by_test s t (is_dead s.net.dead switch) (refused s AlreadyDead) _ (λ e. as_it_is s t AlreadyDead kept.shape) (λ e. (t, kill_goes switch (slice_set s.net.dead switch true)))
 
   -- Ready at the controller and Advance at a node: where it is found by its number, has come to its receiver and isn't held
-  seen_arrives : (x : block.Body) (o from to tag k id : ℕ) → net_seen o s.net.flights id ≡ with_number x from to tag k → tag ≤ (node_at s to).now → Arrives (block_of s t o) id x
+  seen_arrives : (x : block.Body) (o from to tag k id : ℕ) → net_seen o s.net.flights id ≡ with_number x from to tag k → tag ≤ (node_at s to).now → Arrives (block_seen s t o) id x
   seen_arrives x o from to tag k id e l = subst (λ (y : Message). (y.body ≡ x) × (y.tag ≤ (node_at s y.to).now)) (sym e) (refl, l)
 
   ready_moves : (config : Config) (m : Sent) (k : ℕ) → ((o : ℕ) → net_seen o s.net.flights m.id ≡ with_number block.Ready m.from m.to m.tag k) → m.tag ≤ (node_at s m.to).now →
       Moves s t (delivers config s m (outcome_of s m (Ready k)))
   ready_moves config m k e l = (
     t,
-    goes_each s t (λ o r. hears r m.from k) (with_net s (without_flight s.net m.id)) t refl (frames_stay s t) (without-kept s kept.shape m.id) (λ o. deliver_ready (block_of s t o) m.id)
+    goes_each s t (λ o r. hears r m.from k) (with_net s (without_flight s.net m.id)) t refl (frames_stay s t) (without-kept s kept.shape m.id) (λ o. deliver_ready (block_seen s t o) m.id)
         (λ o q. ready-seen s t o m.id) heard,
   )
     where
-      heard : (o : ℕ) → o < block_count → Leads nodes (block_of s t o) (λ r. hears r m.from k) (deliver_ready (block_of s t o) m.id)
+      heard : (o : ℕ) → o < block_count → Leads nodes (block_seen s t o) (λ r. hears r m.from k) (deliver_ready (block_seen s t o) m.id)
       heard o q =
-          let a : Arrives (block_of s t o) m.id block.Ready = seen_arrives block.Ready o m.from m.to m.tag k m.id (e o) l in
-          leads_as nodes (block_of s t o) (deliver_ready (block_of s t o) m.id) (λ r. hears r (net_seen o s.net.flights m.id).from (net_seen o s.net.flights m.id).number) (λ r. hears r m.from k)
+          let a : Arrives (block_seen s t o) m.id block.Ready = seen_arrives block.Ready o m.from m.to m.tag k m.id (e o) l in
+          leads_as nodes (block_seen s t o) (deliver_ready (block_seen s t o) m.id) (λ r. hears r (net_seen o s.net.flights m.id).from (net_seen o s.net.flights m.id).number) (λ r. hears r m.from k)
           (λ r. ap (λ (x : Message). hears r x.from x.number) (e o))
-          (event_leads nodes (block_of s t o) (DeliverReady m.id) a (λ r. a))
+          (event_leads nodes (block_seen s t o) (DeliverReady m.id) a (λ r. a))
 
   advance_moves : (config : Config) (m : Sent) (k : ℕ) → m.to < nodes → ((o : ℕ) → net_seen o s.net.flights m.id ≡ with_number block.Advance m.from m.to m.tag k) → m.tag ≤ (node_at s m.to).now →
       Moves s t (delivers config s m (outcome_of s m (Advance k)))
   advance_moves config m k low e l = (
     t,
     goes_each s t (λ o r. r) (with_net (with_node s m.to (learned (node_at s m.to) k)) (without_flight s.net m.id)) t (length-set s.nodes m.to (learned (node_at s m.to) k)) (frames_stay s t)
-        (advance-kept s kept.shape m.id m.to k low) (λ o. deliver_advance (block_of s t o) m.id)
-        (λ o q. advance-seen s t o m k low (e o)) (λ o q. quiet_leads nodes (block_of s t o) (DeliverAdvance m.id) (seen_arrives block.Advance o m.from m.to m.tag k m.id (e o) l) tt),
+        (advance-kept s kept.shape m.id m.to k low) (λ o. deliver_advance (block_seen s t o) m.id)
+        (λ o q. advance-seen s t o m k low (e o)) (λ o q. quiet_leads nodes (block_seen s t o) (DeliverAdvance m.id) (seen_arrives block.Advance o m.from m.to m.tag k m.id (e o) l) tt),
   )
 
   reached : (a b : ℕ) → nat_lt a b ≡ false → b ≤ a
@@ -118,6 +118,6 @@ module _ (s : Fabric) (t : Beside) (kept : IsKept s t) where
   abbrev rises : Moved
   rises = sending (record s { point = s.point + 1 }) 0 0 (advances (s.point + 1) 0 s.nodes) (Validated (s.point + 1))
 
-  pub rises_goes : ((o : ℕ) → o < block_count → Leads nodes (block_of s t o) (λ r. r) (validate nodes (block_of s t o))) → Goes s t (λ o r. r) rises.fabric t
-  rises_goes leads = goes_each s t (λ o r. r) rises.fabric t refl (frames_stay s t) (validate-kept s kept.shape) (λ o. losing (validate nodes (block_of s t o)) (lost_at_once rises.sent))
-      (λ o l. validate-seen s t o kept.shape.below) (λ o l. then_losing nodes (block_of s t o) (validate nodes (block_of s t o)) (λ r. r) (lost_at_once rises.sent) (leads o l))
+  pub rises_goes : ((o : ℕ) → o < block_count → Leads nodes (block_seen s t o) (λ r. r) (validate nodes (block_seen s t o))) → Goes s t (λ o r. r) rises.fabric t
+  rises_goes leads = goes_each s t (λ o r. r) rises.fabric t refl (frames_stay s t) (validate-kept s kept.shape) (λ o. losing (validate nodes (block_seen s t o)) (lost_at_once rises.sent))
+      (λ o l. validate-seen s t o kept.shape.below) (λ o l. then_losing nodes (block_seen s t o) (validate nodes (block_seen s t o)) (λ r. r) (lost_at_once rises.sent) (leads o l))

@@ -16,7 +16,7 @@ use Rattle.sn_model.specs.PointEvents.{recovered, recovers, restored, restored_n
 use Rattle.sn_coherence.specs.OtherEvents.{edge, recover}
 use Rattle.sn_coherence.specs.Events.{Edge, Recover, Allows}
 use Rattle.sn_coherence.specs.Records.{unreserves, rolls_back}
-use Rattle.fabric_coherence.specs.View.{Beside, block_of}
+use Rattle.fabric_coherence.specs.View.{Beside, block_seen}
 use Rattle.fabric_coherence.specs.Steps.{IsShaped}
 use Rattle.fabric_coherence.specs.Sends.{IsNetShaped}
 use Rattle.fabric_coherence.specs.NodeSeen.{beside_edged, beside_restored}
@@ -51,14 +51,14 @@ edge_row f h n k m j = ⊎_elim
 
 module _ (s : Fabric) (t : Beside) (kept : IsKept s t) (n : ℕ) (l : n < length s.nodes) where
   edge_frames : KeepsFrames s t (beside_edged s t n)
-  edge_frames m j = edge_row t.framed (λ b x. is_framed (block_of s t b) x) n ((node_at s n).now + 1) m j
+  edge_frames m j = edge_row t.framed (λ b x. is_framed (block_seen s t b) x) n ((node_at s n).now + 1) m j
 
   edge_goes : nat_eq ((node_at s n).now - (node_at s n).known) checkpoint_limit ≡ false → Goes s t (λ b r. unreserves r n) (with_node s n (after_edge (node_at s n))) (beside_edged s t n)
   edge_goes e = goes_each s t (λ b r. unreserves r n) (with_node s n (after_edge (node_at s n))) (beside_edged s t n) (length-set s.nodes n (after_edge (node_at s n))) edge_frames
       (with_node-shaped s n (after_edge (node_at s n)) kept.shape l (kept.shape.lines n l))
-      (λ b. edge (block_of s t b) n) (λ b w. edge-seen s t n b l) (λ b w. event_leads (length s.nodes) (block_of s t b) (Edge n) (allowed b w) (λ r. allowed b w))
+      (λ b. edge (block_seen s t b) n) (λ b w. edge-seen s t n b l) (λ b w. event_leads (length s.nodes) (block_seen s t b) (Edge n) (allowed b w) (λ r. allowed b w))
     where
-      allowed : (b : ℕ) → b < block_count → Allows (length s.nodes) (block_of s t b) (Edge n)
+      allowed : (b : ℕ) → b < block_count → Allows (length s.nodes) (block_seen s t b) (Edge n)
       allowed b w = (l, has_room (node_at s n).now (node_at s n).known e ((kept.blocks b w).clocks.now_known n l))
 
   abbrev edged_by : Bool → Moved
@@ -120,8 +120,8 @@ module _ (s : Fabric) (shape : IsShaped s) where
 module _ (s : Fabric) (t : Beside) (kept : IsKept s t) where
   restored_goes : Goes s t (λ b r. rolls_back r (length s.nodes) s.point) (restored s s.point) (beside_restored t)
   restored_goes = goes_each s t (λ b r. rolls_back r (length s.nodes) s.point) (restored s s.point) (beside_restored t) (length-restored_nodes s kept.shape) (frames_stay s t) (recovery-shaped s kept.shape)
-      (λ b. recover (length s.nodes) (block_of s t b)) (λ b w. recovery-seen s t b kept.shape w)
-      (λ b w. event_leads (length s.nodes) (block_of s t b) Recover tt (λ r. tt))
+      (λ b. recover (length s.nodes) (block_seen s t b)) (λ b w. recovery-seen s t b kept.shape w)
+      (λ b w. event_leads (length s.nodes) (block_seen s t b) Recover tt (λ r. tt))
 
   recovers_goes : (cut : Option (ℕ × ℕ)) → (u : Beside) × Goes s t (noted_by s (event.Recover s.point) (recovers s s.point cut)) (recovers s s.point cut).fabric u
   recovers_goes (Some pair) = as_it_is s t (CutOff pair.0 pair.1) kept.shape

@@ -13,7 +13,7 @@ use Rattle.sn_model.specs.NodeEvents.{reported, ready_of, least_begun, begun_by,
 use Rattle.sn_coherence.specs.Block as block
 use Rattle.sn_coherence.specs.OtherEvents.{report}
 use Rattle.sn_coherence.specs.Events.{IsReady, Report}
-use Rattle.fabric_coherence.specs.View.{Beside, block_of, miss_seen, put_seen, put_issued, kind_open, begun_of}
+use Rattle.fabric_coherence.specs.View.{Beside, block_seen, miss_seen, put_seen, put_issued, kind_open, begun_of}
 use Rattle.fabric_coherence.specs.Steps.{IsShaped, losing, lost_at_once}
 use Rattle.fabric_coherence.specs.Coherent.{IsKept}
 use Rattle.fabric_coherence.specs.Leads.{Goes, Moves}
@@ -101,7 +101,7 @@ module _ (s : Fabric) (t : Beside) (kept : IsKept s t) (n : ℕ) where
   at_most : (x y z : ℕ) → x ≤ y → y ≤ z → x ≤ z
   at_most x y z l k = omega arith
 
-  least-ready : (b : ℕ) → b < block_count → IsReady (block_of s t b) n least
+  least-ready : (b : ℕ) → b < block_count → IsReady (block_seen s t b) n least
   least-ready b w = record {
     of_now = at_most least homes_least (node_at s n).now below_homes (least_low (node_at s n).now (length s.nodes) n 0 s.homes);
     of_miss = λ opened. at_most least miss_least (miss_seen b (node_at s n).cache.miss).issued below_miss (issued_seen homes_least b (node_at s n).cache.miss opened);
@@ -113,8 +113,8 @@ module _ (s : Fabric) (t : Beside) (kept : IsKept s t) (n : ℕ) where
       home_is : n ≡ home_node s b → (0 + b) % length s.nodes ≡ n
       home_is e = let q : b ≡ 0 + b = omega arith in subst (λ k. k % length s.nodes ≡ n) q (sym e)
 
-  report-ready : (b : ℕ) → b < block_count → IsReady (block_of s t b) n (ready_of s n)
-  report-ready b w = subst (IsReady (block_of s t b) n) (sym least_is) (least-ready b w)
+  report-ready : (b : ℕ) → b < block_count → IsReady (block_seen s t b) n (ready_of s n)
+  report-ready b w = subst (IsReady (block_seen s t b) n) (sym least_is) (least-ready b w)
 
   -- the report, where the network has room for it
   abbrev sends : Moved
@@ -130,9 +130,9 @@ module _ (s : Fabric) (t : Beside) (kept : IsKept s t) (n : ℕ) where
 
     report_goes : Goes s t (λ b r. r) sends.fabric t
     report_goes = goes_each s t (λ b r. r) sends.fabric t refl (frames_stay s t) report-shaped
-        (λ b. losing (report (block_of s t b) n (ready_of s n)) (lost_at_once sends.sent))
+        (λ b. losing (report (block_seen s t b) n (ready_of s n)) (lost_at_once sends.sent))
         (λ b w. report-seen s t n b (ready_of s n) kept.shape)
-        (λ b w. quiet_losing (length s.nodes) (block_of s t b) (Report n (ready_of s n)) (lost_at_once sends.sent) (l, report-ready b w) tt)
+        (λ b w. quiet_losing (length s.nodes) (block_seen s t b) (Report n (ready_of s n)) (lost_at_once sends.sent) (l, report-ready b w) tt)
 
     -- a report
     pub reported_moves : Moves s t (reported s n)

@@ -16,7 +16,7 @@ use Rattle.sn_coherence.specs.OtherEvents.{lose, deliver_ready, deliver_advance,
 use Rattle.sn_coherence.specs.Same.{IsSame}
 use Rattle.sn_coherence.specs.Log.{was_owned, old_content, was_home, old_cache, told_at}
 use Rattle.sn_coherence.proofs.Log.{free_law}
-use Rattle.fabric_coherence.specs.View.{Beside, block_of, net_seen, line_seen, miss_seen, put_seen, put_issued, content_held, home_log, is_itself, owner_of, content_of}
+use Rattle.fabric_coherence.specs.View.{Beside, block_seen, net_seen, line_seen, miss_seen, put_seen, put_issued, content_held, home_log, is_itself, owner_of, content_of}
 use Rattle.fabric_coherence.specs.Steps.{Below, losing, lost_at_once}
 use Rattle.fabric_coherence.specs.Sends.{sent_at, is_among}
 use Rattle.fabric_coherence.specs.Flights.{From, Rising, standing}
@@ -25,7 +25,7 @@ use Rattle.fabric_coherence.proofs.NetSends.{lost_same, seen-posted, seen-fresh,
 
 -- a block that is seen as before but for the net
 with_net-seen : (s : Fabric) (t : Beside) (o : ℕ) (net : Net) (f : ℕ → Message) (taken_to : ℕ) → ((i : ℕ) → net_seen o net.flights i ≡ f i) → net.next_id ≡ taken_to →
-    IsSame (block_of (with_net s net) t o) (record (block_of s t o) { net = f; next = taken_to })
+    IsSame (block_seen (with_net s net) t o) (record (block_seen s t o) { net = f; next = taken_to })
 with_net-seen s t o net f taken_to e next = record {
   point = refl;
   home = refl;
@@ -59,11 +59,11 @@ with_net-seen s t o net f taken_to e next = record {
 }
 
 with_same_net : (s : Fabric) (t : Beside) (o : ℕ) (net : Net) (f : ℕ → Message) → ((i : ℕ) → net_seen o net.flights i ≡ f i) → net.next_id ≡ s.net.next_id →
-    IsSame (block_of (with_net s net) t o) (record (block_of s t o) { net = f })
+    IsSame (block_seen (with_net s net) t o) (record (block_seen s t o) { net = f })
 with_same_net s t o net f e next = with_net-seen s t o net f s.net.next_id e next
 
 -- a loss
-pub lose-seen : (s : Fabric) (t : Beside) (o id : ℕ) → IsSame (block_of (with_net s (without_flight s.net id)) t o) (lose (block_of s t o) id)
+pub lose-seen : (s : Fabric) (t : Beside) (o id : ℕ) → IsSame (block_seen (with_net s (without_flight s.net id)) t o) (lose (block_seen s t o) id)
 lose-seen s t o id = with_same_net s t o (without_flight s.net id) (set (net_seen o s.net.flights) id gone) (seen-without s.net.flights id o) refl
 
 -- a hop
@@ -74,10 +74,10 @@ pub seen-moved : (fs : List Flight) (id place b i : ℕ) → net_seen b (map (pl
 seen-moved [] id place b i = refl
 seen-moved (f ∷ fs) id place b i = moved_step f fs (map (placed id place) fs) id place b i (seen-moved fs id place b i)
 
-pub move-seen : (s : Fabric) (t : Beside) (o id place : ℕ) → IsSame (block_of (with_net s (moved s.net id place)) t o) (block_of s t o)
+pub move-seen : (s : Fabric) (t : Beside) (o id place : ℕ) → IsSame (block_seen (with_net s (moved s.net id place)) t o) (block_seen s t o)
 move-seen s t o id place = with_same_net s t o (moved s.net id place) (net_seen o s.net.flights) (seen-moved s.net.flights id place o) refl
 
-same_self : (s : Fabric) (t : Beside) (o : ℕ) → IsSame (block_of s t o) (block_of s t o)
+same_self : (s : Fabric) (t : Beside) (o : ℕ) → IsSame (block_seen s t o) (block_seen s t o)
 same_self s t o = with_same_net s t o s.net (net_seen o s.net.flights) (λ i. refl) refl
 
 -- a kill
@@ -109,14 +109,14 @@ seen-killed switch (f ∷ fs) b i r =
     (λ q. not_standing switch fs (f.message.id + 1) i r.0 q) (λ q. seen-from fs (f.message.id + 1) b i r.0 q)
 
 pub kill-seen : (s : Fabric) (t : Beside) (o switch : ℕ) (dead : List Bool) → Rising s.net.flights →
-    IsSame (block_of (with_net s (record s.net { dead = dead; flights = filter (λ f. not (nat_eq f.place switch)) s.net.flights })) t o) (losing (block_of s t o) (standing switch s.net.flights))
+    IsSame (block_seen (with_net s (record s.net { dead = dead; flights = filter (λ f. not (nat_eq f.place switch)) s.net.flights })) t o) (losing (block_seen s t o) (standing switch s.net.flights))
 kill-seen s t o switch dead r =
-    lost_same _ (block_of s t o) (standing switch s.net.flights)
+    lost_same _ (block_seen s t o) (standing switch s.net.flights)
     (with_same_net s t o (record s.net { dead = dead; flights = filter (λ f. not (nat_eq f.place switch)) s.net.flights }) (λ i. cond (is_among (standing switch s.net.flights) i) gone (net_seen o s.net.flights i))
     (λ i. seen-killed switch s.net.flights o i r) refl)
 
 -- Ready at the controller
-pub ready-seen : (s : Fabric) (t : Beside) (o id : ℕ) → IsSame (block_of (with_net s (without_flight s.net id)) t o) (deliver_ready (block_of s t o) id)
+pub ready-seen : (s : Fabric) (t : Beside) (o id : ℕ) → IsSame (block_seen (with_net s (without_flight s.net id)) t o) (deliver_ready (block_seen s t o) id)
 ready-seen s t o id = with_same_net s t o (without_flight s.net id) (set (net_seen o s.net.flights) id gone) (seen-without s.net.flights id o) refl
 
 -- Advance at a node
@@ -167,7 +167,7 @@ module _ (s : Fabric) (t : Beside) (o id from to tag k : ℕ) (l : to < length s
   after = with_net (with_node s to (learned (node_at s to) k)) (without_flight s.net id)
 
   abbrev told : Block
-  told = advanced_by (block_of s t o) id (with_number Advance from to tag k)
+  told = advanced_by (block_seen s t o) id (with_number Advance from to tag k)
 
   -- what is read at a node
   says_at : (A : Type 0) (says : Node → A) (m : ℕ) → says (node_at after m) ≡ cond (m == to) (says (learned (node_at s to) k)) (says (node_at s m))
@@ -199,7 +199,7 @@ module _ (s : Fabric) (t : Beside) (o id from to tag k : ℕ) (l : to < length s
       says_at A (λ node. told_at says node.log false o (now node.cache) j) n
       ∙ ap (λ x. cond (n == to) x (told_at says (node_at s n).log false o (now (node_at s n).cache) j)) ((free_law A says (node_at s to).log k false o (now (node_at s to).cache)).cuts j)
 
-  advanced : IsSame (block_of after t o) told
+  advanced : IsSame (block_seen after t o) told
   advanced = record {
     point = refl;
     home = home_same s to (learned (node_at s to) k) l o;
@@ -234,8 +234,8 @@ module _ (s : Fabric) (t : Beside) (o id from to tag k : ℕ) (l : to < length s
 
 -- for each block that sees the message
 pub advance-seen : (s : Fabric) (t : Beside) (o : ℕ) (m : Sent) (k : ℕ) → m.to < length s.nodes → net_seen o s.net.flights m.id ≡ with_number Advance m.from m.to m.tag k →
-    IsSame (block_of (with_net (with_node s m.to (learned (node_at s m.to) k)) (without_flight s.net m.id)) t o) (deliver_advance (block_of s t o) m.id)
-advance-seen s t o m k l e = subst (λ x. IsSame (block_of (with_net (with_node s m.to (learned (node_at s m.to) k)) (without_flight s.net m.id)) t o) (advanced_by (block_of s t o) m.id x)) (sym e) (advanced s t o m.id m.from m.to m.tag k l)
+    IsSame (block_seen (with_net (with_node s m.to (learned (node_at s m.to) k)) (without_flight s.net m.id)) t o) (deliver_advance (block_seen s t o) m.id)
+advance-seen s t o m k l e = subst (λ x. IsSame (block_seen (with_net (with_node s m.to (learned (node_at s m.to) k)) (without_flight s.net m.id)) t o) (advanced_by (block_seen s t o) m.id x)) (sym e) (advanced s t o m.id m.from m.to m.tag k l)
 
 -- a validation
 tells_step : (tag k to next len i : ℕ) (x rest : Message) → rest ≡ cond (nat_le (next + 1) i && nat_lt i (next + 1 + len)) (with_number Advance 0 (to + 1 + (i - (next + 1))) tag k) x →
@@ -266,15 +266,15 @@ module _ (s : Fabric) (t : Beside) (o : ℕ) (below : Below s.net.flights s.net.
   abbrev tells_lost : List ℕ
   tells_lost = lost_at_once (sent_by (routes_of s) s.net 0 (node_at s 0).now 0 tells)
 
-  tells_net : (i : ℕ) → net_seen o (posted (routes_of s) s.net 0 (node_at s 0).now 0 tells).flights i ≡ cond (is_among tells_lost i) gone (tells_all (block_of s t o) (length s.nodes) (s.point + 1) i)
+  tells_net : (i : ℕ) → net_seen o (posted (routes_of s) s.net 0 (node_at s 0).now 0 tells).flights i ≡ cond (is_among tells_lost i) gone (tells_all (block_seen s t o) (length s.nodes) (s.point + 1) i)
   tells_net i =
       seen-posted (routes_of s) s.net 0 (node_at s 0).now 0 tells o i below
       ∙ ap (cond (is_among tells_lost i) gone) (sent_at-advances o (node_at s 0).now 0 (s.point + 1) 0 s.net.next_id s.nodes i (net_seen o s.net.flights i)
       ∙ tells_same i s.net.next_id (length s.nodes) (node_at s 0).now (s.point + 1) (net_seen o s.net.flights i) (λ q. seen-fresh s.net.flights s.net.next_id o i below q))
 
-  pub validate-seen : IsSame (block_of (sending (record s { point = s.point + 1 }) 0 0 tells (Validated (s.point + 1))).fabric t o)
-      (losing (validate (length s.nodes) (block_of s t o)) (lost_at_once (sending (record s { point = s.point + 1 }) 0 0 tells (Validated (s.point + 1))).sent))
+  pub validate-seen : IsSame (block_seen (sending (record s { point = s.point + 1 }) 0 0 tells (Validated (s.point + 1))).fabric t o)
+      (losing (validate (length s.nodes) (block_seen s t o)) (lost_at_once (sending (record s { point = s.point + 1 }) 0 0 tells (Validated (s.point + 1))).sent))
   validate-seen =
-      lost_same _ (validate (length s.nodes) (block_of s t o)) tells_lost
-      (with_net-seen (record s { point = s.point + 1 }) t o (posted (routes_of s) s.net 0 (node_at s 0).now 0 tells) (λ i. cond (is_among tells_lost i) gone (tells_all (block_of s t o) (length s.nodes) (s.point + 1) i))
+      lost_same _ (validate (length s.nodes) (block_seen s t o)) tells_lost
+      (with_net-seen (record s { point = s.point + 1 }) t o (posted (routes_of s) s.net 0 (node_at s 0).now 0 tells) (λ i. cond (is_among tells_lost i) gone (tells_all (block_seen s t o) (length s.nodes) (s.point + 1) i))
       (s.net.next_id + length s.nodes) tells_net (next-posted (routes_of s) s.net 0 (node_at s 0).now 0 tells ∙ ap (λ n. s.net.next_id + n) (length-advances (s.point + 1) 0 s.nodes)))

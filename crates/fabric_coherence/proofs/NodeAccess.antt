@@ -23,7 +23,7 @@ use Rattle.sn_coherence.specs.Block.{Block, Message, gone, set, set_row}
 use Rattle.sn_coherence.specs.OtherEvents.{store, begin_read_miss, begin_write_miss, begin_miss_elsewhere, numbers_elsewhere}
 use Rattle.sn_coherence.specs.Same.{IsSame}
 use Rattle.sn_coherence.specs.Log.{was_owned, old_content, was_home, old_cache, told_at, NoteLaw}
-use Rattle.fabric_coherence.specs.View.{Beside, block_of, line_seen, content_held, miss_seen, is_for_all, miss_here}
+use Rattle.fabric_coherence.specs.View.{Beside, block_seen, line_seen, content_held, miss_seen, is_for_all, miss_here}
 use Rattle.fabric_coherence.specs.Steps.{IsShaped, losing, lost_at_once}
 use Rattle.fabric_coherence.specs.NodeSeen.{changed, carried_by, IsSameAtHome}
 use Rattle.fabric_coherence.proofs.NodeSeen.{same_then, set_self, set_with, node_changed, log_same, own_post, other_post, sends, routes_with, sent_same, own_block, other_block}
@@ -38,19 +38,19 @@ pub miss_on : (b o now : ℕ) (need : Need) → o ≢ b → miss_seen o (Some (n
 miss_on b o now need n = ap (λ c. if c then miss_here (new_miss b need now) else miss.new_miss miss.Elsewhere now) (other_block b o n)
 
 module _ (s : Fabric) (t : Beside) (n b : ℕ) (shape : IsShaped s) (l : n < length s.nodes) where
-  pub read_miss-seen : IsSame (block_of (missed s n b need.Read).fabric t b) (losing (begin_read_miss (block_of s t b) n) (lost_at_once (missed s n b need.Read).sent))
-  read_miss-seen = sent_same s t n b b (missing (node_at s n) b need.Read) (send (home_node s b) GetS) Missed l (log_same b (missing (node_at s n) b need.Read) (node_at s n) refl) refl (begin_read_miss (block_of s t b) n)
+  pub read_miss-seen : IsSame (block_seen (missed s n b need.Read).fabric t b) (losing (begin_read_miss (block_seen s t b) n) (lost_at_once (missed s n b need.Read).sent))
+  read_miss-seen = sent_same s t n b b (missing (node_at s n) b need.Read) (send (home_node s b) GetS) Missed l (log_same b (missing (node_at s n) b need.Read) (node_at s n) refl) refl (begin_read_miss (block_seen s t b) n)
       (grind (arith, nat_tests, own_post (routes_with s n (missing (node_at s n) b need.Read)) s.net (sends s n b (send (home_node s b) GetS)) b, own_block b, shape.below))
 
-  pub write_miss-seen : IsSame (block_of (missed s n b need.Write).fabric t b) (losing (begin_write_miss (block_of s t b) n) (lost_at_once (missed s n b need.Write).sent))
-  write_miss-seen = sent_same s t n b b (missing (node_at s n) b need.Write) (send (home_node s b) GetM) Missed l (log_same b (missing (node_at s n) b need.Write) (node_at s n) refl) refl (begin_write_miss (block_of s t b) n)
+  pub write_miss-seen : IsSame (block_seen (missed s n b need.Write).fabric t b) (losing (begin_write_miss (block_seen s t b) n) (lost_at_once (missed s n b need.Write).sent))
+  write_miss-seen = sent_same s t n b b (missing (node_at s n) b need.Write) (send (home_node s b) GetM) Missed l (log_same b (missing (node_at s n) b need.Write) (node_at s n) refl) refl (begin_write_miss (block_seen s t b) n)
       (grind (arith, nat_tests, own_post (routes_with s n (missing (node_at s n) b need.Write)) s.net (sends s n b (send (home_node s b) GetM)) b, own_block b, shape.below))
 
 -- a miss on another block than b
 pub other_miss-seen : (s : Fabric) (t : Beside) (n b about : ℕ) (need : Need) → IsShaped s → n < length s.nodes → b ≢ about →
-    IsSame (block_of (missed s n about need).fabric t b) (losing (numbers_elsewhere (begin_miss_elsewhere (block_of s t b) n) 1) (lost_at_once (missed s n about need).sent))
+    IsSame (block_seen (missed s n about need).fabric t b) (losing (numbers_elsewhere (begin_miss_elsewhere (block_seen s t b) n) 1) (lost_at_once (missed s n about need).sent))
 other_miss-seen s t n b about need shape l apart =
-    sent_same s t n b about (missing (node_at s n) about need) (send (home_node s about) (request_for need)) Missed l (log_same b (missing (node_at s n) about need) (node_at s n) refl) refl (numbers_elsewhere (begin_miss_elsewhere (block_of s t b) n) 1)
+    sent_same s t n b about (missing (node_at s n) about need) (send (home_node s about) (request_for need)) Missed l (log_same b (missing (node_at s n) about need) (node_at s n) refl) refl (numbers_elsewhere (begin_miss_elsewhere (block_seen s t b) n) 1)
     (grind (arith, nat_tests, other_post (routes_with s n (missing (node_at s n) about need)) s.net (sends s n about (send (home_node s about) (request_for need))) b, request_seen need about b apart, miss_on about b (node_at s n).now need apart, shape.below))
 
 -- a write
@@ -119,17 +119,17 @@ module _ (s : Fabric) (t : Beside) (n : ℕ) (w : Write) (l : n < length s.nodes
   content_noted = note_law (List ℕ) old_content (node_at s n).log (node_at s n).now b (WasOwned old.content) (content_held old) (written_in old.content w) newest
       (sym (ap (λ c. if c then old.content else []) (writable_owned old.state writable)))
 
-  written_own : IsSame (carried_by (changed (block_of s t b) b n written) b s.net) (store (block_of s t b) n (written_in old.content w))
+  written_own : IsSame (carried_by (changed (block_seen s t b) b n written) b s.net) (store (block_seen s t b) n (written_in old.content w))
   written_own = record {
     point = refl;
     home = refl;
-    now = λ m. set_self (block_of s t b).now n m _ refl;
-    known = λ m. set_self (block_of s t b).known n m _ refl;
-    line = λ m. set_with (block_of s t b).line n m _ _ (ap (λ x. line_seen x.state) line_is);
-    content = λ m. set_with (block_of s t b).content n m _ _ (ap (λ x. x.content) line_is);
-    miss = λ m. set_self (block_of s t b).miss n m _ refl;
-    putting = λ m. set_self (block_of s t b).putting n m _ refl;
-    put_issued = λ m. set_self (block_of s t b).put_issued n m _ refl;
+    now = λ m. set_self (block_seen s t b).now n m _ refl;
+    known = λ m. set_self (block_seen s t b).known n m _ refl;
+    line = λ m. set_with (block_seen s t b).line n m _ _ (ap (λ x. line_seen x.state) line_is);
+    content = λ m. set_with (block_seen s t b).content n m _ _ (ap (λ x. x.content) line_is);
+    miss = λ m. set_self (block_seen s t b).miss n m _ refl;
+    putting = λ m. set_self (block_seen s t b).putting n m _ refl;
+    put_issued = λ m. set_self (block_seen s t b).put_issued n m _ refl;
     at_home = refl;
     owner = refl;
     home_content = refl;
@@ -139,9 +139,9 @@ module _ (s : Fabric) (t : Beside) (n : ℕ) (w : Write) (l : n < length s.nodes
     begun = refl;
     net = λ i. refl;
     next = refl;
-    holds = λ m j. ap (λ x. cond (m == n) x ((block_of s t b).holds m j)) (ap (λ x. told_at was_owned written.log false b (is_owned x.state) j) line_is ∙ owned_noted.cuts j);
-    held = λ m j. ap (λ x. cond (m == n) x ((block_of s t b).held m j)) (ap (λ x. told_at old_content written.log false b (content_held x) j) line_is ∙ content_noted.cuts j);
-    last = λ m. set_with (block_of s t b).last n m _ _ owned_noted.newest;
+    holds = λ m j. ap (λ x. cond (m == n) x ((block_seen s t b).holds m j)) (ap (λ x. told_at was_owned written.log false b (is_owned x.state) j) line_is ∙ owned_noted.cuts j);
+    held = λ m j. ap (λ x. cond (m == n) x ((block_seen s t b).held m j)) (ap (λ x. told_at old_content written.log false b (content_held x) j) line_is ∙ content_noted.cuts j);
+    last = λ m. set_with (block_seen s t b).last n m _ _ owned_noted.newest;
     named_home = λ j. refl;
     named = λ j. refl;
     home_held = λ j. refl;
@@ -156,17 +156,17 @@ module _ (s : Fabric) (t : Beside) (n : ℕ) (w : Write) (l : n < length s.nodes
     other_line : line_of written.cache o ≡ old_line s n o
     other_line = written_other (node_at s n).cache o old.content w apart
 
-    written_elsewhere : IsSame (carried_by (changed (block_of s t o) o n written) o s.net) (block_of s t o)
+    written_elsewhere : IsSame (carried_by (changed (block_seen s t o) o n written) o s.net) (block_seen s t o)
     written_elsewhere = record {
       point = refl;
       home = refl;
-      now = λ m. set_self (block_of s t o).now n m _ refl;
-      known = λ m. set_self (block_of s t o).known n m _ refl;
-      line = λ m. set_self (block_of s t o).line n m _ (ap (λ x. line_seen x.state) other_line);
-      content = λ m. set_self (block_of s t o).content n m _ (ap (λ x. x.content) other_line);
-      miss = λ m. set_self (block_of s t o).miss n m _ refl;
-      putting = λ m. set_self (block_of s t o).putting n m _ refl;
-      put_issued = λ m. set_self (block_of s t o).put_issued n m _ refl;
+      now = λ m. set_self (block_seen s t o).now n m _ refl;
+      known = λ m. set_self (block_seen s t o).known n m _ refl;
+      line = λ m. set_self (block_seen s t o).line n m _ (ap (λ x. line_seen x.state) other_line);
+      content = λ m. set_self (block_seen s t o).content n m _ (ap (λ x. x.content) other_line);
+      miss = λ m. set_self (block_seen s t o).miss n m _ refl;
+      putting = λ m. set_self (block_seen s t o).putting n m _ refl;
+      put_issued = λ m. set_self (block_seen s t o).put_issued n m _ refl;
       at_home = refl;
       owner = refl;
       home_content = refl;
@@ -176,9 +176,9 @@ module _ (s : Fabric) (t : Beside) (n : ℕ) (w : Write) (l : n < length s.nodes
       begun = refl;
       net = λ i. refl;
       next = refl;
-      holds = λ m j. set_self (λ k. (block_of s t o).holds k j) n m _ (ap (λ x. told_at was_owned written.log false o (is_owned x.state) j) other_line ∙ owned_noted.others false o j (is_owned (old_line s n o).state) (inr apart));
-      held = λ m j. set_self (λ k. (block_of s t o).held k j) n m _ (ap (λ x. told_at old_content written.log false o (content_held x) j) other_line ∙ content_noted.others false o j (content_held (old_line s n o)) (inr apart));
-      last = λ m. set_self (block_of s t o).last n m _ (owned_noted.others_newest false o (inr apart));
+      holds = λ m j. set_self (λ k. (block_seen s t o).holds k j) n m _ (ap (λ x. told_at was_owned written.log false o (is_owned x.state) j) other_line ∙ owned_noted.others false o j (is_owned (old_line s n o).state) (inr apart));
+      held = λ m j. set_self (λ k. (block_seen s t o).held k j) n m _ (ap (λ x. told_at old_content written.log false o (content_held x) j) other_line ∙ content_noted.others false o j (content_held (old_line s n o)) (inr apart));
+      last = λ m. set_self (block_seen s t o).last n m _ (owned_noted.others_newest false o (inr apart));
       named_home = λ j. refl;
       named = λ j. refl;
       home_held = λ j. refl;
@@ -191,10 +191,10 @@ module _ (s : Fabric) (t : Beside) (n : ℕ) (w : Write) (l : n < length s.nodes
 
   -- a write is a store on its block, where the line may be written and no entry of the cache's side lies above the node's
   -- interval; other blocks don't see it
-  pub store-seen : IsSame (block_of (stored s n w) t b) (store (block_of s t b) n (written_in old.content w))
-  store-seen = same_then _ (carried_by (changed (block_of s t b) b n written) b s.net) _
+  pub store-seen : IsSame (block_seen (stored s n w) t b) (store (block_seen s t b) n (written_in old.content w))
+  store-seen = same_then _ (carried_by (changed (block_seen s t b) b n written) b s.net) _
       (node_changed s t n b written s.net l (noted_same b b (node_at s n).now old.content written (node_at s n) refl newest)) written_own
 
-  pub other_store-seen : (o : ℕ) → o ≢ b → IsSame (block_of (stored s n w) t o) (block_of s t o)
-  other_store-seen o apart = same_then _ (carried_by (changed (block_of s t o) o n written) o s.net) _
+  pub other_store-seen : (o : ℕ) → o ≢ b → IsSame (block_seen (stored s n w) t o) (block_seen s t o)
+  other_store-seen o apart = same_then _ (carried_by (changed (block_seen s t o) o n written) o s.net) _
       (node_changed s t n o written s.net l (noted_same b o (node_at s n).now old.content written (node_at s n) refl newest)) (written_elsewhere o apart)

@@ -12,7 +12,7 @@ use Rattle.sn_base.specs.declared.event.Answer.{Answer}
 use Rattle.sn_coherence.specs.Block.{Block, Message, gone, set}
 use Rattle.sn_coherence.specs.Same.{IsSame}
 use Rattle.sn_coherence.specs.Log.{was_owned, old_content, was_home, old_cache, told_at}
-use Rattle.fabric_coherence.specs.View.{Beside, block_of, net_seen, is_seen, message_seen, line_seen, content_held, miss_seen, put_seen, put_issued}
+use Rattle.fabric_coherence.specs.View.{Beside, block_seen, net_seen, is_seen, message_seen, line_seen, content_held, miss_seen, put_seen, put_issued}
 use Rattle.fabric_coherence.specs.Steps.{Below, losing, lost_at_once}
 use Rattle.fabric_coherence.specs.NodeSeen.{changed, carried_by, IsSameAtHome}
 use Rattle.fabric_coherence.proofs.Base.{read_set, seen-post}
@@ -75,7 +75,7 @@ pub same_at_home : {B : Type 0} (f : Node → B) (s : Fabric) (n b : ℕ) (v : N
 same_at_home f s n b v l e = ap (λ h. f (node_at (with_node s n v) h)) (home_still s n b v) ∙ (replaced_at f s n (home_node s b) v l ∙ set_self (λ m. f (node_at s m)) n (home_node s b) (f v) e)
 
 pub node_changed : (s : Fabric) (t : Beside) (n b : ℕ) (v : Node) (net : Net) → n < length s.nodes → IsSameAtHome b v (node_at s n) →
-    IsSame (block_of (record (with_node s n v) { net = net }) t b) (carried_by (changed (block_of s t b) b n v) b net)
+    IsSame (block_seen (record (with_node s n v) { net = net }) t b) (carried_by (changed (block_seen s t b) b n v) b net)
 node_changed s t n b v net l h = record {
   point = refl;
   home = home_still s n b v;
@@ -98,9 +98,9 @@ node_changed s t n b v net l h = record {
   holds = λ m j. replaced_at (λ x. told_at was_owned x.log false b (is_owned (line_of x.cache b).state) j) s n m v l;
   held = λ m j. replaced_at (λ x. told_at old_content x.log false b (content_held (line_of x.cache b)) j) s n m v l;
   last = λ m. replaced_at (λ x. logged_to x.log false b) s n m v l;
-  named_home = λ j. same_at_home (λ x. told_at was_home x.log true b (block_of s t b).at_home j) s n b v l (h.named_home (block_of s t b).at_home j);
-  named = λ j. same_at_home (λ x. told_at old_cache x.log true b (block_of s t b).owner j) s n b v l (h.named (block_of s t b).owner j);
-  home_held = λ j. same_at_home (λ x. told_at old_content x.log true b (block_of s t b).home_content j) s n b v l (h.held (block_of s t b).home_content j);
+  named_home = λ j. same_at_home (λ x. told_at was_home x.log true b (block_seen s t b).at_home j) s n b v l (h.named_home (block_seen s t b).at_home j);
+  named = λ j. same_at_home (λ x. told_at old_cache x.log true b (block_seen s t b).owner j) s n b v l (h.named (block_seen s t b).owner j);
+  home_held = λ j. same_at_home (λ x. told_at old_content x.log true b (block_seen s t b).home_content j) s n b v l (h.held (block_seen s t b).home_content j);
   home_last = same_at_home (λ x. logged_to x.log true b) s n b v l h.newest;
   stage = refl;
   at = refl;
@@ -165,12 +165,12 @@ abbrev pub routes_with : Fabric → ℕ → Node → Switches
 routes_with s n v = routes_of (with_node s n v)
 
 module _ (s : Fabric) (t : Beside) (n b about : ℕ) (v : Node) (out : Out) (answer : Answer) (l : n < length s.nodes) (home : IsSameAtHome b v (node_at s n)) (now : v.now ≡ (node_at s n).now) where
-  pub sent_same : (c : Block) → IsSame (carried_by (changed (block_of s t b) b n v) b (post (routes_with s n v) s.net (sends s n about out))) (without_lost c (is_lost (routes_with s n v) s.net (sends s n about out)) s.net.next_id) →
-      IsSame (block_of (sending (with_node s n v) n about (out ∷ []) answer).fabric t b) (losing c (lost_at_once (sending (with_node s n v) n about (out ∷ []) answer).sent))
-  sent_same c h = subst (λ tag. IsSame (block_of (record (with_node s n v) { net = posted (routes_with s n v) s.net n tag about (out ∷ []) }) t b) (losing c (lost_at_once (sent_by (routes_with s n v) s.net n tag about (out ∷ [])))))
+  pub sent_same : (c : Block) → IsSame (carried_by (changed (block_seen s t b) b n v) b (post (routes_with s n v) s.net (sends s n about out))) (without_lost c (is_lost (routes_with s n v) s.net (sends s n about out)) s.net.next_id) →
+      IsSame (block_seen (sending (with_node s n v) n about (out ∷ []) answer).fabric t b) (losing c (lost_at_once (sending (with_node s n v) n about (out ∷ []) answer).sent))
+  sent_same c h = subst (λ tag. IsSame (block_seen (record (with_node s n v) { net = posted (routes_with s n v) s.net n tag about (out ∷ []) }) t b) (losing c (lost_at_once (sent_by (routes_with s n v) s.net n tag about (out ∷ [])))))
       (sym (tag_is s n v l now))
       (lost_same _ c (is_lost (routes_with s n v) s.net (sends s n about out)) s.net.next_id
-      (same_then _ (carried_by (changed (block_of s t b) b n v) b (post (routes_with s n v) s.net (sends s n about out))) _
+      (same_then _ (carried_by (changed (block_seen s t b) b n v) b (post (routes_with s n v) s.net (sends s n about out))) _
       (node_changed s t n b v (post (routes_with s n v) s.net (sends s n about out)) l home) h))
 
 pub own_block : (b : ℕ) → nat_eq b b ≡ true

@@ -17,7 +17,7 @@ use Rattle.sn_coherence.specs.Block as block
 use Rattle.sn_coherence.specs.OtherEvents.{recover}
 use Rattle.sn_coherence.specs.Same.{IsSame}
 use Rattle.sn_coherence.specs.Log.{was_owned, old_content, was_home, old_cache, told, told_at}
-use Rattle.fabric_coherence.specs.View.{Beside, block_of, line_seen, content_held, miss_seen, put_seen, put_issued, is_itself, owner_of, content_of, kind_open, requester_of, begun_of}
+use Rattle.fabric_coherence.specs.View.{Beside, block_seen, line_seen, content_held, miss_seen, put_seen, put_issued, is_itself, owner_of, content_of, kind_open, requester_of, begun_of}
 use Rattle.fabric_coherence.specs.Steps.{IsShaped}
 use Rattle.fabric_coherence.specs.NodeSeen.{beside_restored}
 
@@ -208,22 +208,22 @@ module _ (s : Fabric) (t : Beside) (b : ℕ) (shape : IsShaped s) (within : b < 
   new_line : (m : ℕ) → m < length s.nodes → line_of (restored_node s.point (node_at s m)).cache b ≡ restored_line (held_by (old_at (node_at s m).log false b s.point) (line_of (node_at s m).cache b))
   new_line m l = restored_line_at s.point b (node_at s m) (lines_within m l)
 
-  line_is : (m : ℕ) → line_seen (line_of (new_node m).cache b).state ≡ cond ((block_of s t b).holds m s.point) block.Modified block.NoLine
+  line_is : (m : ℕ) → line_seen (line_of (new_node m).cache b).state ≡ cond ((block_seen s t b).holds m s.point) block.Modified block.NoLine
   line_is = each_node (λ m x y. line_seen (line_of y.cache b).state ≡ cond (told_at was_owned x.log false b (is_owned (line_of x.cache b).state) s.point) block.Modified block.NoLine) s
       (λ m l. ap (λ (x : Line). line_seen x.state) (new_line m l) ∙ state_told (entry_at (node_at s m).log false b s.point) (line_of (node_at s m).cache b) (entry_sided (node_at s m).log false b s.point))
       (λ m l. subst (λ (x : Line). line_seen x.state ≡ cond (is_owned x.state) block.Modified block.NoLine) (sym (no_line_at b)) refl)
 
-  content_is : (m : ℕ) → (line_of (new_node m).cache b).content ≡ (block_of s t b).held m s.point
+  content_is : (m : ℕ) → (line_of (new_node m).cache b).content ≡ (block_seen s t b).held m s.point
   content_is = each_node (λ m x y. (line_of y.cache b).content ≡ told_at old_content x.log false b (content_held (line_of x.cache b)) s.point) s
       (λ m l. ap (λ (x : Line). x.content) (new_line m l) ∙ content_told (entry_at (node_at s m).log false b s.point) (line_of (node_at s m).cache b) (entry_sided (node_at s m).log false b s.point))
       (λ m l. subst (λ (x : Line). x.content ≡ content_held x) (sym (no_line_at b)) refl)
 
-  holds_is : (j m : ℕ) → told_at was_owned (new_node m).log false b (is_owned (line_of (new_node m).cache b).state) j ≡ (block_of s t b).holds m s.point
+  holds_is : (j m : ℕ) → told_at was_owned (new_node m).log false b (is_owned (line_of (new_node m).cache b).state) j ≡ (block_seen s t b).holds m s.point
   holds_is j = each_node (λ m x y. told_at was_owned y.log false b (is_owned (line_of y.cache b).state) j ≡ told_at was_owned x.log false b (is_owned (line_of x.cache b).state) s.point) s
       (λ m l. ap (λ (x : Line). is_owned x.state) (new_line m l) ∙ owned_told (entry_at (node_at s m).log false b s.point) (line_of (node_at s m).cache b))
       (λ m l. refl)
 
-  held_is : (j m : ℕ) → told_at old_content (new_node m).log false b (content_held (line_of (new_node m).cache b)) j ≡ (block_of s t b).held m s.point
+  held_is : (j m : ℕ) → told_at old_content (new_node m).log false b (content_held (line_of (new_node m).cache b)) j ≡ (block_seen s t b).held m s.point
   held_is j = each_node (λ m x y. told_at old_content y.log false b (content_held (line_of y.cache b)) j ≡ told_at old_content x.log false b (content_held (line_of x.cache b)) s.point) s
       (λ m l. ap content_held (new_line m l) ∙ (held_content (held_by (old_at (node_at s m).log false b s.point) (line_of (node_at s m).cache b))
       ∙ content_told (entry_at (node_at s m).log false b s.point) (line_of (node_at s m).cache b) (entry_sided (node_at s m).log false b s.point)))
@@ -235,20 +235,20 @@ module _ (s : Fabric) (t : Beside) (b : ℕ) (shape : IsShaped s) (within : b < 
   home_is : new_home ≡ restored_entry s s.point b (home_of s b)
   home_is = restored_home_at s s.point b (subst (λ k. b < k) (sym shape.homes) within)
 
-  at_home_is : is_itself new_home.holder ≡ (block_of s t b).named_home s.point
+  at_home_is : is_itself new_home.holder ≡ (block_seen s t b).named_home s.point
   at_home_is = ap (λ (e : HomeEntry). is_itself e.holder) home_is ∙ itself_told (entry_at (log_of_home s b) true b s.point) (home_of s b).holder (entry_sided (log_of_home s b) true b s.point)
 
-  owner_is : owner_of new_home.holder ≡ (block_of s t b).named s.point
+  owner_is : owner_of new_home.holder ≡ (block_seen s t b).named s.point
   owner_is = ap (λ (e : HomeEntry). owner_of e.holder) home_is ∙ owner_told (entry_at (log_of_home s b) true b s.point) (home_of s b).holder (entry_sided (log_of_home s b) true b s.point)
 
-  home_content_is : content_of new_home.holder ≡ (block_of s t b).home_held s.point
+  home_content_is : content_of new_home.holder ≡ (block_seen s t b).home_held s.point
   home_content_is = ap (λ (e : HomeEntry). content_of e.holder) home_is ∙ kept_told (entry_at (log_of_home s b) true b s.point) (home_of s b).holder (entry_sided (log_of_home s b) true b s.point)
 
   abbrev place : ℕ
   place = b % length (map (restored_node s.point) s.nodes)
 
   -- a recovery is that of each block
-  pub recovery-seen : IsSame (block_of (restored s s.point) (beside_restored t) b) (recover (length s.nodes) (block_of s t b))
+  pub recovery-seen : IsSame (block_seen (restored s s.point) (beside_restored t) b) (recover (length s.nodes) (block_seen s t b))
   unfolding restored
   recovery-seen = record {
     point = refl;

@@ -8,7 +8,7 @@ use Rattle.sn_model.specs.Fabric.{Fabric, node_at, home_of, no_entry}
 use Rattle.sn_model.specs.NodeEvents.{ready_of, least_begun, begun_by, issued_by, put_issued_by}
 use Rattle.sn_coherence.specs.Block as block
 use Rattle.sn_coherence.specs.Events.{IsReady}
-use Rattle.fabric_coherence.specs.View.{Beside, block_of, miss_seen, put_seen, put_issued, kind_open, begun_of}
+use Rattle.fabric_coherence.specs.View.{Beside, block_seen, miss_seen, put_seen, put_issued, kind_open, begun_of}
 use Rattle.fabric_coherence.specs.Coherent.{IsKept}
 
 below_begun : (k now : ℕ) (transaction : Option Transaction) → k ≤ now → (kind_open transaction ≢ block.Idle → k ≤ begun_of transaction) → k ≤ begun_by now transaction
@@ -41,14 +41,14 @@ below_least k now nodes n start (entry ∷ homes) l h =
     (below_least k now nodes n (start + 1) homes l (λ i m e. let r : start + 1 + i ≡ start + suc i = omega arith in h (suc i) (omega arith) (subst (λ x. x % nodes ≡ n) r e)))
     (λ e. h zero (omega arith) (subst (λ x. x % nodes ≡ n) q (mine_is (start % nodes) n e)))
 
-pub ready_above : (s : Fabric) (t : Beside) (n k : ℕ) → IsKept s t → ((b : ℕ) → b < block_count → IsReady (block_of s t b) n k) → k ≤ ready_of s n
+pub ready_above : (s : Fabric) (t : Beside) (n k : ℕ) → IsKept s t → ((b : ℕ) → b < block_count → IsReady (block_seen s t b) n k) → k ≤ ready_of s n
 unfolding ready_of
 ready_above s t n k kept each =
     below_put k _ (node_at s n).cache.put
     (below_issued k _ (node_at s n).cache.miss (below_least k (node_at s n).now (length s.nodes) n 0 s.homes first.of_now home) first.of_miss)
     first.of_put
   where
-    first : IsReady (block_of s t 0) n k
+    first : IsReady (block_seen s t 0) n k
     first = each 0 (omega arith)
 
     home : (b : ℕ) → b < length s.homes → (0 + b) % length s.nodes ≡ n → kind_open (home_of s b).transaction ≢ block.Idle → k ≤ begun_of (home_of s b).transaction

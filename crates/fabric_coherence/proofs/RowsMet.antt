@@ -17,7 +17,7 @@ use Rattle.home_directory.specs.Receipt.{HasRow, IsNotOlder, MayUnblock, MayGive
 use Rattle.sn_coherence.specs.Block as block
 use Rattle.sn_coherence.specs.Consequences.{MeetsRows, MeetsNotes}
 use Rattle.sn_coherence.proofs.WhatFollows.{kept_meets_rows, kept_meets_notes}
-use Rattle.fabric_coherence.specs.View.{Beside, block_of, message_seen, is_itself, owner_of, kind_seen, kind_open, requester_of}
+use Rattle.fabric_coherence.specs.View.{Beside, block_seen, message_seen, is_itself, owner_of, kind_seen, kind_open, requester_of}
 use Rattle.fabric_coherence.specs.Steps.{IsInFlight}
 use Rattle.fabric_coherence.specs.Coherent.{IsKept}
 use Rattle.fabric_coherence.specs.CacheEvents.{comes_to_cache}
@@ -85,7 +85,7 @@ late_unblock log (Some transaction) holder fixed l = late_end log transaction.ki
 
 module _ (s : Fabric) (t : Beside) (m : Message) (flight : IsInFlight s m) (kept : IsKept s t) where
   abbrev here : block.Block
-  here = block_of s t m.block
+  here = block_seen s t m.block
 
   rows : MeetsRows here
   rows = kept_meets_rows (length s.nodes) here kept.shape.few (kept.blocks m.block flight.block)

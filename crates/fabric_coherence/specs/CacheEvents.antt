@@ -13,7 +13,7 @@ use Rattle.sn_coherence.specs.Block.{Block}
 use Rattle.sn_coherence.specs.Events.{Event, after}
 use Rattle.fabric_coherence.specs.Recorded.{heard_by}
 use Rattle.fabric_coherence.specs.Leads.{Leads}
-use Rattle.fabric_coherence.specs.View.{Beside, block_of}
+use Rattle.fabric_coherence.specs.View.{Beside, block_seen}
 use Rattle.fabric_coherence.specs.Sends.{OutsWithin}
 use Rattle.fabric_coherence.specs.CacheSeen.{IsOwnRow, IsElsewhere}
 
@@ -37,11 +37,11 @@ comes_to_cache _ = false
 -- a reply of a cache is this event of its own block, and makes of the others these blocks; it says that this copy was lost
 pub record IsCacheEvent (s : Fabric) (t : Beside) (m : Message) (reply : CacheReply) (event : Event) (others : ℕ → Block)
     (lost : Option ℕ) : Type 0 where
-  pub own : IsOwnRow s t m reply (after (length s.nodes) (block_of s t m.block) event)
-  pub leads : Leads (length s.nodes) (block_of s t m.block) (heard_by (told_of m.to lost) m.block)
-      (after (length s.nodes) (block_of s t m.block) event)
-  pub passes : (o : ℕ) → o ≢ m.block → IsElsewhere s t m reply (after (length s.nodes) (block_of s t m.block) event) o (others o)
-  pub passed : (o : ℕ) → o ≢ m.block → Leads (length s.nodes) (block_of s t o) (heard_by (told_of m.to lost) o) (others o)
+  pub own : IsOwnRow s t m reply (after (length s.nodes) (block_seen s t m.block) event)
+  pub leads : Leads (length s.nodes) (block_seen s t m.block) (heard_by (told_of m.to lost) m.block)
+      (after (length s.nodes) (block_seen s t m.block) event)
+  pub passes : (o : ℕ) → o ≢ m.block → IsElsewhere s t m reply (after (length s.nodes) (block_seen s t m.block) event) o (others o)
+  pub passed : (o : ℕ) → o ≢ m.block → Leads (length s.nodes) (block_seen s t o) (heard_by (told_of m.to lost) o) (others o)
   pub loses : reply.lost ≡ lost
   -- the cache keeps its lines, and what it sends goes to nodes that are there
   pub lines : length reply.after.cache.lines ≡ block_count

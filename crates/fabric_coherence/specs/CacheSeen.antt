@@ -11,21 +11,21 @@ use Rattle.sn_coherence.specs.Block.{Block, Content, Message as Seen, gone, set,
 use Rattle.sn_coherence.specs.OtherEvents.{end_miss_elsewhere}
 use Rattle.sn_coherence.specs.Same.{IsSame}
 use Rattle.sn_coherence.specs.Log.{was_owned, old_content, was_home, old_cache, told_at}
-use Rattle.fabric_coherence.specs.View.{Beside, block_of, line_seen, content_held, miss_seen, put_seen, put_issued, net_seen, message_seen}
+use Rattle.fabric_coherence.specs.View.{Beside, block_seen, line_seen, content_held, miss_seen, put_seen, put_issued, net_seen, message_seen}
 use Rattle.fabric_coherence.specs.Steps.{after_cache, beside_with, losing, lost_at_once, elsewhere}
 
 abbrev pub cache_seen : Fabric → Beside → Message → CacheReply → Line → ℕ → Block
-cache_seen s t m reply line o = record (block_of s t o) {
-  line = set (block_of s t o).line m.to (line_seen line.state);
-  content = set (block_of s t o).content m.to line.content;
-  miss = set (block_of s t o).miss m.to (miss_seen o reply.after.cache.miss);
-  putting = set (block_of s t o).putting m.to (put_seen o reply.after.cache.put);
-  put_issued = set (block_of s t o).put_issued m.to (put_issued reply.after.cache.put);
+cache_seen s t m reply line o = record (block_seen s t o) {
+  line = set (block_seen s t o).line m.to (line_seen line.state);
+  content = set (block_seen s t o).content m.to line.content;
+  miss = set (block_seen s t o).miss m.to (miss_seen o reply.after.cache.miss);
+  putting = set (block_seen s t o).putting m.to (put_seen o reply.after.cache.put);
+  put_issued = set (block_seen s t o).put_issued m.to (put_issued reply.after.cache.put);
   net = net_seen o (after_cache s m reply).fabric.net.flights;
   next = (after_cache s m reply).fabric.net.next_id;
-  holds = set_row (block_of s t o).holds m.to (told_at was_owned reply.after.log false o (is_owned line.state));
-  held = set_row (block_of s t o).held m.to (told_at old_content reply.after.log false o (content_held line));
-  last = set (block_of s t o).last m.to (logged_to reply.after.log false o);
+  holds = set_row (block_seen s t o).holds m.to (told_at was_owned reply.after.log false o (is_owned line.state));
+  held = set_row (block_seen s t o).held m.to (told_at old_content reply.after.log false o (content_held line));
+  last = set (block_seen s t o).last m.to (logged_to reply.after.log false o);
 }
 
 -- a log says of the home's side of a block what it said before
@@ -69,12 +69,12 @@ pub record IsRow (a b : Block) : Type 0 where
 -- a reply of a cache is, for its own block, this row of the block
 abbrev pub IsOwnRow : Fabric → Beside → Message → CacheReply → Block → Type 0
 IsOwnRow s t m reply row =
-    IsSame (block_of (after_cache s m reply).fabric (beside_with t m.block row) m.block) (losing row (lost_at_once (after_cache s m reply).sent))
+    IsSame (block_seen (after_cache s m reply).fabric (beside_with t m.block row) m.block) (losing row (lost_at_once (after_cache s m reply).sent))
 
 -- the net with a message of the block taken, and one sent by its receiver
 abbrev pub net_answered : Fabric → Beside → Message → Out → ℕ → Seen
 net_answered s t m out =
-    set (set (block_of s t m.block).net m.id gone) s.net.next_id (message_seen (message_of s.net m.to (node_at s m.to).now m.block out) out.body)
+    set (set (block_seen s t m.block).net m.id gone) s.net.next_id (message_seen (message_of s.net m.to (node_at s m.to).now m.block out) out.body)
 
 -- a log says of the cache's side of a block what it said before
 pub record KeepsCacheSide (before after : List LogEntry) (o : ℕ) : Type 0 where
@@ -84,7 +84,7 @@ pub record KeepsCacheSide (before after : List LogEntry) (o : ℕ) : Type 0 wher
 
 -- a reply of a cache that goes with this row of its own block leaves this of block o
 abbrev pub IsElsewhere : Fabric → Beside → Message → CacheReply → Block → ℕ → Block → Type 0
-IsElsewhere s t m reply row o block = IsSame (block_of (after_cache s m reply).fabric (beside_with t m.block row) o) block
+IsElsewhere s t m reply row o block = IsSame (block_seen (after_cache s m reply).fabric (beside_with t m.block row) o) block
 
 -- another block, where node n's miss is complete or waits for acknowledgements
 abbrev pub settled_elsewhere : Block → ℕ → ℕ → Bool → Block

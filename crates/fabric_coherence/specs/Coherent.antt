@@ -3,14 +3,14 @@ use Rattle.std.specs.Prelude.{◌≡◌, ℕ, ◌+◌, ◌<◌, ◌≤◌, false
 use Rattle.sn_model.specs.Caches.{block_count}
 use Rattle.sn_model.specs.Cuts.{is_unfinished}
 use Rattle.sn_model.specs.Fabric.{Fabric, node_at}
-use Rattle.sn_coherence.specs.Kept.{Kept}
-use Rattle.fabric_coherence.specs.View.{Beside, block_of}
+use Rattle.sn_coherence.specs.Kept.{AllSentences}
+use Rattle.fabric_coherence.specs.View.{Beside, block_seen}
 use Rattle.fabric_coherence.specs.Steps.{IsShaped}
 
 -- the fabric's lists have their shape, and of each block all sentences hold, with this beside the fabric
 pub record IsKept (s : Fabric) (t : Beside) : Type 0 where
   pub shape : IsShaped s
-  pub blocks : (b : ℕ) → b < block_count → Kept (length s.nodes) (block_of s t b)
+  pub blocks : (b : ℕ) → b < block_count → AllSentences (length s.nodes) (block_seen s t b)
 
 -- the same with something beside it
 abbrev pub Keeps : Fabric → Type 0

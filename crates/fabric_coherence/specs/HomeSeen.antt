@@ -8,7 +8,7 @@ use Rattle.sn_model.specs.Fabric.{Fabric, node_at}
 use Rattle.sn_model.specs.Net.{posted, sent_by, without_flight}
 use Rattle.sn_coherence.specs.Block.{Block, Message, Content, gone, set}
 use Rattle.sn_coherence.specs.Log.{was_owned, old_content, was_home, old_cache, told_at}
-use Rattle.fabric_coherence.specs.View.{Beside, block_of, net_seen, is_itself, owner_of, content_of, kind_open, requester_of, begun_of}
+use Rattle.fabric_coherence.specs.View.{Beside, block_seen, net_seen, is_itself, owner_of, content_of, kind_open, requester_of, begun_of}
 use Rattle.sn_coherence.specs.Same.{IsSame}
 use Rattle.fabric_coherence.specs.Sends.{targets}
 use Rattle.fabric_coherence.specs.Steps.{after_home, beside_with, losing, lost_at_once, elsewhere}
@@ -77,9 +77,9 @@ other_targets sharers r k = slice_index_or (targets 0 (others sharers r)) k 0
 -- a row of a home is this row of its block, and then the loss of what was lost at once
 abbrev pub IsHomeRow : Fabric → Beside → Sent → HomeReply → Block → Type 0
 IsHomeRow s t m reply e =
-    IsSame (block_of (after_home s m reply).fabric (beside_with t m.block e) m.block) (losing e (lost_at_once (after_home s m reply).sent))
+    IsSame (block_seen (after_home s m reply).fabric (beside_with t m.block e) m.block) (losing e (lost_at_once (after_home s m reply).sent))
 
 -- another block sees that the message is gone, and that numbers were taken
 abbrev pub IsHomeElsewhere : Fabric → Beside → Sent → HomeReply → Block → ℕ → Type 0
 IsHomeElsewhere s t m reply e o =
-    IsSame (block_of (after_home s m reply).fabric (beside_with t m.block e) o) (elsewhere (block_of s t o) m.id (length reply.sends))
+    IsSame (block_seen (after_home s m reply).fabric (beside_with t m.block e) o) (elsewhere (block_seen s t o) m.id (length reply.sends))

@@ -8,13 +8,13 @@ use Rattle.sn_model.specs.MachineEvents.{is_edged, is_recovered}
 use Rattle.sn_model.specs.FabricEvents.{FabricEvent, Write, Edge, Advance as Advances, Recover}
 use Rattle.sn_coherence.specs.KeptRecords.{KeptRecords}
 use Rattle.sn_coherence.specs.Records.{Records, unreserves, hears, rolls_back}
-use Rattle.fabric_coherence.specs.View.{Beside, block_of}
+use Rattle.fabric_coherence.specs.View.{Beside, block_seen}
 use Rattle.fabric_coherence.specs.Coherent.{IsKept}
 use Rattle.fabric_coherence.specs.Events.{MayBe}
 
 -- all sentences hold of each block, and those on its records of each block's records, with something beside the fabric
 abbrev pub KeepsRecords : Fabric → (ℕ → Records) → Type 0
-KeepsRecords s r = (t : Beside) × IsKept s t × ((b : ℕ) → b < block_count → KeptRecords (block_of s t b) (r b))
+KeepsRecords s r = (t : Beside) × IsKept s t × ((b : ℕ) → b < block_count → KeptRecords (block_seen s t b) (r b))
 
 -- what becomes of the records of block b by what an event tells: a lost copy loses its reservation, a report is heard
 abbrev pub heard_by : Option Told → ℕ → Records → Records

@@ -142,8 +142,8 @@ abbrev pub home_log : Fabric → ℕ → List LogEntry
 home_log s b = (node_at s (home_node s b)).log
 
 -- block b of the fabric
-abbrev pub block_of : Fabric → Beside → ℕ → block.Block
-block_of s t b = record {
+abbrev pub block_seen : Fabric → Beside → ℕ → block.Block
+block_seen s t b = record {
   point = s.point;
   home = home_node s b;
   now = λ n. (node_at s n).now;

@@ -11,7 +11,7 @@ use Rattle.log_buffer.specs.Log.{LogData, has_entry}
 use Rattle.sn_model.specs.declared.home.Kind.{Kind}
 use Rattle.sn_model.specs.declared.home.Kind.TheVariants.{Read, Take, Move, Upgrade, Put}
 use Rattle.sn_model.specs.Homes.{HomeEntry, Holder, Itself, OfCache, Transaction, is_owner}
-use Rattle.sn_model.specs.HomeRows.{Kept, HomeReply, count_others, others, invalidations, read_at_home, read_at_owner, move_ownership, upgrade, unblock, put_begins, put_is_stale, grant_exclusive}
+use Rattle.sn_model.specs.HomeRows.{LoggedEntry, HomeReply, count_others, others, invalidations, read_at_home, read_at_owner, move_ownership, upgrade, unblock, put_begins, put_is_stale, grant_exclusive}
 use Rattle.sn_model.specs.declared.home.Owner.{Owner}
 use Rattle.sn_model.specs.declared.home.Owner.TheVariants.{Home, Cache}
 use Rattle.home_directory.specs.Home.{holder_of, cache_of}
@@ -109,7 +109,7 @@ wait_is : (limit : ℕ) (t : Option Transaction) (reply : HomeReply) → is_some
 wait_is limit None reply w = cc
 wait_is limit (Some t) reply w = refl
 
-pub judged_waits : (limit : ℕ) (at : Kept) (now : ℕ) (m : Message) (body : Body) → waits at.entry body ≡ true → judged limit (outcome_at at now m body) ≡ Waits
+pub judged_waits : (limit : ℕ) (at : LoggedEntry) (now : ℕ) (m : Message) (body : Body) → waits at.entry body ≡ true → judged limit (outcome_at at now m body) ≡ Waits
 judged_waits limit at now m GetS w = wait_is limit at.entry.transaction _ w
 judged_waits limit at now m GetM w = wait_is limit at.entry.transaction _ w
 judged_waits limit at now m PutReq w = wait_is limit at.entry.transaction _ w
@@ -127,21 +127,21 @@ sends_when : (b : Bool) (n : ℕ) (x y : HomeReply) → length x.sends ≡ n →
 sends_when true n x y p q = ap Sends p
 sends_when false n x y p q = ap Sends q
 
-shared_sends : (at : Kept) (block now r : ℕ) (holder : Holder) → look_of (Does (get_shared at block now r holder)) ≡ Sends 1
+shared_sends : (at : LoggedEntry) (block now r : ℕ) (holder : Holder) → look_of (Does (get_shared at block now r holder)) ≡ Sends 1
 shared_sends at block now r (Itself content) = sends_when (nat_eq (count_others at.entry.sharers r) 0) 1 _ _ refl refl
 shared_sends at block now r (OfCache owner) = refl
 
 one_more : (r : ℕ) (sharers : List Bool) → suc (length (invalidations 0 (others sharers r) r)) ≡ 1 + count_others sharers r
 one_more r sharers = rw (length_invalidations 0 (others sharers r) r) (omega arith)
 
-modified_sends : (at : Kept) (block now r : ℕ) (holder : Holder) → look_of (Does (get_modified at block now r holder)) ≡ Sends (1 + count_others at.entry.sharers r)
+modified_sends : (at : LoggedEntry) (block now r : ℕ) (holder : Holder) → look_of (Does (get_modified at block now r holder)) ≡ Sends (1 + count_others at.entry.sharers r)
 modified_sends at block now r (Itself content) = ap Sends (one_more r at.entry.sharers)
 modified_sends at block now r (OfCache owner) = sends_when (nat_eq owner r) _ _ _ (one_more r at.entry.sharers) (one_more r at.entry.sharers)
 
-put_sends : (at : Kept) (now r : ℕ) → look_of (Does (put_request at now r)) ≡ Sends 1
+put_sends : (at : LoggedEntry) (now r : ℕ) → look_of (Does (put_request at now r)) ≡ Sends 1
 put_sends at now r = sends_when (is_owner at.entry.holder r) 1 _ _ refl refl
 
-unblock_sends : (at : Kept) (block fixed : ℕ) (t : Option Transaction) → look_of (Does (unblock at block fixed t)) ≡ Sends 0
+unblock_sends : (at : LoggedEntry) (block fixed : ℕ) (t : Option Transaction) → look_of (Does (unblock at block fixed t)) ≡ Sends 0
 unblock_sends at block fixed None = refl
 unblock_sends at block fixed (Some t) = refl
 
@@ -150,7 +150,7 @@ does_idle None reply look w h = h
 does_idle (Some t) reply look w h = cc
 
 -- how many messages a row sends
-pub sends_are : (at : Kept) (now : ℕ) (m : Message) (body : Body) → HasRow at.entry m.from body → waits at.entry body ≡ false →
+pub sends_are : (at : LoggedEntry) (now : ℕ) (m : Message) (body : Body) → HasRow at.entry m.from body → waits at.entry body ≡ false →
     look_of (does (outcome_at at now m body)) ≡ Sends (count_sends at.entry m.from body)
 sends_are at now m GetS r w = does_idle at.entry.transaction _ _ w (shared_sends at m.block now m.from at.entry.holder)
 sends_are at now m GetM r w = does_idle at.entry.transaction _ _ w (modified_sends at m.block now m.from at.entry.holder)
@@ -160,7 +160,7 @@ sends_are at now m (PutData content) r w = refl
 sends_are at now m _ r w = absurd r
 
 -- a row that was done is what the verdict says
-pub tells_done : (before after : Kept) (step : HomeStep) (outcome : Outcome) → DidOutcome after step outcome → (after ≡ left_by before (does outcome)) × Tells step (does outcome)
+pub tells_done : (before after : LoggedEntry) (step : HomeStep) (outcome : Outcome) → DidOutcome after step outcome → (after ≡ left_by before (does outcome)) × Tells step (does outcome)
 tells_done before after step Busy d = absurd d
 tells_done before after step (AtHome reply) d = (d.left, d.sent)
 tells_done before after step (AtCache reply) d = absurd d
@@ -185,30 +185,30 @@ names_no_owner (Cache node) content holder r p q = rw (← p) (grind (arith, nat
 
 -- a row is done where its condition chooses it
 
-pub did_alone : (at : Kept) (block now r : ℕ) (holder : Holder) (content : List ℕ) (after : Kept) (step : HomeStep) → holder ≡ Itself content → count_others at.entry.sharers r ≡ 0 →
+pub did_alone : (at : LoggedEntry) (block now r : ℕ) (holder : Holder) (content : List ℕ) (after : LoggedEntry) (step : HomeStep) → holder ≡ Itself content → count_others at.entry.sharers r ≡ 0 →
     Did after step (grant_exclusive at block now r content) → Did after step (get_shared at block now r holder)
 did_alone at block now r holder content after step p q d = rw (p, q) d
 
-pub did_copy : (at : Kept) (block now r : ℕ) (holder : Holder) (content : List ℕ) (after : Kept) (step : HomeStep) → holder ≡ Itself content → nat_eq (count_others at.entry.sharers r) 0 ≡ false →
+pub did_copy : (at : LoggedEntry) (block now r : ℕ) (holder : Holder) (content : List ℕ) (after : LoggedEntry) (step : HomeStep) → holder ≡ Itself content → nat_eq (count_others at.entry.sharers r) 0 ≡ false →
     Did after step (read_at_home at now r content) → Did after step (get_shared at block now r holder)
 did_copy at block now r holder content after step p q d = rw (p, q) d
 
-pub did_forward : (at : Kept) (block now r : ℕ) (holder : Holder) (owner : ℕ) (after : Kept) (step : HomeStep) → holder ≡ OfCache owner →
+pub did_forward : (at : LoggedEntry) (block now r : ℕ) (holder : Holder) (owner : ℕ) (after : LoggedEntry) (step : HomeStep) → holder ≡ OfCache owner →
     Did after step (read_at_owner at now r owner) → Did after step (get_shared at block now r holder)
 did_forward at block now r holder owner after step p d = rw p d
 
-pub did_upgrade : (at : Kept) (block now r : ℕ) (holder : Holder) (owner : ℕ) (after : Kept) (step : HomeStep) → holder ≡ OfCache owner → nat_eq owner r ≡ true →
+pub did_upgrade : (at : LoggedEntry) (block now r : ℕ) (holder : Holder) (owner : ℕ) (after : LoggedEntry) (step : HomeStep) → holder ≡ OfCache owner → nat_eq owner r ≡ true →
     Did after step (upgrade at now r) → Did after step (get_modified at block now r holder)
 did_upgrade at block now r holder owner after step p q d = rw (p, q) d
 
-pub did_move : (at : Kept) (block now r : ℕ) (holder : Holder) (owner : ℕ) (after : Kept) (step : HomeStep) → holder ≡ OfCache owner → nat_eq owner r ≡ false →
+pub did_move : (at : LoggedEntry) (block now r : ℕ) (holder : Holder) (owner : ℕ) (after : LoggedEntry) (step : HomeStep) → holder ≡ OfCache owner → nat_eq owner r ≡ false →
     Did after step (move_ownership at now r owner) → Did after step (get_modified at block now r holder)
 did_move at block now r holder owner after step p q d = rw (p, q) d
 
-pub did_put : (at : Kept) (now r : ℕ) (after : Kept) (step : HomeStep) → is_owner at.entry.holder r ≡ true → Did after step (put_begins at now r) → Did after step (put_request at now r)
+pub did_put : (at : LoggedEntry) (now r : ℕ) (after : LoggedEntry) (step : HomeStep) → is_owner at.entry.holder r ≡ true → Did after step (put_begins at now r) → Did after step (put_request at now r)
 did_put at now r after step q d = rw q d
 
-pub did_stale : (at : Kept) (now r : ℕ) (after : Kept) (step : HomeStep) → is_owner at.entry.holder r ≡ false → Did after step (put_is_stale at r) → Did after step (put_request at now r)
+pub did_stale : (at : LoggedEntry) (now r : ℕ) (after : LoggedEntry) (step : HomeStep) → is_owner at.entry.holder r ≡ false → Did after step (put_is_stale at r) → Did after step (put_request at now r)
 did_stale at now r after step q d = rw q d
 
 -- the note of a row that is done has room

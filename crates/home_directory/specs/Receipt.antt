@@ -11,13 +11,13 @@ use Rattle.sn_model.specs.declared.cache.Out.{Out}
 use Rattle.sn_model.specs.declared.look.Look.{Look}
 use Rattle.sn_model.specs.declared.look.Look.TheVariants.{Sends, HomeBusy as LooksBusy, LogFull as LooksFull}
 use Rattle.sn_model.specs.Homes.{HomeEntry, Holder, Itself, OfCache, Transaction, is_owner}
-use Rattle.sn_model.specs.HomeRows.{Kept, HomeReply, count_others, invalidations, unblock, put_data}
+use Rattle.sn_model.specs.HomeRows.{LoggedEntry, HomeReply, count_others, invalidations, unblock, put_data}
 use Rattle.sn_model.specs.NetEvents.{Outcome, Busy, AtHome, get_shared, get_modified, put_request, unless_busy}
 use Rattle.home_directory.specs.Home.{HomeData, entry_of, with_entry}
 use Rattle.home_directory.specs.declared.step.HomeStep.{HomeStep}
 use Rattle.home_directory.specs.declared.step.HomeStep.TheVariants.{Took, HomeBusy, LogFull}
 
-abbrev pub kept : HomeEntry → List LogEntry → Kept
+abbrev pub kept : HomeEntry → List LogEntry → LoggedEntry
 kept entry log = record { entry = entry; log = log }
 
 -- which messages have a row
@@ -80,7 +80,7 @@ abbrev pub IsNotOlder : List LogEntry → Option ℕ → ℕ → Type 0
 IsNotOlder log interval block = IfSome interval (λ i. logged_to log true block ≤ i + 1)
 
 -- what a message comes to: the rows of the definitions, at this entry and log
-abbrev pub outcome_at : Kept → ℕ → Message → Body → Outcome
+abbrev pub outcome_at : LoggedEntry → ℕ → Message → Body → Outcome
 outcome_at at now m GetS = unless_busy at.entry.transaction (get_shared at m.block now m.from at.entry.holder)
 outcome_at at now m GetM = unless_busy at.entry.transaction (get_modified at m.block now m.from at.entry.holder)
 outcome_at at now m PutReq = unless_busy at.entry.transaction (put_request at now m.from)
@@ -102,11 +102,11 @@ judged limit (AtHome reply) = within limit reply
 judged limit _ = Waits
 
 -- the verdict on a message at an entry, with a log of this limit
-abbrev pub verdict_of : ℕ → Kept → ℕ → Message → Verdict
+abbrev pub verdict_of : ℕ → LoggedEntry → ℕ → Message → Verdict
 verdict_of limit at now m = judged limit (outcome_at at now m m.body)
 
 -- what is left after it
-abbrev pub left_by : Kept → Verdict → Kept
+abbrev pub left_by : LoggedEntry → Verdict → LoggedEntry
 left_by before (Does reply) = reply.after
 left_by before _ = before
 
@@ -145,7 +145,7 @@ NotesLast home log now m = IsNotOlder log.entries (noting (entry_of home m.block
 abbrev pub verdict_at : HomeData → LogData → ℕ → Message → Verdict
 verdict_at home log now m = verdict_of log.limit (kept (entry_of home m.block) log.entries) now m
 
-abbrev pub left_at : HomeData → LogData → ℕ → Message → Kept
+abbrev pub left_at : HomeData → LogData → ℕ → Message → LoggedEntry
 left_at home log now m = left_by (kept (entry_of home m.block) log.entries) (verdict_at home log now m)
 
 -- what the message comes to: the verdict, and the home and the log that it leaves

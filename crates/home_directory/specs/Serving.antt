@@ -4,7 +4,7 @@ use Rattle.sn_msg.specs.declared.Body.{Body}
 use Rattle.sn_msg.specs.declared.Body.TheVariants.{GetS, GetM, PutReq}
 use Rattle.log_buffer.specs.Log.{LogData, has_entry}
 use Rattle.sn_model.specs.Homes.{HomeEntry}
-use Rattle.sn_model.specs.HomeRows.{Kept, HomeReply, count_others}
+use Rattle.sn_model.specs.HomeRows.{LoggedEntry, HomeReply, count_others}
 use Rattle.sn_model.specs.NetEvents.{Outcome, AtHome}
 use Rattle.home_directory.specs.declared.step.HomeStep.{HomeStep}
 use Rattle.home_directory.specs.Receipt.{Sent}
@@ -36,11 +36,11 @@ count_sends entry r PutReq = 1
 count_sends entry r _ = 0
 
 -- a row that was done: what is left, and what the step sends
-pub record Did (after : Kept) (step : HomeStep) (reply : HomeReply) : Type 0 where
+pub record Did (after : LoggedEntry) (step : HomeStep) (reply : HomeReply) : Type 0 where
   pub left : after ≡ reply.after
   pub sent : Sent step reply.sends
 
 -- the same of what a message comes to
-abbrev pub DidOutcome : Kept → HomeStep → Outcome → Type 0
+abbrev pub DidOutcome : LoggedEntry → HomeStep → Outcome → Type 0
 DidOutcome after step (AtHome reply) = Did after step reply
 DidOutcome after step _ = ⊥

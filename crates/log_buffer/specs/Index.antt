@@ -51,7 +51,7 @@ pub record IsIndexed (stored : List Stored) (newest : Newest) : Type 0 where
   pub last : HasLast (entries_of stored) newest
 
 -- what the fields of a log keep: its entries are those of a log, the places agree with them, and there is room up to the limit
-pub record IsHeld (stored : List Stored) (newest : Newest) (limit capacity : ℕ) : Type 0 where
+pub record IsIndexedLog (stored : List Stored) (newest : Newest) (limit capacity : ℕ) : Type 0 where
   pub log : IsLog (record { entries = entries_of stored; limit = limit })
   pub index : IsIndexed stored newest
   pub room : limit ≤ capacity

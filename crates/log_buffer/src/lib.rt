@@ -32,13 +32,13 @@ pub struct LogBuffer {
 impl Model for LogBuffer {
     ghost use Rattle.std.specs.Prelude.{vec_capacity};
     ghost use Rattle.log_buffer.specs.Log.{LogData};
-    ghost use Rattle.log_buffer.specs.Index.{entries_of, IsHeld};
+    ghost use Rattle.log_buffer.specs.Index.{entries_of, IsIndexedLog};
 
     ghost Value = { LogData };
 
     ghost view = { λ b. record { entries = entries_of b.stored.items; limit = b.limit } };
 
-    ghost invariant = { λ b. IsHeld b.stored.items b.newest b.limit (vec_capacity b.stored) };
+    ghost invariant = { λ b. IsIndexedLog b.stored.items b.newest b.limit (vec_capacity b.stored) };
 }
 
 impl LogBuffer {

@@ -10,7 +10,7 @@ use Rattle.cache_array.proofs.Places.{position-None}
 use Rattle.cache_array.proofs.Slots.{found-at}
 use Rattle.cache_array.proofs.Counts.{how_many, is_in, blocks_in, full-counted}
 use Rattle.sn_model.specs.Caches.{Line, is_present, empty_lines, block_count, frames_below, frames_taken}
-use Rattle.mosi_cache.specs.Frames.{Kept, closed, line_at, line_in_frame, line_in, lines_of, AreLines}
+use Rattle.mosi_cache.specs.Frames.{FrameLine, closed, line_at, line_in_frame, line_in, lines_of, AreLines}
 use Rattle.mosi_cache.proofs.Frames.{line-at, empty-at}
 
 -- slots of a set with a block below a number, and with just that block
@@ -103,11 +103,11 @@ has_frame : (d : FrameSlots) (b : ℕ) (o : Option ℕ) → frame_of d b ≡ o �
 has_frame d b None h = sym (no_place d.slots b h)
 has_frame d b (Some f) h = sym (has_at d.slots f b (found-at d f b h))
 
-present_step : (d : FrameSlots) (ks : List Kept) (b : ℕ) (o : Option ℕ) → AreLines d ks → frame_of d b ≡ o → is_present (line_in_frame ks o).state ≡ is_some o
+present_step : (d : FrameSlots) (ks : List FrameLine) (b : ℕ) (o : Option ℕ) → AreLines d ks → frame_of d b ≡ o → is_present (line_in_frame ks o).state ≡ is_some o
 present_step d ks b None h e = refl
 present_step d ks b (Some f) h e = h.present f b (found-at d f b e)
 
-pub present-in : (d : FrameSlots) (ks : List Kept) (b : ℕ) → AreLines d ks → is_present (line_in d ks b).state ≡ has d.slots b
+pub present-in : (d : FrameSlots) (ks : List FrameLine) (b : ℕ) → AreLines d ks → is_present (line_in d ks b).state ≡ has d.slots b
 present-in d ks b h = present_step d ks b (frame_of d b) h refl ∙ has_frame d b (frame_of d b) refl
 
 -- the lines that the machine counts
@@ -115,7 +115,7 @@ present-in d ks b h = present_step d ks b (frame_of d b) h refl ∙ has_frame d 
 more_step : (a b k l : ℕ) (p q c : Bool) → a ≡ b → l ≡ cond (q && c) 1 0 → p ≡ q → a + (if c && (p || false) then 1 else 0) ≡ b + l
 more_step a b k l p q c h i j = grind arith
 
-counted : (d : FrameSlots) (ks : List Kept) (sets s m : ℕ) → AreLines d ks → m ≤ block_count →
+counted : (d : FrameSlots) (ks : List FrameLine) (sets s m : ℕ) → AreLines d ks → m ≤ block_count →
     frames_below m (closed (lines_of d ks)) sets s ≡ how_many (below m sets s) d.slots
 counted d ks sets s zero h l = sym (none_below sets s d.slots)
 counted d ks sets s (suc m) h l =
@@ -134,18 +134,18 @@ all_below [] sets s h = refl
 all_below (o ∷ os) sets s h = rw (within_step o sets s (h 0), all_below os sets s (λ f b e. h (suc f) b e)) refl
 
 -- the frames of a set that the lines take are as many as its blocks that have a frame
-pub taken-counted : (d : FrameSlots) (ks : List Kept) (b : ℕ) → AreLines d ks → frames_taken (closed (lines_of d ks)) d.sets b ≡ blocks_in d (b % d.sets)
+pub taken-counted : (d : FrameSlots) (ks : List FrameLine) (b : ℕ) → AreLines d ks → frames_taken (closed (lines_of d ks)) d.sets b ≡ blocks_in d (b % d.sets)
 unfolding frames_taken
 taken-counted d ks b h = counted d ks d.sets (b % d.sets) block_count h (omega arith) ∙ all_below d.slots d.sets (b % d.sets) h.inside
 
 -- a set is full exactly where the lines take as many of its frames as it has ways
-pub full-taken : (d : FrameSlots) (ks : List Kept) (b : ℕ) → AreLines d ks → is_full d b ≡ nat_le d.ways (frames_taken (closed (lines_of d ks)) d.sets b)
+pub full-taken : (d : FrameSlots) (ks : List FrameLine) (b : ℕ) → AreLines d ks → is_full d b ≡ nat_le d.ways (frames_taken (closed (lines_of d ks)) d.sets b)
 full-taken d ks b h = rw (taken-counted d ks b h) (full-counted d b h.slots)
 
 few_step : (full : Bool) (n w : ℕ) → full ≡ nat_le w n → n < w → full ≡ false
 few_step full n w h l = grind (arith, nat_tests)
 
-pub not-full : (d : FrameSlots) (ks : List Kept) (b : ℕ) → AreLines d ks → frames_taken (closed (lines_of d ks)) d.sets b < d.ways → is_full d b ≡ false
+pub not-full : (d : FrameSlots) (ks : List FrameLine) (b : ℕ) → AreLines d ks → frames_taken (closed (lines_of d ks)) d.sets b < d.ways → is_full d b ≡ false
 not-full d ks b h l = few_step (is_full d b) (frames_taken (closed (lines_of d ks)) d.sets b) d.ways (full-taken d ks b h) l
 
 -- a cache without a line takes no frame

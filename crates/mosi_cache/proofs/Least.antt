@@ -13,7 +13,7 @@ use Rattle.sn_model.specs.declared.cache.LineState.{LineState}
 use Rattle.sn_model.specs.declared.cache.LineState.TheVariants.{Absent, Shared, Owned, Modified, Exclusive}
 use Rattle.sn_model.specs.Caches.{Line, Miss, Put, no_line, misses_on}
 use Rattle.sn_model.specs.NodeEvents.{has_put}
-use Rattle.mosi_cache.specs.Frames.{Kept, line_at, kept_at, lines_of, AreLines, is_spared, may_leave, leaves, lesser_of, leaving_by, leaving_at, IsLeastLeaving}
+use Rattle.mosi_cache.specs.Frames.{FrameLine, line_at, kept_at, lines_of, AreLines, is_spared, may_leave, leaves, lesser_of, leaving_by, leaving_at, IsLeastLeaving}
 use Rattle.mosi_cache.specs.Controller.{CacheData}
 use Rattle.mosi_cache.specs.Probe.{evict_line, lets_go, may_go}
 use Rattle.mosi_cache.proofs.Changes.{read-found, read-absent}
@@ -75,7 +75,7 @@ and_true a b h i = grind arith
 same_number : (a b : ℕ) → a ≡ b → nat_eq a b ≡ true
 same_number a b h = grind (arith, nat_tests)
 
-leaves_at : (d : FrameSlots) (ks : List Kept) (spared : Option ℕ) (owned_too : Bool) (b f m : ℕ) → AreLines d ks → first_of d b ≤ f → f < first_of d b + d.ways → leaving_at d ks spared owned_too f ≡ Some m →
+leaves_at : (d : FrameSlots) (ks : List FrameLine) (spared : Option ℕ) (owned_too : Bool) (b f m : ℕ) → AreLines d ks → first_of d b ≤ f → f < first_of d b + d.ways → leaving_at d ks spared owned_too f ≡ Some m →
     leaves d.sets (b % d.sets) spared owned_too m (line_at (lines_of d ks) m).state ≡ true
 leaves_at d ks spared owned_too b f m h l n e =
     let g = gives_step spared owned_too (kept_at ks f).state (block_at d f) m e in
@@ -94,7 +94,7 @@ gone_step sets set spared owned_too k h = let e = never (nat_eq (k % sets) set) 
 parts : (sets set : ℕ) (a b : Bool) (k : ℕ) → (nat_eq (k % sets) set && (a && b)) ≡ true → (k % sets ≡ set) × ((a && b) ≡ true)
 parts sets set a b k h = (grind (arith, nat_tests), grind arith)
 
-given_step : (d : FrameSlots) (ks : List Kept) (spared : Option ℕ) (owned_too : Bool) (b k : ℕ) (o : Option ℕ) → AreLines d ks → leaves d.sets (b % d.sets) spared owned_too k (line_at (lines_of d ks) k).state ≡ true → frame_of d k ≡ o →
+given_step : (d : FrameSlots) (ks : List FrameLine) (spared : Option ℕ) (owned_too : Bool) (b k : ℕ) (o : Option ℕ) → AreLines d ks → leaves d.sets (b % d.sets) spared owned_too k (line_at (lines_of d ks) k).state ≡ true → frame_of d k ≡ o →
     (f : ℕ) × ((first_of d b ≤ f) × (f < first_of d b + d.ways) × (leaving_at d ks spared owned_too f ≡ Some k))
 given_step d ks spared owned_too b k None h e n =
     absurd (gone_step d.sets (b % d.sets) spared owned_too k (subst (λ (l : Line). leaves d.sets (b % d.sets) spared owned_too k l.state ≡ true) (read-absent d ks k n) e))
@@ -111,13 +111,13 @@ not_true : (b : Bool) → (b ≡ true → ⊥) → b ≡ false
 not_true true h = absurd (h refl)
 not_true false h = refl
 
-pub least-none : (d : FrameSlots) (ks : List Kept) (spared : Option ℕ) (owned_too : Bool) (b : ℕ) → AreLines d ks →
+pub least-none : (d : FrameSlots) (ks : List FrameLine) (spared : Option ℕ) (owned_too : Bool) (b : ℕ) → AreLines d ks →
     IsLeastLeaving (leaving_at d ks spared owned_too) (first_of d b) (first_of d b + d.ways) None → (k : ℕ) → leaves d.sets (b % d.sets) spared owned_too k (line_at (lines_of d ks) k).state ≡ false
 least-none d ks spared owned_too b h n k =
     not_true (leaves d.sets (b % d.sets) spared owned_too k (line_at (lines_of d ks) k).state)
     (λ e. let g = given_step d ks spared owned_too b k (frame_of d k) h e refl in none-some k (sym (n g.0 g.1.0 g.1.1) ∙ g.1.2))
 
-pub least-some : (d : FrameSlots) (ks : List Kept) (spared : Option ℕ) (owned_too : Bool) (b m : ℕ) → AreLines d ks →
+pub least-some : (d : FrameSlots) (ks : List FrameLine) (spared : Option ℕ) (owned_too : Bool) (b m : ℕ) → AreLines d ks →
     IsLeastLeaving (leaving_at d ks spared owned_too) (first_of d b) (first_of d b + d.ways) (Some m) →
     (leaves d.sets (b % d.sets) spared owned_too m (line_at (lines_of d ks) m).state ≡ true)
     × ((k : ℕ) → k < m → leaves d.sets (b % d.sets) spared owned_too k (line_at (lines_of d ks) k).state ≡ false)

@@ -10,7 +10,7 @@ use Rattle.cache_array.proofs.Slots.{found-at, at-inside, frame-found, frame-non
 use Rattle.sn_model.specs.declared.cache.LineState.{LineState}
 use Rattle.sn_model.specs.declared.cache.LineState.TheVariants.{Absent, Shared, Owned, Modified, Exclusive}
 use Rattle.sn_model.specs.Caches.{no_line, is_present, block_count}
-use Rattle.mosi_cache.specs.Frames.{Kept, kept_at, line_kept, line_in_frame, line_in, lines_of, AreLines}
+use Rattle.mosi_cache.specs.Frames.{FrameLine, kept_at, line_kept, line_in_frame, line_in, lines_of, AreLines}
 use Rattle.mosi_cache.specs.Restored.{begun_line}
 use Rattle.mosi_cache.specs.Unshared.{unshared, AreUnshared, modified}
 use Rattle.mosi_cache.proofs.Frames.{length-lines, line-at}
@@ -31,7 +31,7 @@ unshared-none Exclusive = refl
 
 -- one more frame
 
-done_step : (d e f : FrameSlots) (ks : List Kept) (n g : ℕ) → AreUnshared d e ks n → n < length e.slots → f ≡ record e { slots = set e.slots n (unshared (kept_at ks n).state (block_at e n)) } → g < n + 1 →
+done_step : (d e f : FrameSlots) (ks : List FrameLine) (n g : ℕ) → AreUnshared d e ks n → n < length e.slots → f ≡ record e { slots = set e.slots n (unshared (kept_at ks n).state (block_at e n)) } → g < n + 1 →
     block_at f g ≡ unshared (kept_at ks g).state (block_at d g)
 done_step d e f ks n g h l i m =
     ap (λ (x : FrameSlots). block_at x g) i
@@ -41,7 +41,7 @@ done_step d e f ks n g h l i m =
     (λ (j : g ≡ n → ⊥). get_or-set_other e.slots n g (unshared (kept_at ks n).state (block_at e n)) None j ∙ h.done g (omega arith))
     (cases_eq g n)
 
-pub unshared-more : (d e f : FrameSlots) (ks : List Kept) (n : ℕ) → AreUnshared d e ks n → n < length e.slots → f ≡ record e { slots = set e.slots n (unshared (kept_at ks n).state (block_at e n)) } → AreSlots f → AreUnshared d f ks (n + 1)
+pub unshared-more : (d e f : FrameSlots) (ks : List FrameLine) (n : ℕ) → AreUnshared d e ks n → n < length e.slots → f ≡ record e { slots = set e.slots n (unshared (kept_at ks n).state (block_at e n)) } → AreSlots f → AreUnshared d f ks (n + 1)
 unshared-more d e f ks n h l i s = record {
   slots = s;
   sets = ap (λ (x : FrameSlots). x.sets) i ∙ h.sets;
@@ -62,31 +62,31 @@ still Modified o b h = (h, λ e. cc)
 still Exclusive o b h = (h, λ e. cc)
 
 -- frames that were all looked at, and what they keep then
-pub record IsBegun (d e : FrameSlots) (ks ms : List Kept) : Type 0 where
+pub record IsBegun (d e : FrameSlots) (ks ms : List FrameLine) : Type 0 where
   pub old : AreLines d ks
   pub unshared : AreUnshared d e ks (length ks)
   pub whole : length ms ≡ length ks
   pub kept : (f : ℕ) → f < length ks → kept_at ms f ≡ modified (kept_at ks f)
 
-pub kept-begun : (ks ms : List Kept) → ((f : ℕ) (x : Kept) → f < length ks → get_or ms f x ≡ modified (get_or ks f x)) → (f : ℕ) → f < length ks → kept_at ms f ≡ modified (kept_at ks f)
+pub kept-begun : (ks ms : List FrameLine) → ((f : ℕ) (x : FrameLine) → f < length ks → get_or ms f x ≡ modified (get_or ks f x)) → (f : ℕ) → f < length ks → kept_at ms f ≡ modified (kept_at ks f)
 kept-begun ks ms h f l = h f (record { state = Absent; content = [] }) l
 
-same_length : (d e : FrameSlots) (ks : List Kept) → AreLines d ks → AreUnshared d e ks (length ks) → length ks ≡ length e.slots
+same_length : (d e : FrameSlots) (ks : List FrameLine) → AreLines d ks → AreUnshared d e ks (length ks) → length ks ≡ length e.slots
 same_length d e ks h u =
     h.whole ∙ h.slots.whole ∙ ap (λ (n : ℕ). n * d.ways) (sym u.sets) ∙ ap (λ (n : ℕ). e.sets * n) (sym u.ways) ∙ sym u.slots.whole
 
-was_at : (d e : FrameSlots) (ks ms : List Kept) (f b : ℕ) → IsBegun d e ks ms → block_at e f ≡ Some b → (f < length ks) × (block_at d f ≡ Some b) × ((kept_at ks f).state ≡ Shared → ⊥)
+was_at : (d e : FrameSlots) (ks ms : List FrameLine) (f b : ℕ) → IsBegun d e ks ms → block_at e f ≡ Some b → (f < length ks) × (block_at d f ≡ Some b) × ((kept_at ks f).state ≡ Shared → ⊥)
 was_at d e ks ms f b h i =
     let l : f < length ks = omega (arith, at-inside e f b i, same_length d e ks h.old h.unshared) in
     let s = still (kept_at ks f).state (block_at d f) b (sym (h.unshared.done f l) ∙ i) in
     (l, s.0, s.1)
 
-pub lines-begun : (d e : FrameSlots) (ks ms : List Kept) → IsBegun d e ks ms → AreLines e ms
+pub lines-begun : (d e : FrameSlots) (ks ms : List FrameLine) → IsBegun d e ks ms → AreLines e ms
 lines-begun d e ks ms h = record {
   slots = h.unshared.slots;
   whole = h.whole ∙ same_length d e ks h.old h.unshared;
   inside = λ f b i. h.old.inside f b (was_at d e ks ms f b h i).1;
-  present = λ f b i. subst (λ (k : Kept). is_present k.state ≡ true) (sym (h.kept f (was_at d e ks ms f b h i).0)) refl;
+  present = λ f b i. subst (λ (k : FrameLine). is_present k.state ≡ true) (sym (h.kept f (was_at d e ks ms f b h i).0)) refl;
 }
 
 -- the line of a block
@@ -109,7 +109,7 @@ none_left Owned x h = cc
 none_left Modified x h = cc
 none_left Exclusive x h = cc
 
-line_step : (d e : FrameSlots) (ks ms : List Kept) (b : ℕ) (o : Option ℕ) → IsBegun d e ks ms → frame_of d b ≡ o → line_in e ms b ≡ begun_line (line_in_frame ks o)
+line_step : (d e : FrameSlots) (ks ms : List FrameLine) (b : ℕ) (o : Option ℕ) → IsBegun d e ks ms → frame_of d b ≡ o → line_in e ms b ≡ begun_line (line_in_frame ks o)
 line_step d e ks ms b None h i = ap (line_in_frame ms) (frame-none e b (λ f j. none-at d f b i (was_at d e ks ms f b h j).1))
 line_step d e ks ms b (Some f) h i =
     let a = found-at d f b i in
@@ -126,7 +126,7 @@ line_step d e ks ms b (Some f) h i =
     ∙ sym s.0)
     (shared_or_owned (kept_at ks f).state (kept_at ks f).content (h.old.present f b a))
 
-pub map-begun : (d e : FrameSlots) (ks ms : List Kept) → IsBegun d e ks ms → lines_of e ms ≡ map begun_line (lines_of d ks)
+pub map-begun : (d e : FrameSlots) (ks ms : List FrameLine) → IsBegun d e ks ms → lines_of e ms ≡ map begun_line (lines_of d ks)
 map-begun d e ks ms h =
     ext_get_or no_line (lines_of e ms) (map begun_line (lines_of d ks)) (length-lines e ms ∙ sym (length-map (lines_of d ks) begun_line ∙ length-lines d ks))
     (λ b l.

@@ -7,7 +7,7 @@ use Rattle.sn_model.specs.declared.cache.LineState.TheVariants.{Absent, Shared, 
 use Rattle.sn_model.specs.declared.cache.Need.{Need}
 use Rattle.sn_model.specs.CacheRows.{line_when_done}
 use Rattle.sn_model.specs.Caches.{Line, Cache, no_line, is_present, block_count, frames_taken}
-pub use Rattle.mosi_cache.specs.declared.lines.Kept.{Kept}
+pub use Rattle.mosi_cache.specs.declared.lines.FrameLine.{FrameLine}
 
 -- the lines that a cache keeps, and how they are divided
 pub record LinesData : Type 0 where
@@ -32,27 +32,27 @@ abbrev pub completed : Line → Need → Line
 completed l need = record l { state = line_when_done l.state need }
 
 -- what a frame keeps
-abbrev pub kept_at : List Kept → ℕ → Kept
+abbrev pub kept_at : List FrameLine → ℕ → FrameLine
 kept_at kept frame = slice_index_or kept frame (record { state = Absent; content = [] })
 
-abbrev pub line_kept : Kept → Line
+abbrev pub line_kept : FrameLine → Line
 line_kept k = record { state = k.state; content = k.content }
 
 -- the line of a block that has this frame, or none
-abbrev pub line_in_frame : List Kept → Option ℕ → Line
+abbrev pub line_in_frame : List FrameLine → Option ℕ → Line
 line_in_frame kept None = no_line
 line_in_frame kept (Some frame) = line_kept (kept_at kept frame)
 
 -- the line of a block: what its frame keeps
-abbrev pub line_in : FrameSlots → List Kept → ℕ → Line
+abbrev pub line_in : FrameSlots → List FrameLine → ℕ → Line
 line_in frames kept block = line_in_frame kept (frame_of frames block)
 
 -- the lines of all blocks, in order of their numbers
-unfoldable pub lines_of : FrameSlots → List Kept → List Line
+unfoldable pub lines_of : FrameSlots → List FrameLine → List Line
 lines_of frames kept = map (line_in frames kept) (range_with_len 0 block_count)
 
 -- frames and what they keep as they may be: each frame keeps something, a block that has one is of memory, and has a line
-pub record AreLines (frames : FrameSlots) (kept : List Kept) : Type 0 where
+pub record AreLines (frames : FrameSlots) (kept : List FrameLine) : Type 0 where
   pub slots : AreSlots frames
   pub whole : length kept ≡ length frames.slots
   pub inside : (frame block : ℕ) → block_at frames frame ≡ Some block → block < block_count
@@ -88,7 +88,7 @@ abbrev pub leaving_by : Option ℕ → Bool → LineState → Option ℕ → Opt
 leaving_by spared owned_too state None = None
 leaving_by spared owned_too state (Some block) = if not (is_spared spared block) && may_leave owned_too state then Some block else None
 
-abbrev pub leaving_at : FrameSlots → List Kept → Option ℕ → Bool → ℕ → Option ℕ
+abbrev pub leaving_at : FrameSlots → List FrameLine → Option ℕ → Bool → ℕ → Option ℕ
 leaving_at frames kept spared owned_too frame = leaving_by spared owned_too (kept_at kept frame).state (block_at frames frame)
 
 -- the least of the blocks that these frames give, or that they give none

@@ -3,7 +3,7 @@ use Rattle.std.specs.Prelude.{◌≡◌, ℕ, ◌<◌, ◌≤◌, List, Option, 
 use Rattle.cache_array.specs.Slots.{FrameSlots, AreSlots, block_at}
 use Rattle.sn_model.specs.declared.cache.LineState.{LineState}
 use Rattle.sn_model.specs.declared.cache.LineState.TheVariants.{Absent, Shared, Owned, Modified, Exclusive}
-use Rattle.mosi_cache.specs.Frames.{Kept, kept_at}
+use Rattle.mosi_cache.specs.Frames.{FrameLine, kept_at}
 
 -- a slot once it is freed where the line in it is Shared
 abbrev pub unshared : LineState → Option ℕ → Option ℕ
@@ -14,7 +14,7 @@ unshared Modified slot = slot
 unshared Exclusive slot = slot
 
 -- frames after others: those before the end are freed where what they keep is Shared, and the rest are as they were
-pub record AreUnshared (before after : FrameSlots) (kept : List Kept) (end : ℕ) : Type 0 where
+pub record AreUnshared (before after : FrameSlots) (kept : List FrameLine) (end : ℕ) : Type 0 where
   pub slots : AreSlots after
   pub sets : after.sets ≡ before.sets
   pub ways : after.ways ≡ before.ways
@@ -22,5 +22,5 @@ pub record AreUnshared (before after : FrameSlots) (kept : List Kept) (end : ℕ
   pub rest : (frame : ℕ) → end ≤ frame → block_at after frame ≡ block_at before frame
 
 -- what a frame keeps, as Modified
-abbrev pub modified : Kept → Kept
+abbrev pub modified : FrameLine → FrameLine
 modified kept = record kept { state = Modified }

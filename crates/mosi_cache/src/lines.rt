@@ -18,7 +18,7 @@ use std::marker::Model;
 
 /// What a frame keeps: the state and the content of its block's line. What a free frame keeps is never read.
 #[derive(Clone, Copy, PartialEq, Eq, Debug)]
-pub struct Kept {
+pub struct FrameLine {
     pub state: LineState,
     pub content: Block,
 }
@@ -27,7 +27,7 @@ pub struct Kept {
 #[derive(Drop)]
 pub struct Lines {
     frames: Frames,
-    kept: Vec<Kept>,
+    kept: Vec<FrameLine>,
     sets: u16,
     ways: u8,
 }
@@ -43,7 +43,7 @@ impl Model for Lines {
     ghost invariant = { λ l. AreLines l.frames l.kept.items × (l.sets ≡ l.frames.sets) × (l.ways ≡ l.frames.ways) };
 }
 
-fn may_go(kept: &Kept, number: u16, spared: &Option<BlockNo>, owned_too: bool) -> bool
+fn may_go(kept: &FrameLine, number: u16, spared: &Option<BlockNo>, owned_too: bool) -> bool
     ensures { result ≡ (not (is_spared spared.now number) && may_leave owned_too kept.now.state) }
 {
     let is_spared = match spared {
@@ -61,7 +61,7 @@ fn may_go(kept: &Kept, number: u16, spared: &Option<BlockNo>, owned_too: bool) -
 /// The number of the block in a frame, where its line may leave.
 fn leaving(
     frames: &Frames,
-    kept: &[Kept],
+    kept: &[FrameLine],
     frame: usize,
     spared: &Option<BlockNo>,
     owned_too: bool,
@@ -90,7 +90,7 @@ fn lesser(least: Option<u16>, number: u16) -> u16
 /// The least of the blocks in these frames whose lines may leave.
 fn least_of(
     frames: &Frames,
-    kept: &[Kept],
+    kept: &[FrameLine],
     first: usize,
     end: usize,
     spared: &Option<BlockNo>,
@@ -117,7 +117,7 @@ impl Lines {
         ensures { IfOk result (λ l. l ≡ record { lines = empty_lines; sets = sets; ways = ways }) }
     {
         let frames = Frames::new(alloc, sets, ways)?;
-        let nothing = Kept {
+        let nothing = FrameLine {
             state: LineState::Absent,
             content: Block::zero(),
         };
@@ -131,7 +131,7 @@ impl Lines {
     }
 
     /// What the frame of the block keeps, where it has one.
-    pub fn find(&self, block: BlockNo) -> Option<&Kept>
+    pub fn find(&self, block: BlockNo) -> Option<&FrameLine>
         ensures none { IsNone result → line_at self.now.lines block ≡ no_line }
         ensures some { IfSome result (λ k. (line_at self.now.lines block ≡ line_kept k.now) × (is_present k.now.state ≡ true)) }
     {
@@ -166,7 +166,7 @@ impl Lines {
         ensures lines { self.new ≡ record self.old { lines = slice_set self.old.lines block (record { state = state; content = content }) } }
         ensures read { line_at self.new.lines block ≡ record { state = state; content = content } }
     {
-        let line = Kept { state, content };
+        let line = FrameLine { state, content };
         match self.frames.find(block) {
             Some(frame) => self.kept[frame] = line,
             None => {

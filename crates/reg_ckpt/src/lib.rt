@@ -9,7 +9,7 @@
 
 ghost use Rattle.std.specs.Prelude.{◌≡◌, ◌+◌, ◌-◌, ◌<◌, ◌≤◌, ◌^◌, [], ◌∷◌, ◌++◌, length, IfOk, Some};
 ghost use Rattle.circular_buffer.specs.Buffer.{buffer};
-ghost use Rattle.reg_ckpt.specs.Kept.{Kept, IsKept, IsWithin, next, core_at, without_reservation, freed_below, dropped_above};
+ghost use Rattle.reg_ckpt.specs.Kept.{Checkpoints, HasCheckpoint, IsWithin, next, core_at, without_reservation, freed_below, dropped_above};
 
 use circular_buffer::HeapCircularBuffer;
 use rv_core::CoreState;
@@ -26,9 +26,9 @@ pub struct RegCheckpoints {
 
 impl Model for RegCheckpoints {
     ghost use Rattle.std.specs.Prelude.{◌≡◌};
-    ghost use Rattle.reg_ckpt.specs.Kept.{Kept, IsWithin};
+    ghost use Rattle.reg_ckpt.specs.Kept.{Checkpoints, IsWithin};
 
-    ghost Value = { Kept };
+    ghost Value = { Checkpoints };
 
     ghost view = { λ r. record { first = r.first; cores = r.cores.items } };
 
@@ -71,7 +71,7 @@ impl RegCheckpoints {
     }
 
     pub fn get(&self, k: Interval) -> &CoreState
-        requires { IsKept self.now k }
+        requires { HasCheckpoint self.now k }
         ensures core { core_at self.now k ≡ Some result.now }
         ensures good { IsWithin self.now }
     {
@@ -95,7 +95,7 @@ impl RegCheckpoints {
 
     /// Drops the checkpoints above k, which a recovery to checkpoint k undoes.
     pub fn drop_above(&mut self, k: Interval)
-        requires { IsKept self.old k }
+        requires { HasCheckpoint self.old k }
         ensures { self.new ≡ dropped_above self.old k }
     {
         let left = (k - self.first) as usize + 1;

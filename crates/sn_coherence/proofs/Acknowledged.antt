@@ -2,12 +2,12 @@
 use Rattle.std.proofs.Common.{◌≡◌, ℕ, ◌<◌, true, false, arith}
 use Rattle.std.proofs.lemmas.Bool.Decides.{nat_tests}
 use Rattle.sn_coherence.specs.Block.{Block, InvAck, set}
-use Rattle.sn_coherence.specs.Kept.{Waits, Nodes, count}
+use Rattle.sn_coherence.specs.Kept.{Acknowledgements, Nodes, count}
 use Rattle.sn_coherence.specs.Events.{Arrives}
 use Rattle.sn_coherence.proofs.Rows.{IsLast}
 use Rattle.sn_coherence.proofs.Counts.{count_none, count_without}
 
-module _ (N : ℕ) (b : Block) (i : ℕ) (w : Waits N b) (z : Nodes N b) (a : Arrives b i InvAck) (last : IsLast b i ≡ true) where
+module _ (N : ℕ) (b : Block) (i : ℕ) (w : Acknowledgements N b) (z : Nodes N b) (a : Arrives b i InvAck) (last : IsLast b i ≡ true) where
   one_left : count N b.waited ≡ 1
   one_left = grind (arith, nat_tests, w.due_fixed (b.net i).to)
 

@@ -5,7 +5,7 @@ use Rattle.sn_coherence.specs.Block.{Block, Content, NoLine, Shared, Nothing, El
 use Rattle.sn_coherence.specs.CacheRows.{forward_read, forward_write, invalidate, data_shared, data_modified_open, data_modified_complete, upgrade_granted_open, upgrade_granted_complete, acknowledge_open, acknowledge_complete, put_go, put_done, data_exclusive}
 use Rattle.sn_coherence.specs.HomeRows.{read_at_home, read_at_owner, take, move_ownership, upgrade, unblock_move, unblock_other, put_begins, put_is_stale, put_data, grant_exclusive}
 use Rattle.sn_coherence.specs.OtherEvents.{begin_read_miss, begin_write_miss, begin_put, begin_miss_elsewhere, end_miss_elsewhere, begin_put_elsewhere, end_put_elsewhere, numbers_elsewhere, store, evict_shared, edge, report, validate, lose, deliver_advance}
-use Rattle.sn_coherence.specs.Kept.{Stages, Requests, Owners, Waits, Sharing, Logs}
+use Rattle.sn_coherence.specs.Kept.{Stages, Requests, Owners, Acknowledgements, Sharing, Logs}
 use Rattle.sn_coherence.specs.Events.{IsReady, Arrives, Owns, OtherOwns, other_sharers, NothingUnfinished, Free}
 use Rattle.sn_coherence.proofs.Rows.{At, IsLast}
 use Rattle.sn_coherence.specs.Records.{Records, loads, loads_reserved, stores, unreserves, stores_conditional, hears}
@@ -20,7 +20,7 @@ module _ (N : ℕ) (b : Block) (r : Records) (i : ℕ) (contents : Contents b r)
   pub forward_write_contents : Arrives b i FwdGetM → Contents (forward_write b i) (unreserves r (b.net i).to)
   forward_write_contents arrives = grind (arith, nat_tests)
 
-  pub invalidate_contents : Waits N b → Arrives b i Inv → Contents (invalidate b i) (unreserves r (b.net i).to)
+  pub invalidate_contents : Acknowledgements N b → Arrives b i Inv → Contents (invalidate b i) (unreserves r (b.net i).to)
   invalidate_contents waits arrives = grind (arith, nat_tests)
 
   pub data_shared_contents : Requests b → Arrives b i DataS → Contents (data_shared b i) r
@@ -38,10 +38,10 @@ module _ (N : ℕ) (b : Block) (r : Records) (i : ℕ) (contents : Contents b r)
   pub upgrade_granted_complete_contents : Arrives b i UpgOk → (b.miss (b.net i).to).acks ≡ (b.net i).due → Contents (upgrade_granted_complete b i) r
   upgrade_granted_complete_contents arrives all_in = grind (arith, nat_tests)
 
-  pub acknowledge_open_contents : Waits N b → Arrives b i InvAck → IsLast b i ≡ false → Contents (acknowledge_open b i) r
+  pub acknowledge_open_contents : Acknowledgements N b → Arrives b i InvAck → IsLast b i ≡ false → Contents (acknowledge_open b i) r
   acknowledge_open_contents waits arrives not_last = grind (arith, nat_tests)
 
-  pub acknowledge_complete_contents : Waits N b → Arrives b i InvAck → IsLast b i ≡ true → Contents (acknowledge_complete b i) r
+  pub acknowledge_complete_contents : Acknowledgements N b → Arrives b i InvAck → IsLast b i ≡ true → Contents (acknowledge_complete b i) r
   acknowledge_complete_contents waits arrives last = grind (arith, nat_tests)
 
   pub put_go_contents : Arrives b i PutGo → Contents (put_go b i) (unreserves r (b.net i).to)

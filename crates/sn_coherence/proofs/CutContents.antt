@@ -5,7 +5,7 @@ use Rattle.sn_coherence.specs.Block.{Block, Content, NoLine, Shared, Nothing, El
 use Rattle.sn_coherence.specs.CacheRows.{forward_read, forward_write, invalidate, data_shared, data_modified_open, data_modified_complete, upgrade_granted_open, upgrade_granted_complete, acknowledge_open, acknowledge_complete, put_go, put_done, data_exclusive}
 use Rattle.sn_coherence.specs.HomeRows.{read_at_home, read_at_owner, take, move_ownership, upgrade, unblock_move, unblock_other, put_begins, put_is_stale, put_data, grant_exclusive}
 use Rattle.sn_coherence.specs.OtherEvents.{begin_read_miss, begin_write_miss, begin_put, begin_miss_elsewhere, end_miss_elsewhere, begin_put_elsewhere, end_put_elsewhere, numbers_elsewhere, store, evict_shared, edge, report, validate, lose, deliver_advance}
-use Rattle.sn_coherence.specs.Kept.{Clocks, Nodes, Stages, Requests, Owners, Waits, Sharing, Logs, Cuts}
+use Rattle.sn_coherence.specs.Kept.{Clocks, Nodes, Stages, Requests, Owners, Acknowledgements, Sharing, Logs, Cuts}
 use Rattle.sn_coherence.specs.Events.{IsReady, Arrives, Owns, OtherOwns, other_sharers, NothingUnfinished, Free}
 use Rattle.sn_coherence.proofs.Rows.{At, IsLast}
 use Rattle.sn_coherence.specs.Records.{Records, loads, loads_reserved, stores, unreserves, stores_conditional, hears}
@@ -31,7 +31,7 @@ module _ (N : ℕ) (b : Block) (r : Records) (i : ℕ) (cut_contents : CutConten
   pub forward_write_cut_contents : Arrives b i FwdGetM → CutContents (forward_write b i) (unreserves r (b.net i).to)
   forward_write_cut_contents arrives = grind (arith, nat_tests)
 
-  pub invalidate_cut_contents : Waits N b → Sharing b → Arrives b i Inv → CutContents (invalidate b i) (unreserves r (b.net i).to)
+  pub invalidate_cut_contents : Acknowledgements N b → Sharing b → Arrives b i Inv → CutContents (invalidate b i) (unreserves r (b.net i).to)
   invalidate_cut_contents waits sharing arrives = grind (arith, nat_tests)
 
   pub data_shared_cut_contents : Requests b → Sharing b → Arrives b i DataS → CutContents (data_shared b i) r
@@ -49,10 +49,10 @@ module _ (N : ℕ) (b : Block) (r : Records) (i : ℕ) (cut_contents : CutConten
   pub upgrade_granted_complete_cut_contents : Arrives b i UpgOk → (b.miss (b.net i).to).acks ≡ (b.net i).due → CutContents (upgrade_granted_complete b i) r
   upgrade_granted_complete_cut_contents arrives all_in = grind (arith, nat_tests)
 
-  pub acknowledge_open_cut_contents : Waits N b → Arrives b i InvAck → IsLast b i ≡ false → CutContents (acknowledge_open b i) r
+  pub acknowledge_open_cut_contents : Acknowledgements N b → Arrives b i InvAck → IsLast b i ≡ false → CutContents (acknowledge_open b i) r
   acknowledge_open_cut_contents waits arrives not_last = grind (arith, nat_tests)
 
-  pub acknowledge_complete_cut_contents : Waits N b → Arrives b i InvAck → IsLast b i ≡ true → CutContents (acknowledge_complete b i) r
+  pub acknowledge_complete_cut_contents : Acknowledgements N b → Arrives b i InvAck → IsLast b i ≡ true → CutContents (acknowledge_complete b i) r
   acknowledge_complete_cut_contents waits arrives last = grind (arith, nat_tests)
 
   pub put_go_cut_contents : Arrives b i PutGo → CutContents (put_go b i) (unreserves r (b.net i).to)

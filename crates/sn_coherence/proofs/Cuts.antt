@@ -5,7 +5,7 @@ use Rattle.sn_coherence.specs.Block.{Block, Content, NoLine, Shared, Nothing, El
 use Rattle.sn_coherence.specs.CacheRows.{forward_read, forward_write, invalidate, data_shared, data_modified_open, data_modified_complete, upgrade_granted_open, upgrade_granted_complete, acknowledge_open, acknowledge_complete, put_go, put_done, data_exclusive}
 use Rattle.sn_coherence.specs.HomeRows.{read_at_home, read_at_owner, take, move_ownership, upgrade, unblock_move, unblock_other, put_begins, put_is_stale, put_data, grant_exclusive}
 use Rattle.sn_coherence.specs.OtherEvents.{begin_read_miss, begin_write_miss, begin_put, begin_miss_elsewhere, end_miss_elsewhere, begin_put_elsewhere, end_put_elsewhere, numbers_elsewhere, store, evict_shared, edge, report, validate, lose, deliver_advance}
-use Rattle.sn_coherence.specs.Kept.{Clocks, Nodes, Stages, Owners, Waits, Sharing, Logs, Cuts}
+use Rattle.sn_coherence.specs.Kept.{Clocks, Nodes, Stages, Owners, Acknowledgements, Sharing, Logs, Cuts}
 use Rattle.sn_coherence.specs.Events.{Arrives, Owns, OtherOwns, other_sharers, NothingUnfinished, Free}
 use Rattle.sn_coherence.proofs.Rows.{At, IsLast}
 
@@ -18,7 +18,7 @@ module _ (N : ℕ) (b : Block) (i : ℕ) (cuts : Cuts b) (logs : Logs b) (stages
   pub forward_write_cuts : Arrives b i FwdGetM → Cuts (forward_write b i)
   forward_write_cuts arrives = grind (arith, nat_tests)
 
-  pub invalidate_cuts : Waits N b → Sharing b → Arrives b i Inv → Cuts (invalidate b i)
+  pub invalidate_cuts : Acknowledgements N b → Sharing b → Arrives b i Inv → Cuts (invalidate b i)
   invalidate_cuts waits sharing arrives = grind (arith, nat_tests)
 
   pub data_shared_cuts : Sharing b → Arrives b i DataS → Cuts (data_shared b i)
@@ -36,10 +36,10 @@ module _ (N : ℕ) (b : Block) (i : ℕ) (cuts : Cuts b) (logs : Logs b) (stages
   pub upgrade_granted_complete_cuts : Arrives b i UpgOk → (b.miss (b.net i).to).acks ≡ (b.net i).due → Cuts (upgrade_granted_complete b i)
   upgrade_granted_complete_cuts arrives all_in = grind (arith, nat_tests)
 
-  pub acknowledge_open_cuts : Waits N b → Arrives b i InvAck → IsLast b i ≡ false → Cuts (acknowledge_open b i)
+  pub acknowledge_open_cuts : Acknowledgements N b → Arrives b i InvAck → IsLast b i ≡ false → Cuts (acknowledge_open b i)
   acknowledge_open_cuts waits arrives not_last = grind (arith, nat_tests)
 
-  pub acknowledge_complete_cuts : Waits N b → Arrives b i InvAck → IsLast b i ≡ true → Cuts (acknowledge_complete b i)
+  pub acknowledge_complete_cuts : Acknowledgements N b → Arrives b i InvAck → IsLast b i ≡ true → Cuts (acknowledge_complete b i)
   acknowledge_complete_cuts waits arrives last = grind (arith, nat_tests)
 
   pub put_go_cuts : Arrives b i PutGo → Cuts (put_go b i)

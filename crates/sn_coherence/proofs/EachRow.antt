@@ -4,7 +4,7 @@ use Rattle.sn_coherence.specs.Block.{Block, Content, NoLine, Shared, Nothing, El
 use Rattle.sn_coherence.specs.CacheRows.{forward_read, forward_write, invalidate, data_shared, data_modified_open, data_modified_complete, upgrade_granted_open, upgrade_granted_complete, acknowledge_open, acknowledge_complete, put_go, put_done, data_exclusive}
 use Rattle.sn_coherence.specs.HomeRows.{read_at_home, read_at_owner, take, move_ownership, upgrade, unblock_move, unblock_other, put_begins, put_is_stale, put_data, grant_exclusive}
 use Rattle.sn_coherence.specs.OtherEvents.{begin_read_miss, begin_write_miss, begin_put, begin_miss_elsewhere, end_miss_elsewhere, begin_put_elsewhere, end_put_elsewhere, numbers_elsewhere, store, evict_shared, edge, report, validate, lose, deliver_advance}
-use Rattle.sn_coherence.specs.Kept.{Kept}
+use Rattle.sn_coherence.specs.Kept.{AllSentences}
 use Rattle.sn_coherence.specs.Events.{Arrives, Owns, OtherOwns, Lists, other_sharers, NothingUnfinished, Free}
 use Rattle.sn_coherence.proofs.Rows.{At, IsLast}
 use Rattle.sn_coherence.proofs.Clocks.{forward_read_clocks, forward_write_clocks, invalidate_clocks, data_shared_clocks, data_modified_open_clocks, data_modified_complete_clocks, upgrade_granted_open_clocks, upgrade_granted_complete_clocks, acknowledge_open_clocks, acknowledge_complete_clocks, put_go_clocks, put_done_clocks, data_exclusive_clocks, read_at_home_clocks, read_at_owner_clocks, take_clocks, move_ownership_clocks, upgrade_clocks, unblock_move_clocks, unblock_other_clocks, put_begins_clocks, put_is_stale_clocks, put_data_clocks, grant_exclusive_clocks, deliver_advance_clocks, lose_clocks, begin_read_miss_clocks, begin_write_miss_clocks, begin_put_clocks, begin_miss_elsewhere_clocks, end_miss_elsewhere_clocks, begin_put_elsewhere_clocks, end_put_elsewhere_clocks, numbers_elsewhere_clocks, store_clocks, evict_shared_clocks, edge_clocks, report_clocks, validate_clocks}
@@ -18,10 +18,10 @@ use Rattle.sn_coherence.proofs.Logs.{forward_read_logs, forward_write_logs, inva
 use Rattle.sn_coherence.proofs.Cuts.{forward_read_cuts, forward_write_cuts, invalidate_cuts, data_shared_cuts, data_modified_open_cuts, data_modified_complete_cuts, upgrade_granted_open_cuts, upgrade_granted_complete_cuts, acknowledge_open_cuts, acknowledge_complete_cuts, put_go_cuts, put_done_cuts, data_exclusive_cuts, read_at_home_cuts, read_at_owner_cuts, take_cuts, move_ownership_cuts, upgrade_cuts, unblock_move_cuts, unblock_other_cuts, put_begins_cuts, put_is_stale_cuts, put_data_cuts, grant_exclusive_cuts, deliver_advance_cuts, lose_cuts, begin_read_miss_cuts, begin_write_miss_cuts, begin_put_cuts, begin_miss_elsewhere_cuts, end_miss_elsewhere_cuts, begin_put_elsewhere_cuts, end_put_elsewhere_cuts, numbers_elsewhere_cuts, store_cuts, evict_shared_cuts, edge_cuts, report_cuts, validate_cuts}
 use Rattle.sn_coherence.proofs.Frames.{forward_read_frames, forward_write_frames, invalidate_frames, data_shared_frames, data_modified_open_frames, data_modified_complete_frames, upgrade_granted_open_frames, upgrade_granted_complete_frames, acknowledge_open_frames, acknowledge_complete_frames, put_go_frames, put_done_frames, data_exclusive_frames, read_at_home_frames, read_at_owner_frames, take_frames, move_ownership_frames, upgrade_frames, unblock_move_frames, unblock_other_frames, put_begins_frames, put_is_stale_frames, put_data_frames, grant_exclusive_frames, deliver_advance_frames, lose_frames, begin_read_miss_frames, begin_write_miss_frames, begin_put_frames, begin_miss_elsewhere_frames, end_miss_elsewhere_frames, begin_put_elsewhere_frames, end_put_elsewhere_frames, numbers_elsewhere_frames, store_frames, evict_shared_frames, edge_frames, report_frames, validate_frames}
 
-module _ (N : ℕ) (b : Block) (i : ℕ) (kept : Kept N b) where
+module _ (N : ℕ) (b : Block) (i : ℕ) (kept : AllSentences N b) where
   -- The cache's rows.
 
-  pub forward_read_kept : Arrives b i FwdGetS → Kept N (forward_read b i)
+  pub forward_read_kept : Arrives b i FwdGetS → AllSentences N (forward_read b i)
   forward_read_kept arrives = record {
     clocks = forward_read_clocks N b i kept.clocks kept.nodes arrives;
     nodes = forward_read_nodes N b i kept.nodes kept.stages kept.owners arrives;
@@ -35,7 +35,7 @@ module _ (N : ℕ) (b : Block) (i : ℕ) (kept : Kept N b) where
     frames = forward_read_frames N b i kept.frames kept.stages kept.requests kept.logs kept.owners kept.clocks kept.nodes arrives;
   }
 
-  pub forward_write_kept : Arrives b i FwdGetM → Kept N (forward_write b i)
+  pub forward_write_kept : Arrives b i FwdGetM → AllSentences N (forward_write b i)
   forward_write_kept arrives = record {
     clocks = forward_write_clocks N b i kept.clocks kept.nodes arrives;
     nodes = forward_write_nodes N b i kept.nodes kept.stages kept.owners arrives;
@@ -49,7 +49,7 @@ module _ (N : ℕ) (b : Block) (i : ℕ) (kept : Kept N b) where
     frames = forward_write_frames N b i kept.frames kept.stages kept.requests kept.logs kept.owners kept.clocks kept.nodes arrives;
   }
 
-  pub invalidate_kept : Arrives b i Inv → Kept N (invalidate b i)
+  pub invalidate_kept : Arrives b i Inv → AllSentences N (invalidate b i)
   invalidate_kept arrives = record {
     clocks = invalidate_clocks N b i kept.clocks kept.nodes arrives;
     nodes = invalidate_nodes N b i kept.nodes kept.stages kept.owners kept.waits arrives;
@@ -63,7 +63,7 @@ module _ (N : ℕ) (b : Block) (i : ℕ) (kept : Kept N b) where
     frames = invalidate_frames N b i kept.frames kept.stages kept.requests kept.logs kept.owners kept.clocks kept.nodes kept.waits arrives;
   }
 
-  pub data_shared_kept : Arrives b i DataS → Kept N (data_shared b i)
+  pub data_shared_kept : Arrives b i DataS → AllSentences N (data_shared b i)
   data_shared_kept arrives = record {
     clocks = data_shared_clocks N b i kept.clocks kept.nodes arrives;
     nodes = data_shared_nodes N b i kept.nodes kept.stages kept.owners arrives;
@@ -77,7 +77,7 @@ module _ (N : ℕ) (b : Block) (i : ℕ) (kept : Kept N b) where
     frames = data_shared_frames N b i kept.frames kept.stages kept.requests kept.logs kept.owners kept.clocks kept.nodes arrives;
   }
 
-  pub data_modified_open_kept : Arrives b i DataM → (b.miss (b.net i).to).acks ≢ (b.net i).due → Kept N (data_modified_open b i)
+  pub data_modified_open_kept : Arrives b i DataM → (b.miss (b.net i).to).acks ≢ (b.net i).due → AllSentences N (data_modified_open b i)
   data_modified_open_kept arrives some_lack = record {
     clocks = data_modified_open_clocks N b i kept.clocks kept.nodes arrives some_lack;
     nodes = data_modified_open_nodes N b i kept.nodes kept.stages kept.owners arrives some_lack;
@@ -91,7 +91,7 @@ module _ (N : ℕ) (b : Block) (i : ℕ) (kept : Kept N b) where
     frames = data_modified_open_frames N b i kept.frames kept.stages kept.requests kept.logs kept.owners kept.clocks kept.nodes arrives some_lack;
   }
 
-  pub data_modified_complete_kept : Arrives b i DataM → (b.miss (b.net i).to).acks ≡ (b.net i).due → Kept N (data_modified_complete b i)
+  pub data_modified_complete_kept : Arrives b i DataM → (b.miss (b.net i).to).acks ≡ (b.net i).due → AllSentences N (data_modified_complete b i)
   data_modified_complete_kept arrives all_in = record {
     clocks = data_modified_complete_clocks N b i kept.clocks kept.nodes arrives all_in;
     nodes = data_modified_complete_nodes N b i kept.nodes kept.stages kept.owners arrives all_in;
@@ -105,7 +105,7 @@ module _ (N : ℕ) (b : Block) (i : ℕ) (kept : Kept N b) where
     frames = data_modified_complete_frames N b i kept.frames kept.stages kept.requests kept.logs kept.owners kept.clocks kept.nodes arrives all_in;
   }
 
-  pub upgrade_granted_open_kept : Arrives b i UpgOk → (b.miss (b.net i).to).acks ≢ (b.net i).due → Kept N (upgrade_granted_open b i)
+  pub upgrade_granted_open_kept : Arrives b i UpgOk → (b.miss (b.net i).to).acks ≢ (b.net i).due → AllSentences N (upgrade_granted_open b i)
   upgrade_granted_open_kept arrives some_lack = record {
     clocks = upgrade_granted_open_clocks N b i kept.clocks kept.nodes arrives some_lack;
     nodes = upgrade_granted_open_nodes N b i kept.nodes kept.stages kept.owners arrives some_lack;
@@ -119,7 +119,7 @@ module _ (N : ℕ) (b : Block) (i : ℕ) (kept : Kept N b) where
     frames = upgrade_granted_open_frames N b i kept.frames kept.stages kept.requests kept.logs kept.owners kept.clocks kept.nodes arrives some_lack;
   }
 
-  pub upgrade_granted_complete_kept : Arrives b i UpgOk → (b.miss (b.net i).to).acks ≡ (b.net i).due → Kept N (upgrade_granted_complete b i)
+  pub upgrade_granted_complete_kept : Arrives b i UpgOk → (b.miss (b.net i).to).acks ≡ (b.net i).due → AllSentences N (upgrade_granted_complete b i)
   upgrade_granted_complete_kept arrives all_in = record {
     clocks = upgrade_granted_complete_clocks N b i kept.clocks kept.nodes arrives all_in;
     nodes = upgrade_granted_complete_nodes N b i kept.nodes kept.stages kept.owners arrives all_in;
@@ -133,7 +133,7 @@ module _ (N : ℕ) (b : Block) (i : ℕ) (kept : Kept N b) where
     frames = upgrade_granted_complete_frames N b i kept.frames kept.stages kept.requests kept.logs kept.owners kept.clocks kept.nodes arrives all_in;
   }
 
-  pub acknowledge_open_kept : Arrives b i InvAck → IsLast b i ≡ false → Kept N (acknowledge_open b i)
+  pub acknowledge_open_kept : Arrives b i InvAck → IsLast b i ≡ false → AllSentences N (acknowledge_open b i)
   acknowledge_open_kept arrives not_last = record {
     clocks = acknowledge_open_clocks N b i kept.clocks kept.nodes arrives not_last;
     nodes = acknowledge_open_nodes N b i kept.nodes kept.stages kept.owners arrives not_last;
@@ -147,7 +147,7 @@ module _ (N : ℕ) (b : Block) (i : ℕ) (kept : Kept N b) where
     frames = acknowledge_open_frames N b i kept.frames kept.stages kept.requests kept.logs kept.owners kept.clocks kept.nodes kept.waits arrives not_last;
   }
 
-  pub acknowledge_complete_kept : Arrives b i InvAck → IsLast b i ≡ true → Kept N (acknowledge_complete b i)
+  pub acknowledge_complete_kept : Arrives b i InvAck → IsLast b i ≡ true → AllSentences N (acknowledge_complete b i)
   acknowledge_complete_kept arrives last = record {
     clocks = acknowledge_complete_clocks N b i kept.clocks kept.nodes arrives last;
     nodes = acknowledge_complete_nodes N b i kept.nodes kept.stages kept.owners arrives last;
@@ -161,7 +161,7 @@ module _ (N : ℕ) (b : Block) (i : ℕ) (kept : Kept N b) where
     frames = acknowledge_complete_frames N b i kept.frames kept.stages kept.requests kept.logs kept.owners kept.clocks kept.nodes kept.waits arrives last;
   }
 
-  pub put_go_kept : Arrives b i PutGo → Kept N (put_go b i)
+  pub put_go_kept : Arrives b i PutGo → AllSentences N (put_go b i)
   put_go_kept arrives = record {
     clocks = put_go_clocks N b i kept.clocks kept.nodes arrives;
     nodes = put_go_nodes N b i kept.nodes kept.stages kept.owners arrives;
@@ -175,7 +175,7 @@ module _ (N : ℕ) (b : Block) (i : ℕ) (kept : Kept N b) where
     frames = put_go_frames N b i kept.frames kept.stages kept.requests kept.logs kept.owners kept.clocks kept.nodes arrives;
   }
 
-  pub put_done_kept : Arrives b i PutDone → Kept N (put_done b i)
+  pub put_done_kept : Arrives b i PutDone → AllSentences N (put_done b i)
   put_done_kept arrives = record {
     clocks = put_done_clocks N b i kept.clocks kept.nodes arrives;
     nodes = put_done_nodes N b i kept.nodes kept.stages kept.owners arrives;
@@ -189,7 +189,7 @@ module _ (N : ℕ) (b : Block) (i : ℕ) (kept : Kept N b) where
     frames = put_done_frames N b i kept.frames kept.stages kept.requests kept.logs kept.owners kept.clocks kept.nodes arrives;
   }
 
-  pub data_exclusive_kept : Arrives b i DataE → Kept N (data_exclusive b i)
+  pub data_exclusive_kept : Arrives b i DataE → AllSentences N (data_exclusive b i)
   data_exclusive_kept arrives = record {
     clocks = data_exclusive_clocks N b i kept.clocks kept.nodes arrives;
     nodes = data_exclusive_nodes N b i kept.nodes kept.stages kept.owners arrives;
@@ -205,7 +205,7 @@ module _ (N : ℕ) (b : Block) (i : ℕ) (kept : Kept N b) where
 
   -- The home's rows.
 
-  pub read_at_home_kept : At b i GetS → b.kind ≡ Idle → b.at_home ≡ true → Kept N (read_at_home b i)
+  pub read_at_home_kept : At b i GetS → b.kind ≡ Idle → b.at_home ≡ true → AllSentences N (read_at_home b i)
   read_at_home_kept arrives idle home_owns = record {
     clocks = read_at_home_clocks N b i kept.clocks kept.nodes arrives idle home_owns;
     nodes = read_at_home_nodes N b i kept.nodes kept.stages kept.owners arrives idle home_owns;
@@ -219,7 +219,7 @@ module _ (N : ℕ) (b : Block) (i : ℕ) (kept : Kept N b) where
     frames = read_at_home_frames N b i kept.frames kept.stages kept.requests kept.logs kept.owners kept.clocks kept.nodes arrives idle home_owns;
   }
 
-  pub read_at_owner_kept : At b i GetS → b.kind ≡ Idle → b.at_home ≡ false → Kept N (read_at_owner b i)
+  pub read_at_owner_kept : At b i GetS → b.kind ≡ Idle → b.at_home ≡ false → AllSentences N (read_at_owner b i)
   read_at_owner_kept arrives idle cache_owns = record {
     clocks = read_at_owner_clocks N b i kept.clocks kept.nodes arrives idle cache_owns;
     nodes = read_at_owner_nodes N b i kept.nodes kept.stages kept.owners arrives idle cache_owns;
@@ -233,7 +233,7 @@ module _ (N : ℕ) (b : Block) (i : ℕ) (kept : Kept N b) where
     frames = read_at_owner_frames N b i kept.frames kept.stages kept.requests kept.logs kept.owners kept.clocks kept.nodes arrives idle cache_owns;
   }
 
-  pub take_kept : (targets : ℕ → ℕ) (due : ℕ) → At b i GetM → b.kind ≡ Idle → b.at_home ≡ true → Lists N (other_sharers b i) targets due → Kept N (take b i targets due)
+  pub take_kept : (targets : ℕ → ℕ) (due : ℕ) → At b i GetM → b.kind ≡ Idle → b.at_home ≡ true → Lists N (other_sharers b i) targets due → AllSentences N (take b i targets due)
   take_kept targets due arrives idle home_owns each = record {
     clocks = take_clocks N b i kept.clocks kept.nodes targets due arrives idle home_owns;
     nodes = take_nodes N b i kept.nodes kept.stages kept.owners targets due arrives idle home_owns each;
@@ -247,7 +247,7 @@ module _ (N : ℕ) (b : Block) (i : ℕ) (kept : Kept N b) where
     frames = take_frames N b i kept.frames kept.stages kept.requests kept.logs kept.owners kept.clocks kept.nodes targets due arrives idle home_owns;
   }
 
-  pub move_ownership_kept : (targets : ℕ → ℕ) (due : ℕ) → At b i GetM → b.kind ≡ Idle → OtherOwns b (b.net i).from → Lists N (other_sharers b i) targets due → Kept N (move_ownership b i targets due)
+  pub move_ownership_kept : (targets : ℕ → ℕ) (due : ℕ) → At b i GetM → b.kind ≡ Idle → OtherOwns b (b.net i).from → Lists N (other_sharers b i) targets due → AllSentences N (move_ownership b i targets due)
   move_ownership_kept targets due arrives idle other_owns each = record {
     clocks = move_ownership_clocks N b i kept.clocks kept.nodes targets due arrives idle other_owns;
     nodes = move_ownership_nodes N b i kept.nodes kept.stages kept.owners targets due arrives idle other_owns each;
@@ -261,7 +261,7 @@ module _ (N : ℕ) (b : Block) (i : ℕ) (kept : Kept N b) where
     frames = move_ownership_frames N b i kept.frames kept.stages kept.requests kept.logs kept.owners kept.clocks kept.nodes targets due arrives idle other_owns;
   }
 
-  pub upgrade_kept : (targets : ℕ → ℕ) (due : ℕ) → At b i GetM → b.kind ≡ Idle → Owns b (b.net i).from → Lists N (other_sharers b i) targets due → Kept N (upgrade b i targets due)
+  pub upgrade_kept : (targets : ℕ → ℕ) (due : ℕ) → At b i GetM → b.kind ≡ Idle → Owns b (b.net i).from → Lists N (other_sharers b i) targets due → AllSentences N (upgrade b i targets due)
   upgrade_kept targets due arrives idle sender_owns each = record {
     clocks = upgrade_clocks N b i kept.clocks kept.nodes targets due arrives idle sender_owns;
     nodes = upgrade_nodes N b i kept.nodes kept.stages kept.owners targets due arrives idle sender_owns each;
@@ -275,7 +275,7 @@ module _ (N : ℕ) (b : Block) (i : ℕ) (kept : Kept N b) where
     frames = upgrade_frames N b i kept.frames kept.stages kept.requests kept.logs kept.owners kept.clocks kept.nodes targets due arrives idle sender_owns;
   }
 
-  pub unblock_move_kept : At b i Unblock → b.kind ≡ Move → Kept N (unblock_move b i)
+  pub unblock_move_kept : At b i Unblock → b.kind ≡ Move → AllSentences N (unblock_move b i)
   unblock_move_kept arrives move = record {
     clocks = unblock_move_clocks N b i kept.clocks kept.nodes arrives move;
     nodes = unblock_move_nodes N b i kept.nodes kept.stages kept.owners arrives move;
@@ -289,7 +289,7 @@ module _ (N : ℕ) (b : Block) (i : ℕ) (kept : Kept N b) where
     frames = unblock_move_frames N b i kept.frames kept.stages kept.requests kept.logs kept.owners kept.clocks kept.nodes arrives move;
   }
 
-  pub unblock_other_kept : At b i Unblock → b.kind ≢ Move → Kept N (unblock_other b i)
+  pub unblock_other_kept : At b i Unblock → b.kind ≢ Move → AllSentences N (unblock_other b i)
   unblock_other_kept arrives no_move = record {
     clocks = unblock_other_clocks N b i kept.clocks kept.nodes arrives no_move;
     nodes = unblock_other_nodes N b i kept.nodes kept.stages kept.owners arrives no_move;
@@ -303,7 +303,7 @@ module _ (N : ℕ) (b : Block) (i : ℕ) (kept : Kept N b) where
     frames = unblock_other_frames N b i kept.frames kept.stages kept.requests kept.logs kept.owners kept.clocks kept.nodes arrives no_move;
   }
 
-  pub put_begins_kept : At b i PutReq → b.kind ≡ Idle → Owns b (b.net i).from → Kept N (put_begins b i)
+  pub put_begins_kept : At b i PutReq → b.kind ≡ Idle → Owns b (b.net i).from → AllSentences N (put_begins b i)
   put_begins_kept arrives idle sender_owns = record {
     clocks = put_begins_clocks N b i kept.clocks kept.nodes arrives idle sender_owns;
     nodes = put_begins_nodes N b i kept.nodes kept.stages kept.owners arrives idle sender_owns;
@@ -317,7 +317,7 @@ module _ (N : ℕ) (b : Block) (i : ℕ) (kept : Kept N b) where
     frames = put_begins_frames N b i kept.frames kept.stages kept.requests kept.logs kept.owners kept.clocks kept.nodes arrives idle sender_owns;
   }
 
-  pub put_is_stale_kept : At b i PutReq → b.kind ≡ Idle → (b.at_home ≡ true) ⊎ (b.owner ≢ (b.net i).from) → Kept N (put_is_stale b i)
+  pub put_is_stale_kept : At b i PutReq → b.kind ≡ Idle → (b.at_home ≡ true) ⊎ (b.owner ≢ (b.net i).from) → AllSentences N (put_is_stale b i)
   put_is_stale_kept arrives idle stale = record {
     clocks = put_is_stale_clocks N b i kept.clocks kept.nodes arrives idle stale;
     nodes = put_is_stale_nodes N b i kept.nodes kept.stages kept.owners arrives idle stale;
@@ -331,7 +331,7 @@ module _ (N : ℕ) (b : Block) (i : ℕ) (kept : Kept N b) where
     frames = put_is_stale_frames N b i kept.frames kept.stages kept.requests kept.logs kept.owners kept.clocks kept.nodes arrives idle stale;
   }
 
-  pub put_data_kept : At b i PutData → Kept N (put_data b i)
+  pub put_data_kept : At b i PutData → AllSentences N (put_data b i)
   put_data_kept arrives = record {
     clocks = put_data_clocks N b i kept.clocks kept.nodes arrives;
     nodes = put_data_nodes N b i kept.nodes kept.stages kept.owners arrives;
@@ -345,7 +345,7 @@ module _ (N : ℕ) (b : Block) (i : ℕ) (kept : Kept N b) where
     frames = put_data_frames N b i kept.frames kept.stages kept.requests kept.logs kept.owners kept.clocks kept.nodes arrives;
   }
 
-  pub grant_exclusive_kept : At b i GetS → b.kind ≡ Idle → b.at_home ≡ true → ((x : ℕ) → other_sharers b i x ≡ false) → Kept N (grant_exclusive b i)
+  pub grant_exclusive_kept : At b i GetS → b.kind ≡ Idle → b.at_home ≡ true → ((x : ℕ) → other_sharers b i x ≡ false) → AllSentences N (grant_exclusive b i)
   grant_exclusive_kept arrives idle home_owns none = record {
     clocks = grant_exclusive_clocks N b i kept.clocks kept.nodes arrives idle home_owns none;
     nodes = grant_exclusive_nodes N b i kept.nodes kept.stages kept.owners arrives idle home_owns none;
@@ -361,7 +361,7 @@ module _ (N : ℕ) (b : Block) (i : ℕ) (kept : Kept N b) where
 
   -- The other events.
 
-  pub deliver_advance_kept : Arrives b i Advance → Kept N (deliver_advance b i)
+  pub deliver_advance_kept : Arrives b i Advance → AllSentences N (deliver_advance b i)
   deliver_advance_kept arrives = record {
     clocks = deliver_advance_clocks N b i kept.clocks kept.nodes arrives;
     nodes = deliver_advance_nodes N b i kept.nodes kept.stages kept.owners arrives;
@@ -375,7 +375,7 @@ module _ (N : ℕ) (b : Block) (i : ℕ) (kept : Kept N b) where
     frames = deliver_advance_frames N b i kept.frames kept.stages kept.requests kept.logs kept.owners kept.clocks kept.nodes arrives;
   }
 
-  pub lose_kept : Kept N (lose b i)
+  pub lose_kept : AllSentences N (lose b i)
   lose_kept = record {
     clocks = lose_clocks N b i kept.clocks kept.nodes;
     nodes = lose_nodes N b i kept.nodes kept.stages kept.owners;
@@ -389,7 +389,7 @@ module _ (N : ℕ) (b : Block) (i : ℕ) (kept : Kept N b) where
     frames = lose_frames N b i kept.frames kept.stages kept.requests kept.logs kept.owners kept.clocks kept.nodes;
   }
 
-  pub begin_read_miss_kept : Free N b i → b.line i ≡ NoLine → Kept N (begin_read_miss b i)
+  pub begin_read_miss_kept : Free N b i → b.line i ≡ NoLine → AllSentences N (begin_read_miss b i)
   begin_read_miss_kept free line = record {
     clocks = begin_read_miss_clocks N b i kept.clocks kept.nodes free line;
     nodes = begin_read_miss_nodes N b i kept.nodes kept.stages kept.owners free line;
@@ -403,7 +403,7 @@ module _ (N : ℕ) (b : Block) (i : ℕ) (kept : Kept N b) where
     frames = begin_read_miss_frames N b i kept.frames kept.stages kept.requests kept.logs kept.owners kept.clocks kept.nodes free line;
   }
 
-  pub begin_write_miss_kept : Free N b i → is_writable (b.line i) ≡ false → Kept N (begin_write_miss b i)
+  pub begin_write_miss_kept : Free N b i → is_writable (b.line i) ≡ false → AllSentences N (begin_write_miss b i)
   begin_write_miss_kept free line = record {
     clocks = begin_write_miss_clocks N b i kept.clocks kept.nodes free line;
     nodes = begin_write_miss_nodes N b i kept.nodes kept.stages kept.owners free line;
@@ -417,7 +417,7 @@ module _ (N : ℕ) (b : Block) (i : ℕ) (kept : Kept N b) where
     frames = begin_write_miss_frames N b i kept.frames kept.stages kept.requests kept.logs kept.owners kept.clocks kept.nodes free line;
   }
 
-  pub begin_put_kept : i < N → is_here (b.miss i).want ≡ false → b.putting i ≡ NoPut → is_owned (b.line i) ≡ true → Kept N (begin_put b i)
+  pub begin_put_kept : i < N → is_here (b.miss i).want ≡ false → b.putting i ≡ NoPut → is_owned (b.line i) ≡ true → AllSentences N (begin_put b i)
   begin_put_kept low no_miss no_put line = record {
     clocks = begin_put_clocks N b i kept.clocks kept.nodes low no_miss no_put line;
     nodes = begin_put_nodes N b i kept.nodes kept.stages kept.owners low no_miss no_put line;
@@ -431,7 +431,7 @@ module _ (N : ℕ) (b : Block) (i : ℕ) (kept : Kept N b) where
     frames = begin_put_frames N b i kept.frames kept.stages kept.requests kept.logs kept.owners kept.clocks kept.nodes low no_miss no_put line;
   }
 
-  pub begin_miss_elsewhere_kept : i < N → (b.miss i).want ≡ Nothing → Kept N (begin_miss_elsewhere b i)
+  pub begin_miss_elsewhere_kept : i < N → (b.miss i).want ≡ Nothing → AllSentences N (begin_miss_elsewhere b i)
   begin_miss_elsewhere_kept low no_miss = record {
     clocks = begin_miss_elsewhere_clocks N b i kept.clocks kept.nodes low no_miss;
     nodes = begin_miss_elsewhere_nodes N b i kept.nodes kept.stages kept.owners low no_miss;
@@ -445,7 +445,7 @@ module _ (N : ℕ) (b : Block) (i : ℕ) (kept : Kept N b) where
     frames = begin_miss_elsewhere_frames N b i kept.frames kept.stages kept.requests kept.logs kept.owners kept.clocks kept.nodes low no_miss;
   }
 
-  pub end_miss_elsewhere_kept : (b.miss i).want ≡ Elsewhere → Kept N (end_miss_elsewhere b i)
+  pub end_miss_elsewhere_kept : (b.miss i).want ≡ Elsewhere → AllSentences N (end_miss_elsewhere b i)
   end_miss_elsewhere_kept there = record {
     clocks = end_miss_elsewhere_clocks N b i kept.clocks kept.nodes there;
     nodes = end_miss_elsewhere_nodes N b i kept.nodes kept.stages kept.owners there;
@@ -459,7 +459,7 @@ module _ (N : ℕ) (b : Block) (i : ℕ) (kept : Kept N b) where
     frames = end_miss_elsewhere_frames N b i kept.frames kept.stages kept.requests kept.logs kept.owners kept.clocks kept.nodes there;
   }
 
-  pub begin_put_elsewhere_kept : i < N → b.putting i ≡ NoPut → Kept N (begin_put_elsewhere b i)
+  pub begin_put_elsewhere_kept : i < N → b.putting i ≡ NoPut → AllSentences N (begin_put_elsewhere b i)
   begin_put_elsewhere_kept low no_put = record {
     clocks = begin_put_elsewhere_clocks N b i kept.clocks kept.nodes low no_put;
     nodes = begin_put_elsewhere_nodes N b i kept.nodes kept.stages kept.owners low no_put;
@@ -473,7 +473,7 @@ module _ (N : ℕ) (b : Block) (i : ℕ) (kept : Kept N b) where
     frames = begin_put_elsewhere_frames N b i kept.frames kept.stages kept.requests kept.logs kept.owners kept.clocks kept.nodes low no_put;
   }
 
-  pub end_put_elsewhere_kept : b.putting i ≡ PutElsewhere → Kept N (end_put_elsewhere b i)
+  pub end_put_elsewhere_kept : b.putting i ≡ PutElsewhere → AllSentences N (end_put_elsewhere b i)
   end_put_elsewhere_kept there = record {
     clocks = end_put_elsewhere_clocks N b i kept.clocks kept.nodes there;
     nodes = end_put_elsewhere_nodes N b i kept.nodes kept.stages kept.owners there;
@@ -487,7 +487,7 @@ module _ (N : ℕ) (b : Block) (i : ℕ) (kept : Kept N b) where
     frames = end_put_elsewhere_frames N b i kept.frames kept.stages kept.requests kept.logs kept.owners kept.clocks kept.nodes there;
   }
 
-  pub numbers_elsewhere_kept : Kept N (numbers_elsewhere b i)
+  pub numbers_elsewhere_kept : AllSentences N (numbers_elsewhere b i)
   numbers_elsewhere_kept = record {
     clocks = numbers_elsewhere_clocks N b i kept.clocks kept.nodes;
     nodes = numbers_elsewhere_nodes N b i kept.nodes kept.stages kept.owners;
@@ -501,7 +501,7 @@ module _ (N : ℕ) (b : Block) (i : ℕ) (kept : Kept N b) where
     frames = numbers_elsewhere_frames N b i kept.frames kept.stages kept.requests kept.logs kept.owners kept.clocks kept.nodes;
   }
 
-  pub store_kept : (v : Content) → Free N b i → is_writable (b.line i) ≡ true → Kept N (store b i v)
+  pub store_kept : (v : Content) → Free N b i → is_writable (b.line i) ≡ true → AllSentences N (store b i v)
   store_kept v free line = record {
     clocks = store_clocks N b i kept.clocks kept.nodes v free line;
     nodes = store_nodes N b i kept.nodes kept.stages kept.owners v free line;
@@ -515,7 +515,7 @@ module _ (N : ℕ) (b : Block) (i : ℕ) (kept : Kept N b) where
     frames = store_frames N b i kept.frames kept.stages kept.requests kept.logs kept.owners kept.clocks kept.nodes v free line;
   }
 
-  pub evict_shared_kept : is_here (b.miss i).want ≡ false → b.line i ≡ Shared → Kept N (evict_shared b i)
+  pub evict_shared_kept : is_here (b.miss i).want ≡ false → b.line i ≡ Shared → AllSentences N (evict_shared b i)
   evict_shared_kept no_miss line = record {
     clocks = evict_shared_clocks N b i kept.clocks kept.nodes no_miss line;
     nodes = evict_shared_nodes N b i kept.nodes kept.stages kept.owners no_miss line;
@@ -529,7 +529,7 @@ module _ (N : ℕ) (b : Block) (i : ℕ) (kept : Kept N b) where
     frames = evict_shared_frames N b i kept.frames kept.stages kept.requests kept.logs kept.owners kept.clocks kept.nodes no_miss line;
   }
 
-  pub edge_kept : i < N → b.now i < b.known i + 4 → Kept N (edge b i)
+  pub edge_kept : i < N → b.now i < b.known i + 4 → AllSentences N (edge b i)
   edge_kept low room = record {
     clocks = edge_clocks N b i kept.clocks kept.nodes low room;
     nodes = edge_nodes N b i kept.nodes kept.stages kept.owners low room;
@@ -543,7 +543,7 @@ module _ (N : ℕ) (b : Block) (i : ℕ) (kept : Kept N b) where
     frames = edge_frames N b i kept.frames kept.stages kept.requests kept.logs kept.owners kept.clocks kept.nodes low room;
   }
 
-  pub report_kept : (k : ℕ) → i < N → Kept N (report b i k)
+  pub report_kept : (k : ℕ) → i < N → AllSentences N (report b i k)
   report_kept k low = record {
     clocks = report_clocks N b i kept.clocks kept.nodes k low;
     nodes = report_nodes N b i kept.nodes kept.stages kept.owners k low;
@@ -557,7 +557,7 @@ module _ (N : ℕ) (b : Block) (i : ℕ) (kept : Kept N b) where
     frames = report_frames N b i kept.frames kept.stages kept.requests kept.logs kept.owners kept.clocks kept.nodes k low;
   }
 
-  pub validate_kept : NothingUnfinished N b (b.point + 1) → Kept N (validate N b)
+  pub validate_kept : NothingUnfinished N b (b.point + 1) → AllSentences N (validate N b)
   validate_kept finished = record {
     clocks = validate_clocks N b i kept.clocks kept.nodes finished;
     nodes = validate_nodes N b i kept.nodes kept.stages kept.owners finished;

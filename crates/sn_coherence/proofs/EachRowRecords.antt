@@ -4,7 +4,7 @@ use Rattle.sn_coherence.specs.Block.{Block, Content, NoLine, Shared, Nothing, El
 use Rattle.sn_coherence.specs.CacheRows.{forward_read, forward_write, invalidate, data_shared, data_modified_open, data_modified_complete, upgrade_granted_open, upgrade_granted_complete, acknowledge_open, acknowledge_complete, put_go, put_done, data_exclusive}
 use Rattle.sn_coherence.specs.HomeRows.{read_at_home, read_at_owner, take, move_ownership, upgrade, unblock_move, unblock_other, put_begins, put_is_stale, put_data, grant_exclusive}
 use Rattle.sn_coherence.specs.OtherEvents.{begin_read_miss, begin_write_miss, begin_put, begin_miss_elsewhere, end_miss_elsewhere, begin_put_elsewhere, end_put_elsewhere, numbers_elsewhere, store, evict_shared, edge, report, validate, lose, deliver_advance}
-use Rattle.sn_coherence.specs.Kept.{Kept}
+use Rattle.sn_coherence.specs.Kept.{AllSentences}
 use Rattle.sn_coherence.specs.Events.{IsReady, Arrives, Owns, OtherOwns, other_sharers, NothingUnfinished, Free}
 use Rattle.sn_coherence.proofs.Rows.{At, IsLast}
 use Rattle.sn_coherence.specs.Records.{Records, loads, loads_reserved, stores, unreserves, stores_conditional, hears}
@@ -14,7 +14,7 @@ use Rattle.sn_coherence.proofs.Contents.{forward_read_contents, forward_write_co
 use Rattle.sn_coherence.proofs.Accesses.{forward_read_accesses, forward_write_accesses, invalidate_accesses, data_shared_accesses, data_modified_open_accesses, data_modified_complete_accesses, upgrade_granted_open_accesses, upgrade_granted_complete_accesses, acknowledge_open_accesses, acknowledge_complete_accesses, put_go_accesses, put_done_accesses, data_exclusive_accesses, read_at_home_accesses, read_at_owner_accesses, take_accesses, move_ownership_accesses, upgrade_accesses, unblock_move_accesses, unblock_other_accesses, put_begins_accesses, put_is_stale_accesses, put_data_accesses, grant_exclusive_accesses, deliver_advance_accesses, lose_accesses, begin_read_miss_accesses, begin_write_miss_accesses, begin_put_accesses, begin_miss_elsewhere_accesses, end_miss_elsewhere_accesses, begin_put_elsewhere_accesses, end_put_elsewhere_accesses, numbers_elsewhere_accesses, store_accesses, store_conditional_accesses, evict_shared_accesses, edge_accesses, report_accesses, validate_accesses, load_accesses, load_reserved_accesses, store_conditional_undone_accesses, deliver_ready_accesses}
 use Rattle.sn_coherence.proofs.CutContents.{forward_read_cut_contents, forward_write_cut_contents, invalidate_cut_contents, data_shared_cut_contents, data_modified_open_cut_contents, data_modified_complete_cut_contents, upgrade_granted_open_cut_contents, upgrade_granted_complete_cut_contents, acknowledge_open_cut_contents, acknowledge_complete_cut_contents, put_go_cut_contents, put_done_cut_contents, data_exclusive_cut_contents, read_at_home_cut_contents, read_at_owner_cut_contents, take_cut_contents, move_ownership_cut_contents, upgrade_cut_contents, unblock_move_cut_contents, unblock_other_cut_contents, put_begins_cut_contents, put_is_stale_cut_contents, put_data_cut_contents, grant_exclusive_cut_contents, deliver_advance_cut_contents, lose_cut_contents, begin_read_miss_cut_contents, begin_write_miss_cut_contents, begin_put_cut_contents, begin_miss_elsewhere_cut_contents, end_miss_elsewhere_cut_contents, begin_put_elsewhere_cut_contents, end_put_elsewhere_cut_contents, numbers_elsewhere_cut_contents, store_cut_contents, store_conditional_cut_contents, evict_shared_cut_contents, edge_cut_contents, report_cut_contents, validate_cut_contents, load_cut_contents, load_reserved_cut_contents, store_conditional_undone_cut_contents, deliver_ready_cut_contents}
 
-module _ (N : ℕ) (b : Block) (r : Records) (i : ℕ) (kept : Kept N b) (records : KeptRecords b r) where
+module _ (N : ℕ) (b : Block) (r : Records) (i : ℕ) (kept : AllSentences N b) (records : KeptRecords b r) where
   -- The cache's rows.
 
   pub forward_read_recorded : Arrives b i FwdGetS → KeptRecords (forward_read b i) r

@@ -5,7 +5,7 @@ use Rattle.sn_coherence.specs.Block.{Block, Content, NoLine, Shared, Nothing, El
 use Rattle.sn_coherence.specs.CacheRows.{forward_read, forward_write, invalidate, data_shared, data_modified_open, data_modified_complete, upgrade_granted_open, upgrade_granted_complete, acknowledge_open, acknowledge_complete, put_go, put_done, data_exclusive}
 use Rattle.sn_coherence.specs.HomeRows.{read_at_home, read_at_owner, take, move_ownership, upgrade, unblock_move, unblock_other, put_begins, put_is_stale, put_data, grant_exclusive}
 use Rattle.sn_coherence.specs.OtherEvents.{begin_read_miss, begin_write_miss, begin_put, begin_miss_elsewhere, end_miss_elsewhere, begin_put_elsewhere, end_put_elsewhere, numbers_elsewhere, store, evict_shared, edge, report, validate, lose, deliver_advance}
-use Rattle.sn_coherence.specs.Kept.{Clocks, Nodes, Stages, Requests, Owners, Waits, Logs, Frames}
+use Rattle.sn_coherence.specs.Kept.{Clocks, Nodes, Stages, Requests, Owners, Acknowledgements, Logs, Frames}
 use Rattle.sn_coherence.specs.Events.{Arrives, Owns, OtherOwns, other_sharers, NothingUnfinished, Free}
 use Rattle.sn_coherence.proofs.Rows.{At, IsLast}
 
@@ -18,7 +18,7 @@ module _ (N : ℕ) (b : Block) (i : ℕ) (frames : Frames N b) (stages : Stages 
   pub forward_write_frames : Arrives b i FwdGetM → Frames N (forward_write b i)
   forward_write_frames arrives = grind (arith, nat_tests, requests.one_get i)
 
-  pub invalidate_frames : Waits N b → Arrives b i Inv → Frames N (invalidate b i)
+  pub invalidate_frames : Acknowledgements N b → Arrives b i Inv → Frames N (invalidate b i)
   invalidate_frames waits arrives = grind (arith, nat_tests, requests.one_get i)
 
   pub data_shared_frames : Arrives b i DataS → Frames N (data_shared b i)
@@ -36,10 +36,10 @@ module _ (N : ℕ) (b : Block) (i : ℕ) (frames : Frames N b) (stages : Stages 
   pub upgrade_granted_complete_frames : Arrives b i UpgOk → (b.miss (b.net i).to).acks ≡ (b.net i).due → Frames N (upgrade_granted_complete b i)
   upgrade_granted_complete_frames arrives all_in = grind (arith, nat_tests, requests.one_get i)
 
-  pub acknowledge_open_frames : Waits N b → Arrives b i InvAck → IsLast b i ≡ false → Frames N (acknowledge_open b i)
+  pub acknowledge_open_frames : Acknowledgements N b → Arrives b i InvAck → IsLast b i ≡ false → Frames N (acknowledge_open b i)
   acknowledge_open_frames waits arrives not_last = grind (arith, nat_tests, requests.one_get i)
 
-  pub acknowledge_complete_frames : Waits N b → Arrives b i InvAck → IsLast b i ≡ true → Frames N (acknowledge_complete b i)
+  pub acknowledge_complete_frames : Acknowledgements N b → Arrives b i InvAck → IsLast b i ≡ true → Frames N (acknowledge_complete b i)
   acknowledge_complete_frames waits arrives last = grind (arith, nat_tests, requests.one_get i)
 
   pub put_go_frames : Arrives b i PutGo → Frames N (put_go b i)

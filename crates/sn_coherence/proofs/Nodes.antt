@@ -5,7 +5,7 @@ use Rattle.sn_coherence.specs.Block.{Block, Content, NoLine, Shared, Nothing, El
 use Rattle.sn_coherence.specs.CacheRows.{forward_read, forward_write, invalidate, data_shared, data_modified_open, data_modified_complete, upgrade_granted_open, upgrade_granted_complete, acknowledge_open, acknowledge_complete, put_go, put_done, data_exclusive}
 use Rattle.sn_coherence.specs.HomeRows.{read_at_home, read_at_owner, take, move_ownership, upgrade, unblock_move, unblock_other, put_begins, put_is_stale, put_data, grant_exclusive}
 use Rattle.sn_coherence.specs.OtherEvents.{begin_read_miss, begin_write_miss, begin_put, begin_miss_elsewhere, end_miss_elsewhere, begin_put_elsewhere, end_put_elsewhere, numbers_elsewhere, store, evict_shared, edge, report, validate, lose, deliver_advance}
-use Rattle.sn_coherence.specs.Kept.{Nodes, Stages, Owners, Waits}
+use Rattle.sn_coherence.specs.Kept.{Nodes, Stages, Owners, Acknowledgements}
 use Rattle.sn_coherence.specs.Events.{Arrives, Owns, OtherOwns, Lists, other_sharers, NothingUnfinished, Free}
 use Rattle.sn_coherence.proofs.Rows.{At, IsLast}
 
@@ -18,7 +18,7 @@ module _ (N : ℕ) (b : Block) (i : ℕ) (nodes : Nodes N b) (stages : Stages b)
   pub forward_write_nodes : Arrives b i FwdGetM → Nodes N (forward_write b i)
   forward_write_nodes arrives = grind (arith, nat_tests)
 
-  pub invalidate_nodes : Waits N b → Arrives b i Inv → Nodes N (invalidate b i)
+  pub invalidate_nodes : Acknowledgements N b → Arrives b i Inv → Nodes N (invalidate b i)
   invalidate_nodes waits arrives = grind (arith, nat_tests)
 
   pub data_shared_nodes : Arrives b i DataS → Nodes N (data_shared b i)

@@ -5,7 +5,7 @@ use Rattle.sn_coherence.specs.Block.{Block, Content, NoLine, Shared, Nothing, El
 use Rattle.sn_coherence.specs.CacheRows.{forward_read, forward_write, invalidate, data_shared, data_modified_open, data_modified_complete, upgrade_granted_open, upgrade_granted_complete, acknowledge_open, acknowledge_complete, put_go, put_done, data_exclusive}
 use Rattle.sn_coherence.specs.HomeRows.{read_at_home, read_at_owner, take, move_ownership, upgrade, unblock_move, unblock_other, put_begins, put_is_stale, put_data, grant_exclusive}
 use Rattle.sn_coherence.specs.OtherEvents.{begin_read_miss, begin_write_miss, begin_put, begin_miss_elsewhere, end_miss_elsewhere, begin_put_elsewhere, end_put_elsewhere, numbers_elsewhere, store, evict_shared, edge, report, validate, lose, deliver_advance}
-use Rattle.sn_coherence.specs.Kept.{Stages, Owners, Waits, Sharing}
+use Rattle.sn_coherence.specs.Kept.{Stages, Owners, Acknowledgements, Sharing}
 use Rattle.sn_coherence.specs.Events.{Arrives, Owns, OtherOwns, other_sharers, NothingUnfinished, Free}
 use Rattle.sn_coherence.proofs.Rows.{At, IsLast}
 
@@ -18,7 +18,7 @@ module _ (N : ℕ) (b : Block) (i : ℕ) (owners : Owners b) (stages : Stages b)
   pub forward_write_owners : Arrives b i FwdGetM → Owners (forward_write b i)
   forward_write_owners arrives = grind (arith, nat_tests)
 
-  pub invalidate_owners : Waits N b → Sharing b → Arrives b i Inv → Owners (invalidate b i)
+  pub invalidate_owners : Acknowledgements N b → Sharing b → Arrives b i Inv → Owners (invalidate b i)
   invalidate_owners waits sharing arrives = grind (arith, nat_tests)
 
   pub data_shared_owners : Sharing b → Arrives b i DataS → Owners (data_shared b i)
@@ -36,10 +36,10 @@ module _ (N : ℕ) (b : Block) (i : ℕ) (owners : Owners b) (stages : Stages b)
   pub upgrade_granted_complete_owners : Arrives b i UpgOk → (b.miss (b.net i).to).acks ≡ (b.net i).due → Owners (upgrade_granted_complete b i)
   upgrade_granted_complete_owners arrives all_in = grind (arith, nat_tests)
 
-  pub acknowledge_open_owners : Waits N b → Arrives b i InvAck → IsLast b i ≡ false → Owners (acknowledge_open b i)
+  pub acknowledge_open_owners : Acknowledgements N b → Arrives b i InvAck → IsLast b i ≡ false → Owners (acknowledge_open b i)
   acknowledge_open_owners waits arrives not_last = grind (arith, nat_tests)
 
-  pub acknowledge_complete_owners : Waits N b → Arrives b i InvAck → IsLast b i ≡ true → Owners (acknowledge_complete b i)
+  pub acknowledge_complete_owners : Acknowledgements N b → Arrives b i InvAck → IsLast b i ≡ true → Owners (acknowledge_complete b i)
   acknowledge_complete_owners waits arrives last = grind (arith, nat_tests)
 
   pub put_go_owners : Arrives b i PutGo → Owners (put_go b i)

@@ -2,7 +2,7 @@
 use Rattle.std.proofs.Common.{ℕ, ◌≤◌, ◌<◌, List, [], ◌∷◌}
 use Rattle.sn_coherence.specs.Block.{Block, Content}
 use Rattle.sn_coherence.specs.OtherEvents.{start}
-use Rattle.sn_coherence.specs.Kept.{Kept}
+use Rattle.sn_coherence.specs.Kept.{AllSentences}
 use Rattle.sn_coherence.specs.Events.{Event, after}
 use Rattle.sn_coherence.specs.Records.{Records, no_records, recorded}
 use Rattle.sn_coherence.specs.KeptRecords.{KeptRecords}
@@ -13,12 +13,12 @@ use Rattle.sn_coherence.proofs.Whole.{event_kept}
 use Rattle.sn_coherence.proofs.WholeRecords.{allowed, event_recorded}
 use Rattle.sn_coherence.proofs.WhatFollows.{kept_meets_rows, kept_meets_notes, kept_one_holder, kept_content, kept_legal, kept_finished, kept_point}
 
-pub run_kept : (N : ℕ) (b : Block) (r : Records) (es : List Event) → Kept N b → KeptRecords b r → CanRun N b r es → Kept N (block_after N b es) × KeptRecords (block_after N b es) (records_after N b r es)
+pub run_kept : (N : ℕ) (b : Block) (r : Records) (es : List Event) → AllSentences N b → KeptRecords b r → CanRun N b r es → AllSentences N (block_after N b es) × KeptRecords (block_after N b es) (records_after N b r es)
 run_kept N b r [] k v c = (k, v)
 run_kept N b r (e ∷ es) k v c =
     run_kept N (after N b e) (recorded N b r e) es (event_kept N b e k (allowed N b r e k v c.0)) (event_recorded N b r e k v c.0) c.1
 
-pub kept_coherent : (N : ℕ) (b : Block) (r : Records) → N ≤ 16 → Kept N b → KeptRecords b r → IsCoherent N b r
+pub kept_coherent : (N : ℕ) (b : Block) (r : Records) → N ≤ 16 → AllSentences N b → KeptRecords b r → IsCoherent N b r
 kept_coherent N b r few k v = record {
   rows = kept_meets_rows N b few k;
   notes = kept_meets_notes N b k;

@@ -5,13 +5,13 @@ use Rattle.sn_coherence.specs.Block.{Block, Content, NoLine, Shared, Nothing, El
 use Rattle.sn_coherence.specs.CacheRows.{forward_read, forward_write, invalidate, data_shared, data_modified_open, data_modified_complete, upgrade_granted_open, upgrade_granted_complete, acknowledge_open, acknowledge_complete, put_go, put_done, data_exclusive}
 use Rattle.sn_coherence.specs.HomeRows.{read_at_home, read_at_owner, take, move_ownership, upgrade, unblock_move, unblock_other, put_begins, put_is_stale, put_data, grant_exclusive}
 use Rattle.sn_coherence.specs.OtherEvents.{begin_read_miss, begin_write_miss, begin_put, begin_miss_elsewhere, end_miss_elsewhere, begin_put_elsewhere, end_put_elsewhere, numbers_elsewhere, store, evict_shared, edge, report, validate, lose, deliver_advance}
-use Rattle.sn_coherence.specs.Kept.{Nodes, Stages, Requests, Owners, Waits, Sharing}
+use Rattle.sn_coherence.specs.Kept.{Nodes, Stages, Requests, Owners, Acknowledgements, Sharing}
 use Rattle.sn_coherence.specs.Events.{Arrives, Owns, OtherOwns, other_sharers, NothingUnfinished, Free}
 use Rattle.sn_coherence.proofs.Rows.{At, IsLast}
 use Rattle.sn_coherence.proofs.Counts.{count_none}
 use Rattle.sn_coherence.proofs.Acknowledged.{last_waited}
 
-module _ (N : ℕ) (b : Block) (i : ℕ) (sharing : Sharing b) (stages : Stages b) (owners : Owners b) (requests : Requests b) (waits : Waits N b) (nodes : Nodes N b) where
+module _ (N : ℕ) (b : Block) (i : ℕ) (sharing : Sharing b) (stages : Stages b) (owners : Owners b) (requests : Requests b) (waits : Acknowledgements N b) (nodes : Nodes N b) where
   -- The cache's rows.
 
   pub forward_read_sharing : Arrives b i FwdGetS → Sharing (forward_read b i)

@@ -5,7 +5,7 @@ use Rattle.sn_coherence.specs.Block.{Block, Content, NoLine, Shared, Nothing, El
 use Rattle.sn_coherence.specs.CacheRows.{forward_read, forward_write, invalidate, data_shared, data_modified_open, data_modified_complete, upgrade_granted_open, upgrade_granted_complete, acknowledge_open, acknowledge_complete, put_go, put_done, data_exclusive}
 use Rattle.sn_coherence.specs.HomeRows.{read_at_home, read_at_owner, take, move_ownership, upgrade, unblock_move, unblock_other, put_begins, put_is_stale, put_data, grant_exclusive}
 use Rattle.sn_coherence.specs.OtherEvents.{begin_read_miss, begin_write_miss, begin_put, begin_miss_elsewhere, end_miss_elsewhere, begin_put_elsewhere, end_put_elsewhere, numbers_elsewhere, store, evict_shared, edge, report, validate, lose, deliver_advance}
-use Rattle.sn_coherence.specs.Kept.{Stages, Requests, Owners, Waits}
+use Rattle.sn_coherence.specs.Kept.{Stages, Requests, Owners, Acknowledgements}
 use Rattle.sn_coherence.specs.Events.{Arrives, Owns, OtherOwns, other_sharers, NothingUnfinished, Free}
 use Rattle.sn_coherence.proofs.Rows.{At, IsLast}
 
@@ -18,7 +18,7 @@ module _ (N : ℕ) (b : Block) (i : ℕ) (stages : Stages b) (requests : Request
   pub forward_write_stages : Arrives b i FwdGetM → Stages (forward_write b i)
   forward_write_stages arrives = grind (arith, nat_tests, stages.one_token i)
 
-  pub invalidate_stages : Waits N b → Arrives b i Inv → Stages (invalidate b i)
+  pub invalidate_stages : Acknowledgements N b → Arrives b i Inv → Stages (invalidate b i)
   invalidate_stages waits arrives = grind (arith, nat_tests, stages.one_token i)
 
   pub data_shared_stages : Arrives b i DataS → Stages (data_shared b i)
@@ -36,10 +36,10 @@ module _ (N : ℕ) (b : Block) (i : ℕ) (stages : Stages b) (requests : Request
   pub upgrade_granted_complete_stages : Arrives b i UpgOk → (b.miss (b.net i).to).acks ≡ (b.net i).due → Stages (upgrade_granted_complete b i)
   upgrade_granted_complete_stages arrives all_in = grind (arith, nat_tests, stages.one_token i)
 
-  pub acknowledge_open_stages : Waits N b → Arrives b i InvAck → IsLast b i ≡ false → Stages (acknowledge_open b i)
+  pub acknowledge_open_stages : Acknowledgements N b → Arrives b i InvAck → IsLast b i ≡ false → Stages (acknowledge_open b i)
   acknowledge_open_stages waits arrives not_last = grind (arith, nat_tests, stages.one_token i)
 
-  pub acknowledge_complete_stages : Waits N b → Arrives b i InvAck → IsLast b i ≡ true → Stages (acknowledge_complete b i)
+  pub acknowledge_complete_stages : Acknowledgements N b → Arrives b i InvAck → IsLast b i ≡ true → Stages (acknowledge_complete b i)
   acknowledge_complete_stages waits arrives last = grind (arith, nat_tests, stages.one_token i)
 
   pub put_go_stages : Arrives b i PutGo → Stages (put_go b i)

@@ -4,7 +4,7 @@ use Rattle.std.proofs.lemmas.Bool.Decides.{nat_tests}
 use Rattle.sn_coherence.specs.Block.{Block, Kind, Move, Body, DataM, UpgOk, InvAck, Unblock, is_to_home}
 use Rattle.sn_coherence.specs.CacheRows.{data_modified, upgrade_granted, acknowledge}
 use Rattle.sn_coherence.specs.HomeRows.{unblock, is_move}
-use Rattle.sn_coherence.specs.Kept.{Kept, Requests, count}
+use Rattle.sn_coherence.specs.Kept.{AllSentences, Requests, count}
 use Rattle.sn_coherence.specs.Events.{Event, ForwardRead, ForwardWrite, Invalidate, DataShared, DataModified, UpgradeGranted, Acknowledge, PutGoes, PutIsDone, DataExclusive, ReadAtHome, ReadAtOwner, Takes, MovesOwnership, Upgrades, Unblocks, PutBegins, PutIsStale, PutDataComes, GrantExclusive, DeliverReady, DeliverAdvance, Lose, BeginReadMiss, BeginWriteMiss, BeginPut, BeginMissElsewhere, EndMissElsewhere, BeginPutElsewhere, EndPutElsewhere, NumbersElsewhere, Load, LoadReserved, Store, StoreConditionalDone, StoreConditionalUndone, EvictShared, Edge, Report, Validate, Recover, Allows, after, Arrives, other_sharers}
 use Rattle.sn_coherence.proofs.Rows.{At}
 use Rattle.sn_coherence.proofs.Counts.{count_none}
@@ -12,7 +12,7 @@ use Rattle.sn_coherence.proofs.Ends.{recover_kept}
 use Rattle.sn_coherence.proofs.EachRow.{forward_read_kept, forward_write_kept, invalidate_kept, data_shared_kept, data_modified_open_kept, data_modified_complete_kept, upgrade_granted_open_kept, upgrade_granted_complete_kept, acknowledge_open_kept, acknowledge_complete_kept, put_go_kept, put_done_kept, data_exclusive_kept, read_at_home_kept, read_at_owner_kept, take_kept, move_ownership_kept, upgrade_kept, unblock_move_kept, unblock_other_kept, put_begins_kept, put_is_stale_kept, put_data_kept, grant_exclusive_kept, deliver_advance_kept, lose_kept, begin_read_miss_kept, begin_write_miss_kept, begin_put_kept, begin_miss_elsewhere_kept, end_miss_elsewhere_kept, begin_put_elsewhere_kept, end_put_elsewhere_kept, numbers_elsewhere_kept, store_kept, evict_shared_kept, edge_kept, report_kept, validate_kept}
 
 -- a row with two ends
-chosen_kept : (N : ℕ) (t : Bool) (x y : Block) → (t ≡ true → Kept N x) → (t ≡ false → Kept N y) → Kept N (cond t x y)
+chosen_kept : (N : ℕ) (t : Bool) (x y : Block) → (t ≡ true → AllSentences N x) → (t ≡ false → AllSentences N y) → AllSentences N (cond t x y)
 chosen_kept N true x y first second = first refl
 chosen_kept N false x y first second = second refl
 
@@ -32,21 +32,21 @@ stays k e = grind arith
 pub at : (b : Block) (i : ℕ) (body : Body) → Requests b → is_to_home body ≡ true → Arrives b i body → At b i body
 at b i body q h a = (a.0, grind (arith, q.to_home i))
 
-module _ (N : ℕ) (b : Block) (i : ℕ) (kept : Kept N b) where
-  data_modified_kept : Arrives b i DataM → Kept N (data_modified b i)
+module _ (N : ℕ) (b : Block) (i : ℕ) (kept : AllSentences N b) where
+  data_modified_kept : Arrives b i DataM → AllSentences N (data_modified b i)
   data_modified_kept a = chosen_kept N _ _ _
       (λ e. data_modified_complete_kept N b i kept a (equal _ _ e))
       (λ e. data_modified_open_kept N b i kept a (unequal _ _ e))
 
-  upgrade_granted_kept : Arrives b i UpgOk → Kept N (upgrade_granted b i)
+  upgrade_granted_kept : Arrives b i UpgOk → AllSentences N (upgrade_granted b i)
   upgrade_granted_kept a = chosen_kept N _ _ _
       (λ e. upgrade_granted_complete_kept N b i kept a (equal _ _ e))
       (λ e. upgrade_granted_open_kept N b i kept a (unequal _ _ e))
 
-  acknowledge_kept : Arrives b i InvAck → Kept N (acknowledge b i)
+  acknowledge_kept : Arrives b i InvAck → AllSentences N (acknowledge b i)
   acknowledge_kept a = chosen_kept N _ _ _ (λ e. acknowledge_complete_kept N b i kept a e) (λ e. acknowledge_open_kept N b i kept a e)
 
-  unblock_kept : At b i Unblock → Kept N (unblock b i)
+  unblock_kept : At b i Unblock → AllSentences N (unblock b i)
   unblock_kept a = chosen_kept N _ _ _
       (λ e. unblock_move_kept N b i kept a (moves _ e))
       (λ e. unblock_other_kept N b i kept a (stays _ e))
@@ -57,7 +57,7 @@ module _ (N : ℕ) (b : Block) (i : ℕ) (kept : Kept N b) where
       low : (x : ℕ) → other_sharers b i x ≡ true → x < N
       low x s = grind (arith, nat_tests, kept.nodes.sharer_low x)
 
-pub event_kept : (N : ℕ) (b : Block) (e : Event) → Kept N b → Allows N b e → Kept N (after N b e)
+pub event_kept : (N : ℕ) (b : Block) (e : Event) → AllSentences N b → Allows N b e → AllSentences N (after N b e)
 event_kept N b (ForwardRead i) k a = forward_read_kept N b i k a
 event_kept N b (ForwardWrite i) k a = forward_write_kept N b i k a
 event_kept N b (Invalidate i) k a = invalidate_kept N b i k a

@@ -3,7 +3,7 @@ use Rattle.std.proofs.Common.{◌≡◌, ℕ, ◌+◌, ◌<◌, Bool, true, fals
 use Rattle.sn_coherence.specs.Block.{Block, DataM, UpgOk, InvAck, Unblock}
 use Rattle.sn_coherence.specs.CacheRows.{data_modified, upgrade_granted, acknowledge}
 use Rattle.sn_coherence.specs.HomeRows.{unblock}
-use Rattle.sn_coherence.specs.Kept.{Kept}
+use Rattle.sn_coherence.specs.Kept.{AllSentences}
 use Rattle.sn_coherence.specs.Events.{Event, ForwardRead, ForwardWrite, Invalidate, DataShared, DataModified, UpgradeGranted, Acknowledge, PutGoes, PutIsDone, DataExclusive, ReadAtHome, ReadAtOwner, Takes, MovesOwnership, Upgrades, Unblocks, PutBegins, PutIsStale, PutDataComes, GrantExclusive, DeliverReady, DeliverAdvance, Lose, BeginReadMiss, BeginWriteMiss, BeginPut, BeginMissElsewhere, EndMissElsewhere, BeginPutElsewhere, EndPutElsewhere, NumbersElsewhere, Load, LoadReserved, Store, StoreConditionalDone, StoreConditionalUndone, EvictShared, Edge, Report, Validate, Recover, Allows, NothingUnfinished, after, Arrives}
 use Rattle.sn_coherence.specs.Records.{Records, recorded, MayHappen}
 use Rattle.sn_coherence.specs.KeptRecords.{KeptRecords, Reports}
@@ -18,7 +18,7 @@ chosen_recorded true x y r first second = first refl
 chosen_recorded false x y r first second = second refl
 
 -- what every node has reported is unfinished nowhere
-pub nothing_unfinished : (N : ℕ) (b : Block) (r : Records) → Kept N b → Reports b r → ((n : ℕ) → n < N → b.point < r.reported n) → NothingUnfinished N b (b.point + 1)
+pub nothing_unfinished : (N : ℕ) (b : Block) (r : Records) → AllSentences N b → Reports b r → ((n : ℕ) → n < N → b.point < r.reported n) → NothingUnfinished N b (b.point + 1)
 nothing_unfinished N b r k p a = record {
   now = λ n l. grind (arith, a n l, p.reported n);
   miss = λ n l e. grind (arith, a n l, p.reported n);
@@ -27,7 +27,7 @@ nothing_unfinished N b r k p a = record {
 }
 
 -- what the machine does the block allows
-pub allowed : (N : ℕ) (b : Block) (r : Records) (e : Event) → Kept N b → KeptRecords b r → MayHappen N b r e → Allows N b e
+pub allowed : (N : ℕ) (b : Block) (r : Records) (e : Event) → AllSentences N b → KeptRecords b r → MayHappen N b r e → Allows N b e
 allowed N b r (ForwardRead i) k v a = a
 allowed N b r (ForwardWrite i) k v a = a
 allowed N b r (Invalidate i) k v a = a
@@ -70,7 +70,7 @@ allowed N b r (Report n x) k v a = a
 allowed N b r Validate k v a = nothing_unfinished N b r k v.reports a
 allowed N b r Recover k v a = a
 
-module _ (N : ℕ) (b : Block) (r : Records) (i : ℕ) (k : Kept N b) (v : KeptRecords b r) where
+module _ (N : ℕ) (b : Block) (r : Records) (i : ℕ) (k : AllSentences N b) (v : KeptRecords b r) where
   data_modified_recorded : Arrives b i DataM → KeptRecords (data_modified b i) r
   data_modified_recorded a = chosen_recorded _ _ _ r
       (λ e. data_modified_complete_recorded N b r i k v a (equal _ _ e))
@@ -89,7 +89,7 @@ module _ (N : ℕ) (b : Block) (r : Records) (i : ℕ) (k : Kept N b) (v : KeptR
       (λ e. unblock_move_recorded N b r i k v a (moves _ e))
       (λ e. unblock_other_recorded N b r i k v a (stays _ e))
 
-pub event_recorded : (N : ℕ) (b : Block) (r : Records) (e : Event) → Kept N b → KeptRecords b r → MayHappen N b r e → KeptRecords (after N b e) (recorded N b r e)
+pub event_recorded : (N : ℕ) (b : Block) (r : Records) (e : Event) → AllSentences N b → KeptRecords b r → MayHappen N b r e → KeptRecords (after N b e) (recorded N b r e)
 event_recorded N b r (ForwardRead i) k v a = forward_read_recorded N b r i k v a
 event_recorded N b r (ForwardWrite i) k v a = forward_write_recorded N b r i k v a
 event_recorded N b r (Invalidate i) k v a = invalidate_recorded N b r i k v a

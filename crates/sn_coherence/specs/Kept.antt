@@ -145,8 +145,8 @@ pub record Owners (b : Block) : Type 0 where
   pub put_owner : b.kind ≡ Put → (b.owner ≡ b.requester) × (b.at_home ≡ false)
   pub move_owner : b.kind ≡ Move → (b.owner ≢ b.requester) × (b.at_home ≡ false)
 
--- Waits. Acknowledgements, and the nodes that are waited for.
-pub record Waits (N : ℕ) (b : Block) : Type 0 where
+-- Acknowledgements. Acknowledgements, and the nodes that are waited for.
+pub record Acknowledgements (N : ℕ) (b : Block) : Type 0 where
   -- the acknowledgements due, in a message and in a fixed miss, are those that are in and one of each node that is waited
   -- for
   pub due_message : (i : ℕ) → has_due (b.net i).body ≡ true → (b.net i).due ≡ count N b.waited + (b.miss b.requester).acks
@@ -234,13 +234,13 @@ pub record Frames (N : ℕ) (b : Block) : Type 0 where
   pub issued_begun : takes b.kind ≡ true → is_here (b.miss b.requester).want ≡ true → (b.miss b.requester).issued ≤ b.begun
 
 -- All of it.
-pub record Kept (N : ℕ) (b : Block) : Type 0 where
+pub record AllSentences (N : ℕ) (b : Block) : Type 0 where
   pub clocks : Clocks N b
   pub nodes : Nodes N b
   pub stages : Stages b
   pub requests : Requests b
   pub owners : Owners b
-  pub waits : Waits N b
+  pub waits : Acknowledgements N b
   pub sharing : Sharing b
   pub logs : Logs b
   pub cuts : Cuts b

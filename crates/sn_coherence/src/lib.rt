@@ -13,7 +13,7 @@
 ghost use Rattle.std.specs.Prelude.{ℕ, ◌+◌, ◌<◌, ◌≤◌, Bool, List, [], ◌∷◌};
 ghost use Rattle.sn_coherence.specs.Block.{Block, Content};
 ghost use Rattle.sn_coherence.specs.OtherEvents.{start, recover};
-ghost use Rattle.sn_coherence.specs.Kept.{Kept};
+ghost use Rattle.sn_coherence.specs.Kept.{AllSentences};
 ghost use Rattle.sn_coherence.specs.Events.{Event, Validate, Allows, NothingUnfinished, after};
 ghost use Rattle.sn_coherence.specs.Records.{Records, no_records, rolls_back, recorded, MayHappen};
 ghost use Rattle.sn_coherence.specs.KeptRecords.{KeptRecords};
@@ -25,30 +25,30 @@ ghost use Rattle.sn_coherence.specs.Example.{example_start, handed_over, recover
 
 /// At the start, when the block's home owns it and nobody has it, all sentences hold.
 pub fn start_is_kept()
-    ensures block { (N home : ℕ) (v : Content) → home < N → Kept N (start home v) }
+    ensures block { (N home : ℕ) (v : Content) → home < N → AllSentences N (start home v) }
     ensures records { (home : ℕ) (v : Content) → KeptRecords (start home v) (no_records v) }
 {}
 
 /// Every event that can happen keeps the sentences on the block. They know nothing of who accessed it.
 pub fn each_event_keeps()
-    ensures { (N : ℕ) (b : Block) (e : Event) → Kept N b → Allows N b e → Kept N (after N b e) }
+    ensures { (N : ℕ) (b : Block) (e : Event) → AllSentences N b → Allows N b e → AllSentences N (after N b e) }
 {}
 
 /// Every event that the machine does can happen to the block, and keeps the sentences on the records of accesses too.
 pub fn each_event_keeps_records()
-    ensures allowed { (N : ℕ) (b : Block) (r : Records) (e : Event) → Kept N b → KeptRecords b r → MayHappen N b r e → Allows N b e }
-    ensures kept { (N : ℕ) (b : Block) (r : Records) (e : Event) → Kept N b → KeptRecords b r → MayHappen N b r e → KeptRecords (after N b e) (recorded N b r e) }
+    ensures allowed { (N : ℕ) (b : Block) (r : Records) (e : Event) → AllSentences N b → KeptRecords b r → MayHappen N b r e → Allows N b e }
+    ensures kept { (N : ℕ) (b : Block) (r : Records) (e : Event) → AllSentences N b → KeptRecords b r → MayHappen N b r e → KeptRecords (after N b e) (recorded N b r e) }
 {}
 
 /// What the sentences say of every moment: of deliveries, of notes, of cuts, of all that the block shows, of a validation
 /// that can happen, and of what a recovery leaves.
 pub fn consequences()
-    ensures rows { (N : ℕ) (b : Block) → N ≤ 16 → Kept N b → MeetsRows b }
-    ensures notes { (N : ℕ) (b : Block) → Kept N b → MeetsNotes b }
-    ensures holder { (N : ℕ) (b : Block) → Kept N b → (j : ℕ) → b.point ≤ j → NoneBegun b j → HasOneHolder N b j }
-    ensures coherent { (N : ℕ) (b : Block) (r : Records) → N ≤ 16 → Kept N b → KeptRecords b r → IsCoherent N b r }
-    ensures validated { (N : ℕ) (b : Block) (r : Records) → Kept N b → KeptRecords b r → MayHappen N b r Validate → NothingUnfinished N b (b.point + 1) × HasOneHolder N b (b.point + 1) × HasContent b r (b.point + 1) }
-    ensures restored { (N : ℕ) (b : Block) (r : Records) → Kept N b → KeptRecords b r → IsRestored N (recover N b) (rolls_back r N b.point) }
+    ensures rows { (N : ℕ) (b : Block) → N ≤ 16 → AllSentences N b → MeetsRows b }
+    ensures notes { (N : ℕ) (b : Block) → AllSentences N b → MeetsNotes b }
+    ensures holder { (N : ℕ) (b : Block) → AllSentences N b → (j : ℕ) → b.point ≤ j → NoneBegun b j → HasOneHolder N b j }
+    ensures coherent { (N : ℕ) (b : Block) (r : Records) → N ≤ 16 → AllSentences N b → KeptRecords b r → IsCoherent N b r }
+    ensures validated { (N : ℕ) (b : Block) (r : Records) → AllSentences N b → KeptRecords b r → MayHappen N b r Validate → NothingUnfinished N b (b.point + 1) × HasOneHolder N b (b.point + 1) × HasContent b r (b.point + 1) }
+    ensures restored { (N : ℕ) (b : Block) (r : Records) → AllSentences N b → KeptRecords b r → IsRestored N (recover N b) (rolls_back r N b.point) }
 {}
 
 /// Whatever is delivered, lost, evicted, checkpointed or recovered, in whatever order, the block is coherent after it.
@@ -65,7 +65,7 @@ pub fn some_runs_can_happen()
 
 /// A block is what it is at each place: so a machine's block that is so after an event keeps what the event's row keeps.
 pub fn same_at_each_place_is_same()
-    ensures block { (N : ℕ) (a b : Block) → IsSame a b → Kept N b → Kept N a }
+    ensures block { (N : ℕ) (a b : Block) → IsSame a b → AllSentences N b → AllSentences N a }
     ensures records { (a b : Block) (r : Records) → IsSame a b → KeptRecords b r → KeptRecords a r }
 {}
 

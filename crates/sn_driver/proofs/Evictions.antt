@@ -8,7 +8,7 @@ use Rattle.sn_base.specs.declared.event.Answer.{Answer}
 use Rattle.sn_base.specs.declared.event.Answer.TheVariants.{NeedsEvict}
 use Rattle.sn_model.specs.Caches.{block_count}
 use Rattle.sn_model.specs.Machine.{processor_at}
-use Rattle.sn_machine.specs.Looks.{wanted_block, can_go_from, goes_for}
+use Rattle.sn_machine.specs.Looks.{wanted_block, can_go_from, may_go_for}
 use Rattle.sn_machine.specs.Machine.{MachineData, next_of}
 use Rattle.due_events.specs.Lists.{needs_evict, leaves_for, least_to_leave, eviction}
 use Rattle.sn_driver.proofs.Lists.{least_from, none_from}
@@ -17,7 +17,7 @@ needs-is : (a : Answer) → needs_evict a ≡ true → a ≡ NeedsEvict
 needs-is NeedsEvict e = refl
 needs-is _ e = absurd cc
 
-same_for : (m : MachineData) (n : ℕ) (wanted : Option ℕ) (b : ℕ) → leaves_for m.config m.state.fabric n wanted b ≡ goes_for m n wanted b
+same_for : (m : MachineData) (n : ℕ) (wanted : Option ℕ) (b : ℕ) → leaves_for m.config m.state.fabric n wanted b ≡ may_go_for m n wanted b
 same_for m n None b = refl
 same_for m n (Some wanted) b = refl
 

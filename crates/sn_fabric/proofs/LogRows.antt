@@ -11,7 +11,7 @@ use Rattle.sn_model.specs.declared.home.Kind.TheVariants.{Read, Take, Move, Upgr
 use Rattle.sn_model.specs.Caches.{Miss}
 use Rattle.sn_model.specs.CacheRows.{Logged, completed, waiting, settled_by, settled}
 use Rattle.sn_model.specs.Homes.{Holder, Itself, OfCache, Transaction, is_owner}
-use Rattle.sn_model.specs.HomeRows.{Kept, count_others, noted_owner, unblock_of, unblock, grant_exclusive, read_at_home, upgrade, move_ownership, put_begins, put_is_stale, put_data}
+use Rattle.sn_model.specs.HomeRows.{LoggedEntry, count_others, noted_owner, unblock_of, unblock, grant_exclusive, read_at_home, upgrade, move_ownership, put_begins, put_is_stale, put_data}
 use Rattle.sn_model.specs.NetEvents.{get_shared, get_modified, put_request}
 use Rattle.sn_fabric.specs.Logs.{IsOwnLog}
 
@@ -42,7 +42,7 @@ module _ (nodes n : ℕ) where
   from-own log k own c other = let l = logged_to-from log k true c in let z = own c other in omega arith
 
   -- the rows of a home
-  module _ (at : Kept) (block : ℕ) (here : block % nodes ≡ n) (own : IsOwnLog nodes n at.log) where
+  module _ (at : LoggedEntry) (block : ℕ) (here : block % nodes ≡ n) (own : IsOwnLog nodes n at.log) where
     pub get-shared-own : (now r : ℕ) (holder : Holder) → IsOwnLog nodes n (get_shared at block now r holder).after.log
     get-shared-own now r (Itself content) = by_test (nat_eq (count_others at.entry.sharers r) 0)
       where

@@ -13,7 +13,7 @@ use Rattle.sn_model.specs.declared.cache.Out.{Out}
 use Rattle.sn_model.specs.declared.look.Look.TheVariants.{Sends, LogFull as SeesLogFull}
 use Rattle.sn_model.specs.Homes.{Transaction}
 use Rattle.sn_model.specs.CacheRows.{CacheReply}
-use Rattle.sn_model.specs.HomeRows.{Kept, HomeReply}
+use Rattle.sn_model.specs.HomeRows.{LoggedEntry, HomeReply}
 use Rattle.sn_model.specs.Fabric.{Fabric, Moved, refused}
 use Rattle.sn_model.specs.NetEvents.{Outcome, Busy, AtCache, AtHome, Noted, unless_busy, fits_in, delivers}
 use Rattle.sn_fabric.specs.Deliveries.{look_answer}
@@ -45,7 +45,7 @@ unless_busy_there : (o : Option Transaction) (reply : HomeReply) → IsAtHome (u
 unless_busy_there None reply = tt
 unless_busy_there (Some transaction) reply = tt
 
-outcome_there : (at : Kept) (now : ℕ) (m : Message) (x : Body) → IsAtHome (outcome_at at now m x)
+outcome_there : (at : LoggedEntry) (now : ℕ) (m : Message) (x : Body) → IsAtHome (outcome_at at now m x)
 outcome_there at now m GetS = unless_busy_there at.entry.transaction _
 outcome_there at now m GetM = unless_busy_there at.entry.transaction _
 outcome_there at now m PutReq = unless_busy_there at.entry.transaction _
@@ -64,7 +64,7 @@ judged_step config s m (AtHome reply) is = judged_over s (nat_lt config.log (len
 judged_step config s m (AtCache reply) is = absurd is
 judged_step config s m (Noted fabric told) is = absurd is
 
-pub home-looks : (config : Config) (s : Fabric) (m : Message) (at : Kept) (now : ℕ) (x : Body) →
+pub home-looks : (config : Config) (s : Fabric) (m : Message) (at : LoggedEntry) (now : ℕ) (x : Body) →
     look_answer (look_of (judged config.log (outcome_at at now m x))) (length s.net.flights) ≡ (delivers config s m (outcome_at at now m x)).answer
 home-looks config s m at now x = judged_step config s m (outcome_at at now m x) (outcome_there at now m x)
 
@@ -101,5 +101,5 @@ row_of_step config s m (AtHome reply) is e = record { reply = reply; row = refl;
 row_of_step config s m (AtCache reply) is e = absurd is
 row_of_step config s m (Noted fabric told) is e = absurd is
 
-pub row-of : (config : Config) (s : Fabric) (m : Message) (at : Kept) (now : ℕ) (x : Body) → (delivers config s m (outcome_at at now m x)).answer ≡ Delivered → IsRowOf config s (outcome_at at now m x)
+pub row-of : (config : Config) (s : Fabric) (m : Message) (at : LoggedEntry) (now : ℕ) (x : Body) → (delivers config s m (outcome_at at now m x)).answer ≡ Delivered → IsRowOf config s (outcome_at at now m x)
 row-of config s m at now x e = row_of_step config s m (outcome_at at now m x) (outcome_there at now m x) e

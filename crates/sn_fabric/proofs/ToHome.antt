@@ -14,7 +14,7 @@ use Rattle.home_directory.proofs.Agrees.{outcome_agrees}
 use Rattle.sn_model.specs.declared.look.Look.{Look}
 use Rattle.sn_model.specs.declared.net.Sent.{Sent}
 use Rattle.sn_model.specs.Homes.{HomeEntry}
-use Rattle.sn_model.specs.HomeRows.{Kept, HomeReply}
+use Rattle.sn_model.specs.HomeRows.{LoggedEntry, HomeReply}
 use Rattle.sn_model.specs.Fabric.{Fabric, Node, Net, Moved, node_at, home_of, with_net}
 use Rattle.sn_model.specs.FabricEvents.{Deliver}
 use Rattle.sn_model.specs.Net.{posted, sent_by, sending, without_flight}
@@ -91,7 +91,7 @@ module _ (config : Config) (p : Parts) (a : AreParts config p) (m : Message) (h 
       (subst (λ (e : HomeEntry). IsNotOlder (node_at s m.to).log (noting e (node_at s m.to).now m m.body) m.block) entry_is meets.2))
 
   -- what it makes of it is the machine's
-  abbrev at : Kept
+  abbrev at : LoggedEntry
   at = kept (entry_of home m.block) x.log.entries
 
   abbrev outcome : Outcome

@@ -18,7 +18,7 @@ use Rattle.sn_model.specs.Net.{without_flight}
 use Rattle.sn_model.specs.NetEvents.{learned, outcome_of, delivers, delivered}
 use Rattle.sn_coherence.specs.Kept.{Clocks}
 use Rattle.fabric_coherence.specs.Coherent.{Keeps}
-use Rattle.fabric_coherence.specs.View.{block_of}
+use Rattle.fabric_coherence.specs.View.{block_seen}
 use Rattle.fabric_coherence.proofs.KeptEvents.{each_keeps}
 use Rattle.sn_fabric.specs.declared.node.Seat.{Seat}
 use Rattle.sn_fabric.specs.declared.receiver.Receiver.TheVariants.{Controller, Clock}
@@ -74,12 +74,12 @@ module _ (config : Config) (p : Parts) (a : AreParts config p) (m : Message) (h 
 
     known_after : (get_or (set s.nodes m.to (learned (node_at s m.to) k)) m.to first_node).known ≤ s.point
     known_after =
-        let clocks : Clocks (length (set s.nodes m.to (learned (node_at s m.to) k))) (block_of (heard s m knowing (told.Advance m.to k)).fabric keeps_after.0 0) = (keeps_after.1.blocks 0 (omega arith)).clocks in
+        let clocks : Clocks (length (set s.nodes m.to (learned (node_at s m.to) k))) (block_seen (heard s m knowing (told.Advance m.to k)).fabric keeps_after.0 0) = (keeps_after.1.blocks 0 (omega arith)).clocks in
         clocks.known_point m.to (subst (λ (n : ℕ). m.to < n) (sym (length-set s.nodes m.to (learned (node_at s m.to) k))) there)
 
     reached_before : s.point ≤ (node_at s m.to).now
     reached_before =
-        let clocks : Clocks (length s.nodes) (block_of s a.keeps.0 0) = (a.keeps.1.blocks 0 (omega arith)).clocks in
+        let clocks : Clocks (length s.nodes) (block_seen s a.keeps.0 0) = (a.keeps.1.blocks 0 (omega arith)).clocks in
         clocks.point_now m.to there
 
     module _ (place : ℕ) (x : Seat) (ep : place ≡ m.to) (ex : x ≡ get_or p.seats place x) where

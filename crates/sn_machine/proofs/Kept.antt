@@ -21,7 +21,7 @@ use Rattle.sn_coherence.specs.Records.{Records}
 use Rattle.sn_consistency.specs.Entries.{Entry}
 use Rattle.fabric_coherence.specs.Coherent.{IsKept, IsInTime}
 use Rattle.fabric_coherence.specs.Start.{first_beside}
-use Rattle.fabric_coherence.specs.View.{Beside, block_of}
+use Rattle.fabric_coherence.specs.View.{Beside, block_seen}
 use Rattle.fabric_coherence.proofs.KeptStart.{start-kept}
 use Rattle.fabric_bounds.specs.Counts.{CountsTo}
 use Rattle.fabric_bounds.proofs.Numbers.{start_counts, counts_from_the_start, far_from_the_end}
@@ -84,7 +84,7 @@ far next h = omega (arith, h)
 
 in_time : (s : Fabric) (t : Beside) → IsKept s t → (n : ℕ) → n < length s.nodes → IsInTime s n
 in_time s t k n l =
-    let clocks : Clocks (length s.nodes) (block_of s t 0) = (k.blocks 0 (omega arith)).clocks in
+    let clocks : Clocks (length s.nodes) (block_seen s t 0) = (k.blocks 0 (omega arith)).clocks in
     record { known = clocks.known_point n l; reached = clocks.point_now n l; few = clocks.now_known n l }
 
 joined_sound : (image : ImageData) (config : Config) (s : State) (r : ℕ → Records) (list : ℕ → List Entry) (trace : List Retired) (j : IsJoined image s r list trace) (applied : ℕ) → CountsTo applied s.fabric → applied ≤ 4000000000 → IsSound s

@@ -7,7 +7,7 @@ use Rattle.sn_base.specs.declared.event.Answer.{Answer}
 use Rattle.sn_base.specs.declared.event.Answer.TheVariants.{Recovered, CutOff}
 use Rattle.sn_base.specs.declared.event.Undo.{Undo}
 use Rattle.rv_core.specs.declared.state.CoreState.{CoreState}
-use Rattle.reg_ckpt.specs.Kept.{Kept, IsKept, core_at, freed_below, dropped_above}
+use Rattle.reg_ckpt.specs.Kept.{Checkpoints, HasCheckpoint, core_at, freed_below, dropped_above}
 use Rattle.interval_list.specs.Waits.{waiting_below}
 use Rattle.route_plan.specs.Routes.{first_cut_off}
 use Rattle.fabric_coherence.proofs.Recovery.{each_node}
@@ -30,7 +30,7 @@ use Rattle.sn_machine.proofs.Parts.{processor-at, HasSameRest, carried-does}
 one_left : (xs : List CoreState) (i : ℕ) (d : CoreState) → i < length xs → take 1 (drop i xs) ≡ get_or xs i d ∷ []
 one_left xs i d l = ap (take 1) (drop-cons xs i d l)
 
-pub restored-one : (x : Seat) (k : ℕ) (core : CoreState) (kept : Kept) → IsKept x.checkpoints k → core_at x.checkpoints k ≡ Some core → kept ≡ dropped_above (freed_below x.checkpoints k) k →
+pub restored-one : (x : Seat) (k : ℕ) (core : CoreState) (kept : Checkpoints) → HasCheckpoint x.checkpoints k → core_at x.checkpoints k ≡ Some core → kept ≡ dropped_above (freed_below x.checkpoints k) k →
     record { core = core; checkpoints = kept; input = x.input } ≡ restored_seat k x
 restored-one x k core kept is at leaves =
     let first : max x.checkpoints.first k ≡ k = (let a = is.from in omega (arith, a)) in
@@ -67,7 +67,7 @@ seat-mapped k (x ∷ xs) zero l = refl
 seat-mapped k (x ∷ xs) (suc n) l = seat-mapped k xs n (omega (arith, l))
 
 -- checkpoint k is kept at each node, where k is the recovery point
-pub kept-all : (h : Hardware) → IsWhole h → IsSound (state_of h) → (n : ℕ) → n < length h.processors.items → IsKept (seat_at h.processors.items n).checkpoints h.fabric.fabric.point
+pub kept-all : (h : Hardware) → IsWhole h → IsSound (state_of h) → (n : ℕ) → n < length h.processors.items → HasCheckpoint (seat_at h.processors.items n).checkpoints h.fabric.fabric.point
 kept-all h w sound n l =
     let here : n < length h.fabric.fabric.nodes = (let e = w.count in omega (arith, e, l)) in
     let first = w.known n l in

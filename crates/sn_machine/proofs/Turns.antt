@@ -25,8 +25,8 @@ use Rattle.sn_model.specs.Net.{is_full}
 use Rattle.consistent_cuts.specs.Accesses.{CanServe, CanServeWant, CanRetire}
 use Rattle.consistent_cuts.proofs.SteppedCases.{served_by_line}
 use Rattle.consistent_cuts.proofs.Granted.{writable_present}
-use Rattle.sn_machine.specs.declared.steps.Turn.{Turn}
-use Rattle.sn_machine.specs.declared.steps.Turn.TheVariants.{Retires, Misses, Refused}
+use Rattle.sn_machine.specs.declared.steps.NodeStep.{NodeStep}
+use Rattle.sn_machine.specs.declared.steps.NodeStep.TheVariants.{Retires, Misses, Refused}
 use Rattle.sn_machine.specs.declared.processor.Processor.{Processor as Seat}
 use Rattle.sn_machine.specs.declared.hardware.Hardware.{Hardware}
 use Rattle.sn_machine.specs.Parts.{state_of, IsWhole}
@@ -74,7 +74,7 @@ module _ (image : ImageData) (config : Config) (s : State) (n : ℕ) (l : n < le
 
   module _ (w : Want) (a : ℕ) (k : Need) (found : Found) (e : want_of image (processor_at s n).core ≡ w) (inside : IsAddress a) (is : step_wanting image config s n w ≡ accessing image config s n a k) (finds : found_by s n w ≡ found)
       (serve : CanServe config s.fabric n (block_of a) k → CanServeWant w found.sc_done config s n) where
-    pub access-comes : (turn : Turn) → IsAccess config s.fabric n (block_of a) k found turn → ComesTo image config s n (stepped image config s n) turn
+    pub access-comes : (turn : NodeStep) → IsAccess config s.fabric n (block_of a) k found turn → ComesTo image config s n (stepped image config s n) turn
     access-comes (Retires did) h = (
       can-retire w e (rw finds (serve (served_by_line config s.fabric n (block_of a) l (block_low a inside) k (ap is_retired h.0)))),
       h.1 ∙ ap (record_with n) (sym finds ∙ ap (found_by s n) (sym e)),
@@ -83,19 +83,19 @@ module _ (image : ImageData) (config : Config) (s : State) (n : ℕ) (l : n < le
     access-comes (Misses b need) h = (rw (h.0, h.1) h.2, step_is w e ∙ is ∙ rw (h.0, h.1, h.2) refl)
     access-comes (Refused answer) h = step_is w e ∙ is ∙ rw (h.1, h.0) refl
 
-  pub load-comes : (a : ℕ) (turn : Turn) → want_of image (processor_at s n).core ≡ Load a → IsAccess config s.fabric n (block_of a) needs.Read (record nothing_found { seen = loaded s.fabric n a }) turn → ComesTo image config s n (stepped image config s n) turn
+  pub load-comes : (a : ℕ) (turn : NodeStep) → want_of image (processor_at s n).core ≡ Load a → IsAccess config s.fabric n (block_of a) needs.Read (record nothing_found { seen = loaded s.fabric n a }) turn → ComesTo image config s n (stepped image config s n) turn
   load-comes a turn e h = access-comes (Load a) a needs.Read (record nothing_found { seen = loaded s.fabric n a }) e (subst IsInside e (want_inside image (processor_at s n).core)) refl refl (λ can. can) turn h
 
-  pub reserved-comes : (a : ℕ) (turn : Turn) → want_of image (processor_at s n).core ≡ Lr a → IsAccess config s.fabric n (block_of a) needs.Read (record nothing_found { seen = loaded s.fabric n a }) turn → ComesTo image config s n (stepped image config s n) turn
+  pub reserved-comes : (a : ℕ) (turn : NodeStep) → want_of image (processor_at s n).core ≡ Lr a → IsAccess config s.fabric n (block_of a) needs.Read (record nothing_found { seen = loaded s.fabric n a }) turn → ComesTo image config s n (stepped image config s n) turn
   reserved-comes a turn e h = access-comes (Lr a) a needs.Read (record nothing_found { seen = loaded s.fabric n a }) e (subst IsInside e (want_inside image (processor_at s n).core)) refl refl (λ can. can) turn h
 
-  pub store-comes : (a : ℕ) (turn : Turn) → want_of image (processor_at s n).core ≡ Store a → IsAccess config s.fabric n (block_of a) needs.Write nothing_found turn → ComesTo image config s n (stepped image config s n) turn
+  pub store-comes : (a : ℕ) (turn : NodeStep) → want_of image (processor_at s n).core ≡ Store a → IsAccess config s.fabric n (block_of a) needs.Write nothing_found turn → ComesTo image config s n (stepped image config s n) turn
   store-comes a turn e h = access-comes (Store a) a needs.Write nothing_found e (subst IsInside e (want_inside image (processor_at s n).core)) refl refl (λ can. can) turn h
 
-  pub amo-comes : (a : ℕ) (turn : Turn) → want_of image (processor_at s n).core ≡ Amo a → IsAccess config s.fabric n (block_of a) needs.Write (record nothing_found { seen = loaded s.fabric n a }) turn → ComesTo image config s n (stepped image config s n) turn
+  pub amo-comes : (a : ℕ) (turn : NodeStep) → want_of image (processor_at s n).core ≡ Amo a → IsAccess config s.fabric n (block_of a) needs.Write (record nothing_found { seen = loaded s.fabric n a }) turn → ComesTo image config s n (stepped image config s n) turn
   amo-comes a turn e h = access-comes (Amo a) a needs.Write (record nothing_found { seen = loaded s.fabric n a }) e (subst IsInside e (want_inside image (processor_at s n).core)) refl refl (λ can. can) turn h
 
-  pub conditional-comes : (a : ℕ) (turn : Turn) → want_of image (processor_at s n).core ≡ Sc a → IsConditional config s n a turn → ComesTo image config s n (stepped image config s n) turn
+  pub conditional-comes : (a : ℕ) (turn : NodeStep) → want_of image (processor_at s n).core ≡ Sc a → IsConditional config s n a turn → ComesTo image config s n (stepped image config s n) turn
   conditional-comes a turn e h = go (is_reserved (processor_at s n).core.reservation (block_of a)) refl
     where
       unreserved : is_reserved (processor_at s n).core.reservation (block_of a) ≡ false → ComesTo image config s n (stepped image config s n) (Retires (record_with n nothing_found))

@@ -26,12 +26,12 @@ abbrev pub wanted_block : ImageData → CoreState → Option ℕ
 wanted_block image core = if is_running core.end then block_wanted (want_of image core) else None
 
 -- whether an eviction would let a block go from the set of the block that a node wants
-abbrev pub goes_for : MachineData → ℕ → Option ℕ → ℕ → Bool
-goes_for m n None candidate = false
-goes_for m n (Some block) candidate = can_go m.config m.state.fabric n block candidate
+abbrev pub may_go_for : MachineData → ℕ → Option ℕ → ℕ → Bool
+may_go_for m n None candidate = false
+may_go_for m n (Some block) candidate = can_go m.config m.state.fabric n block candidate
 
 abbrev pub can_go_from : MachineData → ℕ → ℕ → Bool
-can_go_from m n candidate = goes_for m n (wanted_block m.image (processor_at m.state n).core) candidate
+can_go_from m n candidate = may_go_for m n (wanted_block m.image (processor_at m.state n).core) candidate
 
 -- whether the cores of the first so many nodes have ended
 abbrev pub have_ended : ℕ → FlatState → Bool

@@ -17,35 +17,35 @@ use Rattle.sn_model.specs.Instructions.{Found, Stepped, nothing_found, next_byte
 use Rattle.fabric_coherence.specs.Events.{CanWrite}
 use Rattle.consistent_cuts.specs.Accesses.{CanRetire}
 use Rattle.sn_machine.specs.Parts.{held_as}
-use Rattle.sn_machine.specs.declared.steps.Turn.{Turn}
-use Rattle.sn_machine.specs.declared.steps.Turn.TheVariants.{Retires, Misses, Refused}
+use Rattle.sn_machine.specs.declared.steps.NodeStep.{NodeStep}
+use Rattle.sn_machine.specs.declared.steps.NodeStep.TheVariants.{Retires, Misses, Refused}
 
 -- a step of node n that comes to x: it retires, it misses, or it is refused
-abbrev pub ComesTo : ImageData → Config → State → ℕ → Stepped → Turn → Type 0
+abbrev pub ComesTo : ImageData → Config → State → ℕ → Stepped → NodeStep → Type 0
 ComesTo image config s n x (Retires did) = CanRetire image config s n × (did ≡ record_with n (found_at image s n)) × (x ≡ retired image s n)
 ComesTo image config s n x (Misses block need) = ((accessed config s.fabric n block need).answer ≡ Missed) × (x ≡ carried s (accessed config s.fabric n block need))
 ComesTo image config s n x (Refused answer) = x ≡ refused s answer
 
 -- the same of an access of a block that an instruction wants, with what it finds
-abbrev pub IsAccess : Config → Fabric → ℕ → ℕ → Need → Found → Turn → Type 0
+abbrev pub IsAccess : Config → Fabric → ℕ → ℕ → Need → Found → NodeStep → Type 0
 IsAccess config s n block need found (Retires did) = ((accessed config s n block need).answer ≡ WasRetired) × (did ≡ record_with n found)
 IsAccess config s n block need found (Misses b k) = (b ≡ block) × (k ≡ need) × ((accessed config s n block need).answer ≡ Missed)
 IsAccess config s n block need found (Refused answer) = (is_retired answer ≡ false) × (accessed config s n block need ≡ fabric.refused s answer)
 
 -- of a store-conditional: where the core hasn't reserved the block, it retires without an access
-abbrev pub conditional : Config → State → ℕ → ℕ → Turn → Type 0
+abbrev pub conditional : Config → State → ℕ → ℕ → NodeStep → Type 0
 conditional config s n address turn = IsAccess config s.fabric n (block_of address) Write (record nothing_found { sc_done = true }) turn
 
-pub record IsConditional (config : Config) (s : State) (n address : ℕ) (turn : Turn) : Type 0 where
+pub record IsConditional (config : Config) (s : State) (n address : ℕ) (turn : NodeStep) : Type 0 where
   pub done : is_reserved (processor_at s n).core.reservation (block_of address) ≡ true → conditional config s n address turn
   pub undone : is_reserved (processor_at s n).core.reservation (block_of address) ≡ false → turn ≡ Retires (record_with n nothing_found)
 
 -- of an input: the next byte, where one is left
-abbrev pub input_turn : ℕ → Option ℕ → Turn
+abbrev pub input_turn : ℕ → Option ℕ → NodeStep
 input_turn n None = Refused NoInput
 input_turn n (Some byte) = Retires (record_with n (record nothing_found { read = Some byte }))
 
-abbrev pub IsInput : State → ℕ → Turn → Type 0
+abbrev pub IsInput : State → ℕ → NodeStep → Type 0
 IsInput s n turn = turn ≡ input_turn n (next_byte s n)
 
 -- what is written, if anything, can be: its line may be written, at an aligned address of memory, and the log has the room

@@ -1,6 +1,6 @@
 //! Processors that are put back to a checkpoint.
 ghost use Rattle.std.specs.Prelude.{◌≡◌, ℕ, ◌<◌, length, map};
-ghost use Rattle.reg_ckpt.specs.Kept.{IsKept};
+ghost use Rattle.reg_ckpt.specs.Kept.{HasCheckpoint};
 ghost use Rattle.sn_machine.specs.Parts.{seat_at};
 ghost use Rattle.sn_machine.specs.Restored.{restored_seat};
 
@@ -9,7 +9,7 @@ use sn_base::Interval;
 
 /// The core is as checkpoint k keeps it, and no other checkpoint is kept.
 fn restore(processor: &mut Processor, k: Interval)
-    requires { IsKept processor.old.checkpoints k }
+    requires { HasCheckpoint processor.old.checkpoints k }
     ensures { processor.new ≡ restored_seat k processor.old }
 {
     processor.core = *processor.checkpoints.get(k);
@@ -18,7 +18,7 @@ fn restore(processor: &mut Processor, k: Interval)
 }
 
 pub fn restore_all(processors: &mut Vec<Processor>, k: Interval)
-    requires { (n : ℕ) → n < length processors.old.items → IsKept (seat_at processors.old.items n).checkpoints k }
+    requires { (n : ℕ) → n < length processors.old.items → HasCheckpoint (seat_at processors.old.items n).checkpoints k }
     ensures { processors.new.items ≡ map (restored_seat k) processors.old.items }
 {
     let count = processors.len();

@@ -21,7 +21,7 @@ use sn_fabric::{Fabric, Need};
 
 /// What a node's step comes to: its instruction retires with this record, it misses, or it is refused.
 #[derive(Clone, Copy)]
-pub enum Turn {
+pub enum NodeStep {
     Retires(Record),
     Misses(BlockNo, Need),
     Refused(Answer),
@@ -79,9 +79,9 @@ impl Hardware {
         ensures { Does self.old self.new result (stepped image.now self.old.fabric.config (state_of self.old) node) }
     {
         match self.look(image, node) {
-            Turn::Retires(did) => self.retire(image, node, did),
-            Turn::Misses(block, need) => self.miss(node, block, need),
-            Turn::Refused(answer) => {
+            NodeStep::Retires(did) => self.retire(image, node, did),
+            NodeStep::Misses(block, need) => self.miss(node, block, need),
+            NodeStep::Refused(answer) => {
                 self.is_carried = false;
                 answer
             }
@@ -96,14 +96,14 @@ impl Hardware {
         ensures { result ≡ (stepped image.now self.now.fabric.config (state_of self.now) node).answer }
     {
         match self.look(image, node) {
-            Turn::Retires(_) => Answer::Retired,
-            Turn::Misses(_, _) => Answer::Missed,
-            Turn::Refused(answer) => answer,
+            NodeStep::Retires(_) => Answer::Retired,
+            NodeStep::Misses(_, _) => Answer::Missed,
+            NodeStep::Refused(answer) => answer,
         }
     }
 
     /// What a node's step comes to.
-    pub fn look(&self, image: &Image, node: NodeId) -> Turn
+    pub fn look(&self, image: &Image, node: NodeId) -> NodeStep
         requires whole { IsWhole self.now }
         requires sound { IsSound (state_of self.now) }
         requires here { node < length self.now.fabric.fabric.nodes }
@@ -112,13 +112,13 @@ impl Hardware {
     {
         let core = &self.processors[usize::from(node.number())].core;
         if !is_running(core) {
-            return Turn::Refused(Answer::Ended);
+            return NodeStep::Refused(Answer::Ended);
         }
         if self.fabric.miss_open(node) {
-            return Turn::Refused(Answer::Waits);
+            return NodeStep::Refused(Answer::Waits);
         }
         match core.want(image) {
-            Want::Nothing => Turn::Retires(quiet(node)),
+            Want::Nothing => NodeStep::Retires(quiet(node)),
             Want::Input => self.look_input(node),
             Want::Load(address) => self.look_load(node, address, Need::Read),
             Want::Lr(address) => self.look_load(node, address, Need::Read),
@@ -129,7 +129,7 @@ impl Hardware {
     }
 
     /// An access that an instruction wants: it is served, and then nothing is found yet; it misses; or it is refused.
-    fn look_access(&self, node: NodeId, address: u32, need: Need) -> Turn
+    fn look_access(&self, node: NodeId, address: u32, need: Need) -> NodeStep
         requires here { node < length self.now.fabric.fabric.nodes }
         requires low { ram_start ≤ address }
         requires high { address < ram_start + ram_size }
@@ -137,14 +137,14 @@ impl Hardware {
     {
         let block = block_at(address);
         match self.fabric.foresee_access(node, block, need) {
-            Answer::Retired => Turn::Retires(quiet(node)),
-            Answer::Missed => Turn::Misses(block, need),
-            answer => Turn::Refused(answer),
+            Answer::Retired => NodeStep::Retires(quiet(node)),
+            Answer::Missed => NodeStep::Misses(block, need),
+            answer => NodeStep::Refused(answer),
         }
     }
 
     /// The same of one that sees the word at its address.
-    fn look_load(&self, node: NodeId, address: u32, need: Need) -> Turn
+    fn look_load(&self, node: NodeId, address: u32, need: Need) -> NodeStep
         requires here { node < length self.now.fabric.fabric.nodes }
         requires low { ram_start ≤ address }
         requires high { address < ram_start + ram_size }
@@ -152,7 +152,7 @@ impl Hardware {
             (record nothing_found { seen = loaded self.now.fabric.fabric node address }) result }
     {
         match self.look_access(node, address, need) {
-            Turn::Retires(quiet) => Turn::Retires(Record {
+            NodeStep::Retires(quiet) => NodeStep::Retires(Record {
                 seen: self.fabric.load(node, address),
                 ..quiet
             }),
@@ -161,7 +161,7 @@ impl Hardware {
     }
 
     /// A store-conditional, which is done where the core has reserved the block.
-    fn look_conditional(&self, node: NodeId, address: u32) -> Turn
+    fn look_conditional(&self, node: NodeId, address: u32) -> NodeStep
         requires here { node < length self.now.fabric.fabric.nodes }
         requires low { ram_start ≤ address }
         requires high { address < ram_start + ram_size }
@@ -170,10 +170,10 @@ impl Hardware {
     {
         let core = &self.processors[usize::from(node.number())].core;
         if !is_reserved(core, block_at(address)) {
-            return Turn::Retires(quiet(node));
+            return NodeStep::Retires(quiet(node));
         }
         match self.look_access(node, address, Need::Write) {
-            Turn::Retires(quiet) => Turn::Retires(Record {
+            NodeStep::Retires(quiet) => NodeStep::Retires(Record {
                 sc_done: true,
                 ..quiet
             }),
@@ -182,7 +182,7 @@ impl Hardware {
     }
 
     /// A byte of input, where one is left.
-    fn look_input(&self, node: NodeId) -> Turn
+    fn look_input(&self, node: NodeId) -> NodeStep
         requires whole { IsWhole self.now }
         requires here { node < length self.now.fabric.fabric.nodes }
         ensures { IsInput (state_of self.now) node result }
@@ -190,9 +190,9 @@ impl Hardware {
         let given = self.processors[usize::from(node.number())].input.given();
         let taken = self.history.taken(node) as usize;
         if taken >= given.len() {
-            return Turn::Refused(Answer::NoInput);
+            return NodeStep::Refused(Answer::NoInput);
         }
-        Turn::Retires(Record {
+        NodeStep::Retires(Record {
             read: Some(given[taken]),
             ..quiet(node)
         })

@@ -12,13 +12,13 @@ use Rattle.sn_model.specs.Homes.{HomeEntry, Holder, Itself, OfCache, Transaction
 use Rattle.sn_model.specs.CacheRows.{send}
 
 -- an entry with its node's log
-pub record Kept : Type 0 where
+pub record LoggedEntry : Type 0 where
   pub entry : HomeEntry
   pub log : List LogEntry
 
 -- what a row leaves: the entry and the log, and what the home sends
 pub record HomeReply : Type 0 where
-  pub after : Kept
+  pub after : LoggedEntry
   pub sends : List Out
 
 abbrev pub transaction_by : Kind → ℕ → ℕ → Option Transaction
@@ -38,28 +38,28 @@ invalidations node (true ∷ marks) r = send node (Inv r) ∷ invalidations (nod
 invalidations node (false ∷ marks) r = invalidations (node + 1) marks r
 
 -- the block goes from the home to r: its content is noted under now, and r owns it
-abbrev pub taken_from_home : Kept → ℕ → ℕ → ℕ → List ℕ → Kept
+abbrev pub taken_from_home : LoggedEntry → ℕ → ℕ → ℕ → List ℕ → LoggedEntry
 taken_from_home at block now r content = record {
   entry = record { holder = OfCache r; sharers = no_sharers; transaction = transaction_by Take r now };
   log = noted at.log now block (WasHome content);
 }
 
 -- GetS where the home owns and others share: r joins the sharers and gets a copy
-abbrev pub read_at_home : Kept → ℕ → ℕ → List ℕ → HomeReply
+abbrev pub read_at_home : LoggedEntry → ℕ → ℕ → List ℕ → HomeReply
 read_at_home at now r content = record {
   after = record at { entry = record at.entry { sharers = slice_set at.entry.sharers r true; transaction = transaction_by Read r now } };
   sends = send r (DataS content) ∷ [];
 }
 
 -- GetS where a cache owns: r joins the sharers; the owner sends the copy
-abbrev pub read_at_owner : Kept → ℕ → ℕ → ℕ → HomeReply
+abbrev pub read_at_owner : LoggedEntry → ℕ → ℕ → ℕ → HomeReply
 read_at_owner at now r owner = record {
   after = record at { entry = record at.entry { sharers = slice_set at.entry.sharers r true; transaction = transaction_by Read r now } };
   sends = send owner (FwdGetS r) ∷ [];
 }
 
 -- GetM where the home owns: r owns; it gets the content, and the other sharers an Inv
-abbrev pub take : Kept → ℕ → ℕ → ℕ → List ℕ → HomeReply
+abbrev pub take : LoggedEntry → ℕ → ℕ → ℕ → List ℕ → HomeReply
 take at block now r content = record {
   after = taken_from_home at block now r content;
   sends = send r (DataM content (count_others at.entry.sharers r)) ∷ invalidations 0 (others at.entry.sharers r) r;
@@ -67,20 +67,20 @@ take at block now r content = record {
 
 -- GetM where another cache owns: it sends the content and the ownership; the other sharers get an Inv. The home names the
 -- old owner until the Unblock
-abbrev pub move_ownership : Kept → ℕ → ℕ → ℕ → HomeReply
+abbrev pub move_ownership : LoggedEntry → ℕ → ℕ → ℕ → HomeReply
 move_ownership at now r owner = record {
   after = record at { entry = record at.entry { sharers = no_sharers; transaction = transaction_by Move r now } };
   sends = send owner (FwdGetM r (count_others at.entry.sharers r)) ∷ invalidations 0 (others at.entry.sharers r) r;
 }
 
 -- GetM where r owns: it may write once the other sharers have acknowledged
-abbrev pub upgrade : Kept → ℕ → ℕ → HomeReply
+abbrev pub upgrade : LoggedEntry → ℕ → ℕ → HomeReply
 upgrade at now r = record {
   after = record at { entry = record at.entry { sharers = no_sharers; transaction = transaction_by Upgrade r now } };
   sends = send r (UpgOk (count_others at.entry.sharers r)) ∷ invalidations 0 (others at.entry.sharers r) r;
 }
 
-abbrev pub closed : Kept → Kept
+abbrev pub closed : LoggedEntry → LoggedEntry
 closed at = record at { entry = record at.entry { transaction = None } }
 
 -- the name of the owner before a Move, noted under the interval of atomicity
@@ -89,7 +89,7 @@ noted_owner log interval block (Itself content) = log
 noted_owner log interval block (OfCache owner) = noted log interval block (WasCache owner)
 
 -- Unblock with its interval of atomicity: of a Move, r is the owner from then on; the transaction is closed
-abbrev pub unblock_of : Kept → ℕ → ℕ → Kind → ℕ → Kept
+abbrev pub unblock_of : LoggedEntry → ℕ → ℕ → Kind → ℕ → LoggedEntry
 unblock_of at block fixed Move r = closed (record {
   entry = record at.entry { holder = OfCache r };
   log = noted_owner at.log fixed block at.entry.holder;
@@ -99,23 +99,23 @@ unblock_of at block fixed Take r = closed at
 unblock_of at block fixed Upgrade r = closed at
 unblock_of at block fixed Put r = closed at
 
-abbrev pub unblock : Kept → ℕ → ℕ → Option Transaction → HomeReply
+abbrev pub unblock : LoggedEntry → ℕ → ℕ → Option Transaction → HomeReply
 unblock at block fixed None = record { after = at; sends = [] }
 unblock at block fixed (Some transaction) = record { after = unblock_of at block fixed transaction.kind transaction.requester; sends = [] }
 
 -- PutReq of the owner: it may give the block back
-abbrev pub put_begins : Kept → ℕ → ℕ → HomeReply
+abbrev pub put_begins : LoggedEntry → ℕ → ℕ → HomeReply
 put_begins at now r = record {
   after = record at { entry = record at.entry { transaction = transaction_by Put r now } };
   sends = send r PutGo ∷ [];
 }
 
 -- PutReq of a node that doesn't own the block any more: there is nothing to give back
-abbrev pub put_is_stale : Kept → ℕ → HomeReply
+abbrev pub put_is_stale : LoggedEntry → ℕ → HomeReply
 put_is_stale at r = record { after = at; sends = send r PutDone ∷ [] }
 
 -- PutData: that r owned is noted under the tag; the home owns
-abbrev pub put_data : Kept → ℕ → ℕ → ℕ → List ℕ → HomeReply
+abbrev pub put_data : LoggedEntry → ℕ → ℕ → ℕ → List ℕ → HomeReply
 put_data at block tag r content = record {
   after = closed (record {
     entry = record at.entry { holder = Itself content };
@@ -125,7 +125,7 @@ put_data at block tag r content = record {
 }
 
 -- GetS where the home owns and nobody else shares: r gets the block alone
-abbrev pub grant_exclusive : Kept → ℕ → ℕ → ℕ → List ℕ → HomeReply
+abbrev pub grant_exclusive : LoggedEntry → ℕ → ℕ → ℕ → List ℕ → HomeReply
 grant_exclusive at block now r content = record {
   after = taken_from_home at block now r content;
   sends = send r (DataE content) ∷ [];

@@ -14,7 +14,7 @@ use Rattle.sn_model.specs.declared.net.Told.{Told}
 use Rattle.sn_model.specs.declared.net.Told.TheVariants as told
 use Rattle.sn_model.specs.Homes.{Holder, Itself, OfCache, Transaction, is_owner}
 use Rattle.sn_model.specs.CacheRows.{Logged, CacheReply, forward_read, forward_write, invalidate, data_shared, data_modified, upgrade_granted, acknowledge, put_go, put_done, data_exclusive}
-use Rattle.sn_model.specs.HomeRows.{Kept, HomeReply, count_others, read_at_home, read_at_owner, take, move_ownership, upgrade, unblock, put_begins, put_is_stale, put_data, grant_exclusive}
+use Rattle.sn_model.specs.HomeRows.{LoggedEntry, HomeReply, count_others, read_at_home, read_at_owner, take, move_ownership, upgrade, unblock, put_begins, put_is_stale, put_data, grant_exclusive}
 use Rattle.sn_model.specs.Fabric.{Fabric, Node, Flight, Moved, node_at, with_node, home_of, with_home, home_node, with_net, refused, answered}
 use Rattle.sn_model.specs.Net.{net_limit, routes_of, flight_of, without_flight, moved, is_there, next_switch, sending}
 
@@ -61,21 +61,21 @@ pub data Outcome : Type 0 where
 abbrev pub logged_at : Fabric → ℕ → Logged
 logged_at s n = record { cache = (node_at s n).cache; log = (node_at s n).log }
 
-abbrev pub kept_at : Fabric → ℕ → ℕ → Kept
+abbrev pub kept_at : Fabric → ℕ → ℕ → LoggedEntry
 kept_at s n block = record { entry = home_of s block; log = (node_at s n).log }
 
 -- the home's row for a GetS
-abbrev pub get_shared : Kept → ℕ → ℕ → ℕ → Holder → HomeReply
+abbrev pub get_shared : LoggedEntry → ℕ → ℕ → ℕ → Holder → HomeReply
 get_shared at block now r (Itself content) = if nat_eq (count_others at.entry.sharers r) 0 then grant_exclusive at block now r content else read_at_home at now r content
 get_shared at block now r (OfCache owner) = read_at_owner at now r owner
 
 -- the home's row for a GetM
-abbrev pub get_modified : Kept → ℕ → ℕ → ℕ → Holder → HomeReply
+abbrev pub get_modified : LoggedEntry → ℕ → ℕ → ℕ → Holder → HomeReply
 get_modified at block now r (Itself content) = take at block now r content
 get_modified at block now r (OfCache owner) = if nat_eq owner r then upgrade at now r else move_ownership at now r owner
 
 -- the home's row for a PutReq
-abbrev pub put_request : Kept → ℕ → ℕ → HomeReply
+abbrev pub put_request : LoggedEntry → ℕ → ℕ → HomeReply
 put_request at now r = if is_owner at.entry.holder r then put_begins at now r else put_is_stale at r
 
 -- a request waits while a transaction is open on its block

@@ -1,11 +1,11 @@
 //! The lines once a recovery begins: each that owns its block is Modified, and the Shared copies are gone.
 ghost use Rattle.std.specs.Prelude.{◌≡◌, ℕ, ◌*◌, ◌<◌, length, map, slice_index_or, slice_set};
 ghost use Rattle.cache_array.specs.Slots.{FrameSlots, AreSlots, block_at};
-ghost use Rattle.mosi_cache.specs.Frames.{LinesData, Kept};
+ghost use Rattle.mosi_cache.specs.Frames.{LinesData, FrameLine};
 ghost use Rattle.mosi_cache.specs.Restored.{begun_line};
 ghost use Rattle.mosi_cache.specs.Unshared.{unshared, AreUnshared, modified};
 
-use super::{Kept, Lines};
+use super::{FrameLine, Lines};
 use cache_array::Frames;
 use sn_model::LineState;
 
@@ -24,7 +24,7 @@ fn free_if_shared(frames: &mut Frames, frame: usize, state: LineState)
     }
 }
 
-fn free_shared(frames: &mut Frames, kept: &[Kept])
+fn free_shared(frames: &mut Frames, kept: &[FrameLine])
     requires whole { length kept.now ≡ frames.old.sets * frames.old.ways }
     requires slots { AreSlots frames.old }
     ensures { AreUnshared frames.old frames.new kept.now (length kept.now) }
@@ -34,8 +34,8 @@ fn free_shared(frames: &mut Frames, kept: &[Kept])
     }
 }
 
-fn make_modified(kept: &mut [Kept])
-    ensures { (frame : ℕ) (d : Kept) → frame < length kept.old → slice_index_or kept.new frame d ≡ modified (slice_index_or kept.old frame d) }
+fn make_modified(kept: &mut [FrameLine])
+    ensures { (frame : ℕ) (d : FrameLine) → frame < length kept.old → slice_index_or kept.new frame d ≡ modified (slice_index_or kept.old frame d) }
 {
     'frames: for line in kept.iter_mut() {
         line.state = LineState::Modified;

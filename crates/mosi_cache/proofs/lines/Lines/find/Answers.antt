@@ -1,7 +1,7 @@
 use Rattle.std.proofs.Common.{◌≡◌, Some, true, sym, ap, ◌∙◌, subst}
 use Rattle.cache_array.specs.Slots.{frame_of}
 use Rattle.sn_model.specs.Caches.{no_line, is_present}
-use Rattle.mosi_cache.specs.Frames.{Kept, LinesData, line_at, line_kept, kept_at}
+use Rattle.mosi_cache.specs.Frames.{FrameLine, LinesData, line_at, line_kept, kept_at}
 use Rattle.mosi_cache.proofs.Changes.{read-found, read-absent, frame-kept, kept-read}
 use Rattle.mosi_cache.proofs.lines.Lines.find.Goals as goal
 
@@ -23,5 +23,5 @@ pub returns-clause-some : goal.returns-clause-some
 returns-clause-some c =
     let r = read-found c.self.inside.frames c.self.inside.kept.items c.args.block c.in_ok-frame.frame c.self.invariant.0 (found c) in (
       subst (λ (d : LinesData). line_at d.lines c.args.block ≡ line_kept c.index.result.now) c.self.view_is (r.0 ∙ ap line_kept (sym (read c))),
-      subst (λ (k : Kept). is_present k.state ≡ true) (sym (read c)) r.1,
+      subst (λ (k : FrameLine). is_present k.state ≡ true) (sym (read c)) r.1,
     )

@@ -1,14 +1,14 @@
 use Rattle.std.proofs.Common.{◌≡◌, ◌+◌, ◌*◌, ◌%◌, ◌<◌, ℕ, Bool, true, false, Option, Some, None, List, sym, ap, ◌∙◌, subst}
 use Rattle.cache_array.specs.Slots.{FrameSlots, first_of}
-use Rattle.mosi_cache.specs.Frames.{Kept, LinesData, line_at, leaves, leaving_at, IsLeastLeaving}
+use Rattle.mosi_cache.specs.Frames.{FrameLine, LinesData, line_at, leaves, leaving_at, IsLeastLeaving}
 use Rattle.mosi_cache.proofs.Least.{least-none, least-some}
 use Rattle.mosi_cache.proofs.lines.Lines.least.Goals as goal
 
 -- the frames that were looked at are those of the block's set
-of_set : (d : FrameSlots) (js ks : List Kept) (spared : Option ℕ) (owned_too : Bool) (b n m s w : ℕ) (o : Option ℕ) → IsLeastLeaving (leaving_at d js spared owned_too) (m * w) (m * w + w) o →
+of_set : (d : FrameSlots) (js ks : List FrameLine) (spared : Option ℕ) (owned_too : Bool) (b n m s w : ℕ) (o : Option ℕ) → IsLeastLeaving (leaving_at d js spared owned_too) (m * w) (m * w + w) o →
     js ≡ ks → m ≡ n % s → n ≡ b → s ≡ d.sets → w ≡ d.ways → IsLeastLeaving (leaving_at d ks spared owned_too) (first_of d b) (first_of d b + d.ways) o
 of_set d js ks spared owned_too b n m s w o h e f g i j =
-    subst (λ (xs : List Kept). IsLeastLeaving (leaving_at d xs spared owned_too) (first_of d b) (first_of d b + d.ways) o) e
+    subst (λ (xs : List FrameLine). IsLeastLeaving (leaving_at d xs spared owned_too) (first_of d b) (first_of d b + d.ways) o) e
     (subst (λ (v : ℕ). IsLeastLeaving (leaving_at d js spared owned_too) ((b % d.sets) * v) ((b % d.sets) * v + v) o) j
     (subst (λ (k : ℕ). IsLeastLeaving (leaving_at d js spared owned_too) (k * w) (k * w + w) o) (f ∙ ap (λ k. k % s) g ∙ ap (λ k. b % k) i) h))
 

@@ -1,7 +1,7 @@
 use Rattle.std.proofs.Common.{ap, sym, ◌∙◌, Some}
 use Rattle.std.specs.Prelude.{slice_index}
 use Rattle.rv_core.specs.declared.step.Record.{Record}
-use Rattle.sn_machine.specs.declared.steps.Turn.TheVariants.{Retires}
+use Rattle.sn_machine.specs.declared.steps.NodeStep.TheVariants.{Retires}
 use Rattle.sn_machine.specs.Turns.{input_turn}
 use Rattle.sn_machine.proofs.Turns.{no-byte, some-byte}
 use Rattle.sn_machine.proofs.hardware.Hardware.look_input.Goals as goal
