@@ -58,8 +58,7 @@ fn a_machine_has_at_most_16_nodes(rt: HostRuntime) {
 }
 
 /// Eight bytes of code from the start of memory: one instruction, and no more given.
-fn eight_bytes_of_code(alloc: Global) -> Result<Image, AllocError>
-{
+fn eight_bytes_of_code(alloc: Global) -> Result<Image, AllocError> {
     let mut bytes = Vec::new(alloc);
     bytes.extend_from_slice(&0x0410_0513u32.to_le_bytes())?;
     bytes.truncate(4);
@@ -80,10 +79,21 @@ fn a_program_gives_its_bytes_and_zeros_after_them(rt: HostRuntime) -> Result<(),
     assert_eq!(rt; (image.entry(), image.segments().len()), (0x8000_0000, 1));
     assert_eq!(rt; (image.byte(0x8000_0003), image.byte(0x8000_0007)), (4, 0));
     assert_eq!(rt; image.fetch(0x8000_0000), Some(0x0410_0513));
-    assert_eq!(rt; (image.fetch(0x8000_0004), image.fetch(0x8000_0008)), (Some(0), None));
-    assert_eq!(rt; (image.fetch(0x8000_0002), image.fetch(0xffff_fffe)), (Some(0x0410), None));
-    assert!(rt; !image.writable(0x8000_0006, Width::Half) && image.writable(0x8000_0008, Width::Word));
-    assert_eq!(rt; image.block(BlockNo::new(0)).load(0, Width::Word), 0x0410_0513);
+    assert_eq!(rt;
+        (image.fetch(0x8000_0004), image.fetch(0x8000_0008)),
+        (Some(0), None)
+    );
+    assert_eq!(rt;
+        (image.fetch(0x8000_0002), image.fetch(0xffff_fffe)),
+        (Some(0x0410), None)
+    );
+    assert!(rt;
+        !image.writable(0x8000_0006, Width::Half) && image.writable(0x8000_0008, Width::Word)
+    );
+    assert_eq!(rt;
+        image.block(BlockNo::new(0)).load(0, Width::Word),
+        0x0410_0513
+    );
     assert_eq!(rt; image.block(BlockNo::new(1)), Block::zero());
     Ok(())
 }
