@@ -72,6 +72,30 @@ mod tests {
     }
 
     #[test]
+    fn an_instruction_is_decoded_once_for_both(rt: HostRuntime) -> Result<(), Fail> {
+        let image = program(rt.alloc(), &[0x0002_a303])?;
+        let mut core = core();
+        core.x[5] = 0x8000_1000;
+        let instruction = core.instruction(&image);
+        assert!(rt; core.want_by(&image, instruction) == Want::Load(0x8000_1000));
+        core.finish_by(&image, instruction, 7, false, None);
+        assert_eq!(rt; (core.pc, core.x[6]), (0x8000_0004, 7));
+        Ok(())
+    }
+
+    #[test]
+    fn a_word_past_the_bytes_that_are_given_is_0(rt: HostRuntime) -> Result<(), Fail> {
+        let image = program(rt.alloc(), &[0x0002_a303])?;
+        let mut core = core();
+        core.pc = 0x8000_0004;
+        let instruction = core.instruction(&image);
+        assert!(rt; instruction == Err(Cause::Illegal));
+        core.pc = 0x8000_0040;
+        assert!(rt; core.instruction(&image) == Err(Cause::FetchFault));
+        Ok(())
+    }
+
+    #[test]
     fn a_shift_keeps_the_sign(rt: HostRuntime) -> Result<(), Fail> {
         let image = program(rt.alloc(), &[0x41f2_d313])?;
         let mut core = core();

@@ -3,7 +3,7 @@ ghost use Rattle.std.specs.Prelude.{◌≡◌, true, is_some, IfOk};
 ghost use Rattle.sn_base.specs.Image.{fetched};
 ghost use Rattle.rv_decode.specs.Table.{instr_fits};
 ghost use Rattle.rv_core.specs.Core.{is_running, is_input, holds_reservation};
-ghost use Rattle.rv_core.specs.Step.{want_of, next_of, instruction_of, wants, wants_unless};
+ghost use Rattle.rv_core.specs.Step.{want_of, next_of, instruction_of, wants, wants_next, wants_unless, does_next};
 
 use crate::access::{fault, width_of};
 use crate::state::{Cause, CoreState};
@@ -41,8 +41,9 @@ pub struct Record {
 }
 
 impl CoreState {
-    /// The instruction of the word at the program counter, or why there is none.
-    fn instruction(&self, image: &Image) -> Result<Instr, Cause>
+    /// The instruction of the word at the program counter, or why there is none. `want` and `finish` fetch and decode it
+    /// each for itself; a caller of both may do so once, and hand it to `want_by` and `finish_by`.
+    pub fn instruction(&self, image: &Image) -> Result<Instr, Cause>
         ensures same { result ≡ instruction_of (fetched image.now.segments self.now.pc) }
         ensures fits { IfOk result (λ instr. instr_fits instr ≡ true) }
     {
@@ -61,7 +62,16 @@ impl CoreState {
         requires { is_running self.now.end ≡ true }
         ensures { result ≡ want_of image.now self.now }
     {
-        match self.instruction(image) {
+        self.want_by(image, self.instruction(image))
+    }
+
+    /// What an instruction wants, as `want` does of the next one; a trap, where there is none, wants nothing.
+    pub fn want_by(&self, image: &Image, instruction: Result<Instr, Cause>) -> Want
+        requires running { is_running self.now.end ≡ true }
+        requires fits { IfOk instruction (λ instr. instr_fits instr ≡ true) }
+        ensures { result ≡ wants_next image.now instruction self.now }
+    {
+        match instruction {
             Ok(instr) => self.wanted(image, instr),
             Err(_cause) => Want::Nothing,
         }
@@ -103,7 +113,7 @@ impl CoreState {
     /// Does the next instruction of a running core: `seen` is the aligned word that holds the accessed bytes where the
     /// core reads memory, and 0 otherwise; `sc_done` says that a store-conditional is done; `read` is the byte of input
     /// where the core wants one.
-    #[tactic(auto, unfolding(crate::specs::Step::next_of))]
+    #[tactic(auto, unfolding(crate::specs::Step::want_of, crate::specs::Step::next_of))]
     pub fn finish(&mut self, image: &Image, seen: u32, sc_done: bool, read: Option<u8>) -> Effect
         requires running { is_running self.old.end ≡ true }
         requires reserved { sc_done ≡ true → holds_reservation self.old (want_of image.now self.old) ≡ true }
@@ -111,7 +121,28 @@ impl CoreState {
         ensures core { self.new ≡ (next_of image.now self.old seen sc_done read).core }
         ensures effect { result ≡ (next_of image.now self.old seen sc_done read).effect }
     {
-        match self.instruction(image) {
+        let instruction = self.instruction(image);
+        self.finish_by(image, instruction, seen, sc_done, read)
+    }
+
+    /// Does an instruction, or traps where there is none, as `finish` does with the next one; `seen`, `sc_done` and
+    /// `read` are as there.
+    pub fn finish_by(
+        &mut self,
+        image: &Image,
+        instruction: Result<Instr, Cause>,
+        seen: u32,
+        sc_done: bool,
+        read: Option<u8>,
+    ) -> Effect
+        requires running { is_running self.old.end ≡ true }
+        requires fits { IfOk instruction (λ instr. instr_fits instr ≡ true) }
+        requires reserved { sc_done ≡ true → holds_reservation self.old (wants_next image.now instruction self.old) ≡ true }
+        requires byte { is_some read ≡ is_input (wants_next image.now instruction self.old) }
+        ensures core { self.new ≡ (does_next image.now instruction self.old seen sc_done read).core }
+        ensures effect { result ≡ (does_next image.now instruction self.old seen sc_done read).effect }
+    {
+        match instruction {
             Ok(instr) => self.execute(image, instr, seen, sc_done, read),
             Err(cause) => self.trap(cause),
         }
