@@ -3,7 +3,7 @@ use Rattle.std.proofs.Common.{◌≡◌, ℕ, ◌<◌, true, arith}
 use Rattle.std.proofs.lemmas.Bool.Decides.{nat_tests}
 use Rattle.sn_coherence.specs.Block.{Block, Content}
 use Rattle.sn_coherence.specs.OtherEvents.{start, recover}
-use Rattle.sn_coherence.specs.Kept.{Clocks, Nodes, Stages, Requests, Owners, Waits, Sharing, Logs, Cuts, Frames, AllSentences, is_settled}
+use Rattle.sn_coherence.specs.Kept.{Clocks, Nodes, Stages, Requests, Owners, Acknowledgements, Sharing, Logs, Cuts, Frames, AllSentences, is_settled}
 use Rattle.sn_coherence.proofs.Counts.{no_count}
 
 pub start_kept : (N home : ℕ) (v : Content) → home < N → AllSentences N (start home v)
@@ -40,7 +40,7 @@ module _ (N : ℕ) (b : Block) (settled : is_settled b b.point ≡ true) where
   recover_owners : Cuts b → Owners (recover N b)
   recover_owners u = grind (arith, nat_tests)
 
-  recover_waits : Waits N (recover N b)
+  recover_waits : Acknowledgements N (recover N b)
   recover_waits = grind (arith, nat_tests, no_count N)
 
   recover_sharing : Cuts b → Sharing (recover N b)

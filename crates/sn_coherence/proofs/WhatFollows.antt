@@ -3,7 +3,7 @@ use Rattle.std.proofs.Common.{◌≡◌, ◌≢◌, ℕ, ◌≤◌, true, arith}
 use Rattle.std.proofs.lemmas.Bool.Decides.{nat_tests}
 use Rattle.sn_coherence.specs.Block.{Block}
 use Rattle.sn_coherence.specs.OtherEvents.{recover}
-use Rattle.sn_coherence.specs.Kept.{Clocks, Nodes, Stages, Requests, Owners, Waits, Sharing, Logs, Cuts, AllSentences, count, is_settled}
+use Rattle.sn_coherence.specs.Kept.{Clocks, Nodes, Stages, Requests, Owners, Acknowledgements, Sharing, Logs, Cuts, AllSentences, count, is_settled}
 use Rattle.sn_coherence.specs.Events.{NothingUnfinished}
 use Rattle.sn_coherence.specs.Records.{Records, rolls_back}
 use Rattle.sn_coherence.specs.KeptRecords.{Contents, Accesses, CutContents, KeptRecords}
@@ -16,7 +16,7 @@ module _ (N : ℕ) (b : Block) where
   waited_counts : Nodes N b → (n : ℕ) → b.waited n ≡ true → count N b.waited ≢ 0
   waited_counts z n e = grind (arith, nat_tests, count_zero N b.waited, z.waited_low n)
 
-  meets_rows : N ≤ 16 → Stages b → Requests b → Owners b → Waits N b → Sharing b → Nodes N b → MeetsRows b
+  meets_rows : N ≤ 16 → Stages b → Requests b → Owners b → Acknowledgements N b → Sharing b → Nodes N b → MeetsRows b
   meets_rows few s q o w h z = record {
     forward_read = λ i e. grind (arith, nat_tests);
     forward_write = λ i e. grind (arith, nat_tests);
