@@ -6,9 +6,13 @@
 PROGRAM is the built program, SIMULATOR a reference simulator. Each case takes a good input of a command and spoils one or a few of
 its parts: bytes changed, cut, doubled or moved, numbers at their greatest, lines of other kinds. The program must end by itself,
 with a status that its page names; a second run must give the same bytes; and where the simulator has the command, console, report
-and status must be the simulator's. COUNT cases are shared among PROCESSES processes. The first difference is shown and kept.
+and status must be the simulator's. COUNT cases are shared among PROCESSES processes. The first difference of each is shown.
+
+Both programs are started once and forked for each run, before their main (served_program.py), which needs cc; every hundredth case is run
+in the ordinary way too, with the same bytes.
 """
 import random
+import re
 import subprocess
 import sys
 import tempfile
@@ -17,11 +21,15 @@ from pathlib import Path
 
 sys.path.insert(0, str(Path(__file__).resolve().parent))
 import compare_replay  # noqa: E402
+from served_program import ServedProgram, built_server  # noqa: E402
 
 STATUSES = {0, 1, 2, 3, 4, 5, 6, 7, 8, 9, 10, 13}
 
 # The longest that a case may take.
 SECONDS = 60
+
+# How often each command comes, of those that the program's page names.
+SHARES = {"replay": 50, "check": 20, "asm": 12, "dis": 14, "demo": 4, "run": 10}
 
 LETTERS = b" \t\r\n#0123456789abcdefABCDEF-=@xx" + bytes([0, 0x7F, 0x80, 0xEF, 0xBB, 0xBF, 0xFF])
 
@@ -94,10 +102,19 @@ def spoiled_words(choose, words):
     return words
 
 
-def case_of(choose):
+def run_words(choose):
+    """A run with one worker, which is the same each time."""
+    words = ["run", "--nodes", "1", f"--budget={choose.choice([1, 7, 100, 400])}"]
+    for name, values in {"interval": [1, 5, 100], "wait": [1, 50, 20000], "lose-every": [0, 1, 9], "seed": [0, 1, 2**64 - 1], "kill": ["a0@0", "b0@30"]}.items():
+        if choose.random() < 0.4:
+            words.append(f"--{name}={choose.choice(values)}")
+    return [*words, *choose.choice([[], [], ["--journal"], ["--trace"]]), "a"]
+
+
+def case_of(choose, commands):
     """Words, and the files that stand there."""
     nodes = choose.choice([1, 1, 2, 4])
-    kind = choose.choices(["replay", "check", "asm", "dis", "demo"], [50, 20, 12, 14, 4])[0]
+    kind = choose.choices(commands, [SHARES[it] for it in commands])[0]
     chance = choose.choice([0, 0.5, 1])
     files = {"a": maybe_changed(choose, program(choose), 1 - chance)}
     words = [kind, "a"]
@@ -111,12 +128,21 @@ def case_of(choose):
         files["a"] = maybe_changed(choose, lines(choose, STATEMENTS, 12), chance)
     elif kind == "demo":
         words = [kind, choose.choice(["0", "1", "50", "007", "1000001", "x", ""])]
+    elif kind == "run":
+        words = run_words(choose)
     return spoiled_words(choose, words), files
 
 
-def run(command, words, folder):
-    done = subprocess.run([*command, *words], cwd=folder, capture_output=True, timeout=SECONDS)
+def started(built, words, folder):
+    """A run in the ordinary way: the program is started for it."""
+    done = subprocess.run([built, *words], cwd=folder, stdin=subprocess.DEVNULL, capture_output=True, timeout=SECONDS)
     return done.returncode, done.stdout, done.stderr
+
+
+def commands_of(built):
+    """The commands that the program's page names."""
+    page = subprocess.run([built, "--help"], capture_output=True, text=True, check=True).stdout
+    return [name for name in SHARES if re.search(rf"^(usage:)? +safetynet {name} ", page, re.MULTILINE)]
 
 
 def is_own(words):
@@ -124,34 +150,66 @@ def is_own(words):
     return not words or any(word in ("--help", "-h", "help", "--version") for word in words)
 
 
-def difference(built, simulator, seed, case):
-    choose = random.Random(f"{seed} {case}")
-    words, files = case_of(choose)
-    with tempfile.TemporaryDirectory() as folder:
-        for name, content in files.items():
-            Path(folder, name).write_bytes(content)
-        try:
-            found = run([built], words, folder)
-            again = run([built], words, folder) if case % 4 == 0 else found
-            expected = found if is_own(words) else run([simulator, "--main", "--probe"], words, folder)
-        except subprocess.TimeoutExpired:
-            return f"case {case}, {words}: no end within {SECONDS} s; {files}", None
-    if found[0] not in STATUSES:
-        return f"case {case}, {words}: status {found[0]}; {found}; {files}", None
-    if found != again:
-        return f"case {case}, {words}: {found} and then {again}; {files}", None
-    if found != expected:
-        return f"case {case}, {words}: {found} and not {expected}; {files}", None
-    return None, found[0]
+def has_one_outcome(words):
+    """Whether the words' run is the same each time: with more workers than one a run is as the threads come."""
+    return words[:1] != ["run"] or words[1:3] == ["--nodes", "1"]
+
+
+def put_files(folder, files):
+    """Just these files stand there then."""
+    for name in ("a", "b"):
+        if name in files:
+            Path(folder, name).write_bytes(files[name])
+        else:
+            Path(folder, name).unlink(missing_ok=True)
+
+
+class Pair:
+    """The program and the simulator, each started once, in a folder of the cases' files."""
+
+    def __init__(self, built, simulator, folder):
+        library = built_server(folder)
+        self.folder = Path(folder, "files")
+        self.folder.mkdir()
+        self.built, self.commands = built, commands_of(built)
+        self.program = ServedProgram(library, built, [], self.folder, SECONDS)
+        self.other = ServedProgram(library, simulator, ["--main", "--probe"], self.folder, SECONDS)
+
+    def difference(self, seed, case):
+        """What is wrong with a case, as text, or None; and its status."""
+        words, files = case_of(random.Random(f"{seed} {case}"), self.commands)
+        put_files(self.folder, files)
+        found = self.program.run(words)
+        others = []
+        if has_one_outcome(words):
+            others += [] if is_own(words) else [("the simulator", self.other.run(words))]
+            others += [("once more", self.program.run(words))] if case % 4 == 0 else []
+            others += [("started for it", started(self.built, words, self.folder))] if case % 100 == 0 else []
+        if found[0] not in STATUSES:
+            return f"case {case}, {words}: status {found[0]}; {found}; {files}", None
+        for name, other in others:
+            if other != found:
+                return f"case {case}, {words}: {found}, and {name}: {other}; {files}", None
+        return None, found[0]
+
+    def end(self):
+        self.program.end()
+        self.other.end()
 
 
 def share(built, simulator, seed, cases):
     counts = {}
-    for case in cases:
-        text, status = difference(built, simulator, seed, case)
-        if text:
-            return text, counts
-        counts[status] = counts.get(status, 0) + 1
+    # Where the system has a folder in memory, the files stand there.
+    with tempfile.TemporaryDirectory(dir="/dev/shm" if Path("/dev/shm").is_dir() else None) as folder:
+        pair = Pair(built, simulator, folder)
+        for done, case in enumerate(cases):
+            text, status = pair.difference(seed, case)
+            if text:
+                return text, counts
+            counts[status] = counts.get(status, 0) + 1
+            if done % 10_000 == 9_999:
+                print(f"{done + 1} of {len(cases)} cases of the share that begins with {cases[0]}", file=sys.stderr, flush=True)
+        pair.end()
     return None, counts
 
 

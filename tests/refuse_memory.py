@@ -49,16 +49,26 @@ def built_library(folder):
     return library
 
 
-def run(program, words, folder, library, call=0, all_after=False):
-    """Status, standard output and standard error, and how often memory was asked for."""
-    count = Path(folder, "count")
-    count.unlink(missing_ok=True)
-    given = {**os.environ, "LD_PRELOAD": str(library), "REFUSE_COUNT": str(count), "REFUSE_CALL": str(call)}
+def environment(folder, library, call, all_after):
+    """The variables of a run in which the library refuses this call, counted from 1, or none."""
+    given = {**os.environ, "LD_PRELOAD": str(library), "REFUSE_COUNT": str(Path(folder, "count")), "REFUSE_CALL": str(call)}
     if all_after:
         given["REFUSE_ALL_AFTER"] = "1"
-    done = subprocess.run([program, *words], cwd=folder, capture_output=True, env=given)
+    return given
+
+
+def read_count(folder):
+    """How often the last run asked for memory; None where that run left no count."""
+    count = Path(folder, "count")
     made = int(count.read_text()) if count.exists() else None
-    return (done.returncode, done.stdout, done.stderr), made
+    count.unlink(missing_ok=True)
+    return made
+
+
+def run(program, words, folder, library, call=0, all_after=False):
+    """Status, standard output and standard error, and how often memory was asked for."""
+    done = subprocess.run([program, *words], cwd=folder, capture_output=True, env=environment(folder, library, call, all_after))
+    return (done.returncode, done.stdout, done.stderr), read_count(folder)
 
 
 def is_right(found, ample):

@@ -1,10 +1,10 @@
 //! Each schedule is played on a machine, and its report compared with the one that stands beside it.
-ghost use Rattle.std.specs.Prelude.{◌≤◌, length};
+ghost use Rattle.std.specs.Prelude.{◌<◌, ◌≤◌, length};
 
 mod schedules;
 
 use schedules::*;
-use sn_base::{Answer, Config, Entries, Event, Image, NodeId, Segment};
+use sn_base::{Answer, Config, Entries, Event, Image, NodeId, Segment, SwitchId};
 use sn_machine::Machine;
 use sn_text::{Line, read_script};
 use std::alloc::{AllocError, Global};
@@ -143,6 +143,7 @@ struct Seen {
     x7: u32,
     pending: usize,
     is_last_done: bool,
+    is_cut_off: bool,
 }
 
 /// Whether the last instruction that waits is a store-conditional that was done.
@@ -151,6 +152,13 @@ fn is_last_done(machine: &Machine) -> bool {
         Some(waiting) => waiting.entry.sc_done,
         None => false,
     }
+}
+
+/// Whether both switches of a node are dead.
+fn is_cut_off(machine: &Machine, node: NodeId) -> bool
+    requires { node < machine.now.config.nodes }
+{
+    machine.is_dead(SwitchId::a(node)) && machine.is_dead(SwitchId::b(node))
 }
 
 fn look_at(rt: &impl Abort, machine: &Machine) -> Seen {
@@ -166,6 +174,7 @@ fn look_at(rt: &impl Abort, machine: &Machine) -> Seen {
         x7: machine.core(node).x[7],
         pending: machine.pending().len(),
         is_last_done: is_last_done(machine),
+        is_cut_off: is_cut_off(machine, node),
     }
 }
 
@@ -281,6 +290,13 @@ fn a_read_of_a_block_that_nobody_has_may_be_followed_by_a_store(
 fn a_machine_is_over_once_its_end_is_validated(rt: HostRuntime) -> Result<(), Fail> {
     let seen = played(&rt, rt.alloc(), &ENDED)?;
     assert!(rt; seen.is_over && seen.pending == 0);
+    Ok(())
+}
+
+#[test]
+fn a_node_is_cut_off_once_both_of_its_switches_are_dead(rt: HostRuntime) -> Result<(), Fail> {
+    let seen = played(&rt, rt.alloc(), &DEAD_SWITCH)?;
+    assert!(rt; seen.is_cut_off);
     Ok(())
 }
 

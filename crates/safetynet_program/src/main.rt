@@ -7,8 +7,10 @@
 #![tactic(auto)]
 
 ghost use Rattle.std.specs.Prelude.{◌≡◌, map, string_bytes};
-ghost use Rattle.safetynet_program.specs.Own.{asked_by, is_command, own_of};
+ghost use Rattle.command_words.specs.Command.{the_app};
+ghost use Rattle.own_pages.specs.Pages.{page_by};
 
+use own_pages::{Page, page_of};
 use safetynet_main::{Status, safetynet};
 use sn_io::{FileStore, OpenGate, StdSink};
 use sn_probe::{EventTally, Probe};
@@ -126,48 +128,24 @@ examples:
   safetynet asm examples/asm/counter.s
 ";
 
-/// What the program answers itself.
-#[derive(Clone, Copy)]
-enum Own {
-    Help,
-    Version,
+// The page that the words ask for, by the commands of the table that the call reads its words with.
+fn page_asked(words: &[String]) -> Option<Page>
+    ensures { result ≡ page_by (map (λ command. command.name) the_app.subs) (map string_bytes words.now) }
+{
+    page_of(words)
 }
 
-fn asked_by(word: &str) -> Option<Own>
-    ensures { result ≡ asked_by word.now }
-{
-    match word {
-        "--help" | "-h" | "help" => Some(Own::Help),
-        "--version" => Some(Own::Version),
-        _ => None,
+fn text_of(page: Page) -> &'static str {
+    match page {
+        Page::Help => HELP,
+        Page::Version => VERSION,
     }
 }
 
-fn is_command(word: &str) -> bool
-    ensures { result ≡ is_command word.now }
-{
-    matches!(word, "replay" | "check" | "demo" | "asm" | "dis")
-}
-
-/// What the words ask of the program itself, before any command is done.
-fn own_of(words: &[String]) -> Option<Own>
-    ensures { result ≡ own_of (map string_bytes words.now) }
-{
-    match words {
-        [] | [_] => Some(Own::Help),
-        [_, word] => asked_by(word.as_str()),
-        [_, first, second] if is_command(first.as_str()) => asked_by(second.as_str()),
-        [_, first, second] if first.as_str() == "help" && is_command(second.as_str()) => {
-            Some(Own::Help)
-        }
-        _ => None,
-    }
-}
-
-fn text_of(own: Own) -> &'static str {
-    match own {
-        Own::Help => HELP,
-        Own::Version => VERSION,
+fn show(rt: &HostRuntime, page: Page) -> Status {
+    match print!(rt; "{}", text_of(page)) {
+        Ok(()) => Status::Done,
+        Err(_) => Status::SinkFault,
     }
 }
 
@@ -223,13 +201,8 @@ fn main(rt: HostRuntime) -> ExitCode {
     let status = match env::args(&rt) {
         Ok(given) => match given.collect::<Vec<String>>(alloc) {
             Ok(words) => {
-                if let Some(own) = own_of(words.as_slice()) {
-                    let printed = print!(rt; "{}", text_of(own));
-                    return ExitCode::from(if printed.is_ok() {
-                        0
-                    } else {
-                        Status::SinkFault.number()
-                    });
+                if let Some(page) = page_asked(words.as_slice()) {
+                    return ExitCode::from(show(&rt, page).number());
                 }
                 perform(&rt, alloc, words.as_slice(), rt.stdout(), rt.stderr())
             }

@@ -501,3 +501,47 @@ released 0
 core 0 80000000 running
 ",
 };
+
+/// Messages are lost in a dead switch, as they come to it or at once; a recovery makes routes round it; without its second
+/// switch a node is cut off.
+pub const DEAD_SWITCH: Schedule = Schedule {
+    nodes: 4,
+    log: 256,
+    words: &LETTER,
+    script: "\
+report 1\nkill a0\nhop 1\nreport 0\nrecover\nreport 1\nhop 3\nhop 3\nhop 3\nhop 3\nhop 3\nhop 3\n\
+deliver 3\nkill b0\nrecover\nkill b0\n",
+    report: "\
+1 report 1: reported 0
+  msg 1 ready 1 0 0 0
+2 kill a0: killed
+3 hop 1: lostindead
+4 report 0: reported 0
+  msg 2 ready 0 0 0 0 lost
+5 recover: recovered 0 undone 0 dropped 0
+  core 0 80000000 running
+  core 1 80000000 running x10=00000001
+  core 2 80000000 running x10=00000002
+  core 3 80000000 running x10=00000003
+6 report 1: reported 0
+  msg 3 ready 1 0 0 0
+7 hop 3: hopped
+8 hop 3: hopped
+9 hop 3: hopped
+10 hop 3: hopped
+11 hop 3: hopped
+12 hop 3: arrived
+13 deliver 3: delivered
+14 kill b0: killed
+15 recover: cutoff 0 0
+16 kill b0: alreadydead
+events 16
+point 0
+committed 0
+released 0
+core 0 80000000 running
+core 1 80000000 running x10=00000001
+core 2 80000000 running x10=00000002
+core 3 80000000 running x10=00000003
+",
+};

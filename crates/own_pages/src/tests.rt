@@ -1,0 +1,55 @@
+//! Lines of words, and the page that they ask for.
+use super::{Page, page_of};
+use std::alloc::{AllocError, Global};
+use std::process::Abort;
+use std::test::Fail;
+
+/// The words of a line, after the program's name; '' is an empty word, as in a shell.
+fn words_of(alloc: Global, line: &str) -> Result<Vec<String>, AllocError> {
+    let mut words = Vec::new(alloc);
+    words.push(String::from_str(alloc, "safetynet")?)?;
+    for word in line.split_whitespace() {
+        let word = if word == "''" { "" } else { word };
+        words.push(String::from_str(alloc, word)?)?;
+    }
+    Ok(words)
+}
+
+/// The lines are parted by semicolons.
+const HELP: &str = "\
+;--help;-h;help;replay --help;replay -h;replay help;check --help;demo -h;asm help;dis --help;help replay;help check;\
+help demo;help asm;help dis";
+
+const VERSION: &str =
+    "--version;replay --version;check --version;demo --version;asm --version;dis --version";
+
+const NEITHER: &str = "\
+'';--;-;-V;--Help;HELP;--helper;hel;--help=1;version;replay;check;demo;asm;dis;fly;fly --help;fly --version;--help fly;\
+--help --help;help --help;help help;help fly;help '';-h replay;--help replay;--version replay;Replay --help;\
+replay replay;replay --help --help;replay a --help;help replay help;help replay check;replay --nodes 2 --help;\
+demo 5 --help;asm a;dis a -h;replay ''";
+
+fn all_ask_for(
+    rt: &impl Abort,
+    alloc: Global,
+    lines: &str,
+    page: Option<Page>,
+) -> Result<(), Fail> {
+    for line in lines.split(';') {
+        let words = words_of(alloc, line)?;
+        assert!(rt; page_of(words.as_slice()) == page, "at {line}");
+    }
+    Ok(())
+}
+
+#[test]
+fn a_call_for_a_page_is_one_word_alone_or_after_a_command(rt: HostRuntime) -> Result<(), Fail> {
+    all_ask_for(&rt, rt.alloc(), HELP, Some(Page::Help))?;
+    all_ask_for(&rt, rt.alloc(), VERSION, Some(Page::Version))?;
+    all_ask_for(&rt, rt.alloc(), NEITHER, None)
+}
+
+#[test]
+fn without_even_a_name_it_is_help(rt: HostRuntime) {
+    assert!(rt; page_of(&[]) == Some(Page::Help));
+}

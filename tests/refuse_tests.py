@@ -1,0 +1,98 @@
+#!/usr/bin/env python3
+"""Refuses each call for memory of the crates' own tests in turn, and looks at how the test ends.
+
+    tests/refuse_tests.py CRATES [MOST] [NAME..]
+
+CRATES is the folder of the crates, whose tests are built (`rt test` or the gate leaves them as NAME/out/NAME_tests); a crate without such
+a file is named and left out. Each test of each crate, or of those named, is run once with all memory, which counts its calls of the
+allocator, and then for each of these calls once with that one refused and once with that one and all after it refused. It must pass, or
+end with an error that is want of memory. A failed assertion is a wrong answer; a signal, a run without end and any other error are wrong
+too. MOST is the greatest number of calls of a test that are refused, evenly spread; without it, or with 0, all are.
+"""
+import re
+import subprocess
+import sys
+import tempfile
+from collections import Counter
+from pathlib import Path
+
+sys.path.insert(0, str(Path(__file__).resolve().parent))
+from refuse_memory import built_library, environment, read_count  # noqa: E402
+
+# The longest that a test may take, in seconds.
+LONGEST = 120
+
+PASSED, WANT, WRONG = "passed", "want of memory", "wrong"
+
+# How a test ends whose result is an error that is want of memory: its status, and the line that shows the error.
+FAILED_STATUS = 101
+MEMORY_ERROR = re.compile(rb"error: .*\b(Memory|AllocError|OutOfMemory)\b")
+
+
+def tests_of(program):
+    listed = subprocess.run([program, "--list"], capture_output=True, text=True, check=True).stdout
+    return [line.removesuffix(": test") for line in listed.splitlines() if line.endswith(": test")]
+
+
+def kind_of(status, said):
+    if status == 0:
+        return PASSED
+    last = said.strip().splitlines()[0] if said.strip() else b""
+    return WANT if status == FAILED_STATUS and MEMORY_ERROR.match(last) else WRONG
+
+
+def run(program, test, folder, library, call=0, all_after=False):
+    """How a test ends, what it said, and how often memory was asked for."""
+    given = environment(folder, library, call, all_after)
+    try:
+        done = subprocess.run([program, test], cwd=folder, stdin=subprocess.DEVNULL, capture_output=True, env=given, timeout=LONGEST)
+    except subprocess.TimeoutExpired:
+        return WRONG, b"it had not ended", None
+    return kind_of(done.returncode, done.stderr), b"status %d: " % done.returncode + done.stderr, read_count(folder)
+
+
+def refuse(program, test, folder, library, most):
+    """The number of a test's calls for memory, and how its runs ended; what is wrong is said."""
+    kind, said, made = run(program, test, folder, library)
+    if kind != PASSED:
+        print(f"{test}, with all memory: {said.decode(errors='replace')}")
+        return made or 0, Counter({WRONG: 1})
+    ended = Counter()
+    step = max(1, -(-made // most)) if most else 1
+    for call in range(1, made + 1, step):
+        for all_after in (False, True):
+            kind, said, _ = run(program, test, folder, library, call, all_after)
+            ended[kind] += 1
+            if kind == WRONG:
+                print(f"{test}, call {call} of {made}{' and all after' if all_after else ''}: {said.decode(errors='replace')}")
+    return made, ended
+
+
+def main():
+    if len(sys.argv) < 2:
+        print(__doc__)
+        return 2
+    crates = Path(sys.argv[1]).resolve()
+    most = int(sys.argv[2]) if len(sys.argv) > 2 else 0
+    names = sys.argv[3:] or sorted(it.name for it in crates.iterdir() if list(it.glob("src/**/*.rt")))
+    whole = Counter()
+    with tempfile.TemporaryDirectory() as folder:
+        library = built_library(folder)
+        for name in names:
+            program = crates / name / "out" / f"{name}_tests"
+            if not program.exists():
+                print(f"{name}: no built tests")
+                continue
+            tests, calls, ended = tests_of(program), 0, Counter()
+            for test in tests:
+                made, found = refuse(program, test, folder, library, most)
+                calls += made
+                ended += found
+            whole += ended
+            print(f"{name}: {len(tests)} tests, {calls} calls for memory; want of memory {ended[WANT]}, passed {ended[PASSED]}, wrong {ended[WRONG]}", flush=True)
+    print(f"in all {whole.total()} runs: want of memory {whole[WANT]}, passed {whole[PASSED]}, wrong {whole[WRONG]}")
+    return 1 if whole[WRONG] else 0
+
+
+if __name__ == "__main__":
+    sys.exit(main())
