@@ -6,7 +6,8 @@
 PROGRAM is the built program, SIMULATOR a reference simulator; it takes the same words, and `--main --probe` before them, to name a status
 as the program does and to have its probe. Each of the COUNT (20,000) lines has a command with its files, and some of its options in any order and in either
 form; two thirds then have something wrong: a value that is no number or out of its range, a word that is lacking, doubled, changed or
-strange, an option of another command, a file that isn't there. Console, report and exit status must be the same. The commands are
+strange, an option of another command, a file that isn't there. Console, report and exit status must be the same; of a run on several
+nodes, whose turns come in an order of their own each time, only whether it is done, or with which status it is refused. The commands are
 those that the program's own page names. Lines that it answers itself, as those for help, are left out, and so are those with words
 that mean something to the simulator alone.
 """
@@ -21,6 +22,7 @@ from pathlib import Path
 # A command's files, options with a value, and flags.
 COMMANDS = {
     "replay": (["program", "events.script"], ["nodes", "sets", "ways", "log", "watch"], ["trace"]),
+    "run": (["program"], ["nodes", "sets", "ways", "log", "watch", "interval", "wait", "lose-every", "kill", "budget", "seed"], ["trace", "journal"]),
     "check": (["program", "records.trace"], ["nodes"], []),
     "demo": (["20"], [], []),
     "asm": (["text.s"], [], []),
@@ -38,13 +40,20 @@ FILES = {
 }
 
 # The least and the greatest of a number's values.
-RANGES = {"nodes": (1, 16), "sets": (1, 256), "ways": (1, 16), "log": (4, 4096), "size": (1, 1_000_000)}
+RANGES = {"nodes": (1, 16), "sets": (1, 256), "ways": (1, 16), "log": (4, 4096), "size": (1, 1_000_000), "interval": (1, 1_000_000),
+          "wait": (1, 1_000_000), "lose-every": (0, 1_000_000), "budget": (1, 1_000_000), "seed": (0, 2**64 - 1)}
+
+# How often an option is given. A run without a budget may take a million events where recoveries come before anything is done.
+OFTEN = {"nodes": 0.7, "budget": 0.9, "wait": 0.2}
+
+# How a run that was done ends: done, out of budget, cut off, trapped.
+ENDS = [0, 6, 8, 10]
 
 ANSWERED_ITSELF = ["--help", "-h", "help", "--version"]
 
 STRANGE = ["-x", "--", "-", "", "-4", "4", "=", "--=", "--=4", "---nodes", "--nodes", "--nodes==4", "--unknown", "--unknown=1", "-n", "-n4", "-h",
            "--Nodes=4", "--node=4", "--trace", "--trace=", "--trace=x", "--watch", "--sets", "--log=", "--nodes=4", "--ways=2", "\u00e9", "-\u00e9",
-           "--\u00e9=1", "a b", "program", "bad", "none", "-odd", "*", "--nodes =4", "-V"]
+           "--\u00e9=1", "--journal", "--journal=", "--kill", "--kill=a0@0", "--lose_every=4", "--loseevery=4", "a b", "program", "bad", "none", "-odd", "*", "--nodes =4", "-V"]
 
 
 def number(choose, name):
@@ -68,8 +77,18 @@ def address(choose):
                           f"0x{value:x}", f"+{value:x}"[:8], f" {value:x}"[:8], "", "8000000g", "8000_000", "\u0668" * 4, "-8000000", "--trace"])
 
 
+def kill(choose):
+    """A switch and a number of events in some spelling, or none."""
+    side, node, events = choose.choice("ab"), choose.randrange(4), choose.choice([0, 7, 20, 1_000_000])
+    if choose.random() < 0.7:
+        return f"{side}{node}@{str(events).zfill(choose.choice([1, 1, 5, 20]))}"
+    return choose.choice([f"{side}{choose.choice([4, 15, 16, 2**64])}@{events}", f"{side}0{node}@{events}", f"{side}{node}", f"{side}@{events}", f"c{node}@{events}",
+                          f"{side.upper()}{node}@{events}", f"{node}@{events}", f"{side}{node}@", f"{side}{node}@1000001", f"{side}{node}@+{events}",
+                          f"{side}{node} @{events}", f"{side}{node}@@{events}", f"{side}{node}@{events}@0", f"{side}{node}@{events:021d}", "@", "", "\u00e9@0"])
+
+
 def value_of(choose, name):
-    return address(choose) if name == "watch" else number(choose, name)
+    return address(choose) if name == "watch" else kill(choose) if name == "kill" else number(choose, name)
 
 
 def option(choose, name):
@@ -80,7 +99,7 @@ def option(choose, name):
 def good(choose, command):
     """The words of a command, whose values alone may be wrong."""
     files, options, flags = COMMANDS[command]
-    chosen = [name for name in options if choose.random() < 0.4]
+    chosen = [name for name in options if choose.random() < (OFTEN.get(name, 0.4) if command == "run" else 0.4)]
     parts = [option(choose, name) for name in chosen] + [[f"--{flag}"] for flag in flags if choose.random() < 0.3]
     choose.shuffle(parts)
     files = [number(choose, "size")] if command == "demo" and choose.random() < 0.5 else files
@@ -116,7 +135,7 @@ def changed(choose, words):
     if kind == "case":
         return words[:place] + [choose.choice([words[place].upper(), words[place][:-1], words[place] + "s"])] + words[place + 1:]
     if kind == "option":
-        return words[:place + 1] + option(choose, choose.choice([*RANGES, "watch"])) + words[place + 1:]
+        return words[:place + 1] + option(choose, choose.choice([*RANGES, "watch", "kill"])) + words[place + 1:]
     return words[:place] + ["=".join(words[place:place + 2])] + words[place + 2:]
 
 
@@ -136,6 +155,12 @@ def commands_of(built):
 def is_left_out(words, commands):
     is_own = len(words) == 0 or words[0] in ANSWERED_ITSELF or (len(words) == 2 and words[1] in ANSWERED_ITSELF)
     return is_own or (words[0] in COMMANDS and words[0] not in commands)
+
+
+def is_same(words, found, expected):
+    """Whether both came to the same: where both are done that is enough of a run on several nodes."""
+    has_turns = words[0] == "run" and all(done[0] in ENDS and b"core 1 " in done[2] for done in (found, expected))
+    return has_turns or found == expected
 
 
 def run(command, words, folder):
@@ -161,7 +186,7 @@ def main():
                 continue
             done += 1
             found, expected = run([built], words, folder), run([simulator, "--main", "--probe"], words, folder)
-            if found != expected:
+            if not is_same(words, found, expected):
                 print(f"case {case}, {words}: {found} and not {expected}")
                 return 1
             statuses[found[0]] += 1

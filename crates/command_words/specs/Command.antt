@@ -22,6 +22,11 @@ abbrev pub replay_app : App
 replay_app = command_app (codes "replay") (codes "program" ∷ codes "script" ∷ [])
     (codes "nodes" ∷ codes "sets" ∷ codes "ways" ∷ codes "log" ∷ codes "watch" ∷ []) (codes "trace" ∷ [])
 
+abbrev pub run_app : App
+run_app = command_app (codes "run") (codes "program" ∷ [])
+    (codes "nodes" ∷ codes "sets" ∷ codes "ways" ∷ codes "log" ∷ codes "watch"
+    ∷ codes "interval" ∷ codes "wait" ∷ codes "lose-every" ∷ codes "kill" ∷ codes "budget" ∷ codes "seed" ∷ []) (codes "trace" ∷ codes "journal" ∷ [])
+
 abbrev pub check_app : App
 check_app = command_app (codes "check") (codes "program" ∷ codes "trace" ∷ []) (codes "nodes" ∷ []) []
 
@@ -44,4 +49,4 @@ abbrev pub with_command : App → App → App
 with_command app command = with_subcommand app command.top
 
 abbrev pub the_app : App
-the_app = fold with_command named_app (replay_app ∷ check_app ∷ demo_app ∷ asm_app ∷ dis_app ∷ [])
+the_app = fold with_command named_app (replay_app ∷ run_app ∷ check_app ∷ demo_app ∷ asm_app ∷ dis_app ∷ [])

@@ -1,20 +1,26 @@
 -- What the words ask for.
-use Rattle.std.specs.Prelude.{ℕ, Bool, true, false, ◌&&◌, if◌then◌else◌, List, codes, bytes_eq, Option, None, option_map, option_and_then, string_bytes}
+use Rattle.std.specs.Prelude.{ℕ, Bool, true, false, ◌&&◌, if◌then◌else◌, List, codes, bytes_eq, Option, Some, None, option_map, option_and_then, string_bytes}
 use Rattle.std.specs.Option.{option_map_or}
 use Rattle.sn_base.specs.Config.{lies_in, config_fits}
 use Rattle.sn_base.specs.declared.config.Config.{Config}
+use Rattle.option_values.specs.declared.run.RunRules.{RunRules}
+use Rattle.option_values.specs.Runs.{run_rules_by, run_rules_fit}
 use Rattle.option_values.specs.Values.{nodes_rule, number_by, config_by, watch_by, is_word_address, demo_size}
 use Rattle.clap.specs.Words.{Row, Text, first_of, takes, subcommand_of}
 use Rattle.command_words.specs.Command.{the_app}
 use Rattle.command_words.specs.declared.request.Replay as code_replay
+use Rattle.command_words.specs.declared.request.Run as code_run
+use Rattle.command_words.specs.declared.request.RunReport.{RunReport}
+use Rattle.command_words.specs.declared.request.RunReport.TheVariants as shown
 use Rattle.command_words.specs.declared.request.Check as code_check
 use Rattle.command_words.specs.declared.request.Request as code_request
 use Rattle.command_words.specs.declared.request.Request.TheVariants as asked
 
--- the sizes, whether the trace is to be shown, which word is to be watched, and the names of files: of the program and of
--- the script or the trace, or of the text
+-- the sizes, the rules of a run, whether the trace is to be shown or what else of a run is, which word is to be watched, and the
+-- names of files: of the program and of the script or the trace, or of the text
 pub data Request : Type 0 where
   Replay : Config → Bool → Option ℕ → Text → Text → Request
+  Run : Config → RunRules → RunReport → Option ℕ → Text → Request
   Check : ℕ → Text → Text → Request
   Demo : ℕ → Request
   Assemble : Text → Request
@@ -34,6 +40,29 @@ replay_of entries =
     Replay config (flag_of (codes "trace") entries) watch program script)
     (first_of (codes "script") entries)) (first_of (codes "program") entries)) (watch_by (first_of (codes "watch") entries))) (config_of entries)
 
+-- the rules of a run on so many nodes
+abbrev pub run_rules_of : ℕ → List Row → Option RunRules
+run_rules_of nodes entries =
+    run_rules_by nodes (first_of (codes "interval") entries) (first_of (codes "wait") entries) (first_of (codes "lose-every") entries)
+    (first_of (codes "kill") entries) (first_of (codes "budget") entries) (first_of (codes "seed") entries)
+
+-- what a run shows by its two flags, which don't stand together
+abbrev pub run_report_by : Bool → Bool → Option RunReport
+run_report_by true true = None
+run_report_by true false = Some shown.Trace
+run_report_by false true = Some shown.Journal
+run_report_by false false = Some shown.Summary
+
+abbrev pub run_report_of : List Row → Option RunReport
+run_report_of entries = run_report_by (flag_of (codes "trace") entries) (flag_of (codes "journal") entries)
+
+abbrev pub run_of : List Row → Option Request
+run_of entries =
+    option_and_then (λ config. option_and_then (λ rules. option_and_then (λ report. option_and_then (λ watch. option_map (λ program.
+    Run config rules report watch program)
+    (first_of (codes "program") entries)) (watch_by (first_of (codes "watch") entries))) (run_report_of entries)) (run_rules_of config.nodes entries))
+    (config_of entries)
+
 abbrev pub check_of : List Row → Option Request
 check_of entries =
     option_and_then (λ nodes. option_and_then (λ program. option_map (λ trace. Check nodes program trace)
@@ -46,6 +75,7 @@ demo_of entries = option_and_then demo_size (first_of (codes "size") entries)
 abbrev pub request_of : Text → List Row → Option Request
 request_of command entries =
     if bytes_eq command (codes "replay") then replay_of entries else
+    if bytes_eq command (codes "run") then run_of entries else
     if bytes_eq command (codes "check") then check_of entries else
     if bytes_eq command (codes "demo") then option_map (λ size. Demo size) (demo_of entries) else
     if bytes_eq command (codes "asm") then option_map (λ text. Assemble text) (first_of (codes "text") entries) else
@@ -59,11 +89,15 @@ ask_of words = if takes the_app words then option_and_then (λ command. request_
 abbrev pub as_replay : code_replay.Replay → Request
 as_replay r = Replay r.config r.trace r.watch (string_bytes r.program) (string_bytes r.script)
 
+abbrev pub as_run : code_run.Run → Request
+as_run r = Run r.config r.rules r.report r.watch (string_bytes r.program)
+
 abbrev pub as_check : code_check.Check → Request
 as_check c = Check c.nodes (string_bytes c.program) (string_bytes c.trace)
 
 abbrev pub as_request : code_request.Request → Request
 as_request (asked.Replay r) = as_replay r
+as_request (asked.Run r) = as_run r
 as_request (asked.Check c) = as_check c
 as_request (asked.Demo size) = Demo size
 as_request (asked.Assemble text) = Assemble (string_bytes text)
@@ -73,9 +107,10 @@ as_request (asked.Disassemble program) = Disassemble (string_bytes program)
 abbrev pub watch_fits : Option ℕ → Bool
 watch_fits watch = option_map_or is_word_address watch true
 
--- whether the sizes lie in their ranges, and the watched word in memory
+-- whether the sizes and the rules of a run lie in their ranges, and the watched word in memory
 abbrev pub request_fits : Request → Bool
 request_fits (Replay config trace watch program script) = config_fits config && watch_fits watch
+request_fits (Run config rules report watch program) = config_fits config && (run_rules_fit config.nodes rules && watch_fits watch)
 request_fits (Check nodes program trace) = lies_in 1 16 nodes
 request_fits (Demo size) = lies_in 1 1000000 size
 request_fits _ = true

@@ -1,14 +1,15 @@
 //! The request of the words: the entries' texts are read, and the names are copied.
-ghost use Rattle.std.specs.Prelude.{◌≡◌, IfOk, IfErr, true, Some, None, map, string_bytes};
+ghost use Rattle.std.specs.Prelude.{◌≡◌, ◌≤◌, IfOk, IfErr, true, Some, None, map, string_bytes};
 ghost use Rattle.sn_base.specs.Config.{lies_in, config_fits};
+ghost use Rattle.option_values.specs.Runs.{run_rules_fit};
 ghost use Rattle.clap.specs.Words.{found_of, rows_of, first_of};
-ghost use Rattle.command_words.specs.Request.{ask_of, as_request, request_of, config_of, replay_of, check_of, demo_of, as_replay, as_check, watch_fits, request_fits};
+ghost use Rattle.command_words.specs.Request.{ask_of, as_request, request_of, config_of, replay_of, run_rules_of, run_report_of, run_of, check_of, demo_of, as_replay, as_run, as_check, watch_fits, request_fits};
 
 use crate::command::entries_of;
 use crate::entries::{command_of, has_flag, text_of};
-use crate::request::{Check, Replay, Request, WordsFault};
+use crate::request::{Check, Replay, Request, Run, RunReport, WordsFault};
 use clap::ArgMatches;
-use option_values::{SizeWords, read_demo_size, read_nodes, read_watch};
+use option_values::{RunRules, RunWords, SizeWords, read_demo_size, read_nodes, read_watch};
 use sn_base::Config;
 use std::alloc::Global;
 
@@ -52,6 +53,55 @@ fn replay(alloc: Global, entries: &ArgMatches<'_>) -> Result<Replay, WordsFault>
     })
 }
 
+fn rules(entries: &ArgMatches<'_>, nodes: u8) -> Result<RunRules, WordsFault>
+    requires few { nodes ≤ 16 }
+    ensures ok { IfOk result (λ rules. run_rules_of nodes (rows_of (found_of entries.now)) ≡ Some rules) }
+    ensures usage { IfErr result (λ fault. (fault ≡ WordsFault.Usage) × (run_rules_of nodes (rows_of (found_of entries.now)) ≡ None)) }
+    ensures fits { IfOk result (λ rules. run_rules_fit nodes rules ≡ true) }
+{
+    let words = RunWords {
+        interval: text_of(entries, "interval"),
+        wait: text_of(entries, "wait"),
+        lose_every: text_of(entries, "lose-every"),
+        kill: text_of(entries, "kill"),
+        budget: text_of(entries, "budget"),
+        seed: text_of(entries, "seed"),
+    };
+    match words.rules(nodes) {
+        Some(rules) => Ok(rules),
+        None => Err(WordsFault::Usage),
+    }
+}
+
+fn run_report(entries: &ArgMatches<'_>) -> Result<RunReport, WordsFault>
+    ensures ok { IfOk result (λ report. run_report_of (rows_of (found_of entries.now)) ≡ Some report) }
+    ensures usage { IfErr result (λ fault. (fault ≡ WordsFault.Usage) × (run_report_of (rows_of (found_of entries.now)) ≡ None)) }
+{
+    match (has_flag(entries, "trace"), has_flag(entries, "journal")) {
+        (true, true) => Err(WordsFault::Usage),
+        (true, false) => Ok(RunReport::Trace),
+        (false, true) => Ok(RunReport::Journal),
+        (false, false) => Ok(RunReport::Summary),
+    }
+}
+
+fn run(alloc: Global, entries: &ArgMatches<'_>) -> Result<Run, WordsFault>
+    ensures ok { IfOk result (λ run. run_of (rows_of (found_of entries.now)) ≡ Some (as_run run)) }
+    ensures usage { result ≡ Err WordsFault.Usage → run_of (rows_of (found_of entries.now)) ≡ None }
+    ensures fits { IfOk result (λ run. config_fits run.config ≡ true) }
+    ensures ruled { IfOk result (λ run. run_rules_fit run.config.nodes run.rules ≡ true) }
+    ensures watched { IfOk result (λ run. watch_fits run.watch ≡ true) }
+{
+    let config = config(entries)?;
+    Ok(Run {
+        config,
+        rules: rules(entries, config.nodes)?,
+        report: run_report(entries)?,
+        watch: read_watch(text_of(entries, "watch")).ok_or(WordsFault::Usage)?,
+        program: name(alloc, entries, "program")?,
+    })
+}
+
 fn check(alloc: Global, entries: &ArgMatches<'_>) -> Result<Check, WordsFault>
     ensures ok { IfOk result (λ check. check_of (rows_of (found_of entries.now)) ≡ Some (as_check check)) }
     ensures usage { result ≡ Err WordsFault.Usage → check_of (rows_of (found_of entries.now)) ≡ None }
@@ -80,6 +130,7 @@ fn request(alloc: Global, command: &str, entries: &ArgMatches<'_>) -> Result<Req
 {
     match command {
         "replay" => Ok(Request::Replay(replay(alloc, entries)?)),
+        "run" => Ok(Request::Run(run(alloc, entries)?)),
         "check" => Ok(Request::Check(check(alloc, entries)?)),
         "demo" => Ok(Request::Demo(demo(entries)?)),
         "asm" => Ok(Request::Assemble(name(alloc, entries, "text")?)),

@@ -1,6 +1,7 @@
 //! What the words ask for.
 ghost use Rattle.std.specs.Prelude.{◌≡◌};
 
+use option_values::RunRules;
 use sn_base::Config;
 use std::alloc::AllocError;
 
@@ -16,6 +17,28 @@ pub struct Replay {
     pub script: String,
 }
 
+/// What a run shows before its summary.
+#[derive(Clone, Copy, PartialEq, Eq, Debug)]
+pub enum RunReport {
+    /// Nothing.
+    Summary,
+    /// The committed trace.
+    Trace,
+    /// Each event, and the worker in whose turn it was applied.
+    Journal,
+}
+
+/// The sizes, what the run goes by, what is shown, and the name of the program's file.
+#[derive(Drop)]
+pub struct Run {
+    pub config: Config,
+    pub rules: RunRules,
+    pub report: RunReport,
+    /// The address of the word that is shown in the summary.
+    pub watch: Option<u32>,
+    pub program: String,
+}
+
 /// The number of nodes, and the names of the files.
 #[derive(Drop)]
 pub struct Check {
@@ -28,6 +51,7 @@ pub struct Check {
 #[derive(Drop)]
 pub enum Request {
     Replay(Replay),
+    Run(Run),
     Check(Check),
     /// How many events the demonstration has.
     Demo(u32),

@@ -24,6 +24,20 @@ fn shown(alloc: Global, request: &Request) -> Result<String, AllocError> {
                 r.program, r.script, c.nodes, c.sets, c.ways, c.log
             )
         }
+        Request::Run(r) => {
+            let (c, rules) = (&r.config, &r.rules);
+            let (watch, report) = (r.watch, r.report);
+            let kill = match rules.kill {
+                Some((switch, events)) => Some((switch.number(), events)),
+                None => None,
+            };
+            let (interval, wait, lose_every) = (rules.interval, rules.wait, rules.lose_every);
+            let (budget, seed) = (rules.budget, rules.seed);
+            format!(in alloc;
+                "run {} ({} nodes, {} sets, {} ways, log {}) interval {interval} wait {wait} lose {lose_every} kill {kill:?} budget {budget} seed {seed} {watch:?} {report:?}",
+                r.program, c.nodes, c.sets, c.ways, c.log
+            )
+        }
         Request::Check(c) => format!(in alloc;
             "check {} {} ({} nodes)",
             c.program, c.trace, c.nodes
@@ -44,7 +58,7 @@ fn read(alloc: Global, line: &str) -> Result<String, AllocError> {
     }
 }
 
-const REQUESTS: [(&str, &str); 24] = [
+const REQUESTS: [(&str, &str); 31] = [
     (
         "replay p s",
         "replay p s (4 nodes, 16 sets, 4 ways, log 256) None false",
@@ -113,6 +127,33 @@ const REQUESTS: [(&str, &str); 24] = [
         "replay '' s",
         "replay  s (4 nodes, 16 sets, 4 ways, log 256) None false",
     ),
+    (
+        "run p (4 nodes, 16 sets, 4 ways, log 256) interval 100 wait 20000 lose 0 kill None budget 1000000 seed 1 None Summary",
+    ),
+    (
+        "run --trace p",
+        "run p (4 nodes, 16 sets, 4 ways, log 256) interval 100 wait 20000 lose 0 kill None budget 1000000 seed 1 None Trace",
+    ),
+    (
+        "run p --journal",
+        "run p (4 nodes, 16 sets, 4 ways, log 256) interval 100 wait 20000 lose 0 kill None budget 1000000 seed 1 None Journal",
+    ),
+    (
+        "run --nodes 2 --sets 3 --ways 5 --log 7 --watch 80000004 --interval 8 --wait 9 --lose-every 10 --kill b1@11 --budget 12 --seed 13 --journal p",
+        "run p (2 nodes, 3 sets, 5 ways, log 7) interval 8 wait 9 lose 10 kill Some((3, 11)) budget 12 seed 13 Some(2147483652) Journal",
+    ),
+    (
+        "run --kill=a15@1000000 --nodes=16 --seed=18446744073709551615 p",
+        "run p (16 nodes, 16 sets, 4 ways, log 256) interval 100 wait 20000 lose 0 kill Some((30, 1000000)) budget 1000000 seed 18446744073709551615 None Summary",
+    ),
+    (
+        "run --kill a0@00 --seed 00 --lose-every 00 p",
+        "run p (4 nodes, 16 sets, 4 ways, log 256) interval 100 wait 20000 lose 0 kill Some((0, 0)) budget 1000000 seed 0 None Summary",
+    ),
+    (
+        "run run",
+        "run run (4 nodes, 16 sets, 4 ways, log 256) interval 100 wait 20000 lose 0 kill None budget 1000000 seed 1 None Summary",
+    ),
     ("check p t", "check p t (4 nodes)"),
     ("check p t --nodes 7", "check p t (7 nodes)"),
     (
@@ -134,7 +175,7 @@ fn words_that_are_requests(rt: HostRuntime) -> Result<(), Fail> {
     Ok(())
 }
 
-const USAGE: [&str; 53] = [
+const USAGE: [&str; 82] = [
     "",
     "''",
     "help",
@@ -183,6 +224,36 @@ const USAGE: [&str; 53] = [
     "replay p s --trace=x",
     "replay p s --trace=true",
     "replay p s --trace=",
+    "run",
+    "run p s",
+    "run p --script s",
+    "run --trace --journal p",
+    "run p --journal --journal",
+    "run p --journal=x",
+    "run p --interval 0",
+    "run p --interval 1000001",
+    "run p --wait 0",
+    "run p --wait 1000001",
+    "run p --lose-every 1000001",
+    "run p --lose-every=-1",
+    "run p --budget 0",
+    "run p --budget 1000001",
+    "run p --seed 18446744073709551616",
+    "run p --seed=-1",
+    "run p --kill a4@0",
+    "run p --nodes 1 --kill b1@0",
+    "run p --kill a0@0 --kill b0@0",
+    "run p --kill a00@0",
+    "run p --kill a0",
+    "run p --kill a0@1000001",
+    "run p --kill=",
+    "run p --loseevery 4",
+    "run p --lose_every 4",
+    "run p --watch 80400000",
+    "run p --nodes 17",
+    "replay p s --journal",
+    "replay p s --seed 4",
+    "check p t --kill a0@0",
     "check p t --sets 4",
     "check p t --nodes 17",
     "demo 0",

@@ -1,4 +1,4 @@
-//! What may stand as the value of an option: numbers of a range, and the address of a word.
+//! What may stand as the value of an option: numbers of a range, the address of a word, and a switch that dies.
 //!
 //! The layer above has the words of a command sorted into options, and asks here what their values mean. Nothing here
 //! takes memory, knows the name of an option, or says why a value is refused: any refusal is the same usage fault.
@@ -7,10 +7,14 @@
 mod address;
 mod digits;
 mod number;
+mod run;
 mod sizes;
 
 pub use address::read_watch;
-pub use number::{LOG, NODES, NumberRule, SETS, WAYS, read_demo_size};
+pub use number::{
+    BUDGET, INTERVAL, LOG, LOSE_EVERY, NODES, NumberRule, SEED, SETS, WAIT, WAYS, read_demo_size,
+};
+pub use run::{RunRules, RunWords};
 pub use sizes::{SizeWords, read_nodes};
 
 #[cfg(test)]

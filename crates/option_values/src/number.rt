@@ -41,6 +41,38 @@ pub const LOG: NumberRule = NumberRule {
     default: 256,
 };
 
+pub const INTERVAL: NumberRule = NumberRule {
+    least: 1,
+    greatest: 1_000_000,
+    default: 100,
+};
+
+pub const WAIT: NumberRule = NumberRule {
+    least: 1,
+    greatest: 1_000_000,
+    default: 20_000,
+};
+
+/// Moves of messages between two that are lost; with 0 none is.
+pub const LOSE_EVERY: NumberRule = NumberRule {
+    least: 0,
+    greatest: 1_000_000,
+    default: 0,
+};
+
+/// Events of a run.
+pub const BUDGET: NumberRule = NumberRule {
+    least: 1,
+    greatest: 1_000_000,
+    default: 1_000_000,
+};
+
+pub const SEED: NumberRule = NumberRule {
+    least: 0,
+    greatest: u64::MAX,
+    default: 1,
+};
+
 fn read_number(text: &str, least: u64, greatest: u64) -> Option<u64>
     ensures { result ≡ number_in least greatest text.now }
 {
@@ -77,4 +109,12 @@ pub fn read_demo_size(text: &str) -> Option<u32>
 {
     let size = read_number(text, 1, 1_000_000)?;
     Some(size as u32)
+}
+
+/// After how many events something happens: 0 to 1,000,000.
+pub(crate) fn read_events(text: &str) -> Option<u32>
+    ensures { result ≡ number_in 0 1000000 text.now }
+{
+    let events = read_number(text, 0, 1_000_000)?;
+    Some(events as u32)
 }
