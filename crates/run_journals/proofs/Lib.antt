@@ -1,0 +1,4 @@
+pub mod Draws
+pub mod Folds
+pub mod Dues
+pub mod Released

@@ -1,0 +1,9 @@
+//! One turn of a journal.
+use sn_base::Event;
+
+/// An event, and the worker in whose turn it was applied.
+#[derive(Clone, Copy, PartialEq, Eq, Debug)]
+pub struct Entry {
+    pub worker: u32,
+    pub event: Event,
+}

@@ -1,0 +1,5 @@
+pub mod Refusals
+pub mod Goes
+pub mod Draws
+pub mod Drawings
+pub mod Starts

@@ -1,0 +1,39 @@
+-- What the lock keeps.
+use Rattle.std.specs.Prelude.{◌≡◌, ◌+◌, ◌≤◌, List, [], length}
+use Rattle.sn_model.specs.Machine.{start_of}
+use Rattle.due_events.specs.Numbers.{first_numbers}
+use Rattle.run_journals.specs.Journal.{IsDue, state_of, answers_of, numbers_of}
+use Rattle.sn_console.specs.Handed.{IsFirstOf}
+use Rattle.shared_machine.specs.declared.drawing.Drawing.{Drawing}
+use Rattle.shared_machine.specs.Drawn.{AreDrawn}
+use Rattle.shared_machine.specs.Shared.{SharedData, LockedData, began_with}
+
+-- the journal, folded from the run's start, gives the machine, the answers and the driver's numbers; each of its events was due
+-- for its worker with that worker's next pick; no other event was applied, and there are no more than the budget; what was passed
+-- on to the console is the first of what is released
+pub record IsKept (s : LockedData) : Type 0 where
+  pub state : s.machine.state ≡ state_of (began_with s) s.journal
+  pub answers : s.answers ≡ answers_of (began_with s) s.journal
+  pub numbers : s.driver.numbers ≡ numbers_of (began_with s) s.journal
+  pub due : IsDue (began_with s) s.journal
+  pub applied : s.machine.applied ≡ length s.journal
+  pub few : length s.journal ≤ s.budget
+  pub passed : IsFirstOf s.passed s.machine.state.released
+
+-- and there is room for the rest of the budget, and for one event more
+pub record HasRoom (s : LockedData) : Type 0 where
+  pub nodes : s.driver.nodes ≡ s.machine.config.nodes
+  pub budget : s.budget ≤ 1000000
+  pub spare : s.budget + 1 ≤ length s.journal + s.machine.spare
+  pub done : s.driver.numbers.done ≤ length s.journal
+
+-- a run that can begin, with its workers' generators
+pub record IsReady (s : SharedData) (drawings : List Drawing) : Type 0 where
+  pub state : s.machine.state ≡ start_of s.machine.image s.machine.config.nodes
+  pub applied : s.machine.applied ≡ 0
+  pub numbers : s.driver.numbers ≡ first_numbers
+  pub nodes : s.driver.nodes ≡ s.machine.config.nodes
+  pub budget : s.budget ≤ 1000000
+  pub spare : s.budget + 1 ≤ s.machine.spare
+  pub drawn : AreDrawn s.seed [] drawings
+  pub drawers : length drawings ≡ s.machine.config.nodes
