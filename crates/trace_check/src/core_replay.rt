@@ -1,14 +1,17 @@
 //! One core's records, replayed by themselves.
 ghost use Rattle.std.specs.Prelude.{◌≡◌, ℕ, ◌<◌, ◌↔◌, ◌++◌, [], ◌∷◌, true, false, is_some, length, take, IfOk, IfSome, IsSome, IsTrue};
+ghost use Rattle.sn_base.specs.Image.{fetched};
+ghost use Rattle.rv_decode.specs.Table.{instr_fits};
 ghost use Rattle.rv_core.specs.Core.{start_of, is_running, is_input, holds_reservation};
-ghost use Rattle.rv_core.specs.Step.{want_of, next_of};
+ghost use Rattle.rv_core.specs.Step.{want_of, next_of, instruction_of};
 ghost use Rattle.rv_core.specs.Wanted.{IsInside};
 ghost use Rattle.sn_consistency.specs.Projections.{Replays, CoreGood, core_step};
 ghost use Rattle.projection_places.specs.Passes.{Passes};
 ghost use Rattle.trace_check.specs.Deeds.{reads_memory, MayDo, deed_of, core_deeds};
 
 use crate::deed::Deed;
-use rv_core::{CoreState, End, Record, Want};
+use rv_core::{Cause, CoreState, End, Record, Want};
+use rv_decode::Instr;
 use sn_base::{BlockNo, Image, Memory, NodeId};
 
 /// How many records the core passes, from the first on, and what its own among them do, which is put into `deeds`.
@@ -51,27 +54,49 @@ fn replay_record(
     if taken.core != core {
         return Ok(true);
     }
-    let Some(want) = may_do(image, state, taken) else {
+    let Some(step) = may_do(image, state, taken) else {
         return Ok(false);
     };
-    let deed = take(image, state, want, taken);
+    let deed = take(image, state, step, taken);
     deeds.push(deed)?;
     Ok(true)
 }
 
-/// What the core wants, where it may have done the record by itself.
-fn may_do(image: &Image, state: &CoreState, taken: &Record) -> Option<Want>
+/// A core's next instruction, or why there is none, and what it wants.
+#[derive(Clone, Copy)]
+struct Step {
+    instruction: Result<Instr, Cause>,
+    want: Want,
+}
+
+/// The core's next step, where it may have done the record by itself.
+fn may_do(image: &Image, state: &CoreState, taken: &Record) -> Option<Step>
     ensures some { IsSome result ↔ ((is_running state.now.end ≡ true) × MayDo state.now (want_of image.now state.now) taken.now) }
-    ensures want { IfSome result (λ want. want ≡ want_of image.now state.now) }
+    ensures want { IfSome result (λ step. step.want ≡ want_of image.now state.now) }
+    ensures instruction { IfSome result (λ step. step.instruction ≡ instruction_of (fetched image.now.segments state.now.pc)) }
+    ensures fits { IfSome result (λ step. IfOk step.instruction (λ instr. instr_fits instr ≡ true)) }
 {
     if state.end != End::Running {
         return None;
     }
-    let want = state.want(image);
-    if !agrees(state, want, taken) {
+    let step = next_step(image, state);
+    if !agrees(state, step.want, taken) {
         return None;
     }
-    Some(want)
+    Some(step)
+}
+
+/// The step of the next instruction, which is fetched and decoded here alone.
+#[tactic(auto, unfolding(rv_core::specs::Step::want_of))]
+fn next_step(image: &Image, state: &CoreState) -> Step
+    requires { is_running state.now.end ≡ true }
+    ensures want { result.want ≡ want_of image.now state.now }
+    ensures instruction { result.instruction ≡ instruction_of (fetched image.now.segments state.now.pc) }
+    ensures fits { IfOk result.instruction (λ instr. instr_fits instr ≡ true) }
+{
+    let instruction = state.instruction(image);
+    let want = state.want_by(image, instruction);
+    Step { instruction, want }
 }
 
 fn agrees(state: &CoreState, want: Want, taken: &Record) -> bool
@@ -106,16 +131,25 @@ fn holds(state: &CoreState, want: Want) -> bool
 }
 
 /// Does the record's step.
-fn take(image: &Image, state: &mut CoreState, want: Want, taken: &Record) -> Deed
-    requires want { want ≡ want_of image.now state.old }
+#[tactic(auto, unfolding(rv_core::specs::Step::want_of, rv_core::specs::Step::next_of))]
+fn take(image: &Image, state: &mut CoreState, step: Step, taken: &Record) -> Deed
+    requires want { step.want ≡ want_of image.now state.old }
+    requires instruction { step.instruction ≡ instruction_of (fetched image.now.segments state.old.pc) }
+    requires fits { IfOk step.instruction (λ instr. instr_fits instr ≡ true) }
     requires running { is_running state.old.end ≡ true }
     requires may { MayDo state.old (want_of image.now state.old) taken.now }
     ensures deed { result ≡ deed_of image.now state.old taken.now }
     ensures state { state.new ≡ (next_of image.now state.old taken.now.seen taken.now.sc_done taken.now.read).core }
 {
-    let effect = state.finish(image, taken.seen, taken.sc_done, taken.read);
+    let effect = state.finish_by(
+        image,
+        step.instruction,
+        taken.seen,
+        taken.sc_done,
+        taken.read,
+    );
     Deed {
-        want,
+        want: step.want,
         write: effect.write,
     }
 }
