@@ -1,3 +1,4 @@
 pub mod Lists
 pub mod Evictions
 pub mod Turns
+pub mod FirstPlaces

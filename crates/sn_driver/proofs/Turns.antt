@@ -1,5 +1,5 @@
 -- Which node's list is picked from, round all nodes.
-use Rattle.std.proofs.Common.{◌≡◌, Bool, true, false, zero, suc, ℕ, ◌+◌, ◌%◌, Option, Some, None, is_some, refl, sym, ap, ◌∙◌}
+use Rattle.std.proofs.Common.{◌≡◌, true, false, suc, ℕ, ◌+◌, ◌%◌, Option, Some, None, is_some, refl, sym, ap, ◌∙◌}
 use Rattle.std.specs.Option.{option_or}
 use Rattle.sn_base.specs.Image.{ImageData}
 use Rattle.sn_base.specs.declared.config.Config.{Config}

@@ -1,2 +1,3 @@
 pub mod Driver
 pub mod Turns
+pub mod Found

@@ -8,6 +8,7 @@
 
 mod answers;
 mod driver;
+mod found;
 mod moves;
 mod numbers;
 mod places;

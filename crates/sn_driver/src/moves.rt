@@ -1,12 +1,13 @@
 //! What may be due at a node by the machine alone.
 ghost use Rattle.std.specs.Prelude.{◌≡◌, ◌<◌, true, length, slice_get, IfSome};
 ghost use Rattle.sn_base.specs.Events.{event_fits};
+ghost use Rattle.sn_base.specs.declared.event.Event.TheVariants.{Step};
 ghost use Rattle.rv_core.specs.Core.{is_running};
-ghost use Rattle.due_events.specs.Lists.{delivery, hop, eviction, validation, step, is_behind};
+ghost use Rattle.due_events.specs.Lists.{foreseen, delivery, hop, eviction, validation, step, is_behind};
 
 use crate::answers::{goes_on, is_delivered, is_validated, needs_evict};
 use rv_core::{CoreState, End};
-use sn_base::{Event, NodeId};
+use sn_base::{Answer, Event, NodeId};
 use sn_machine::Machine;
 
 /// The delivery of the message at a place of the network's list, where the node would take it now.
@@ -38,13 +39,15 @@ pub fn hop(machine: &Machine, node: NodeId, place: usize) -> Option<Event>
     }
 }
 
-/// The eviction of the least block that may leave, where the node's instruction waits for a frame.
-pub fn eviction(machine: &Machine, node: NodeId) -> Option<Event>
-    requires { node < machine.now.config.nodes }
+/// The eviction of the least block that may leave, where the node's instruction waits for a frame. The answer is the one that
+/// the node's step would have now.
+pub fn eviction(machine: &Machine, node: NodeId, answer: &Answer) -> Option<Event>
+    requires here { node < machine.now.config.nodes }
+    requires foreseen { answer.now ≡ foreseen machine.now.image machine.now.config machine.now.state (Step node) }
     ensures same { result ≡ eviction machine.now.image machine.now.config machine.now.state node }
     ensures fits { IfSome result (λ event. event_fits machine.now.config.nodes event ≡ true) }
 {
-    if !needs_evict(&machine.foresee(Event::Step(node))) {
+    if !needs_evict(answer) {
         return None;
     }
     let block = machine.least_line(node)?;
@@ -65,13 +68,14 @@ pub fn validation(machine: &Machine, node: NodeId) -> Option<Event>
     }
 }
 
-/// The node's step, where its instruction comes further.
-pub fn step(machine: &Machine, node: NodeId) -> Option<Event>
-    requires { node < machine.now.config.nodes }
+/// The node's step, where its instruction comes further. The answer is the one that it would have now.
+pub fn step(machine: &Machine, node: NodeId, answer: &Answer) -> Option<Event>
+    requires here { node < machine.now.config.nodes }
+    requires foreseen { answer.now ≡ foreseen machine.now.image machine.now.config machine.now.state (Step node) }
     ensures same { result ≡ step machine.now.image machine.now.config machine.now.state node }
     ensures fits { IfSome result (λ event. event_fits machine.now.config.nodes event ≡ true) }
 {
-    if goes_on(&machine.foresee(Event::Step(node))) {
+    if goes_on(answer) {
         Some(Event::Step(node))
     } else {
         None

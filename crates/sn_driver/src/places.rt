@@ -1,13 +1,16 @@
 //! A node's list, by its places: it is counted and read, and never made.
 ghost use Rattle.std.specs.Prelude.{◌≡◌, ◌*◌, ◌+◌, ◌<◌, ◌≤◌, true, None, length, slice_get, slice_index_or, IfSome};
 ghost use Rattle.sn_base.specs.Events.{event_fits};
-ghost use Rattle.due_events.specs.Lists.{edge, report, own_places, places_of, list_of};
+ghost use Rattle.sn_base.specs.declared.event.Event.TheVariants.{Step};
+ghost use Rattle.due_events.specs.Lists.{foreseen, edge, report, own_places, places_of, list_of};
 ghost use Rattle.due_events.specs.Due.{picked};
+ghost use Rattle.sn_driver.specs.Found.{HasFound};
 
 use crate::answers::{is_edged, is_reported};
 use crate::driver::Driver;
+use crate::found::Found;
 use crate::moves::{delivery, eviction, hop, is_behind, is_running, step, validation};
-use sn_base::{Event, NodeId};
+use sn_base::{Answer, Event, NodeId};
 use sn_machine::Machine;
 
 impl Driver {
@@ -17,11 +20,11 @@ impl Driver {
         ensures same { result ≡ edge self.now.rules machine.now.image machine.now.config machine.now.state self.now.numbers node }
         ensures fits { IfSome result (λ event. event_fits machine.now.config.nodes event ≡ true) }
     {
-        if !is_edged(&machine.foresee(Event::Edge(node))) {
+        let has_retired = self.retired[usize::from(node.number())] >= self.rules.interval;
+        if !has_retired && is_running(machine.core(node)) && !is_behind(machine, node) {
             return None;
         }
-        let has_retired = self.retired[usize::from(node.number())] >= self.rules.interval;
-        if has_retired || !is_running(machine.core(node)) || is_behind(machine, node) {
+        if is_edged(&machine.foresee(Event::Edge(node))) {
             Some(Event::Edge(node))
         } else {
             None
@@ -43,14 +46,21 @@ impl Driver {
     }
 
     /// The event at a place of what the node may do itself, where there is one.
-    fn own_event(&self, machine: &Machine, node: NodeId, place: usize) -> Option<Event>
+    fn own_event(
+        &self,
+        machine: &Machine,
+        node: NodeId,
+        answer: &Answer,
+        place: usize,
+    ) -> Option<Event>
         requires here { node < machine.now.config.nodes }
+        requires foreseen { answer.now ≡ foreseen machine.now.image machine.now.config machine.now.state (Step node) }
         requires there { place < 5 }
         ensures same { result ≡ slice_index_or (own_places self.now.rules machine.now.image machine.now.config machine.now.state self.now.numbers node) place None }
         ensures fits { IfSome result (λ event. event_fits machine.now.config.nodes event ≡ true) }
     {
         if place == 0 {
-            eviction(machine, node)
+            eviction(machine, node, answer)
         } else if place == 1 {
             self.edge(machine, node)
         } else if place == 2 {
@@ -58,15 +68,22 @@ impl Driver {
         } else if place == 3 {
             validation(machine, node)
         } else {
-            step(machine, node)
+            step(machine, node, answer)
         }
     }
 
     /// The event at a place of the node's list, where there is one: first those of the messages in flight, their deliveries
-    /// and then their hops, and then the node's own.
-    fn at_place(&self, machine: &Machine, node: NodeId, place: usize) -> Option<Event>
+    /// and then their hops, and then the node's own. The answer is the one that the node's step would have now.
+    fn at_place(
+        &self,
+        machine: &Machine,
+        node: NodeId,
+        answer: &Answer,
+        place: usize,
+    ) -> Option<Event>
         requires here { node < machine.now.config.nodes }
         requires there { place < length (places_of self.now.rules machine.now.image machine.now.config machine.now.state self.now.numbers node) }
+        requires foreseen { answer.now ≡ foreseen machine.now.image machine.now.config machine.now.state (Step node) }
         ensures same { result ≡ slice_index_or (places_of self.now.rules machine.now.image machine.now.config machine.now.state self.now.numbers node) place None }
         ensures fits { IfSome result (λ event. event_fits machine.now.config.nodes event ≡ true) }
     {
@@ -77,7 +94,7 @@ impl Driver {
         if place - flights < flights {
             return hop(machine, node, place - flights);
         }
-        self.own_event(machine, node, place - flights - flights)
+        self.own_event(machine, node, answer, place - flights - flights)
     }
 
     /// How many places the node's list has.
@@ -89,19 +106,20 @@ impl Driver {
         flights + flights + 5
     }
 
-    /// How many events the node's list has.
+    /// How many events the node's list has, and the first of them.
     #[tactic(auto, using(crate::proofs::Lists::from_place))]
-    fn count(&self, machine: &Machine, node: NodeId) -> usize
+    fn found(&self, machine: &Machine, node: NodeId) -> Found
         requires { node < machine.now.config.nodes }
-        ensures { result ≡ length (list_of self.now.rules machine.now.image machine.now.config machine.now.state self.now.numbers node) }
+        ensures found { HasFound machine.now.config.nodes (list_of self.now.rules machine.now.image machine.now.config machine.now.state self.now.numbers node) result }
     {
-        let mut count = 0;
+        let answer = machine.foresee(Event::Step(node));
+        let mut found = Found::none();
         'places: for place in 0..self.places(machine, node) {
-            if self.at_place(machine, node, place).is_some() {
-                count += 1;
+            if let Some(event) = self.at_place(machine, node, &answer, place) {
+                found.add(event);
             }
         }
-        count
+        found
     }
 
     /// The event of the node's list with so many before it.
@@ -111,9 +129,10 @@ impl Driver {
         ensures same { result ≡ slice_get (list_of self.now.rules machine.now.image machine.now.config machine.now.state self.now.numbers node) before }
         ensures fits { IfSome result (λ event. event_fits machine.now.config.nodes event ≡ true) }
     {
+        let answer = machine.foresee(Event::Step(node));
         let mut left = before;
         'places: for place in 0..self.places(machine, node) {
-            if let Some(event) = self.at_place(machine, node, place) {
+            if let Some(event) = self.at_place(machine, node, &answer, place) {
                 if left == 0 {
                     return Some(event);
                 }
@@ -130,10 +149,14 @@ impl Driver {
         ensures same { result ≡ picked pick (list_of self.now.rules machine.now.image machine.now.config machine.now.state self.now.numbers node) }
         ensures fits { IfSome result (λ event. event_fits machine.now.config.nodes event ≡ true) }
     {
-        let count = self.count(machine, node);
-        if count == 0 {
+        let found = self.found(machine, node);
+        if found.count == 0 {
             return None;
         }
-        self.nth(machine, node, pick as usize % count)
+        let before = pick as usize % found.count;
+        if before < 16 {
+            return found.first[before];
+        }
+        self.nth(machine, node, before)
     }
 }

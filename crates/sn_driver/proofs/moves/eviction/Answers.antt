@@ -5,7 +5,7 @@ use Rattle.sn_driver.proofs.moves.eviction.Goals as goal
 
 pub returns-in_err-block-clause-same : goal.returns-in_err-block-clause-same
 returns-in_err-block-clause-same c =
-    c.from_residual.ensures ∙ eviction-none c.args.machine.now c.args.node c.foresee.result c.foresee.ensures (sym c.if-not-needs_evict.ensures) (c.in_err-block.ensures.none refl)
+    c.from_residual.ensures ∙ eviction-none c.args.machine.now c.args.node c.args.answer.now c.requires.foreseen (sym c.if-not-needs_evict.ensures) (c.in_err-block.ensures.none refl)
 
 pub returns-clause-same : goal.returns-clause-same
 returns-clause-same c =

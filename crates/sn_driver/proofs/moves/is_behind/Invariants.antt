@@ -1,4 +1,4 @@
-use Rattle.std.proofs.Common.{◌≡◌, ℕ, ◌<◌, ◌≤◌}
+use Rattle.std.proofs.Common.{ℕ, ◌<◌, ◌≤◌}
 use Rattle.sn_model.specs.Fabric.{node_at}
 use Rattle.sn_driver.proofs.moves.is_behind.Given as goal
 
