@@ -22,7 +22,7 @@ use Rattle.sn_consistency.specs.Entries.{Entry, wrote, writes_to}
 use Rattle.sn_consistency.specs.Projections.{BlockState, BlockLegal, block_step, block_of_state, entries, core_after}
 use Rattle.projection_places.specs.Passes.{Passes}
 use Rattle.projection_places.proofs.Folds.{block_after, block_more, block_last, block_next}
-use Rattle.trace_check.specs.declared.deed.Deed.{Deed}
+use Rattle.trace_check.specs.DeedData.{DeedData}
 use Rattle.trace_check.specs.declared.cell.Cell.{Cell}
 use Rattle.trace_check.specs.Deeds.{reads_memory, deed_of}
 use Rattle.trace_check.specs.Cells.{is_lr, is_sc, word_in, Finds, Stands, IsAfter}
@@ -104,7 +104,7 @@ test_other : (a b : ℕ) → a ≢ b → (a == b) ≡ false
 test_other a b e = grind (arith, nat_tests)
 
 -- an entry and its deed
-module _ (image : ImageData) (c : CoreState) (r : Record) (deed : Deed) (is : deed ≡ deed_of image c r) where
+module _ (image : ImageData) (c : CoreState) (r : Record) (deed : DeedData) (is : deed ≡ deed_of image c r) where
   abbrev E : Entry
   E = record { found = bare c; did = r }
 
@@ -220,7 +220,7 @@ block_now image N rs b k =
 
 pub record IsPartReplayed (image : ImageData) (N part : ℕ) (rs : List Record) (k : ℕ) (cells : List Cell) : Type 0 where
   pub good : PartPasses image N part rs k
-  pub stands : (b : ℕ) (d : Cell) → b < 65536 → b % 4 ≡ part → Stands (get_or cells (b / 4) d) (block_now image N rs b k)
+  pub stands : (b : ℕ) (d : Cell) → b < 65536 → b % 2 ≡ part → Stands (get_or cells (b / 2) d) (block_now image N rs b k)
 
 nobody : Cell
 nobody = record { content = []; intact = [] }
@@ -238,38 +238,38 @@ pub tested : (x : Bool) → (x ≡ true) ⊎ (x ≡ false)
 tested true = inl refl
 tested false = inr refl
 
-inside_part : (part : ℕ) (w : Want) → is_access w ≡ true → wanted_block w % 4 ≡ part → is_in part w ≡ true
-inside_part part w a e = let t : nat_eq (wanted_block w % 4) part ≡ true = grind (arith, nat_tests) in ap (λ x. x && nat_eq (wanted_block w % 4) part) a ∙ t
+inside_part : (part : ℕ) (w : Want) → is_access w ≡ true → wanted_block w % 2 ≡ part → is_in part w ≡ true
+inside_part part w a e = let t : nat_eq (wanted_block w % 2) part ≡ true = grind (arith, nat_tests) in ap (λ x. x && nat_eq (wanted_block w % 2) part) a ∙ t
 
-outside_part : (part : ℕ) (w : Want) → wanted_block w % 4 ≢ part → is_in part w ≡ false
-outside_part part w e = let t : nat_eq (wanted_block w % 4) part ≡ false = grind (arith, nat_tests) in ap (λ x. is_access w && x) t ∙ and_false (is_access w)
+outside_part : (part : ℕ) (w : Want) → wanted_block w % 2 ≢ part → is_in part w ≡ false
+outside_part part w e = let t : nat_eq (wanted_block w % 2) part ≡ false = grind (arith, nat_tests) in ap (λ x. is_access w && x) t ∙ and_false (is_access w)
 
 idle_part : (part : ℕ) (w : Want) → is_access w ≡ false → is_in part w ≡ false
-idle_part part w a = ap (λ x. x && nat_eq (wanted_block w % 4) part) a
+idle_part part w a = ap (λ x. x && nat_eq (wanted_block w % 2) part) a
 
-in_part : (part : ℕ) (w : Want) → is_in part w ≡ true → (is_access w ≡ true) × (wanted_block w % 4 ≡ part)
-in_part part w e = go (tested (is_access w)) (pick (wanted_block w % 4) part)
+in_part : (part : ℕ) (w : Want) → is_in part w ≡ true → (is_access w ≡ true) × (wanted_block w % 2 ≡ part)
+in_part part w e = go (tested (is_access w)) (pick (wanted_block w % 2) part)
   where
-    go : ((is_access w ≡ true) ⊎ (is_access w ≡ false)) → ((wanted_block w % 4 ≡ part) ⊎ (wanted_block w % 4 ≢ part)) → (is_access w ≡ true) × (wanted_block w % 4 ≡ part)
+    go : ((is_access w ≡ true) ⊎ (is_access w ≡ false)) → ((wanted_block w % 2 ≡ part) ⊎ (wanted_block w % 2 ≢ part)) → (is_access w ≡ true) × (wanted_block w % 2 ≡ part)
     go (inl a) (inl m) = (a, m)
     go (inl a) (inr m) = let f : true ≡ false = sym e ∙ outside_part part w m in absurd (cc)
     go (inr a) m = let f : true ≡ false = sym e ∙ idle_part part w a in absurd (cc)
 
-other_place : (b w part : ℕ) → b ≢ w → b % 4 ≡ part → w % 4 ≡ part → b / 4 ≢ w / 4
+other_place : (b w part : ℕ) → b ≢ w → b % 2 ≡ part → w % 2 ≡ part → b / 2 ≢ w / 2
 other_place b w part n e f = λ g. n (omega (arith, e, f, g))
 
-pub part_start : (image : ImageData) (N part : ℕ) (rs : List Record) (cells : List Cell) → AreFirst image part 16384 cells →
+pub part_start : (image : ImageData) (N part : ℕ) (rs : List Record) (cells : List Cell) → AreFirst image part 32768 cells →
     IsPartReplayed image N part rs 0 cells
 part_start image N part rs cells f = record {
   good = λ b e. tt;
-  stands = λ b d l e. first_stands image N b (get_or cells (b / 4) d) l (
-      let i : 4 * (b / 4) + part ≡ b = omega (arith, e) in
-      subst (λ x. IsFirst image x (get_or cells (b / 4) d)) i (f.each (b / 4) d (omega (arith, l))));
+  stands = λ b d l e. first_stands image N b (get_or cells (b / 2) d) l (
+      let i : 2 * (b / 2) + part ≡ b = omega (arith, e) in
+      subst (λ x. IsFirst image x (get_or cells (b / 2) d)) i (f.each (b / 2) d (omega (arith, l))));
 }
 
 module _
     (image : ImageData) (N part : ℕ) (rs : List Record) (k : ℕ) (cells : List Cell) (p : IsPartReplayed image N part rs k cells)
-    (r : Record) (e : slice_get rs k ≡ Some r) (deed : Deed)
+    (r : Record) (e : slice_get rs k ≡ Some r) (deed : DeedData)
     (is : deed ≡ deed_of image (core_after image r.core (core_at (flat_start image N) r.core) (take k rs)) r) (fits : IsFitting deed r) where
   abbrev X : CoreState
   X = core_after image r.core (core_at (flat_start image N) r.core) (take k rs)
@@ -277,36 +277,36 @@ module _
   abbrev w : Want
   w = deed.want
 
-  here : (b : ℕ) (d : Cell) → is_access w ≡ true → b ≡ wanted_block w → b % 4 ≡ part → Stands (get_or cells (wanted_block w / 4) d) (block_now image N rs b k)
-  here b d a i m = let s = p.stands b d (let l = in_memory w fits.0 a in omega (arith, i, l)) m in subst (λ x. Stands (get_or cells (x / 4) d) (block_now image N rs b k)) i s
+  here : (b : ℕ) (d : Cell) → is_access w ≡ true → b ≡ wanted_block w → b % 2 ≡ part → Stands (get_or cells (wanted_block w / 2) d) (block_now image N rs b k)
+  here b d a i m = let s = p.stands b d (let l = in_memory w fits.0 a in omega (arith, i, l)) m in subst (λ x. Stands (get_or cells (x / 2) d) (block_now image N rs b k)) i s
 
   pub part_more : (after : List Cell) → (is_in part w ≡ false → after ≡ cells) →
-      ((d : Cell) → is_in part w ≡ true → Finds (get_or cells (wanted_block w / 4) d) w r) →
-      ((d : Cell) → is_in part w ≡ true → IsAfter (get_or cells (wanted_block w / 4) d) deed r (get_or after (wanted_block w / 4) d)) →
-      ((j : ℕ) (d : Cell) → j ≢ wanted_block w / 4 → get_or after j d ≡ get_or cells j d) →
+      ((d : Cell) → is_in part w ≡ true → Finds (get_or cells (wanted_block w / 2) d) w r) →
+      ((d : Cell) → is_in part w ≡ true → IsAfter (get_or cells (wanted_block w / 2) d) deed r (get_or after (wanted_block w / 2) d)) →
+      ((j : ℕ) (d : Cell) → j ≢ wanted_block w / 2 → get_or after j d ≡ get_or cells j d) →
       IsPartReplayed image N part rs (suc k) after
   part_more after away finds done others = record {
     good = λ b m. block_more image b (block_of_state (flat_start image N) b) (core_at (flat_start image N)) rs k r e (p.good b m) (λ i. legal b m (i ∙ block_is image X r deed is) (tested (is_access w)));
-    stands = λ b d l m. subst (Stands (get_or after (b / 4) d)) (sym (block_next image b (block_of_state (flat_start image N) b) (core_at (flat_start image N)) rs k r e)) (later b d l m (tested (is_access w)) (pick b (wanted_block w)) (pick (wanted_block w % 4) part));
+    stands = λ b d l m. subst (Stands (get_or after (b / 2) d)) (sym (block_next image b (block_of_state (flat_start image N) b) (core_at (flat_start image N)) rs k r e)) (later b d l m (tested (is_access w)) (pick b (wanted_block w)) (pick (wanted_block w % 2) part));
   }
     where
-      legal : (b : ℕ) → b % 4 ≡ part → b ≡ wanted_block w → ((is_access w ≡ true) ⊎ (is_access w ≡ false)) → BlockLegal image (block_now image N rs b k) (record { found = bare X; did = r })
-      legal b m i (inl a) = legal_to image X r deed is b (block_now image N rs b k) (get_or cells (wanted_block w / 4) nobody) (here b nobody a i m) (finds nobody (inside_part part w a (subst (λ x. x % 4 ≡ part) i m)))
+      legal : (b : ℕ) → b % 2 ≡ part → b ≡ wanted_block w → ((is_access w ≡ true) ⊎ (is_access w ≡ false)) → BlockLegal image (block_now image N rs b k) (record { found = bare X; did = r })
+      legal b m i (inl a) = legal_to image X r deed is b (block_now image N rs b k) (get_or cells (wanted_block w / 2) nobody) (here b nobody a i m) (finds nobody (inside_part part w a (subst (λ x. x % 2 ≡ part) i m)))
       legal b m i (inr a) = legal_idle image X r deed is (block_now image N rs b k) a
 
-      stays : (b : ℕ) (d : Cell) → b < 65536 → b % 4 ≡ part → get_or after (b / 4) d ≡ get_or cells (b / 4) d → Stands (get_or after (b / 4) d) (block_now image N rs b k)
+      stays : (b : ℕ) (d : Cell) → b < 65536 → b % 2 ≡ part → get_or after (b / 2) d ≡ get_or cells (b / 2) d → Stands (get_or after (b / 2) d) (block_now image N rs b k)
       stays b d l m s = subst (λ x. Stands x (block_now image N rs b k)) (sym s) (p.stands b d l m)
 
-      later : (b : ℕ) (d : Cell) → b < 65536 → b % 4 ≡ part → ((is_access w ≡ true) ⊎ (is_access w ≡ false)) → ((b ≡ wanted_block w) ⊎ (b ≢ wanted_block w)) → ((wanted_block w % 4 ≡ part) ⊎ (wanted_block w % 4 ≢ part)) →
-          Stands (get_or after (b / 4) d) (block_step image b (block_now image N rs b k) (record { found = bare X; did = r }))
+      later : (b : ℕ) (d : Cell) → b < 65536 → b % 2 ≡ part → ((is_access w ≡ true) ⊎ (is_access w ≡ false)) → ((b ≡ wanted_block w) ⊎ (b ≢ wanted_block w)) → ((wanted_block w % 2 ≡ part) ⊎ (wanted_block w % 2 ≢ part)) →
+          Stands (get_or after (b / 2) d) (block_step image b (block_now image N rs b k) (record { found = bare X; did = r }))
       later b d l m (inl a) (inl i) q =
-          subst (λ x. Stands (get_or after (x / 4) d) (block_step image b (block_now image N rs b k) (record { found = bare X; did = r }))) (sym i)
-          (stands_after image X r deed is fits.1 b (block_now image N rs b k) (get_or cells (wanted_block w / 4) d) (here b d a i m) i (get_or after (wanted_block w / 4) d) (done d (inside_part part w a (subst (λ x. x % 4 ≡ part) i m))))
-      later b d l m (inl a) (inr n) (inl q) = stands_elsewhere image X r deed is fits.1 b (block_now image N rs b k) (get_or after (b / 4) d) (stays b d l m (others (b / 4) d (other_place b (wanted_block w) part n m q))) n
-      later b d l m (inl a) (inr n) (inr q) = stands_elsewhere image X r deed is fits.1 b (block_now image N rs b k) (get_or after (b / 4) d) (stays b d l m (ap (λ x. get_or x (b / 4) d) (away (outside_part part w q)))) n
-      later b d l m (inr a) i q = stands_idle image X r deed is fits.1 b (block_now image N rs b k) (get_or after (b / 4) d) (stays b d l m (ap (λ x. get_or x (b / 4) d) (away (idle_part part w a)))) a
+          subst (λ x. Stands (get_or after (x / 2) d) (block_step image b (block_now image N rs b k) (record { found = bare X; did = r }))) (sym i)
+          (stands_after image X r deed is fits.1 b (block_now image N rs b k) (get_or cells (wanted_block w / 2) d) (here b d a i m) i (get_or after (wanted_block w / 2) d) (done d (inside_part part w a (subst (λ x. x % 2 ≡ part) i m))))
+      later b d l m (inl a) (inr n) (inl q) = stands_elsewhere image X r deed is fits.1 b (block_now image N rs b k) (get_or after (b / 2) d) (stays b d l m (others (b / 2) d (other_place b (wanted_block w) part n m q))) n
+      later b d l m (inl a) (inr n) (inr q) = stands_elsewhere image X r deed is fits.1 b (block_now image N rs b k) (get_or after (b / 2) d) (stays b d l m (ap (λ x. get_or x (b / 2) d) (away (outside_part part w q)))) n
+      later b d l m (inr a) i q = stands_idle image X r deed is fits.1 b (block_now image N rs b k) (get_or after (b / 2) d) (stays b d l m (ap (λ x. get_or x (b / 2) d) (away (idle_part part w a)))) a
 
-  pub part_stops : (limit : ℕ) → k < limit → is_in part w ≡ true → ((d : Cell) → Finds (get_or cells (wanted_block w / 4) d) w r → ⊥) →
+  pub part_stops : (limit : ℕ) → k < limit → is_in part w ≡ true → ((d : Cell) → Finds (get_or cells (wanted_block w / 2) d) w r → ⊥) →
       Passes (PartPasses image N part rs) limit k
   part_stops limit l i lost =
       let h = in_part part w i in
@@ -314,7 +314,7 @@ module _
       record {
         within = omega (arith, l);
         good = p.good;
-        bad = λ q g. lost nobody (legal_from image X r deed is b (block_now image N rs b k) (get_or cells (b / 4) nobody) (here b nobody h.0 refl h.1)
+        bad = λ q g. lost nobody (legal_from image X r deed is b (block_now image N rs b k) (get_or cells (b / 2) nobody) (here b nobody h.0 refl h.1)
             (block_last image b (block_of_state (flat_start image N) b) (core_at (flat_start image N)) rs k r e (g b h.1) (sym (block_is image X r deed is))));
       }
 

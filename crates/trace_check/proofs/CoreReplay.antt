@@ -8,7 +8,7 @@ use Rattle.sn_consistency.specs.Words.{next}
 use Rattle.sn_consistency.specs.Projections.{Replays, CoreGood, core_step, core_after}
 use Rattle.projection_places.specs.Passes.{Passes}
 use Rattle.projection_places.proofs.Folds.{core_more, core_last, core_next}
-use Rattle.trace_check.specs.declared.deed.Deed.{Deed}
+use Rattle.trace_check.specs.DeedData.{DeedData}
 use Rattle.trace_check.specs.Deeds.{deed_of, core_deeds}
 
 -- a record that is the core's own, and one that is not
@@ -37,18 +37,18 @@ module _ (image : ImageData) (n : ℕ) where
       go false h = h c
 
 -- the core after the first k records, which it passes, and what its own among them did
-pub record IsReplayed (image : ImageData) (N n : ℕ) (c : CoreState) (rs : List Record) (k : ℕ) (now : CoreState) (did : List Deed) : Type 0 where
+pub record IsReplayed (image : ImageData) (N n : ℕ) (c : CoreState) (rs : List Record) (k : ℕ) (now : CoreState) (did : List DeedData) : Type 0 where
   pub good : CoreGood image N n c (take k rs)
   pub state : now ≡ core_after image n c (take k rs)
   pub deeds : did ≡ core_deeds image n c (take k rs)
 
 module _ (image : ImageData) (N n : ℕ) (c : CoreState) (rs : List Record) where
-  pub replayed_none : (did : List Deed) → did ≡ [] → IsReplayed image N n c rs zero c did
+  pub replayed_none : (did : List DeedData) → did ≡ [] → IsReplayed image N n c rs zero c did
   replayed_none did e = record { good = tt; state = refl; deeds = e }
 
-  module _ (k : ℕ) (now : CoreState) (did : List Deed) (p : IsReplayed image N n c rs k now did) where
+  module _ (k : ℕ) (now : CoreState) (did : List DeedData) (p : IsReplayed image N n c rs k now did) where
     module _ (r : Record) (e : slice_get rs k ≡ Some r) where
-      pub replayed_more : (later : CoreState) (done : List Deed) → (n ≡ r.core → Replays image N now r) →
+      pub replayed_more : (later : CoreState) (done : List DeedData) → (n ≡ r.core → Replays image N now r) →
           later ≡ core_step image n now r → done ≡ did ++ core_deeds image n now (r ∷ []) →
           IsReplayed image N n c rs (suc k) later done
       replayed_more later done g s d = record {

@@ -12,7 +12,7 @@ use Rattle.trace_check.specs.Parts.{PartPasses}
 module _ (image : ImageData) (N : ℕ) (rs : List Record) where
   -- what the first parts pass
   abbrev pub PartsBelow : ℕ → ℕ → Type 0
-  PartsBelow count k = (b : ℕ) → b % 4 < count → BlockPasses image b (flat_start image N) rs k
+  PartsBelow count k = (b : ℕ) → b % 2 < count → BlockPasses image b (flat_start image N) rs k
 
   fewer : (b k m : ℕ) → k ≤ m → BlockPasses image b (flat_start image N) rs m → BlockPasses image b (flat_start image N) rs k
   fewer b k m l g = block_fewer image b (block_of_state (flat_start image N) b) (core_at (flat_start image N)) rs k m l g
@@ -28,12 +28,12 @@ module _ (image : ImageData) (N : ℕ) (rs : List Record) where
       (passes_both (PartsBelow count) (PartPasses image N count rs) (λ k m h g. λ d l. fewer d k m h (g d l)) (λ k m h g. λ d e. fewer d k m h (g d e)) limit p q a b)
     where
       to : (k : ℕ) → (PartsBelow count k × PartPasses image N count rs k) → PartsBelow (suc count) k
-      to k g = λ b l. go b l (cases_order (b % 4) count)
+      to k g = λ b l. go b l (cases_order (b % 2) count)
         where
-          go : (b : ℕ) → b % 4 < suc count → ((b % 4 ≡ count) ⊎ ((b % 4 < count) ⊎ (count < b % 4))) → BlockPasses image b (flat_start image N) rs k
+          go : (b : ℕ) → b % 2 < suc count → ((b % 2 ≡ count) ⊎ ((b % 2 < count) ⊎ (count < b % 2))) → BlockPasses image b (flat_start image N) rs k
           go b l (inl e) = g.1 b e
           go b l (inr (inl h)) = g.0 b h
           go b l (inr (inr h)) = absurd (omega (arith, h, l))
 
-  pub parts_all : (limit count p : ℕ) → count ≡ 4 → Passes (PartsBelow count) limit p → Passes (BlocksPass image (flat_start image N) rs) limit p
+  pub parts_all : (limit count p : ℕ) → count ≡ 2 → Passes (PartsBelow count) limit p → Passes (BlocksPass image (flat_start image N) rs) limit p
   parts_all limit count p e = passes_as (PartsBelow count) (BlocksPass image (flat_start image N) rs) (λ k g. λ b. g b (omega (arith, e))) (λ k g. λ b l. g b) limit p

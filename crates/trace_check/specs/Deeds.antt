@@ -9,7 +9,7 @@ use Rattle.rv_core.specs.Core.{is_input, holds_reservation}
 use Rattle.rv_core.specs.Step.{want_of, next_of}
 use Rattle.sn_consistency.specs.Words.{next}
 use Rattle.sn_consistency.specs.Projections.{core_step}
-use Rattle.trace_check.specs.declared.deed.Deed.{Deed}
+use Rattle.trace_check.specs.DeedData.{DeedData}
 
 -- whether memory is read
 abbrev pub reads_memory : Want → Bool
@@ -28,16 +28,16 @@ MayDo c want r =
     × (is_some r.read ≡ is_input want)
 
 -- what a core does by a record
-abbrev pub deed_of : ImageData → CoreState → Record → Deed
+abbrev pub deed_of : ImageData → CoreState → Record → DeedData
 deed_of image c r = record { want = want_of image c; write = (next_of image c r.seen r.sc_done r.read).effect.write }
 
 -- what core n does, in order, by its own records
-abbrev pub core_deeds : ImageData → ℕ → CoreState → List Record → List Deed
+abbrev pub core_deeds : ImageData → ℕ → CoreState → List Record → List DeedData
 core_deeds image n c [] = []
 core_deeds image n c (r ∷ rs) =
     if n == r.core then deed_of image c r ∷ core_deeds image n (next image c r) rs else core_deeds image n c rs
 
 -- what all cores do, in the order of the records
-abbrev pub deeds : ImageData → (ℕ → CoreState) → List Record → List Deed
+abbrev pub deeds : ImageData → (ℕ → CoreState) → List Record → List DeedData
 deeds image c [] = []
 deeds image c (r ∷ rs) = deed_of image (c r.core) r ∷ deeds image (λ n. core_step image n (c n) r) rs

@@ -1,3 +1,4 @@
+pub mod DeedData
 pub mod Deeds
 pub mod Cells
 pub mod Slots

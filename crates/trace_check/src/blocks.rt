@@ -24,7 +24,7 @@ pub fn replay_part(
     count: usize,
     slots: &[Slot],
 ) -> Result<usize, Memory>
-    requires part { part < 4 }
+    requires part { part < 2 }
     requires within { count ≤ length records.now }
     requires room { HasRoom slots.now records.now count }
     requires fits { AreFitting records.now count slots.now }
@@ -42,20 +42,20 @@ fn replay_deeds(
     slots: &[Slot],
     cells: &mut [Cell],
 ) -> usize
-    requires part { part < 4 }
+    requires part { part < 2 }
     requires within { count ≤ length records.now }
     requires room { HasRoom slots.now records.now count }
     requires fits { AreFitting records.now count slots.now }
-    requires cells { length cells.old ≡ 16384 }
-    ensures { (image : ImageData) (nodes : ℕ) → AreFirst image part 16384 cells.old → HasDeeds image nodes records.now count slots.now →
+    requires cells { length cells.old ≡ 32768 }
+    ensures { (image : ImageData) (nodes : ℕ) → AreFirst image part 32768 cells.old → HasDeeds image nodes records.now count slots.now →
         Passes (PartPasses image nodes part records.now) count result }
 {
     let mut next = [0usize; 16];
     'records: for place in 0..count {
         let taken = records[place];
         let core = usize::from(taken.core.number());
-        let deed = slots[core].deeds[next[core]];
-        if !replay_access(part, cells, &deed, &taken) {
+        let deed = &slots[core].deeds[next[core]];
+        if !replay_access(part, cells, deed, &taken) {
             return place;
         }
         next[core] += 1;
@@ -65,16 +65,16 @@ fn replay_deeds(
 
 /// Whether an access finds what the earlier ones left, where its block is of this part. If so, it is done.
 fn replay_access(part: u16, cells: &mut [Cell], deed: &Deed, taken: &Record) -> bool
-    requires cells { length cells.old ≡ 16384 }
+    requires cells { length cells.old ≡ 32768 }
     requires fits { IsFitting deed.now taken.now }
     ensures size { length cells.new ≡ length cells.old }
     ensures away { is_in part deed.now.want ≡ false → (result ≡ true) × (cells.new ≡ cells.old) }
-    ensures finds { (d : Cell) → is_in part deed.now.want ≡ true → IsTrue result ↔ Finds (slice_index_or cells.old (wanted_block deed.now.want / 4) d) deed.now.want taken.now }
+    ensures finds { (d : Cell) → is_in part deed.now.want ≡ true → IsTrue result ↔ Finds (slice_index_or cells.old (wanted_block deed.now.want / 2) d) deed.now.want taken.now }
     ensures after { (d : Cell) → is_in part deed.now.want ≡ true → result ≡ true →
-        IsAfter (slice_index_or cells.old (wanted_block deed.now.want / 4) d) deed.now taken.now (slice_index_or cells.new (wanted_block deed.now.want / 4) d) }
-    ensures others { (j : ℕ) (d : Cell) → j ≢ wanted_block deed.now.want / 4 → slice_index_or cells.new j d ≡ slice_index_or cells.old j d }
+        IsAfter (slice_index_or cells.old (wanted_block deed.now.want / 2) d) deed.now taken.now (slice_index_or cells.new (wanted_block deed.now.want / 2) d) }
+    ensures others { (j : ℕ) (d : Cell) → j ≢ wanted_block deed.now.want / 2 → slice_index_or cells.new j d ≡ slice_index_or cells.old j d }
 {
-    match place_in(part, deed.want) {
+    match place_in(part, deed.want()) {
         None => true,
         Some(place) => replay_cell(&mut cells[place], deed, taken),
     }
@@ -85,7 +85,7 @@ fn replay_cell(cell: &mut Cell, deed: &Deed, taken: &Record) -> bool
     ensures finds { IsTrue result ↔ Finds cell.old deed.now.want taken.now }
     ensures after { result ≡ true → IsAfter cell.old deed.now taken.now cell.new }
 {
-    if !cell.finds(deed.want, taken) {
+    if !cell.finds(deed.want(), taken) {
         return false;
     }
     cell.apply(deed, taken);
@@ -96,13 +96,13 @@ fn replay_cell(cell: &mut Cell, deed: &Deed, taken: &Record) -> bool
 fn place_in(part: u16, want: Want) -> Option<usize>
     requires { IsInside want }
     ensures some { IsSome result ↔ (is_in part want ≡ true) }
-    ensures place { IfSome result (λ place. (place ≡ wanted_block want / 4) × (place < 16384)) }
+    ensures place { IfSome result (λ place. (place ≡ wanted_block want / 2) × (place < 32768)) }
 {
     let block = block_in(want)?.number();
-    if block % 4 != part {
+    if block % 2 != part {
         return None;
     }
-    Some(usize::from(block / 4))
+    Some(usize::from(block / 2))
 }
 
 /// The block that is accessed.
@@ -132,12 +132,12 @@ fn block_at(address: u32) -> BlockNo
 
 /// The cells of a part at the start.
 fn first_cells(alloc: Global, image: &Image, part: u16) -> Result<Vec<Cell>, Memory>
-    requires { part < 4 }
-    ensures { IfOk result (λ cells. AreFirst image.now part 16384 cells.items) }
+    requires { part < 2 }
+    ensures { IfOk result (λ cells. AreFirst image.now part 32768 cells.items) }
 {
-    let mut cells = Vec::with_capacity(alloc, 16384)?;
-    'places: for place in 0..16384u16 {
-        cells.push(first_cell(image, BlockNo::new(4 * place + part)))?;
+    let mut cells = Vec::with_capacity(alloc, 32768)?;
+    'places: for place in 0..32768u16 {
+        cells.push(first_cell(image, BlockNo::new(2 * place + part)))?;
     }
     Ok(cells)
 }

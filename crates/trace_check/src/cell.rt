@@ -45,16 +45,12 @@ impl Cell {
         requires { WriteFits deed.now.want taken.now.sc_done deed.now.write }
         ensures { IsAfter self.old deed.now taken.now self.new }
     {
-        if let Some(write) = deed.write {
+        let write = deed.write();
+        if let Some(write) = write {
             let place = (write.address - 0x8000_0000) % 64;
             self.content.store(place as usize, write.width, write.value);
         }
-        self.intact = intact_after(
-            self.intact,
-            taken.core,
-            is_lr(deed.want),
-            deed.write.is_some(),
-        );
+        self.intact = intact_after(self.intact, taken.core, is_lr(deed.want()), write.is_some());
     }
 }
 

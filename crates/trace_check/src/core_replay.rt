@@ -148,8 +148,5 @@ fn take(image: &Image, state: &mut CoreState, step: Step, taken: &Record) -> Dee
         taken.sc_done,
         taken.read,
     );
-    Deed {
-        want: step.want,
-        write: effect.write,
-    }
+    Deed::new(step.want, effect.write)
 }

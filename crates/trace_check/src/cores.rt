@@ -21,31 +21,44 @@ pub struct Slot {
     pub passed: Result<usize, Memory>,
 }
 
-/// A slot for each core, with room for what its records do.
-pub fn fresh_slots(alloc: Global, nodes: u8, records: &[Record]) -> Result<Vec<Slot>, Memory>
-    requires { nodes ≤ 16 }
+/// How many records, from the first on, are of cores that are there, and how many of them are each core's.
+#[derive(Clone, Copy)]
+pub struct Counts {
+    pub inside: usize,
+    pub own: [usize; 16],
+}
+
+pub fn count_records(nodes: u8, records: &[Record]) -> Counts
+    ensures inside { Passes (AreInside nodes records.now) (length records.now) result.inside }
+    ensures width { length result.own ≡ 16 }
+{
+    let mut own = [0usize; 16];
+    'records: for place in 0..records.len() {
+        if records[place].core.number() >= nodes {
+            return Counts { inside: place, own };
+        }
+        let core = usize::from(records[place].core.number());
+        // Room is asked for by it, and no more rests on it.
+        own[core] = own[core].saturating_add(1);
+    }
+    Counts {
+        inside: records.len(),
+        own,
+    }
+}
+
+/// A slot for each core, with room for what its own records do.
+pub fn fresh_slots(alloc: Global, nodes: u8, own: [usize; 16]) -> Result<Vec<Slot>, Memory>
+    requires few { nodes ≤ 16 }
+    requires width { length own ≡ 16 }
     ensures { IfOk result (λ slots. AreFresh nodes slots.items) }
 {
-    let counts = count_each(records);
     let mut slots = Vec::with_capacity(alloc, usize::from(nodes))?;
     'nodes: for number in 0..nodes {
-        let slot = fresh_slot(alloc, number, counts[usize::from(number)])?;
+        let slot = fresh_slot(alloc, number, own[usize::from(number)])?;
         slots.push(slot)?;
     }
     Ok(slots)
-}
-
-/// How many records each core has.
-fn count_each(records: &[Record]) -> [usize; 16]
-    ensures { length result ≡ 16 }
-{
-    let mut counts = [0usize; 16];
-    'records: for place in 0..records.len() {
-        let core = usize::from(records[place].core.number());
-        // Room is asked for by it, and no more rests on it.
-        counts[core] = counts[core].saturating_add(1);
-    }
-    counts
 }
 
 fn fresh_slot(alloc: Global, number: u8, own: usize) -> Result<Slot, Memory>
@@ -104,18 +117,6 @@ fn replay_slot<G: Gate>(
     let mut deeds = mem::replace(&mut slot.deeds, Vec::new(alloc));
     slot.passed = replay(image, nodes, slot.core, records, &mut deeds);
     slot.deeds = deeds;
-}
-
-/// How many records, from the first on, are of cores that are there.
-pub fn count_inside(nodes: u8, records: &[Record]) -> usize
-    ensures { Passes (AreInside nodes records.now) (length records.now) result }
-{
-    'records: for place in 0..records.len() {
-        if records[place].core.number() >= nodes {
-            return place;
-        }
-    }
-    records.len()
 }
 
 /// How many records, from the first on, all cores pass, where so many are of cores that are there.

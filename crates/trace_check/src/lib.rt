@@ -7,7 +7,7 @@
 //! the earlier writes left, and no other core's write lies between a done SC and its core's last LR. That this judges
 //! the whole is the law of projections (sn_consistency, projection_places).
 //!
-//! The cores are replayed in threads of their own, and then the blocks in four parts, each with every fourth block.
+//! The cores are replayed in threads of their own, and then the blocks in two parts, the even ones and the odd ones.
 #![tactic(auto)]
 
 mod blocks;
@@ -15,6 +15,7 @@ mod cell;
 mod core_replay;
 mod cores;
 mod deed;
+mod kind;
 mod parts;
 mod verdict;
 

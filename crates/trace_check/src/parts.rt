@@ -29,7 +29,7 @@ pub fn replay_blocks<T: Threads + Sync>(
     ensures { IfOk result (λ p. (nodes : ℕ) → HasDeeds image.now nodes records.now count slots.now →
         Passes (BlocksPass image.now (flat_start image.now nodes) records.now) count p) }
 {
-    let mut passed: [Result<usize, Memory>; 4] = [Ok(0); 4];
+    let mut passed: [Result<usize, Memory>; 2] = [Ok(0); 2];
     replay_parts(rt, alloc, image, records, count, slots, &mut passed[..]);
     least_of(image, records, count, slots, &passed[..])
 }
@@ -43,18 +43,18 @@ fn replay_parts<T: Threads + Sync>(
     slots: &[Slot],
     passed: &mut [Result<usize, Memory>],
 )
-    requires size { length passed.old ≡ 4 }
+    requires size { length passed.old ≡ 2 }
     requires within { count ≤ length records.now }
     requires room { HasRoom slots.now records.now count }
     requires fits { AreFitting records.now count slots.now }
-    ensures size { length passed.new ≡ 4 }
-    ensures each { (part : ℕ) (d : Result ℕ Memory) → part < 4 → HasPassed image.now part records.now count slots.now (slice_index_or passed.new part d) }
+    ensures size { length passed.new ≡ 2 }
+    ensures each { (part : ℕ) (d : Result ℕ Memory) → part < 2 → HasPassed image.now part records.now count slots.now (slice_index_or passed.new part d) }
 {
     par_for_each_mut(
         rt,
         passed,
         |part: usize, passed: &mut Result<usize, Memory>|
-            requires { (part < 4) × (count ≤ length records.now) × HasRoom slots.now records.now count × AreFitting records.now count slots.now }
+            requires { (part < 2) × (count ≤ length records.now) × HasRoom slots.now records.now count × AreFitting records.now count slots.now }
             ensures { HasPassed image.entry.now part records.entry.now count slots.entry.now passed.new }
         { *passed = replay_part(alloc, image, part as u16, records, count, slots) },
     );
@@ -68,8 +68,8 @@ fn least_of(
     slots: &[Slot],
     passed: &[Result<usize, Memory>],
 ) -> Result<usize, Memory>
-    requires size { length passed.now ≡ 4 }
-    requires each { (part : ℕ) (d : Result ℕ Memory) → part < 4 → HasPassed image.now part records.now count slots.now (slice_index_or passed.now part d) }
+    requires size { length passed.now ≡ 2 }
+    requires each { (part : ℕ) (d : Result ℕ Memory) → part < 2 → HasPassed image.now part records.now count slots.now (slice_index_or passed.now part d) }
     ensures { IfOk result (λ p. (nodes : ℕ) → HasDeeds image.now nodes records.now count slots.now →
         Passes (BlocksPass image.now (flat_start image.now nodes) records.now) count p) }
 {

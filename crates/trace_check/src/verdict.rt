@@ -1,13 +1,14 @@
 //! The verdict on a trace.
-ghost use Rattle.std.specs.Prelude.{◌≡◌, ℕ, ◌+◌, ◌≤◌, ◌↔◌, Err, IfOk, IsOk};
+ghost use Rattle.std.specs.Prelude.{◌≡◌, ℕ, ◌+◌, ◌≤◌, ◌↔◌, Err, length, IfOk, IsOk};
 ghost use Rattle.rv_core.specs.Flat.{flat_start};
 ghost use Rattle.rv_core.specs.Execution.{IsExecution};
 ghost use Rattle.sn_consistency.specs.Projections.{FirstWithoutStep};
-ghost use Rattle.trace_check.specs.Slots.{AreFresh};
+ghost use Rattle.projection_places.specs.Passes.{Passes};
+ghost use Rattle.trace_check.specs.Slots.{AreFresh, AreInside};
 ghost use Rattle.trace_check.specs.Verdict.{IsDecided, IsDone};
 ghost use Rattle.trace_check.specs.declared.verdict.CheckFault.TheVariants.{NotLegal};
 
-use crate::cores::{Slot, count_inside, count_passed, fresh_slots, replay_cores};
+use crate::cores::{Slot, count_passed, count_records, fresh_slots, replay_cores};
 use crate::parts::replay_blocks;
 use rv_core::Record;
 use sn_base::{Image, Memory};
@@ -62,8 +63,19 @@ fn count_done<T: Threads + Sync, G: Gate + Sync>(
     requires few { nodes ≤ 16 }
     ensures { IfOk result (λ done. IsDone image.now nodes records.now done) }
 {
-    let mut slots = fresh_slots(alloc, nodes, records)?;
-    count_in_slots(rt, alloc, image, nodes, records, gate, slots.as_mut_slice())
+    let counts = count_records(nodes, records);
+    let mut slots = fresh_slots(alloc, nodes, counts.own)?;
+    let inside = counts.inside;
+    count_in_slots(
+        rt,
+        alloc,
+        image,
+        nodes,
+        records,
+        inside,
+        gate,
+        slots.as_mut_slice(),
+    )
 }
 
 /// The same with a slot for each core.
@@ -73,15 +85,16 @@ fn count_in_slots<T: Threads + Sync, G: Gate + Sync>(
     image: &Image,
     nodes: u8,
     records: &[Record],
+    inside: usize,
     gate: &G,
     slots: &mut [Slot],
 ) -> Result<usize, Memory>
     requires some { 1 ≤ nodes }
+    requires inside { Passes (AreInside nodes records.now) (length records.now) inside }
     requires fresh { AreFresh nodes slots.old }
     ensures { IfOk result (λ done. IsDone image.now nodes records.now done) }
 {
     replay_cores(rt, alloc, image, nodes, records, gate, slots);
-    let inside = count_inside(nodes, records);
     let passed = count_passed(image, nodes, records, slots, inside)?;
     replay_blocks(rt, alloc, image, records, passed, slots)
 }

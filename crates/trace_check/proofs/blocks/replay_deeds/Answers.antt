@@ -8,7 +8,7 @@ use Rattle.sn_base.specs.Image.{ImageData}
 use Rattle.rv_core.specs.Flat.{flat_start, core_at}
 use Rattle.sn_consistency.specs.Projections.{core_after}
 use Rattle.trace_check.specs.declared.cores.Slot.{Slot}
-use Rattle.trace_check.specs.declared.deed.Deed.{Deed}
+use Rattle.trace_check.specs.DeedData.{DeedData}
 use Rattle.trace_check.specs.Deeds.{deed_of}
 use Rattle.trace_check.specs.Parts.{IsFitting, is_in}
 use Rattle.trace_check.specs.Slots.{HasDeeds, own_before}
@@ -48,9 +48,9 @@ room c d =
     let b = before c in
     subst (λ n. get_or c.records.next c.from-core.result 0 < length (get_or c.args.slots.now n d).deeds.items) (sym e) (omega (arith, b, h))
 
-pub index-requires : goal.index-requires
-index-requires c =
-    let at = (goal.at.index-requires c).After-from-core in
+pub index-deed-requires : goal.index-deed-requires
+index-deed-requires c =
+    let at = (goal.at.index-deed-requires c).After-from-core in
     let h = room at c.index-slots-core.result in
     let v = get_or c.args.slots.now c.from-core.result c.index-slots-core.result in
     let o = v.deeds.ok.0 in
@@ -67,10 +67,10 @@ overflow_add-next c =
     omega (arith, h, o, w, s)
 
 -- the deed that is read is the next of the record's core
-abbrev IsRead : After-from-core → Slot → Deed → Type 0
+abbrev IsRead : After-from-core → Slot → DeedData → Type 0
 IsRead c slot deed = deed ≡ get_or (get_or c.args.slots.now c.from-core.result slot).deeds.items (get_or c.records.next c.from-core.result 0) deed
 
-there : (c : After-from-core) (slot : Slot) (deed : Deed) → IsRead c slot deed →
+there : (c : After-from-core) (slot : Slot) (deed : DeedData) → IsRead c slot deed →
     slice_get (get_or c.args.slots.now c.index-records-place.result.core slot).deeds.items (own_before c.args.records.now c.index-records-place.result.core c.records.place) ≡ Some deed
 there c slot deed is =
     let i = get_or c.records.next c.from-core.result 0 in
@@ -79,14 +79,14 @@ there c slot deed is =
     subst (λ n. slice_get (get_or c.args.slots.now n slot).deeds.items (own_before c.args.records.now c.index-records-place.result.core c.records.place) ≡ Some deed) (core c)
     (subst (λ j. slice_get (get_or c.args.slots.now c.from-core.result slot).deeds.items j ≡ Some deed) (before c) s)
 
-fitting : (c : After-from-core) (slot : Slot) (deed : Deed) → IsRead c slot deed → IsFitting deed c.index-records-place.result
+fitting : (c : After-from-core) (slot : Slot) (deed : DeedData) → IsRead c slot deed → IsFitting deed c.index-records-place.result
 fitting c slot deed is = c.requires.fits c.records.place c.index-records-place.result slot deed c.records-test.true (found c) (there c slot deed is)
 
 pub replay_access-requires-clause-fits : goal.replay_access-requires-clause-fits
-replay_access-requires-clause-fits c = fitting ((goal.at.replay_access-requires-clause-fits c).After-from-core) c.index-slots-core.result c.index.result.now c.index.ensures
+replay_access-requires-clause-fits c = fitting ((goal.at.replay_access-requires-clause-fits c).After-from-core) c.index-slots-core.result c.index-deed.result.now c.index-deed.ensures
 
 -- the deed is what the record's core does
-is_deed : (c : After-from-core) (slot : Slot) (deed : Deed) → IsRead c slot deed → (image : ImageData) (N : ℕ) → HasDeeds image N c.args.records.now c.args.count c.args.slots.now →
+is_deed : (c : After-from-core) (slot : Slot) (deed : DeedData) → IsRead c slot deed → (image : ImageData) (N : ℕ) → HasDeeds image N c.args.records.now c.args.count c.args.slots.now →
     deed ≡ deed_of image (core_after image c.index-records-place.result.core (core_at (flat_start image N) c.index-records-place.result.core) (take c.records.place c.args.records.now)) c.index-records-place.result
 is_deed c slot deed is image N h =
     let a = h c.records.place c.index-records-place.result slot c.records-test.true (found c) in
@@ -98,17 +98,17 @@ returns-then-not-replay_access c =
     let at = (goal.at.returns-then-not-replay_access c).After-from-core in
     λ image N f h.
     part_stops image N c.args.part c.args.records.now c.records.place c.records.cells (c.records.invariant.replayed image N f h)
-    c.index-records-place.result (found at) c.index.result.now (is_deed at c.index-slots-core.result c.index.result.now c.index.ensures image N h) (fitting at c.index-slots-core.result c.index.result.now c.index.ensures)
+    c.index-records-place.result (found at) c.index-deed.result.now (is_deed at c.index-slots-core.result c.index-deed.result.now c.index-deed.ensures image N h) (fitting at c.index-slots-core.result c.index-deed.result.now c.index-deed.ensures)
     c.args.count c.records-test.true inside
     (λ d g. let t : c.replay_access.result ≡ true = (c.replay_access.ensures.finds d inside).1 g in absurd (refused t))
   where
     refused : c.replay_access.result ≡ true → ⊥
     refused t = let e : c.replay_access.result ≡ false = c.if-not-replay_access.true in let x : false ≡ true = sym e ∙ t in absurd (cc)
 
-    inside : is_in c.args.part c.index.result.now.want ≡ true
-    inside = go (tested (is_in c.args.part c.index.result.now.want))
+    inside : is_in c.args.part c.index-deed.result.now.want ≡ true
+    inside = go (tested (is_in c.args.part c.index-deed.result.now.want))
       where
-        go : ((is_in c.args.part c.index.result.now.want ≡ true) ⊎ (is_in c.args.part c.index.result.now.want ≡ false)) → is_in c.args.part c.index.result.now.want ≡ true
+        go : ((is_in c.args.part c.index-deed.result.now.want ≡ true) ⊎ (is_in c.args.part c.index-deed.result.now.want ≡ false)) → is_in c.args.part c.index-deed.result.now.want ≡ true
         go (inl e) = e
         go (inr e) = absurd (refused (c.replay_access.ensures.away e).0)
 
@@ -124,7 +124,7 @@ records-preserved c = record {
       let e : suc c.records.place ≡ c.records.place + 1 = omega arith in
       subst (λ k. IsPartReplayed image N c.args.part c.args.records.now k c.replay_access.new.cells) e
       (part_more image N c.args.part c.args.records.now c.records.place c.records.cells (c.records.invariant.replayed image N f h)
-      c.index-records-place.result (found at) c.index.result.now (is_deed at c.index-slots-core.result c.index.result.now c.index.ensures image N h) (fitting at c.index-slots-core.result c.index.result.now c.index.ensures)
+      c.index-records-place.result (found at) c.index-deed.result.now (is_deed at c.index-slots-core.result c.index-deed.result.now c.index-deed.ensures image N h) (fitting at c.index-slots-core.result c.index-deed.result.now c.index-deed.ensures)
       c.replay_access.new.cells (λ e. (x.away e).1) (λ d e. (x.finds d e).0 t) (λ d e. x.after d e t) (λ j d n. x.others j d n));
 }
   where

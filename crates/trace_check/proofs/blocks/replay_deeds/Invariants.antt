@@ -10,7 +10,7 @@ abbrev pub invariant-records : goal.invariant-records
 invariant-records l = record {
   width : length l.next ≡ 16;
   next : (n : ℕ) → n < 16 → get_or l.next n 0 ≡ own_before l.records n l.place;
-  size : length l.cells ≡ 16384;
-  replayed : (image : ImageData) (N : ℕ) → AreFirst image l.part 16384 l.initial.cells → HasDeeds image N l.records l.count l.slots →
+  size : length l.cells ≡ 32768;
+  replayed : (image : ImageData) (N : ℕ) → AreFirst image l.part 32768 l.initial.cells → HasDeeds image N l.records l.count l.slots →
       IsPartReplayed image N l.part l.records l.place l.cells;
 }

@@ -9,7 +9,7 @@ parts-init c = λ N h. parts_none c.args.image.now N c.args.records.now c.args.c
 
 pub parts-preserved : goal.parts-preserved
 parts-preserved c = λ N h.
-    let inside : c.parts.part < 4 = let s = c.requires.size in omega (arith, s, c.parts-test.true) in
+    let inside : c.parts.part < 2 = let s = c.requires.size in omega (arith, s, c.parts-test.true) in
     let at = subst (HasPassed c.args.image.now c.parts.part c.args.records.now c.args.count c.args.slots.now) c.in_ok-passed.was (c.requires.each c.parts.part (Ok 0) inside) in
     let more = parts_more c.args.image.now N c.args.records.now c.args.count c.parts.part c.parts.least c.in_ok-passed.field-0 (c.parts.invariant N h) (at N h) in
     subst (Passes (PartsBelow c.args.image.now N c.args.records.now (c.parts.part + 1)) c.args.count) (sym c.min-least.ensures)
