@@ -1,0 +1,49 @@
+#!/usr/bin/env python3
+"""Times a run by node threads beside a reference simulator's run on one thread.
+
+    bench/run.py PROGRAM SIMULATOR [TURNS]
+
+PROGRAM is the built `safetynet`, SIMULATOR the simulator's program with the same words. Cores count in one word for ever, so a
+run ends by its budget of TURNS (1,000,000): on 1, 4 and 16 nodes, without losses and with every 97th message lost. The least
+of five times is told, in milliseconds, and the program's peak memory in bytes a turn, above that of a run of 1,000 turns.
+"""
+import os
+import subprocess
+import sys
+import tempfile
+import time
+from pathlib import Path
+
+WORDS = "800012b7 00100313 0062a3af 03f3f513 03050513 00100893 00000073 fedff06f"
+
+
+def taken(words):
+    """Returns the seconds that a command took, and its peak memory in bytes."""
+    start = time.monotonic()
+    child = subprocess.Popen(words, stdout=subprocess.DEVNULL, stderr=subprocess.DEVNULL)
+    _, _, used = os.wait4(child.pid, 0)
+    child.returncode = 0
+    return time.monotonic() - start, used.ru_maxrss * 1024
+
+
+def least(words):
+    return min(taken(words)[0] for _ in range(5)) * 1000
+
+
+def main():
+    program, simulator = sys.argv[1:3]
+    turns = int(sys.argv[3]) if len(sys.argv) > 3 else 1_000_000
+    print("nodes  losses  program ms  simulator ms  ratio  bytes a turn")
+    with tempfile.TemporaryDirectory() as room:
+        text = Path(room) / "count.hex"
+        text.write_text("".join(f"{word}\n" for word in WORDS.split()))
+        for nodes in (1, 4, 16):
+            for losses in (0, 97):
+                words = ["run", str(text), "--nodes", str(nodes), "--lose-every", str(losses), "--budget"]
+                here, there = (least([it, *words, str(turns)]) for it in (program, simulator))
+                most, few = (taken([program, *words, str(it)])[1] for it in (turns, 1000))
+                share = (most - few) / (turns - 1000)
+                print(f"{nodes:5}  {losses:6}  {here:10.0f}  {there:12.0f}  {here / there:5.2f}  {share:12.1f}")
+
+
+main()

@@ -1,0 +1,4 @@
+pub mod Puts
+pub mod Finishing
+pub mod ToldSoFar
+pub mod Turns

@@ -1,0 +1,41 @@
+//! The console's worker.
+ghost use Rattle.std.specs.Prelude.{◌≤◌, OnOk, OnErr};
+ghost use Rattle.sn_io.specs.Outside.{Rose};
+ghost use Rattle.sn_console.specs.Ends.{taken, SameInbox};
+ghost use Rattle.sn_console.specs.Handed.{IsWritten, IsBegun};
+
+use crate::bell::Bell;
+use shared_machine::{Locked, RunName};
+use sn_console::{Failed, Inbox};
+use sn_io::Sink;
+use std::sync::{Mutex, Wait};
+
+/// Writes what comes until the node workers have ended and nothing is left. Where the console fails, it stops them.
+pub(crate) fn pump<L: RunName, T: Wait, C: Sink>(
+    rt: &T,
+    lock: &Mutex<Locked<L>>,
+    inbox: &mut Inbox,
+    console: &mut C,
+    bell: &Bell,
+) -> Result<(), Failed>
+    ensures end { SameInbox inbox.old inbox.new }
+    ensures ok { OnOk result (IsWritten (taken inbox.old) (taken inbox.new) (C.written console.old) (C.written console.new)) }
+    ensures err { OnErr result (IsBegun (taken inbox.old) (taken inbox.new) (C.written console.old) (C.written console.new)) }
+    ensures later { C.faults console.old ≤ C.faults console.new }
+    ensures cause { OnErr result (Rose (C.faults console.old) (C.faults console.new)) }
+{
+    'looks: for _ in rt.forever() {
+        // Asked before the look, so that nothing that came before the end is left.
+        let last = bell.has_ended();
+        match inbox.drain(console) {
+            Ok(0) if last => return Ok(()),
+            Ok(0) => bell.wait(rt),
+            Ok(_) => {}
+            Err(failed) => {
+                lock.lock(rt).stop();
+                return Err(failed);
+            }
+        }
+    }
+    unreachable!()
+}
