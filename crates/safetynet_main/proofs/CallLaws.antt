@@ -1,5 +1,5 @@
 -- What follows of a call from how its files were found.
-use Rattle.std.proofs.Common.{◌≡◌, ℕ, List, refl, ap, sym, subst, ◌∙◌, inl, inr}
+use Rattle.std.proofs.Common.{◌≡◌, ℕ, List, [], ◌∷◌, refl, ap, sym, subst, ◌∙◌, inl, inr}
 use Rattle.std.specs.Prelude.{Option, Some, None, IfSome, IfOk, Result, Ok, Err, ◌⊎◌, Vec}
 use Rattle.std.specs.declared.alloc.Global.{Global}
 use Rattle.std.specs.declared.dyn_box.DynBox.{DynBox}
@@ -8,32 +8,52 @@ use Rattle.sn_base.specs.declared.event.Answer.{Answer}
 use Rattle.sn_io.specs.Outside.{Found, Rose}
 use Rattle.command_words.specs.Request.{Request}
 use Rattle.sn_probe.specs.Probes.{Meter, meters_in}
-use Rattle.sink_pieces.specs.Pieces.{Ends}
+use Rattle.sink_pieces.specs.Pieces.{Ends, Report, after, Breaks}
+use Rattle.run_journals.specs.declared.entry.Entry.{Entry}
+use Rattle.node_run.specs.declared.ending.Ending.{Ending}
+use Rattle.node_run.specs.declared.ending.Ending.TheVariants as ending
+use Rattle.node_run.specs.declared.job.Run.{Run}
+use Rattle.node_run.specs.Shown.{IsDone as IsRunDone, IsBrokenOff as IsRunBroken}
 use Rattle.safetynet_main.specs.Errand.{Loads}
-use Rattle.safetynet_main.specs.Call.{Fetches, AsksNothing, errand_of, due_of, EndsIn, Follows, Comes}
-use Rattle.safetynet_main.specs.Outcome.{status_of}
+use Rattle.safetynet_main.specs.Call.{Fetches, AsksNothing, errand_of, due_of, EndsIn, ComesTo, Follows, Comes}
+use Rattle.safetynet_main.specs.Outcome.{Outcome, Finished, Judged, Ran, IsVerdict, verdict_line, verdict_status, ending_status, status_of}
 use Rattle.safetynet_main.specs.declared.job.Check.{Check}
 use Rattle.safetynet_main.specs.declared.job.Job.{Job}
-use Rattle.safetynet_main.specs.declared.job.Job.TheVariants.{Check as CheckJob}
-use Rattle.safetynet_main.specs.declared.job.Outcome.{Outcome}
-use Rattle.safetynet_main.specs.declared.job.Outcome.TheVariants.{Finished, Refused as RefusedOutcome}
+use Rattle.safetynet_main.specs.declared.job.Job.TheVariants.{Run as RunJob, Check as CheckJob}
+use Rattle.safetynet_main.specs.declared.job.Verdict.{Verdict}
+use Rattle.safetynet_main.specs.declared.job.Verdict.TheVariants as verdict
 use Rattle.safetynet_main.specs.declared.status.Status.{Status}
-use Rattle.safetynet_main.specs.declared.status.Status.TheVariants.{Done, Usage, StoreFault, BadProgram, BadScript, BadAsm, SinkFault, Memory, Refused}
+use Rattle.safetynet_main.specs.declared.status.Status.TheVariants.{Done, Usage, StoreFault, BadProgram, BadScript, BadAsm, SinkFault, Budget, Memory, CutOff, Refused, Trapped}
 use Rattle.safetynet_main.proofs.Errands.{errand-of_words, if_some-intro, loads-sure, loads-told, loads-rose, loads-usage, refused-at_once}
 
 -- a job ends in no refusal
 not_refused : (outcome : Outcome) (refusal : Status) → (refusal ≡ StoreFault) ⊎ (refusal ≡ Usage) → status_of outcome ≡ refusal → ⊥
 not_refused Finished refusal (inl w) e = cc
 not_refused Finished refusal (inr w) e = cc
-not_refused (RefusedOutcome place) refusal (inl w) e = cc
-not_refused (RefusedOutcome place) refusal (inr w) e = cc
+not_refused (Judged verdict.Legal) refusal (inl w) e = cc
+not_refused (Judged verdict.Legal) refusal (inr w) e = cc
+not_refused (Judged (verdict.Refused place)) refusal (inl w) e = cc
+not_refused (Judged (verdict.Refused place)) refusal (inr w) e = cc
+not_refused (Ran journal ending.Exited) refusal (inl w) e = cc
+not_refused (Ran journal ending.Exited) refusal (inr w) e = cc
+not_refused (Ran journal (ending.Trapped node cause)) refusal (inl w) e = cc
+not_refused (Ran journal (ending.Trapped node cause)) refusal (inr w) e = cc
+not_refused (Ran journal (ending.CutOff a b)) refusal (inl w) e = cc
+not_refused (Ran journal (ending.CutOff a b)) refusal (inr w) e = cc
+not_refused (Ran journal ending.Spent) refusal (inl w) e = cc
+not_refused (Ran journal ending.Spent) refusal (inr w) e = cc
+
+-- nor is a broken sink one
+not_sink : (status refusal : Status) → status ≡ SinkFault → (refusal ≡ StoreFault) ⊎ (refusal ≡ Usage) → status ≡ refusal → ⊥
+not_sink status refusal s (inl w) e = cc
+not_sink status refusal s (inr w) e = cc
 
 -- the status of a job that is refused is its refusal
 refused-job : (probes : List Meter) (status refusal : Status) (job : Result Job Status) (before behind : Ends) → Follows probes job status before behind → status ≡ refusal → (refusal ≡ StoreFault) ⊎ (refusal ≡ Usage) → job ≡ Err refusal
 refused-job probes status refusal (Err s) before behind h e which = ap (λ t. Err t) (sym h.0 ∙ e)
-refused-job probes status refusal (Ok job) before behind (outcome, is, inl h) e which = absurd (not_refused outcome refusal which (sym h.0 ∙ e))
-refused-job probes status refusal (Ok job) before behind (outcome, is, inr h) e (inl w) = cc
-refused-job probes status refusal (Ok job) before behind (outcome, is, inr h) e (inr w) = cc
+refused-job probes status refusal (Ok job) before behind (inl (outcome, (is, inl h))) e which = absurd (not_refused outcome refusal which (sym h.0 ∙ e))
+refused-job probes status refusal (Ok job) before behind (inl (outcome, (is, inr h))) e which = absurd (not_sink status refusal h.0 which e)
+refused-job probes status refusal (Ok job) before behind (inr h) e which = absurd (not_sink status refusal h.0 which e)
 
 store_fault-status : (probes : List Meter) (status : Status) (job : Result Job Status) (before behind : Ends) → Follows probes job status before behind → job ≡ Err StoreFault → status ≡ StoreFault
 store_fault-status probes status (Err s) before behind h e = h.0 ∙ cc
@@ -48,11 +68,15 @@ is_memory (BadProgram cause) = inr (λ e. cc)
 is_memory (BadScript cause) = inr (λ e. cc)
 is_memory (BadAsm cause) = inr (λ e. cc)
 is_memory SinkFault = inr (λ e. cc)
+is_memory Budget = inr (λ e. cc)
+is_memory (CutOff a b) = inr (λ e. cc)
 is_memory (Refused place) = inr (λ e. cc)
+is_memory (Trapped node cause) = inr (λ e. cc)
 
 done-or_fault : (probes : List Meter) (job : Job) (status : Status) (before behind : Ends) (R : Type 0) → Follows probes (Ok job) status before behind → (status ≡ SinkFault → R) → (R → ⊥) → EndsIn job status
-done-or_fault probes job status before behind R (outcome, is, inl h) cause quiet = (outcome, is, h.0)
-done-or_fault probes job status before behind R (outcome, is, inr h) cause quiet = absurd (quiet (cause h.0))
+done-or_fault probes job status before behind R (inl (outcome, (is, inl h))) cause quiet = (outcome, is, h.0)
+done-or_fault probes job status before behind R (inl (outcome, (is, inr h))) cause quiet = absurd (quiet (cause h.0))
+done-or_fault probes job status before behind R (inr h) cause quiet = absurd (quiet (cause h.0))
 
 -- where all is good and no sink's count rose
 is-complete : (probes : List Meter) (due : Result Job Status) (status : Status) (before behind : Ends) (R : Type 0) → ((status ≡ Memory → ⊥) → Follows probes due status before behind) → (status ≡ SinkFault → R) → IfOk due (λ job. (R → ⊥) → EndsIn job status ⊎ (status ≡ Memory))
@@ -114,6 +138,28 @@ comes-some fetches probes ask r job status old new before behind e h follows =
 -- a job that is a check puts no probe's numbers
 pub follows-check : (probes : List Meter) (job : Job) (c : Check) (status : Status) (before behind : Ends) → job ≡ CheckJob c → ((given : List Meter) → Follows given (Ok (CheckJob c)) status before behind) → Follows probes (Ok job) status before behind
 follows-check probes job c status before behind e h = subst (λ (j : Job). Follows probes (Ok j) status before behind) (sym e) (h probes)
+
+-- how each job comes to its outcome
+
+pub follows-verdict_done : (probes : List Meter) (c : Check) (verdict : Verdict) (status : Status) (before behind : Ends) → IsVerdict c verdict → status ≡ verdict_status verdict → behind ≡ after before (Report (verdict_line c verdict) ∷ []) → Follows probes (Ok (CheckJob c)) status before behind
+follows-verdict_done probes c verdict status before behind is s put = inl (Judged verdict, (is, inl (s, put, tt)))
+
+pub follows-verdict_broken : (probes : List Meter) (c : Check) (verdict : Verdict) (status : Status) (before behind : Ends) → IsVerdict c verdict → status ≡ SinkFault → Breaks (Report (verdict_line c verdict) ∷ []) before behind → Follows probes (Ok (CheckJob c)) status before behind
+follows-verdict_broken probes c verdict status before behind is s broken = inl (Judged verdict, (is, inr (s, broken, tt)))
+
+pub follows-run_done : (probes told : List Meter) (job : Job) (r : Run) (ending : Ending) (status : Status) (before behind : Ends) → job ≡ RunJob r → status ≡ ending_status ending → IsRunDone r probes ending before behind told → Follows probes (Ok job) status before behind
+follows-run_done probes told job r ending status before behind e s (journal, h, knows) =
+    subst (λ (j : Job). Follows probes (Ok j) status before behind) (sym e)
+    (inl (Ran journal ending, ((h.journal_is, h.ended), inl (s, h.put, h.shown))))
+
+broken-run : (probes told : List Meter) (r : Run) (status : Status) (before behind : Ends) → status ≡ SinkFault → IsRunBroken r probes before behind told → Follows probes (Ok (RunJob r)) status before behind
+broken-run probes told r status before behind s (journal, knows, inl h) = inr (s, (journal, h))
+broken-run probes told r status before behind s (journal, knows, inr (ending, h)) =
+    inl (Ran journal ending, ((h.journal_is, h.ended), inr (s, h.broken, h.shown)))
+
+pub follows-run_broken : (probes told : List Meter) (job : Job) (r : Run) (status : Status) (before behind : Ends) → job ≡ RunJob r → status ≡ SinkFault → IsRunBroken r probes before behind told → Follows probes (Ok job) status before behind
+follows-run_broken probes told job r status before behind e s h =
+    subst (λ (j : Job). Follows probes (Ok j) status before behind) (sym e) (broken-run probes told r status before behind s h)
 
 -- the same probes in the same boxes
 pub meters-same : {I : Type 0} {D : I → Type 0} (first tally : (x : I) × D x → List ℕ) (step : (x : I) × D x → List ℕ → ℕ → Event → Answer → List ℕ) (a b : Vec (DynBox I Global D) Global) → a ≡ b → meters_in first tally step a.items ≡ meters_in first tally step b.items

@@ -15,13 +15,15 @@ use Rattle.sn_text.specs.Script.{script_of}
 use Rattle.sn_text.specs.Trace.{trace_of}
 use Rattle.sn_text.specs.declared.cause.ScriptCause.{ScriptCause}
 use Rattle.sn_text.specs.declared.cause.ScriptCause.TheVariants.{TooLong as ScriptTooLong}
-use Rattle.command_words.specs.Request.{Request, Replay, Check, Demo, Assemble, Disassemble}
+use Rattle.command_words.specs.Request.{Request, Replay, Run, Check, Demo, Assemble, Disassemble}
+use Rattle.command_words.specs.declared.request.RunReport.{RunReport}
+use Rattle.option_values.specs.declared.run.RunRules.{RunRules}
 use Rattle.script_replay.specs.declared.job.Showing.{Showing}
 use Rattle.asm_texts.specs.Texts.{words_text}
 use Rattle.counting_program.specs.Program.{counting_words}
 use Rattle.safetynet_main.specs.Files.{program_limit, script_limit, if_loaded, program_of, if_read, events_of, records_of, if_assembled, assembly_of, listing_of}
 use Rattle.safetynet_main.specs.Errand.{Errand, Due, Fetch, due_by, Loads}
-use Rattle.safetynet_main.specs.Call.{Fetches, report_of, job_with, check_with, text_job, script_errand, trace_errand, generated_job, errand_of}
+use Rattle.safetynet_main.specs.Call.{Fetches, report_of, job_with, run_with, check_with, text_job, script_errand, trace_errand, generated_job, errand_of}
 use Rattle.safetynet_main.specs.declared.job.Job.{Job}
 use Rattle.safetynet_main.specs.declared.status.ProgramCause.TheVariants.{TooLong as ProgramTooLong}
 use Rattle.safetynet_main.specs.declared.status.Status.{Status}
@@ -72,6 +74,10 @@ plain-check : (nodes : ℕ) (image : ImageData) (records : Result (List Record) 
 plain-check nodes image (Ok records) h = (λ e. cc, λ e. cc)
 plain-check nodes image (Err status) h = (λ e. h.0 cc, λ e. h.1 cc)
 
+plain-run : (config : Config) (rules : RunRules) (report : RunReport) (watch : Option ℕ) (program : Result ImageData Status) → IsOfBytes program → IsOfBytes (run_with config rules report watch program)
+plain-run config rules report watch (Ok image) h = (λ e. cc, λ e. cc)
+plain-run config rules report watch (Err status) h = (λ e. h.0 cc, λ e. h.1 cc)
+
 plain-text : (text : Result (List ℕ) Status) → IsOfBytes text → IsOfBytes (text_job text)
 plain-text (Ok text) h = (λ e. cc, λ e. cc)
 plain-text (Err status) h = (λ e. h.0 cc, λ e. h.1 cc)
@@ -117,6 +123,11 @@ errand-of_words (Some (Replay config trace watch program script)) =
       plain-script config showing script (Err (BadProgram ProgramTooLong)) (λ e. cc, λ e. cc),
       λ bytes. plain-script config showing script (program_of bytes) (program-of_bytes bytes),
     )
+errand-of_words (Some (Run config rules report watch program)) = (
+  refl,
+  plain-run config rules report watch (Err (BadProgram ProgramTooLong)) (λ e. cc, λ e. cc),
+  λ bytes. plain-run config rules report watch (program_of bytes) (program-of_bytes bytes),
+)
 errand-of_words (Some (Assemble text)) = (
   refl,
   plain-text (Err (BadAsm AsmTooLong)) (λ e. cc, λ e. cc),
@@ -240,5 +251,6 @@ refused-at_once (Some (Check nodes program trace)) e = absurd cc
 refused-at_once (Some (Demo size)) e =
     absurd ((plain-generated size (program_of (words_text counting_words)) (program-of_bytes (words_text counting_words))).1 cc)
 refused-at_once (Some (Replay config trace watch program script)) e = absurd cc
+refused-at_once (Some (Run config rules report watch program)) e = absurd cc
 refused-at_once (Some (Assemble text)) e = absurd cc
 refused-at_once (Some (Disassemble program)) e = absurd cc

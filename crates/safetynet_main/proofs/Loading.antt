@@ -1,15 +1,17 @@
--- The errands of a replay and of a check, from how both of their files were fetched and read.
+-- The errands of a replay, of a check and of a run, from how their files were fetched and read.
 use Rattle.std.proofs.Common.{◌≡◌, ℕ, List, refl, ap, subst}
-use Rattle.std.specs.Prelude.{Result, Ok}
+use Rattle.std.specs.Prelude.{Option, Result, Ok}
 use Rattle.sn_base.specs.Image.{ImageData}
 use Rattle.sn_base.specs.declared.config.Config.{Config}
 use Rattle.sn_base.specs.declared.event.Event.{Event}
 use Rattle.rv_core.specs.declared.step.Record.{Record}
 use Rattle.sn_io.specs.Outside.{Found}
 use Rattle.script_replay.specs.declared.job.Showing.{Showing}
+use Rattle.option_values.specs.declared.run.RunRules.{RunRules}
+use Rattle.command_words.specs.declared.request.RunReport.{RunReport}
 use Rattle.safetynet_main.specs.Files.{program_limit, script_limit, program_in, script_in, trace_in}
 use Rattle.safetynet_main.specs.Errand.{Errand, Fetch, Loads}
-use Rattle.safetynet_main.specs.Call.{job_with, check_with, script_errand, trace_errand, replay_errand, check_errand}
+use Rattle.safetynet_main.specs.Call.{job_with, run_with, check_with, script_errand, trace_errand, replay_errand, run_errand, check_errand}
 use Rattle.safetynet_main.specs.declared.job.Job.{Job}
 use Rattle.safetynet_main.specs.declared.status.Status.{Status}
 
@@ -45,3 +47,11 @@ module _ {S : Type 0} (fetches : S → List ℕ → ℕ → Found → S → Type
       (subst (λ (t : List ℕ). Loads fetches (check_errand nodes program t) (check_with nodes image records) old new) s
       (loads-rest (trace_errand nodes trace) (check_with nodes image records) program h
       (k.0, new, k.1, (ap (check_with nodes image) k.2, refl))))
+
+  -- a run's
+  pub loads-run : (config : Config) (rules : RunRules) (report : RunReport) (watch : Option ℕ) (program asked_program : List ℕ) → program ≡ asked_program
+      → (found : Found) × fetches old program program_limit found mid × (Ok image ≡ program_in found)
+      → Loads fetches (run_errand config rules report watch asked_program) (run_with config rules report watch (Ok image)) old mid
+  loads-run config rules report watch program asked_program p h =
+      subst (λ (t : List ℕ). Loads fetches (run_errand config rules report watch t) (run_with config rules report watch (Ok image)) old mid) p
+      (h.0, mid, h.1, (ap (run_with config rules report watch) h.2, refl))

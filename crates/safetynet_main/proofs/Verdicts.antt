@@ -13,7 +13,7 @@ use Rattle.trace_check.specs.declared.verdict.CheckFault.{CheckFault}
 use Rattle.trace_check.specs.declared.verdict.CheckFault.TheVariants.{NotLegal}
 use Rattle.safetynet_main.specs.Outcome.{IsVerdict}
 use Rattle.safetynet_main.specs.declared.job.Check.{Check}
-use Rattle.safetynet_main.specs.declared.job.Outcome.TheVariants.{Refused}
+use Rattle.safetynet_main.specs.declared.job.Verdict.TheVariants.{Refused}
 
 module _ (image : ImageData) where
   -- the first record has no step

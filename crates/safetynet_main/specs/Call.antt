@@ -7,7 +7,10 @@ use Rattle.sn_base.specs.declared.config.Config.{Config}
 use Rattle.sn_base.specs.declared.event.Event.{Event}
 use Rattle.rv_core.specs.declared.step.Record.{Record}
 use Rattle.sn_io.specs.Outside.{Found, File, TooLong, Missing, Rose, found_in}
-use Rattle.command_words.specs.Request.{Request, Replay, Check, Demo, Assemble, Disassemble}
+use Rattle.option_values.specs.declared.run.RunRules.{RunRules}
+use Rattle.command_words.specs.Request.{Request, Replay, Run as RunRequest, Check, Demo, Assemble, Disassemble}
+use Rattle.command_words.specs.declared.request.RunReport.{RunReport as AskedReport}
+use Rattle.command_words.specs.declared.request.RunReport.TheVariants as asked
 use Rattle.sn_probe.specs.Probes.{Meter}
 use Rattle.sink_pieces.specs.Pieces.{Piece, Report, Ends, after, Breaks, console_piece}
 use Rattle.script_replay.specs.declared.job.Showing.{Showing}
@@ -16,16 +19,23 @@ use Rattle.script_replay.specs.declared.job.ReportKind.TheVariants.{Events, Trac
 use Rattle.script_replay.specs.Played.{MayBegin}
 use Rattle.script_replay.specs.Probed.{tallies_due}
 use Rattle.script_replay.specs.Shown.{pieces_due, IsShown, IsShownInPart}
+use Rattle.due_events.specs.declared.rules.Rules.{Rules}
+use Rattle.run_journals.specs.declared.entry.Entry.{Entry}
+use Rattle.node_run.specs.declared.job.Run.{Run}
+use Rattle.node_run.specs.declared.job.RunReport.{RunReport}
+use Rattle.node_run.specs.declared.job.RunReport.TheVariants as shown
+use Rattle.node_run.specs.Endings.{ending_of}
+use Rattle.node_run.specs.Pieces.{begins, run_pieces}
+use Rattle.node_run.specs.Shown.{MayBegin as MayRun, IsJournal, IsShown as IsRunShown, IsShownInPart as IsRunShownInPart, IsStopped}
 use Rattle.asm_texts.specs.Texts.{words_text}
 use Rattle.counting_program.specs.Program.{counting_words}
 use Rattle.generated_runs.specs.Generated.{generated_config, generated_events}
 use Rattle.safetynet_main.specs.Files.{program_limit, script_limit, program_of, program_in, script_in, trace_in, assembly_in, listing_of}
 use Rattle.safetynet_main.specs.Errand.{Errand, Due, Fetch, due_by, Loads}
-use Rattle.safetynet_main.specs.Outcome.{IsVerdict, verdict_line, status_of}
+use Rattle.safetynet_main.specs.Outcome.{Outcome, Finished, Judged, Ran, IsVerdict, verdict_line, status_of}
+use Rattle.safetynet_main.specs.declared.job.Check.{Check as Judging}
 use Rattle.safetynet_main.specs.declared.job.Job.{Job}
-use Rattle.safetynet_main.specs.declared.job.Job.TheVariants.{Replay as ReplayJob, Check as CheckJob, Text}
-use Rattle.safetynet_main.specs.declared.job.Outcome.{Outcome}
-use Rattle.safetynet_main.specs.declared.job.Outcome.TheVariants.{Finished}
+use Rattle.safetynet_main.specs.declared.job.Job.TheVariants.{Replay as ReplayJob, Run as RunJob, Check as CheckJob, Text}
 use Rattle.safetynet_main.specs.declared.files.Unread.{Unread}
 use Rattle.safetynet_main.specs.declared.files.Unread.TheVariants.{Missing as UnreadMissing, TooLong as UnreadTooLong, Memory as UnreadMemory}
 use Rattle.safetynet_main.specs.declared.status.Status.{Status}
@@ -63,6 +73,30 @@ abbrev pub text_job : Result (List ℕ) Status → Result Job Status
 text_job (Ok text) = Ok (Text text)
 text_job (Err status) = Err status
 
+-- the rules by which a run's events are picked, and what it shows, by the words
+abbrev pub driver_rules : RunRules → Rules
+driver_rules r = record { interval = r.interval; wait = r.wait; lose_every = r.lose_every; kill = r.kill }
+
+abbrev pub report_shown : AskedReport → RunReport
+report_shown asked.Summary = shown.Summary
+report_shown asked.Trace = shown.Trace
+report_shown asked.Journal = shown.Journal
+
+-- the job of a run, by what was read of the program
+abbrev pub run_of : Config → RunRules → AskedReport → Option ℕ → ImageData → Run
+run_of config rules report watch image = record {
+  program = image;
+  config = config;
+  rules = driver_rules rules;
+  seed = rules.seed;
+  budget = rules.budget;
+  showing = record { report = report_shown report; watch = watch };
+}
+
+abbrev pub run_with : Config → RunRules → AskedReport → Option ℕ → Result ImageData Status → Result Job Status
+run_with config rules report watch (Ok image) = Ok (RunJob (run_of config rules report watch image))
+run_with config rules report watch (Err status) = Err status
+
 -- a program that is refused leaves the script alone, or the trace
 abbrev pub script_errand : Config → Showing → List ℕ → Result ImageData Status → Errand
 script_errand config showing script (Ok image) = Fetch script script_limit (λ found. Due (job_with config showing image (script_in config.nodes found)))
@@ -80,6 +114,9 @@ report_of false = Events
 -- what each command fetches, and what is due then
 abbrev pub replay_errand : Config → Showing → List ℕ → List ℕ → Errand
 replay_errand config showing program script = Fetch program program_limit (λ found. script_errand config showing script (program_in found))
+
+abbrev pub run_errand : Config → RunRules → AskedReport → Option ℕ → List ℕ → Errand
+run_errand config rules report watch program = Fetch program program_limit (λ found. Due (run_with config rules report watch (program_in found)))
 
 abbrev pub check_errand : ℕ → List ℕ → List ℕ → Errand
 check_errand nodes program trace = Fetch program program_limit (λ found. trace_errand nodes trace (program_in found))
@@ -102,6 +139,7 @@ demo_errand size = Due (generated_job size (program_of (words_text counting_word
 -- words that aren't a command's are refused
 abbrev pub errand_of : Option Request → Errand
 errand_of (Some (Replay config trace watch program script)) = replay_errand config (record { report = report_of trace; watch = watch }) program script
+errand_of (Some (RunRequest config rules report watch program)) = run_errand config rules report watch program
 errand_of (Some (Check nodes program trace)) = check_errand nodes program trace
 errand_of (Some (Demo size)) = demo_errand size
 errand_of (Some (Assemble text)) = assembly_errand text
@@ -116,39 +154,80 @@ AsksNothing ask = ask ≡ None
 abbrev pub due_of : (List ℕ → Option (List ℕ)) → Option Request → Result Job Status
 due_of held ask = due_by held (errand_of ask)
 
--- what a job comes to: events and a text come to their end, and a trace to its verdict
+-- a due journal, and the end that it says
+abbrev pub RunsTo : Run → Outcome → Type 0
+RunsTo r (Ran journal ending) = IsJournal r journal × (ending_of (begins r) journal ≡ Some ending)
+RunsTo r _ = ⊥
+
+abbrev pub IsJudged : Judging → Outcome → Type 0
+IsJudged c (Judged verdict) = IsVerdict c verdict
+IsJudged c _ = ⊥
+
+-- what a job comes to: events and a text come to their end, workers to one of a due journal, and a trace to its verdict
 abbrev pub IsOutcome : Job → Outcome → Type 0
 IsOutcome (ReplayJob r) outcome = outcome ≡ Finished
-IsOutcome (CheckJob c) outcome = IsVerdict c outcome
+IsOutcome (RunJob r) outcome = RunsTo r outcome
+IsOutcome (CheckJob c) outcome = IsJudged c outcome
 IsOutcome (Text text) outcome = outcome ≡ Finished
+
+-- the pieces of a run that had this journal, and of a trace of which this was found
+abbrev pub journal_pieces : List Meter → Run → Outcome → List Piece
+journal_pieces probes r (Ran journal ending) = run_pieces r probes journal
+journal_pieces probes r _ = []
+
+abbrev pub verdict_pieces : Judging → Outcome → List Piece
+verdict_pieces c (Judged verdict) = Report (verdict_line c verdict) ∷ []
+verdict_pieces c _ = []
 
 -- all that a job puts that comes to this, where these probes are told its events
 abbrev pub pieces_of_job : List Meter → Job → Outcome → List Piece
 pieces_of_job probes (ReplayJob r) outcome = pieces_due r probes
-pieces_of_job probes (CheckJob c) outcome = Report (verdict_line c outcome) ∷ []
+pieces_of_job probes (RunJob r) outcome = journal_pieces probes r outcome
+pieces_of_job probes (CheckJob c) outcome = verdict_pieces c outcome
 pieces_of_job probes (Text text) outcome = console_piece text
 
 -- a status in which a job ends where no sink breaks
 abbrev pub EndsIn : Job → Status → Type 0
 EndsIn job status = (outcome : Outcome) × IsOutcome job outcome × (status ≡ status_of outcome)
 
+-- what the sinks show of a run, and of one whose report broke
+abbrev pub ShowsRun : List Meter → Run → Outcome → Ends → Ends → Type 0
+ShowsRun probes r (Ran journal ending) old new = IsRunShown r probes journal old new
+ShowsRun probes r _ old new = ⊥
+
+abbrev pub ShowsRunInPart : List Meter → Run → Outcome → Ends → Ends → Type 0
+ShowsRunInPart probes r (Ran journal ending) old new = IsRunShownInPart r probes journal old new
+ShowsRunInPart probes r _ old new = ⊥
+
 -- what the sinks show of a job that was done, and of one that a sink broke
-abbrev pub Shows : List Meter → Job → Ends → Ends → Type 0
-Shows probes (ReplayJob r) old new = IsShown r.program r.config r.showing (tallies_due r probes) r.script old new
-Shows probes (CheckJob c) old new = ⊤
-Shows probes (Text text) old new = ⊤
+abbrev pub Shows : List Meter → Job → Outcome → Ends → Ends → Type 0
+Shows probes (ReplayJob r) outcome old new = IsShown r.program r.config r.showing (tallies_due r probes) r.script old new
+Shows probes (RunJob r) outcome old new = ShowsRun probes r outcome old new
+Shows probes (CheckJob c) outcome old new = ⊤
+Shows probes (Text text) outcome old new = ⊤
 
-abbrev pub ShowsInPart : List Meter → Job → Ends → Ends → Type 0
-ShowsInPart probes (ReplayJob r) old new = IsShownInPart r.program r.config r.showing (tallies_due r probes) r.script old new
-ShowsInPart probes (CheckJob c) old new = ⊤
-ShowsInPart probes (Text text) old new = ⊤
+abbrev pub ShowsInPart : List Meter → Job → Outcome → Ends → Ends → Type 0
+ShowsInPart probes (ReplayJob r) outcome old new = IsShownInPart r.program r.config r.showing (tallies_due r probes) r.script old new
+ShowsInPart probes (RunJob r) outcome old new = ShowsRunInPart probes r outcome old new
+ShowsInPart probes (CheckJob c) outcome old new = ⊤
+ShowsInPart probes (Text text) outcome old new = ⊤
 
--- what is due is done: a refusal is the status and nothing is written; else all pieces are put, or a sink broke
+-- a job that came to no outcome: a run whose console failed, of a due journal of whose output the console has the beginning
+abbrev pub BrokeOff : Job → Ends → Ends → Type 0
+BrokeOff (RunJob r) old new = (journal : List Entry) × IsStopped r journal old new
+BrokeOff _ old new = ⊥
+
+-- the job came to this, and all pieces are put, or a sink broke
+abbrev pub ComesTo : List Meter → Job → Status → Ends → Ends → Outcome → Type 0
+ComesTo probes job status old new outcome = IsOutcome job outcome × (
+    ((status ≡ status_of outcome) × (new ≡ after old (pieces_of_job probes job outcome)) × Shows probes job outcome old new)
+    ⊎ ((status ≡ SinkFault) × Breaks (pieces_of_job probes job outcome) old new × ShowsInPart probes job outcome old new))
+
+-- what is due is done: a refusal is the status and nothing is written; else the job came to its outcome, or a sink broke before
 abbrev pub Follows : List Meter → Result Job Status → Status → Ends → Ends → Type 0
 Follows probes (Err refusal) status old new = (status ≡ refusal) × (new ≡ old)
-Follows probes (Ok job) status old new = (outcome : Outcome) × IsOutcome job outcome × (
-    ((status ≡ status_of outcome) × (new ≡ after old (pieces_of_job probes job outcome)) × Shows probes job old new)
-    ⊎ ((status ≡ SinkFault) × Breaks (pieces_of_job probes job outcome) old new × ShowsInPart probes job old new))
+Follows probes (Ok job) status old new =
+    ((outcome : Outcome) × ComesTo probes job status old new outcome) ⊎ ((status ≡ SinkFault) × BrokeOff job old new)
 
 -- what a call comes to that is given these probes, over any store
 abbrev pub Comes : {S : Type 0} → (S → List ℕ → ℕ → Found → S → Type 0) → List Meter → Option Request → Status → S → S → Ends → Ends → Type 0
@@ -158,5 +237,6 @@ Comes fetches probes ask status old new before behind =
 -- a job that may begin
 abbrev pub IsRead : Job → Type 0
 IsRead (ReplayJob r) = MayBegin r
+IsRead (RunJob r) = MayRun r
 IsRead (CheckJob c) = (1 ≤ c.nodes) × (c.nodes ≤ 16)
 IsRead (Text text) = ⊤

@@ -10,7 +10,7 @@ use Rattle.sn_text.specs.declared.cause.ScriptCause.TheVariants.{TooLong as Scri
 use Rattle.safetynet_main.specs.declared.status.ProgramCause.{ProgramCause}
 use Rattle.safetynet_main.specs.declared.status.ProgramCause.TheVariants.{TooLong, Load}
 use Rattle.safetynet_main.specs.declared.status.Status.{Status}
-use Rattle.safetynet_main.specs.declared.status.Status.TheVariants.{Done, Usage, StoreFault, BadProgram, BadScript, BadAsm, SinkFault, Memory, Refused}
+use Rattle.safetynet_main.specs.declared.status.Status.TheVariants.{Done, Usage, StoreFault, BadProgram, BadScript, BadAsm, SinkFault, Budget, Memory, CutOff, Refused, Trapped}
 
 abbrev pub number_of : Status → ℕ
 number_of Done = 0
@@ -19,8 +19,11 @@ number_of StoreFault = 2
 number_of (BadProgram cause) = 3
 number_of (BadScript cause) = 4
 number_of SinkFault = 5
+number_of Budget = 6
 number_of Memory = 7
+number_of (CutOff a b) = 8
 number_of (Refused place) = 9
+number_of (Trapped node cause) = 10
 number_of (BadAsm cause) = 13
 
 -- the name of a cause, in lower case and without its fields
@@ -64,10 +67,13 @@ word_of (BadProgram cause) = codes "program " ++ program_name cause
 word_of (BadScript cause) = codes "script " ++ script_name cause
 word_of (BadAsm cause) = codes "asm " ++ asm_name cause
 word_of SinkFault = codes "sink"
+word_of Budget = codes "budget"
 word_of Memory = codes "memory"
+word_of (CutOff a b) = codes "cutoff"
 word_of (Refused place) = codes "refused"
+word_of (Trapped node cause) = codes "trapped"
 
--- the number that follows the word, where one does
+-- the place that follows the word, where one does
 abbrev pub place_of : Status → Option ℕ
 place_of (Refused place) = Some place
 place_of _ = None
@@ -76,5 +82,8 @@ place_of _ = None
 abbrev pub has_written : Status → Bool
 has_written Done = true
 has_written SinkFault = true
+has_written Budget = true
+has_written (CutOff a b) = true
 has_written (Refused place) = true
+has_written (Trapped node cause) = true
 has_written _ = false

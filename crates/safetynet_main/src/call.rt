@@ -10,8 +10,9 @@ ghost use Rattle.safetynet_main.specs.Call.{Fetches, Comes, Follows, AsksNothing
 use crate::checking::check;
 use crate::files::load;
 use crate::job::Job;
-use crate::status::Status;
+use crate::status::{Status, ended_as};
 use command_words::{WordsFault, read_words};
+use node_run::{RunFault, run};
 use script_replay::{ReplayFault, replay};
 use sink_pieces::put_console;
 use sn_io::{Gate, Sink, Store};
@@ -21,7 +22,7 @@ use std::sync::Wait;
 use std::thread::Threads;
 
 // Does what is due.
-fn perform<T: Threads + Sync, C: Sink, R: Sink, G: Gate + Sync>(
+fn perform<T: Threads + Wait + Sync, C: Sink + Send, R: Sink, G: Gate + Sync>(
     rt: &T,
     alloc: Global,
     job: Job,
@@ -43,6 +44,11 @@ fn perform<T: Threads + Sync, C: Sink, R: Sink, G: Gate + Sync>(
             Err(ReplayFault::Sink) => Status::SinkFault,
             Err(ReplayFault::Memory) => Status::Memory,
         },
+        Job::Run(job) => match run(rt, alloc, job, probes, console, report, gate) {
+            Ok(ending) => ended_as(ending),
+            Err(RunFault::Sink) => Status::SinkFault,
+            Err(RunFault::Memory) => Status::Memory,
+        },
         Job::Check(job) => check(rt, alloc, &job, report, gate),
         Job::Text(text) => match put_console(console, text.bytes()) {
             Ok(()) => Status::Done,
@@ -51,7 +57,7 @@ fn perform<T: Threads + Sync, C: Sink, R: Sink, G: Gate + Sync>(
     }
 }
 
-fn answer<T: Threads + Sync, S: Store, C: Sink, R: Sink, G: Gate + Sync>(
+fn answer<T: Threads + Wait + Sync, S: Store, C: Sink + Send, R: Sink, G: Gate + Sync>(
     rt: &T,
     alloc: Global,
     words: &[String],
@@ -83,10 +89,11 @@ fn answer<T: Threads + Sync, S: Store, C: Sink, R: Sink, G: Gate + Sync>(
 }
 
 /// Does all that the program does: reads the words, fetches the files that they name from the store, and puts what the
-/// command writes to the console and the report. The first word is the program's name. In a replay each probe is told each
-/// event that is applied, and each is dropped once, however the call ends. A trace is judged in threads, one for each core,
-/// and each passes the gate once.
-pub fn safetynet<T: Threads + Wait + Sync, S: Store, C: Sink, R: Sink, G: Gate + Sync>(
+/// command writes to the console and the report. The first word is the program's name. In a replay and in a run each probe is
+/// told each event that is applied, and each is dropped once, however the call ends. A trace is judged in threads, one for each
+/// core, and each passes the gate once. A run has a thread for each node, which passes the gate before each turn, and one that
+/// writes to the console beside them.
+pub fn safetynet<T: Threads + Wait + Sync, S: Store, C: Sink + Send, R: Sink, G: Gate + Sync>(
     rt: &T,
     alloc: Global,
     words: &[String],

@@ -7,7 +7,7 @@ ghost use Rattle.safetynet_main.specs.Outcome.{IsVerdict, verdict_line};
 ghost use Rattle.safetynet_main.specs.Status.{has_written};
 ghost use Rattle.safetynet_main.specs.Call.{Follows, IsRead};
 
-use crate::job::{Check, Job, Outcome};
+use crate::job::{Check, Job, Verdict};
 use crate::status::Status;
 use sink_pieces::put_report;
 use sn_base::Memory;
@@ -23,15 +23,15 @@ fn judge<T: Threads + Sync, G: Gate + Sync>(
     alloc: Global,
     job: &Check,
     gate: &G,
-) -> Result<Outcome, Memory>
+) -> Result<Verdict, Memory>
     requires some { 1 ≤ job.now.nodes }
     requires few { job.now.nodes ≤ 16 }
-    ensures { IfOk result (λ outcome. IsVerdict job.now outcome) }
+    ensures { IfOk result (λ verdict. IsVerdict job.now verdict) }
 {
     let records = job.trace.records();
     match trace_check::check(rt, alloc, &job.program, job.nodes, records, gate) {
-        Ok(()) => Ok(Outcome::Finished),
-        Err(CheckFault::NotLegal(place)) => Ok(Outcome::Refused(place)),
+        Ok(()) => Ok(Verdict::Legal),
+        Err(CheckFault::NotLegal(place)) => Ok(Verdict::Refused(place)),
         Err(CheckFault::Memory) => Err(Memory),
     }
 }
@@ -40,19 +40,19 @@ fn judge<T: Threads + Sync, G: Gate + Sync>(
 fn put_verdict<R: Sink>(
     mut line: Line,
     job: &Check,
-    outcome: Outcome,
+    verdict: Verdict,
     report: &mut R,
 ) -> Result<(), Failed>
     requires { line ≡ [] }
     ensures ok { OnOk result ((c : Option (List ℕ)) →
-        ends c (R.written report.new) ≡ after (ends c (R.written report.old)) (Report (verdict_line job.now outcome) ∷ [])) }
+        ends c (R.written report.new) ≡ after (ends c (R.written report.old)) (Report (verdict_line job.now verdict) ∷ [])) }
     ensures err { OnErr result ((c : Option (List ℕ)) →
-        Breaks (Report (verdict_line job.now outcome) ∷ []) (ends c (R.written report.old)) (ends c (R.written report.new))) }
+        Breaks (Report (verdict_line job.now verdict) ∷ []) (ends c (R.written report.old)) (ends c (R.written report.new))) }
     ensures cause { OnErr result (Rose (R.faults report.old) (R.faults report.new)) }
 {
-    match outcome {
-        Outcome::Finished => line.count("", "legal", job.trace.records().len() as u64),
-        Outcome::Refused(place) => line.count("", "refused", place),
+    match verdict {
+        Verdict::Legal => line.count("", "legal", job.trace.records().len() as u64),
+        Verdict::Refused(place) => line.count("", "refused", place),
     }
     put_report(report, line.bytes())?;
     Ok(())
@@ -75,11 +75,11 @@ pub fn check<T: Threads + Sync, R: Sink, G: Gate + Sync>(
     let Ok(line) = Line::new(alloc) else {
         return Status::Memory;
     };
-    let Ok(outcome) = judge(rt, alloc, job, gate) else {
+    let Ok(verdict) = judge(rt, alloc, job, gate) else {
         return Status::Memory;
     };
-    match put_verdict(line, job, outcome, report) {
-        Ok(()) => outcome.status(),
+    match put_verdict(line, job, verdict, report) {
+        Ok(()) => verdict.status(),
         Err(_) => Status::SinkFault,
     }
 }

@@ -4,9 +4,10 @@ ghost use Rattle.sn_base.specs.Config.{lies_in, config_fits};
 ghost use Rattle.sn_io.specs.Outside.{Found};
 ghost use Rattle.consistent_cuts.specs.Runs.{AllFit};
 ghost use Rattle.command_words.specs.Request.{as_request, watch_fits, request_fits};
+ghost use Rattle.option_values.specs.Runs.{run_rules_fit};
 ghost use Rattle.safetynet_main.specs.Files.{program_in, script_in, trace_in, assembly_in};
 ghost use Rattle.safetynet_main.specs.Errand.{Due, Loads};
-ghost use Rattle.safetynet_main.specs.Call.{Fetches, found_by, report_of, errand_of, replay_errand, check_errand, demo_errand, assembly_errand, listing_errand, IsRead};
+ghost use Rattle.safetynet_main.specs.Call.{Fetches, found_by, report_of, report_shown, driver_rules, errand_of, replay_errand, run_errand, check_errand, demo_errand, assembly_errand, listing_errand, IsRead};
 
 use crate::job::{Check, Job, Text, Trace};
 use crate::reading::{
@@ -14,7 +15,10 @@ use crate::reading::{
 };
 use crate::status::{ProgramCause, Status};
 use command_words::Request;
+use due_events::Rules;
 use generated_runs::generate;
+use node_run::{Run, RunReport, RunShowing};
+use option_values::RunRules;
 use rv_asm::AsmCause;
 use script_replay::{Replay, ReportKind, Script, Showing};
 use sn_base::{Config, Image};
@@ -162,6 +166,66 @@ fn load_replay<S: Store>(
     }
 }
 
+fn report_shown(report: command_words::RunReport) -> RunReport
+    ensures { result ≡ report_shown report }
+{
+    match report {
+        command_words::RunReport::Summary => RunReport::Summary,
+        command_words::RunReport::Trace => RunReport::Trace,
+        command_words::RunReport::Journal => RunReport::Journal,
+    }
+}
+
+fn driver_rules(rules: &RunRules) -> Rules
+    ensures { result ≡ driver_rules rules.now }
+{
+    Rules {
+        interval: rules.interval,
+        wait: rules.wait,
+        lose_every: rules.lose_every,
+        kill: rules.kill,
+    }
+}
+
+// The program of a run.
+#[tactic(auto, using(crate::proofs::Watched::watched_is, crate::proofs::Watched::rules_are, crate::proofs::Watched::budget_is))]
+fn load_run<S: Store>(
+    alloc: Global,
+    store: &mut S,
+    asked: &command_words::Run,
+) -> Result<Job, Status>
+    requires sizes { config_fits asked.now.config ≡ true }
+    requires ruled { run_rules_fit asked.now.config.nodes asked.now.rules ≡ true }
+    requires watched { watch_fits asked.now.watch ≡ true }
+    ensures loads { result ≢ Err Status.Memory → Loads (Fetches S.files S.sure S.faults S.gave)
+        (run_errand asked.now.config asked.now.rules asked.now.report asked.now.watch (string_bytes asked.now.program))
+        result store.old store.new }
+    ensures read { IfOk result IsRead }
+    ensures files { S.files store.new ≡ S.files store.old }
+{
+    let program = match fetch_program(alloc, store, asked.program.as_str()) {
+        Ok(program) => program,
+        Err(status) => return Err(status),
+    };
+    let config = asked.config;
+    let rules = driver_rules(&asked.rules);
+    let seed = asked.rules.seed;
+    let budget = asked.rules.budget;
+    let asked_report = asked.report;
+    let showing = RunShowing {
+        report: report_shown(asked_report),
+        watch: asked.watch,
+    };
+    Ok(Job::Run(Run {
+        program,
+        config,
+        rules,
+        seed,
+        budget,
+        showing,
+    }))
+}
+
 // The program and the trace of a check, in this order.
 fn load_check<S: Store>(
     alloc: Global,
@@ -259,6 +323,7 @@ pub fn load<S: Store>(alloc: Global, store: &mut S, request: &Request) -> Result
 {
     match request {
         Request::Replay(asked) => load_replay(alloc, store, asked),
+        Request::Run(asked) => load_run(alloc, store, asked),
         Request::Check(asked) => load_check(alloc, store, asked),
         Request::Assemble(text) => load_assembly(alloc, store, text.as_str()),
         Request::Disassemble(program) => load_listing(alloc, store, program.as_str()),

@@ -1,8 +1,9 @@
 //! What is due once all files are read.
 ghost use Rattle.std.specs.Prelude.{◌≡◌};
-ghost use Rattle.safetynet_main.specs.Outcome.{status_of};
+ghost use Rattle.safetynet_main.specs.Outcome.{verdict_status};
 
 use crate::status::Status;
+use node_run::Run;
 use rv_core::Record;
 use script_replay::Replay;
 use sn_base::Image;
@@ -78,30 +79,32 @@ pub struct Check {
 pub enum Job {
     /// Events are applied.
     Replay(Replay),
+    /// Workers run a machine, each in a thread of its own.
+    Run(Run),
     /// A trace is judged, and the verdict is put to the report.
     Check(Check),
     /// A text is put to the console, and nothing to the report.
     Text(Text),
 }
 
-/// What a job comes to.
+/// What is found of a trace.
 #[derive(Clone, Copy, PartialEq, Eq, Debug)]
-pub enum Outcome {
-    /// All of it is done. A trace is an execution of its program.
-    Finished,
-    /// The trace's record at this place, counted from 1, is the first that is no step of the flat machine after those
+pub enum Verdict {
+    /// It is an execution of its program.
+    Legal,
+    /// Its record at this place, counted from 1, is the first that is no step of the flat machine after those
     /// before it.
     Refused(u64),
 }
 
-impl Outcome {
-    /// How a call ends in which all of the job's text is written.
+impl Verdict {
+    /// How a call ends in which it is written.
     pub fn status(self) -> Status
-        ensures { result ≡ status_of self }
+        ensures { result ≡ verdict_status self }
     {
         match self {
-            Outcome::Finished => Status::Done,
-            Outcome::Refused(place) => Status::Refused(place),
+            Verdict::Legal => Status::Done,
+            Verdict::Refused(place) => Status::Refused(place),
         }
     }
 }

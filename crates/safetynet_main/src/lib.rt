@@ -15,7 +15,7 @@ mod reading;
 mod status;
 
 pub use call::safetynet;
-pub use status::{ProgramCause, Status};
+pub use status::{ProgramCause, Status, trap_word};
 
 #[cfg(test)]
 mod tests;

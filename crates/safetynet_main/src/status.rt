@@ -1,9 +1,14 @@
 //! How a call ends.
 ghost use Rattle.std.specs.Prelude.{◌≡◌, ◌++◌, codes};
 ghost use Rattle.safetynet_main.specs.Status.{number_of, load_name, program_name, script_name, asm_name, word_of, place_of};
+ghost use Rattle.sn_text.specs.Text.{cause_text};
+ghost use Rattle.safetynet_main.specs.Outcome.{ending_status};
 
 use elf_load::LoadCause;
+use node_run::Ending;
 use rv_asm::AsmCause;
+use rv_core::Cause;
+use sn_base::NodeId;
 use sn_text::ScriptCause;
 
 /// Why a program's file is refused.
@@ -32,11 +37,17 @@ pub enum Status {
     BadAsm(AsmCause),
     /// A sink failed: what was written is a prefix of the text.
     SinkFault,
+    /// A run has as many events as its budget. All text is written.
+    Budget,
     /// Memory was wanted and not given. Nothing is written.
     Memory,
+    /// In a run a recovery found these two nodes cut off from each other by switches that are dead. All text is written.
+    CutOff(NodeId, NodeId),
     /// The trace's record at this place, counted from 1, is the first that is no step of the flat machine after those
     /// before it. All text is written.
     Refused(u64),
+    /// In a run all cores have ended at the recovery point, and this is the least that trapped, and why. All text is written.
+    Trapped(NodeId, Cause),
 }
 
 // The word `program`, and the name of the loader's cause.
@@ -95,6 +106,33 @@ fn asm_word(cause: AsmCause) -> &'static str
     }
 }
 
+/// How a call ends whose run came to this end, and in which all text is written.
+pub fn ended_as(ending: Ending) -> Status
+    ensures { result ≡ ending_status ending }
+{
+    match ending {
+        Ending::Exited => Status::Done,
+        Ending::Trapped(node, cause) => Status::Trapped(node, cause),
+        Ending::CutOff(a, b) => Status::CutOff(a, b),
+        Ending::Spent => Status::Budget,
+    }
+}
+
+/// The name of a trap's cause, which stands after the node.
+pub fn trap_word(cause: Cause) -> &'static str
+    ensures { result.now ≡ cause_text cause }
+{
+    match cause {
+        Cause::Illegal => "illegal",
+        Cause::FetchFault => "fetch",
+        Cause::MisalignedTarget => "target",
+        Cause::MisalignedAccess => "misaligned",
+        Cause::AccessFault => "access",
+        Cause::UnknownCall => "call",
+        Cause::Break => "break",
+    }
+}
+
 impl Status {
     /// The program's exit status.
     pub fn number(self) -> u8
@@ -107,8 +145,11 @@ impl Status {
             Status::BadProgram(_) => 3,
             Status::BadScript(_) => 4,
             Status::SinkFault => 5,
+            Status::Budget => 6,
             Status::Memory => 7,
+            Status::CutOff(_, _) => 8,
             Status::Refused(_) => 9,
+            Status::Trapped(_, _) => 10,
             Status::BadAsm(_) => 13,
         }
     }
@@ -125,8 +166,11 @@ impl Status {
             Status::BadScript(cause) => script_word(cause),
             Status::BadAsm(cause) => asm_word(cause),
             Status::SinkFault => "sink",
+            Status::Budget => "budget",
             Status::Memory => "memory",
+            Status::CutOff(_, _) => "cutoff",
             Status::Refused(_) => "refused",
+            Status::Trapped(_, _) => "trapped",
         }
     }
 

@@ -11,7 +11,7 @@ ghost use Rattle.command_words.specs.Command.{the_app};
 ghost use Rattle.own_pages.specs.Pages.{page_by};
 
 use own_pages::{Page, page_of};
-use safetynet_main::{Status, safetynet};
+use safetynet_main::{Status, safetynet, trap_word};
 use sn_io::{FileStore, OpenGate, StdSink};
 use sn_probe::{EventTally, Probe};
 use std::alloc::Global;
@@ -28,10 +28,11 @@ const VERSION: &str = "safetynet 0.1.0\n";
 const HELD_BACK: usize = 65_536;
 
 const HELP: &str = "\
-Replays a list of events on a simulated SafetyNet multiprocessor, judges
-traces, and turns programs for it into words and back.
+Replays a list of events on a simulated SafetyNet multiprocessor, runs one by
+threads, judges traces, and turns programs for it into words and back.
 
 usage: safetynet replay [OPTIONS] PROGRAM SCRIPT
+       safetynet run [OPTIONS] PROGRAM
        safetynet check [--nodes N] PROGRAM TRACE
        safetynet asm TEXT
        safetynet dis PROGRAM
@@ -52,6 +53,30 @@ replay applies the events of SCRIPT to a machine that runs PROGRAM. Options:
 
 An option stands before or after the files, at most once, and is written
 --nodes 2 or --nodes=2.
+
+run has a worker for each node, in a thread of its own. Each applies events
+that are due, under rules, until all cores have ended, a recovery finds two
+nodes cut off, or there are as many events as the budget. Whose turn comes
+next is left to the threads, so two runs on more than one node may differ. It
+has replay's options (a --trace reports the trace), and these:
+
+  --interval N     instructions of a node between two checkpoints, 1 to
+                   1000000; without it 100
+  --wait N         events without a validation before a recovery, 1 to
+                   1000000; without it 20000
+  --budget N       how many events at most, 1 to 1000000; without it 1000000
+  --lose-every N   of so many moves of messages one loses its message; 0, as
+                   without it, for none; up to 1000000
+  --kill S@N       switch S, aN or bN of node N, dies after N events, 0 to
+                   1000000
+  --seed N         of the numbers that the workers draw, 0 to 2^64 - 1;
+                   without it 1
+  --journal        reports each event as a line of a SCRIPT, after a comment
+                   that names the worker, and the summary with \"# \" before
+                   each line; it doesn't stand with --trace
+
+What --journal reports is a SCRIPT: its replay gives the same output and
+the same summary.
 
 check judges TRACE, the instructions of a run of PROGRAM on N nodes in their
 order. Where they are an execution on one memory, without faults, it reports
@@ -112,9 +137,13 @@ exit status, with the word that standard error ends with:
       of another form (badline), or names a node, a block or a switch that
       isn't there (outofrange)
    5  sink: not all of the output could be written
+   6  budget: a run has as many events as its budget
    7  memory: there was not enough of it
+   8  cutoff A B: in a run nodes A and B were found cut off from each other
    9  refused P: TRACE is no execution; its P-th instruction is the first
       that can't come after those before it
+  10  trapped N CAUSE: in a run all cores have ended, and N is the least that
+      trapped
   13  asm CAUSE: TEXT is too long (toolong, toomanywords), has a line that is
       no statement (badline), a number that doesn't fit (outofrange), a label
       twice (labeltwice) or one that stands nowhere (nolabel)
@@ -154,7 +183,7 @@ fn show(rt: &HostRuntime, page: Page) -> Status {
 fn perform<T, C, R>(rt: &T, alloc: Global, words: &[String], console: C, report: R) -> Status
 where
     T: Files + Threads + Wait + Sync,
-    C: Write + Drop,
+    C: Write + Drop + Send,
     R: Write + IsTerminal + Drop,
 {
     let held_back = if report.is_terminal() { 0 } else { HELD_BACK };
@@ -183,16 +212,31 @@ where
         &gate,
     );
     match status {
-        Status::Done | Status::Refused(_) if report.finish().is_err() => Status::SinkFault,
+        Status::Done
+        | Status::Refused(_)
+        | Status::Budget
+        | Status::CutOff(_, _)
+        | Status::Trapped(_, _)
+            if report.finish().is_err() => { Status::SinkFault }
         _ => status,
     }
 }
 
-// Names on standard error the status of a call in which not all is done, or a trace is refused.
+// Names on standard error the status of a call in which not all is done, a trace is refused, or a run didn't end with all
+// cores at their exits.
 fn name_status(rt: &HostRuntime, status: Status) {
-    let _ = match status.place() {
-        Some(place) => eprintln!(rt; "# safetynet: {} {place}", status.word()),
-        None => eprintln!(rt; "# safetynet: {}", status.word()),
+    let word = status.word();
+    let _ = match status {
+        Status::Refused(place) => eprintln!(rt; "# safetynet: {word} {place}"),
+        Status::CutOff(a, b) => eprintln!(rt; "# safetynet: {word} {} {}", a.number(), b.number()),
+        Status::Trapped(node, cause) => {
+            eprintln!(rt;
+                "# safetynet: {word} {} {}",
+                node.number(),
+                trap_word(cause)
+            )
+        }
+        _ => eprintln!(rt; "# safetynet: {word}"),
     };
 }
 

@@ -54,7 +54,7 @@ console_text-last Trace image config watch tallies done s =
 console_text-last Summary image config watch tallies done s = console_text-tallies [] 0 tallies
 
 -- what an event puts to the console is what it releases
-console_text-turn : (image : ImageData) (config : Config) (showing : Showing) (place : ℕ) (s : State) (event : Event) → console_text (turn_pieces image config showing place s event) ≡ drop (length s.released) (step_of image config s event).state.released
+pub console_text-turn : (image : ImageData) (config : Config) (showing : Showing) (place : ℕ) (s : State) (event : Event) → console_text (turn_pieces image config showing place s event) ≡ drop (length s.released) (step_of image config s event).state.released
 unfolding turn_pieces
 console_text-turn image config showing place s event =
     let fresh : List ℕ = drop (length s.released) (step_of image config s event).state.released in
@@ -95,7 +95,7 @@ pieces_of-split image config showing tallies events i =
     (split.0, split.1 ∙ ap (pieces_from image config showing tallies 0 (start_of image config.nodes)) (take-append-drop i events))
 
 -- what is put at the end is for the report
-console_text-turns : (image : ImageData) (config : Config) (showing : Showing) (tallies : List (List ℕ)) (done : ℕ) (s : State) (events : List Event) → console_text (pieces_from image config showing tallies done s events) ≡ console_text (turns_from image config showing done s events)
+pub console_text-turns : (image : ImageData) (config : Config) (showing : Showing) (tallies : List (List ℕ)) (done : ℕ) (s : State) (events : List Event) → console_text (pieces_from image config showing tallies done s events) ≡ console_text (turns_from image config showing done s events)
 unfolding turns_from pieces_from end_pieces
 console_text-turns image config showing tallies done s [] = console_text-last showing.report image config showing.watch tallies done s
 console_text-turns image config showing tallies done s (event ∷ events) =
@@ -133,7 +133,7 @@ module _ (image : ImageData) (config : Config) (showing : Showing) (tallies : Li
 
 -- where the trace is asked for, the report's text is the trace and the summary
 
-report_text-trace : (records : List Record) → report_text (trace_pieces records) ≡ trace_text records
+pub report_text-trace : (records : List Record) → report_text (trace_pieces records) ≡ trace_text records
 unfolding trace_pieces
 report_text-trace [] = refl
 report_text-trace (taken ∷ records) = ap (λ t. trace_line taken ++ t) (report_text-trace records)

@@ -2,8 +2,8 @@
 //!
 //! The layer above knows it as a list of pieces, a function of the program, the machine's sizes, the events, what is to be
 //! shown, and the probes that are told each event; and it knows that at every moment the committed trace is an execution of the
-//! program, whose output the console has. All memory is taken before the first event. Nothing here knows words, files or
-//! statuses.
+//! program, whose output the console has. All memory is taken before the first event. The summary, and what else stands at the
+//! end, can be put of any machine. Nothing here knows words, files or statuses.
 #![tactic(auto)]
 
 mod job;
@@ -12,4 +12,5 @@ mod play;
 mod replaying;
 
 pub use job::{Replay, ReportKind, Script, Showing};
+pub use play::{put_end, put_summary};
 pub use replaying::{ReplayFault, replay};

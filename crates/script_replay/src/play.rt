@@ -96,7 +96,8 @@ fn put_tallies<R: Sink>(
     Ok(())
 }
 
-fn put_summary<R: Sink>(
+/// Puts the summary, with `before` before each of its lines: what it says of the machine, and of each probe.
+pub fn put_summary<R: Sink>(
     line: &mut Line,
     before: &str,
     machine: &Machine,
@@ -120,8 +121,8 @@ fn put_summary<R: Sink>(
     Ok(())
 }
 
-// Puts what stands at the end: the summary, after the committed trace where that is asked for.
-fn put_end<R: Sink>(
+/// Puts what stands at the end: the summary, after the committed trace where that is asked for.
+pub fn put_end<R: Sink>(
     line: &mut Line,
     machine: &Machine,
     showing: &Showing,

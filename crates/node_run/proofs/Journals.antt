@@ -1,0 +1,73 @@
+-- Laws of the pieces of a journal.
+use Rattle.std.proofs.Common.{◌≡◌, ℕ, ◌+◌, ◌<◌, List, [], ◌∷◌, ◌++◌, drop, length, get_or, ap, sym, subst, ◌∙◌, arith}
+use Rattle.std.proofs.lemmas.List.{drop_more, drop_all}
+use Rattle.std.specs.Prelude.{Option, Result, OnErr, codes}
+use Rattle.sn_io.specs.declared.outside.Failed.{Failed}
+use Rattle.sn_machine.specs.Machine.{MachineData}
+use Rattle.sink_pieces.specs.Pieces.{Piece, Report, Ends, ends, after, Breaks}
+use Rattle.sink_pieces.proofs.PieceLaws.{after-append, after-nil, Breaks-more, Breaks-after}
+use Rattle.sink_pieces.proofs.SoFar.{SoFar, SoFar-more, SoFar-breaks, SoFar-whole}
+use Rattle.script_replay.specs.declared.job.ReportKind.TheVariants as replayed
+use Rattle.script_replay.specs.Played.{summed_up, end_now}
+use Rattle.run_journals.specs.declared.entry.Entry.{Entry}
+use Rattle.node_run.specs.Pieces.{entry_lines, journal_pieces}
+use Rattle.node_run.specs.declared.job.RunReport.{RunReport}
+use Rattle.node_run.specs.declared.job.RunReport.TheVariants.{Summary, Trace, Journal}
+use Rattle.node_run.specs.declared.job.RunShowing.{RunShowing}
+use Rattle.node_run.specs.Reported.{script_now, report_by_kind, report_now}
+
+-- the turns, one after another
+journal_pieces-drop : (journal : List Entry) (i : ℕ) (entry : Entry) → i < length journal → entry ≡ get_or journal i entry → journal_pieces (drop i journal) ≡ Report (entry_lines entry) ∷ journal_pieces (drop (i + 1) journal)
+unfolding journal_pieces
+journal_pieces-drop journal i entry below is =
+    ap journal_pieces (drop_more journal i entry below) ∙ ap (λ e. Report (entry_lines e) ∷ journal_pieces (drop (i + 1) journal)) (sym is)
+
+journal_pieces-end : (journal : List Entry) (i : ℕ) → length journal ≡ i → journal_pieces (drop i journal) ≡ []
+unfolding journal_pieces
+journal_pieces-end journal i e = rw (drop_all i journal (omega arith))
+
+pub turn-next : (journal : List Entry) (i : ℕ) (entry : Entry) (line bytes : List ℕ) (a b d : Ends) → i < length journal → entry ≡ get_or journal i entry → line ≡ entry_lines entry → bytes ≡ line → SoFar (journal_pieces journal) (journal_pieces (drop i journal)) a b → d ≡ after b (Report bytes ∷ []) → SoFar (journal_pieces journal) (journal_pieces (drop (i + 1) journal)) a d
+turn-next journal i entry line bytes a b d below is put same h more =
+    SoFar-more (journal_pieces journal) (Report (entry_lines entry) ∷ []) _ a b d
+    (subst (λ (t : List Piece). SoFar (journal_pieces journal) t a b) (journal_pieces-drop journal i entry below is) h)
+    (more ∙ ap (λ t. after b (Report t ∷ [])) (same ∙ put))
+
+pub turn-breaks : (journal : List Entry) (i : ℕ) (entry : Entry) (line bytes : List ℕ) (a b d : Ends) → i < length journal → entry ≡ get_or journal i entry → line ≡ entry_lines entry → bytes ≡ line → SoFar (journal_pieces journal) (journal_pieces (drop i journal)) a b → Breaks (Report bytes ∷ []) b d → Breaks (journal_pieces journal) a d
+turn-breaks journal i entry line bytes a b d below is put same h broken =
+    SoFar-breaks (journal_pieces journal) (Report (entry_lines entry) ∷ []) _ a b d
+    (subst (λ (t : List Piece). SoFar (journal_pieces journal) t a b) (journal_pieces-drop journal i entry below is) h)
+    (subst (λ (t : List ℕ). Breaks (Report t ∷ []) b d) (same ∙ put) broken)
+
+pub turns-whole : (journal : List Entry) (i : ℕ) (a b : Ends) → length journal ≡ i → SoFar (journal_pieces journal) (journal_pieces (drop i journal)) a b → b ≡ after a (journal_pieces journal)
+turns-whole journal i a b e h =
+    SoFar-whole (journal_pieces journal) [] a b b (subst (λ (t : List Piece). SoFar (journal_pieces journal) t a b) (journal_pieces-end journal i e) h) (sym (after-nil b))
+
+-- and then the summary
+module _ (m : MachineData) (journal : List Entry) (watch : Option ℕ) (tallies : List (List ℕ)) where
+  pub script-all : (a b d : Ends) → b ≡ after a (journal_pieces journal) → d ≡ after b (summed_up (codes "# ") m watch tallies) → d ≡ after a (script_now m journal watch tallies)
+  script-all a b d first second =
+      second ∙ ap (λ e. after e (summed_up (codes "# ") m watch tallies)) first ∙ after-append a (journal_pieces journal) (summed_up (codes "# ") m watch tallies)
+
+  pub script-breaks_first : (a b : Ends) → Breaks (journal_pieces journal) a b → Breaks (script_now m journal watch tallies) a b
+  script-breaks_first a b broken = Breaks-more (journal_pieces journal) (summed_up (codes "# ") m watch tallies) a b broken
+
+  pub script-breaks_second : (a b d : Ends) → b ≡ after a (journal_pieces journal) → Breaks (summed_up (codes "# ") m watch tallies) b d → Breaks (script_now m journal watch tallies) a d
+  script-breaks_second a b d first broken =
+      Breaks-after (journal_pieces journal) (summed_up (codes "# ") m watch tallies) a d (subst (λ (e : Ends). Breaks (summed_up (codes "# ") m watch tallies) e d) first broken)
+
+-- a report that broke, of the kind that was asked for
+module _ (m : MachineData) (journal : List Entry) (showing : RunShowing) (tallies : List (List ℕ)) (r : Result (Unit {0}) Failed) (before behind : Option (List ℕ)) where
+  abbrev BreaksIn : List Piece → Type 0
+  BreaksIn pieces = OnErr r ((c : Option (List ℕ)) → Breaks pieces (ends c before) (ends c behind))
+
+  of_kind : (kind : RunReport) → showing.report ≡ kind → BreaksIn (report_by_kind kind m journal showing tallies) → BreaksIn (report_now m journal showing tallies)
+  of_kind kind is h = subst (λ (k : RunReport). BreaksIn (report_by_kind k m journal showing tallies)) (sym is) h
+
+  pub summary-breaks : showing.report ≡ Summary → BreaksIn (summed_up [] m showing.watch tallies) → BreaksIn (report_now m journal showing tallies)
+  summary-breaks is h = of_kind Summary is h
+
+  pub trace-breaks : showing.report ≡ Trace → BreaksIn (end_now m (record { report = replayed.Trace; watch = showing.watch }) tallies) → BreaksIn (report_now m journal showing tallies)
+  trace-breaks is h = of_kind Trace is h
+
+  pub script-breaks : showing.report ≡ Journal → BreaksIn (script_now m journal showing.watch tallies) → BreaksIn (report_now m journal showing tallies)
+  script-breaks is h = of_kind Journal is h

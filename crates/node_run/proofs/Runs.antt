@@ -1,0 +1,208 @@
+-- What a run has put, by what its workers left.
+use Rattle.std.proofs.Common.{◌≡◌, ℕ, ◌≤◌, List, [], ◌∷◌, ◌++◌, length, refl, ap, sym, subst, ◌∙◌, append_assoc, inl, inr}
+use Rattle.std.specs.Prelude.{Option, Some, None, codes, option_and_then}
+use Rattle.sn_base.specs.Image.{ImageData}
+use Rattle.sn_base.specs.declared.config.Config.{Config}
+use Rattle.sn_base.specs.declared.event.Answer.{Answer}
+use Rattle.sn_io.specs.Outside.{followed_by, Rose}
+use Rattle.sn_text.specs.Written.{trace_text}
+use Rattle.sn_model.specs.Machine.{State}
+use Rattle.sn_model.specs.Trace.{Entry as Retirement}
+use Rattle.consistent_cuts.specs.Headline.{IsConsistent}
+use Rattle.sn_machine.specs.Machine.{MachineData, IsConsistentNow, flat_of}
+use Rattle.sn_probe.specs.Probes.{Meter, tallies_of}
+use Rattle.sn_console.specs.Handed.{IsWritten, IsBegun}
+use Rattle.sink_pieces.specs.Pieces.{Piece, Report, Ends, ends, after, Breaks, console_piece, report_text, HasBeginning}
+use Rattle.sink_pieces.proofs.PieceLaws.{report_text-append, after-append, after-console_piece, Breaks-after}
+use Rattle.sink_pieces.proofs.Begun.{report-after, report-begun}
+use Rattle.script_replay.specs.Pieces.{trace_pieces, summary_pieces, last_pieces, end_pieces}
+use Rattle.script_replay.specs.Played.{summed_up}
+use Rattle.script_replay.specs.Probed.{told_all as told_by_replay}
+use Rattle.script_replay.proofs.Shown.{report_text-trace}
+use Rattle.run_journals.specs.declared.entry.Entry.{Entry}
+use Rattle.run_journals.specs.Journal.{Began, state_of}
+use Rattle.shared_machine.specs.declared.finish.Finish.{Finish}
+use Rattle.shared_machine.specs.declared.finish.Finish.TheVariants as finish
+use Rattle.node_threads.specs.Finishes.{IsRunOf, finish_by, Ends as EndsSo}
+use Rattle.node_threads.specs.Told.{told_all}
+use Rattle.node_run.specs.declared.ending.Ending.{Ending}
+use Rattle.node_run.specs.declared.job.Run.{Run}
+use Rattle.node_run.specs.declared.job.RunReport.{RunReport}
+use Rattle.node_run.specs.declared.job.RunReport.TheVariants.{Summary, Trace, Journal}
+use Rattle.node_run.specs.declared.job.RunShowing.{RunShowing}
+use Rattle.node_run.specs.Endings.{ending_by, flat_after, ending_of}
+use Rattle.node_run.specs.Pieces.{begins, replay_of, tallies_by, entry_lines, journal_text, journal_pieces, summary_by, report_by, run_pieces}
+use Rattle.node_run.specs.Reported.{report_by_kind, report_now}
+use Rattle.node_run.specs.Shown.{IsJournal, IsLawful, IsTrace, IsScript, IsShown, IsShownInPart, IsStopped, IsRun, IsCutShort, IsDone, IsBrokenOff, KnowAll, output_by}
+use Rattle.node_run.proofs.Replays.{told-replayed, replayed-so}
+
+report_text-journal : (journal : List Entry) → report_text (journal_pieces journal) ≡ journal_text journal
+unfolding journal_pieces
+report_text-journal [] = refl
+report_text-journal (entry ∷ entries) = ap (λ t. entry_lines entry ++ t) (report_text-journal entries)
+
+none-of : (o : Option Ending) → ((ending : Ending) → o ≡ Some ending → ⊥) → o ≡ None
+none-of None h = refl
+none-of (Some ending) h = absurd (h ending refl)
+
+-- a run is stopped only where it has no end, and else it has the end that its journal says
+stopped-by : (nodes : ℕ) (m : MachineData) (found : Finish) → ending_by nodes (flat_of m) found ≡ None → found ≡ finish.Stopped
+stopped-by nodes m finish.Over e = cc
+stopped-by nodes m (finish.CutOff a b) e = cc
+stopped-by nodes m finish.Budget e = cc
+stopped-by nodes m finish.Stopped e = refl
+
+abbrev IsEnded : Began → List Entry → Finish → List ℕ → Option (List ℕ) → Option (List ℕ) → Type 0
+IsEnded began journal found released before after_ = IsWritten [] released before after_ × (finish_by began journal ≡ Some found)
+
+ended-by : (nodes : ℕ) (m : MachineData) (began : Began) (journal : List Entry) (found : Finish) (ending : Ending) (released : List ℕ) (before after_ : Option (List ℕ)) (was is : ℕ) → ending_by nodes (flat_of m) found ≡ Some ending → EndsSo began journal found released before after_ was is → IsEnded began journal found released before after_
+ended-by nodes m began journal finish.Over ending released before after_ was is e h = h
+ended-by nodes m began journal (finish.CutOff a b) ending released before after_ was is e h = h
+ended-by nodes m began journal finish.Budget ending released before after_ was is e h = h
+ended-by nodes m began journal finish.Stopped ending released before after_ was is e h = absurd cc
+
+module _ (r : Run) (began : Began) (m : MachineData) (journal : List Entry) (answers : List Answer) (same : began ≡ begins r) (left : IsRunOf began m journal answers) (consistent : IsConsistentNow m) where
+  by_run : IsRunOf (begins r) m journal answers
+  by_run = subst (λ (b : Began). IsRunOf b m journal answers) same left
+
+  its-journal : IsJournal r journal
+  its-journal = record { due = by_run.due; few = by_run.few }
+
+  lawful : IsLawful r journal
+  lawful =
+      let trace : List Retirement = consistent.0 in (
+        trace,
+        subst (λ (s : State). IsConsistent r.program r.config.nodes s trace) by_run.state
+            (subst (λ (c : Config). IsConsistent r.program c.nodes m.state trace) by_run.config
+            (subst (λ (i : ImageData). IsConsistent i m.config.nodes m.state trace) by_run.image consistent.1)),
+      )
+
+  released-is : m.state.released ≡ output_by r journal
+  released-is = ap (λ (s : State). s.released) by_run.state ∙ lawful.1.output
+
+  flat-is : flat_of m ≡ flat_after (begins r) journal
+  flat-is =
+      ap (λ (i : ImageData). flat_of (record m { image = i })) by_run.image
+      ∙ ap (λ (c : Config). flat_of (record m { image = r.program; config = c })) by_run.config
+      ∙ ap (λ (s : State). flat_of (record m { image = r.program; config = r.config; state = s })) by_run.state
+
+  pub knows-all : (before now_ : List Meter) → now_ ≡ told_all journal answers before → KnowAll r journal before now_
+  knows-all before now_ told = told ∙ told-replayed r journal answers before by_run.answers_are
+
+  -- the report
+
+  summary-is : (mark : List ℕ) (probes : List Meter) (tallies : List (List ℕ)) → tallies ≡ tallies_by r probes journal → summed_up mark m r.showing.watch tallies ≡ summary_by mark r probes journal
+  summary-is mark probes tallies are =
+      ap (λ (i : ImageData). summed_up mark (record m { image = i }) r.showing.watch tallies) by_run.image
+      ∙ ap (λ (c : Config). summed_up mark (record m { image = r.program; config = c }) r.showing.watch tallies) by_run.config
+      ∙ ap (λ (s : State). summed_up mark (record m { image = r.program; config = r.config; state = s }) r.showing.watch tallies) by_run.state
+      ∙ ap (λ (n : ℕ). summary_pieces mark r.program r.config r.showing.watch tallies n (state_of (begins r) journal)) by_run.applied
+      ∙ ap (λ (t : List (List ℕ)). summary_pieces mark r.program r.config r.showing.watch t (length journal) (state_of (begins r) journal)) are
+
+  report-by_kind : (kind : RunReport) (probes : List Meter) (tallies : List (List ℕ)) → tallies ≡ tallies_by r probes journal → report_by_kind kind m journal r.showing tallies ≡ report_by kind r probes journal
+  unfolding end_pieces
+  report-by_kind Summary probes tallies are = summary-is [] probes tallies are
+  report-by_kind Trace probes tallies are =
+      ap (λ (s : State). trace_pieces s.committed ++ summed_up (codes "# ") m r.showing.watch tallies) by_run.state
+      ∙ ap (λ (t : List Piece). trace_pieces (state_of (begins r) journal).committed ++ t) (summary-is (codes "# ") probes tallies are)
+  report-by_kind Journal probes tallies are = ap (λ (t : List Piece). journal_pieces journal ++ t) (summary-is (codes "# ") probes tallies are)
+
+  report-is : (probes told : List Meter) → told ≡ told_all journal answers probes → report_now m journal r.showing (tallies_of told) ≡ report_by r.showing.report r probes journal
+  report-is probes told are = report-by_kind r.showing.report probes (tallies_of told) (ap (λ (t : List Meter). tallies_of t) (knows-all probes told are))
+
+  -- as a trace, and as a script
+  is-trace : (probes : List Meter) (before behind : Option (List ℕ)) → r.showing.report ≡ Trace → behind ≡ followed_by before (report_text (report_by r.showing.report r probes journal)) → IsTrace r probes journal before behind
+  is-trace probes before behind kind put = record {
+    execution = lawful.1.execution;
+    written = put ∙ ap (λ (k : RunReport). followed_by before (report_text (report_by k r probes journal))) kind
+        ∙ ap (followed_by before) (report_text-append (trace_pieces (state_of (begins r) journal).committed) (summary_by (codes "# ") r probes journal)
+        ∙ ap (λ t. t ++ report_text (summary_by (codes "# ") r probes journal)) (report_text-trace (state_of (begins r) journal).committed));
+  }
+
+  is-script : (probes : List Meter) (before behind : Option (List ℕ)) → r.showing.report ≡ Journal → behind ≡ followed_by before (report_text (report_by r.showing.report r probes journal)) → IsScript r probes journal before behind
+  is-script probes before behind kind put = record {
+    written = put ∙ ap (λ (k : RunReport). followed_by before (report_text (report_by k r probes journal))) kind
+        ∙ ap (followed_by before) (report_text-append (journal_pieces journal) (summary_by (codes "# ") r probes journal)
+        ∙ ap (λ t. t ++ report_text (summary_by (codes "# ") r probes journal)) (report_text-journal journal));
+  }
+
+  -- where the run ended
+  module _ (found : Finish) (ending : Ending) (was is : ℕ) (console written report shown : Option (List ℕ)) (probes told : List Meter) (is-ending : ending_by m.config.nodes (flat_of m) found ≡ Some ending) (so : EndsSo began journal found m.state.released console written was is) (are : told ≡ told_all journal answers probes) where
+    ended : IsEnded began journal found m.state.released console written
+    ended = ended-by m.config.nodes m began journal found ending m.state.released console written was is is-ending so
+
+    its-ending : ending_of (begins r) journal ≡ Some ending
+    its-ending =
+        ap (λ (o : Option Finish). option_and_then (ending_by r.config.nodes (flat_after (begins r) journal)) o) (ap (λ (b : Began). finish_by b journal) (sym same) ∙ ended.1)
+        ∙ ap (λ t. ending_by r.config.nodes t found) (sym flat-is)
+        ∙ ap (λ (c : Config). ending_by c.nodes (flat_of m) found) (sym by_run.config) ∙ is-ending
+
+    all-released : written ≡ followed_by console m.state.released
+    all-released = ended.0.put ∙ ap (followed_by console) ended.0.grown
+
+    output-is : written ≡ followed_by console (output_by r journal)
+    output-is = all-released ∙ ap (followed_by console) released-is
+
+    console-put : ends written report ≡ after (ends console report) (console_piece (state_of (begins r) journal).released)
+    console-put = after-console_piece console written report (state_of (begins r) journal).released (all-released ∙ ap (λ (s : State). followed_by console s.released) by_run.state)
+
+    pub run-done : (listed : List Entry) → listed ≡ journal → ((c : Option (List ℕ)) → ends c shown ≡ after (ends c report) (report_now m listed r.showing (tallies_of told))) → IsDone r probes ending (ends console report) (ends written shown) told
+    run-done listed all put =
+        let whole : ends written shown ≡ after (ends written report) (report_by r.showing.report r probes journal) = put written ∙ ap (λ (l : List Entry). after (ends written report) (report_now m l r.showing (tallies_of told))) all ∙ ap (after (ends written report)) (report-is probes told are) in
+        let text : shown ≡ followed_by report (report_text (report_by r.showing.report r probes journal)) = report-after (ends written report) (ends written shown) (report_by r.showing.report r probes journal) whole in (
+          journal,
+          record {
+            journal_is = its-journal;
+            ended = its-ending;
+            put = whole ∙ ap (λ (e : Ends). after e (report_by r.showing.report r probes journal)) console-put
+                ∙ after-append (ends console report) (console_piece (state_of (begins r) journal).released) (report_by r.showing.report r probes journal);
+            shown = record {
+              lawful = lawful;
+              output = output-is;
+              traced = λ kind. is-trace probes report shown kind text;
+              journaled = λ kind. is-script probes report shown kind text;
+              replayed = replayed-so r probes journal lawful.1.output;
+            };
+          },
+          knows-all probes told are,
+        )
+
+    pub run-cut_short : (listed : List Entry) → listed ≡ journal → ((c : Option (List ℕ)) → Breaks (report_now m listed r.showing (tallies_of told)) (ends c report) (ends c shown)) → IsBrokenOff r probes (ends console report) (ends written shown) told
+    run-cut_short listed all put =
+        let part : Breaks (report_by r.showing.report r probes journal) (ends written report) (ends written shown) =
+        subst (λ (t : List Piece). Breaks t (ends written report) (ends written shown)) (ap (λ (l : List Entry). report_now m l r.showing (tallies_of told)) all ∙ report-is probes told are) (put written) in (
+          journal,
+          knows-all probes told are,
+          inr (
+            ending,
+            record {
+              journal_is = its-journal;
+              ended = its-ending;
+              broken = Breaks-after (console_piece (state_of (begins r) journal).released) (report_by r.showing.report r probes journal) (ends console report) (ends written shown)
+                  (subst (λ (e : Ends). Breaks (report_by r.showing.report r probes journal) e (ends written shown)) console-put part);
+              shown = record {
+                lawful = lawful;
+                output = output-is;
+                report = report-begun (report_by r.showing.report r probes journal) part.whole part.rest part.piece part.count (ends written report) (ends written shown) part.all part.put;
+                replayed = replayed-so r probes journal lawful.1.output;
+              };
+            },
+          ),
+        )
+
+  -- where the console failed
+  module _ (found : Finish) (was is : ℕ) (console written report : Option (List ℕ)) (probes told : List Meter) (result : Option Ending) (says : result ≡ ending_by m.config.nodes (flat_of m) found) (none : (ending : Ending) → result ≡ Some ending → ⊥) (so : EndsSo began journal found m.state.released console written was is) where
+    stopped : IsBegun [] m.state.released console written × Rose was is
+    stopped = subst (λ (f : Finish). EndsSo began journal f m.state.released console written was is) (stopped-by m.config.nodes m found (sym says ∙ none-of result none)) so
+
+    pub run-stopped : told ≡ told_all journal answers probes → IsBrokenOff r probes (ends console report) (ends written report) told
+    run-stopped are = (
+      journal,
+      knows-all probes told are,
+      inl (record {
+        journal_is = its-journal;
+        lawful = lawful;
+        output = record { put = stopped.0.more; left = stopped.0.begun.rest; whole = stopped.0.begun.whole ∙ released-is; written = stopped.0.put };
+        report = refl;
+      }),
+    )

@@ -1,0 +1,17 @@
+//! A run by node threads, with all that is put of it: the bytes that it releases, and then the report.
+//!
+//! The layer above knows of it that there is a due journal, as whose end it ended: the console has the output of its committed
+//! trace, and the report the journal, or that trace, or nothing, and then the summary. What is put to the console, and the
+//! summary, are those of a replay of the journal's events. Where the console failed there is a due journal too, of whose output
+//! it has the beginning, and the report has nothing. Nothing here knows words, files or statuses.
+#![tactic(auto)]
+
+mod ending;
+mod job;
+mod reporting;
+mod running;
+
+pub use due_events::Rules;
+pub use ending::Ending;
+pub use job::{Run, RunReport, RunShowing};
+pub use running::{RunFault, run};

@@ -1,0 +1,99 @@
+//! What the report has of a run.
+ghost use Rattle.std.specs.Prelude.{◌≡◌, ℕ, List, ◌≤◌, Option, OnOk, OnErr};
+ghost use Rattle.sn_io.specs.Outside.{Rose};
+ghost use Rattle.sn_machine.specs.Machine.{MachineData};
+ghost use Rattle.sn_probe.specs.Probes.{meters_in, tallies_of};
+ghost use Rattle.sink_pieces.specs.Pieces.{ends, after, Breaks};
+ghost use Rattle.script_replay.specs.Played.{IsWatchable};
+ghost use Rattle.node_run.specs.Pieces.{entry_lines, journal_pieces};
+ghost use Rattle.node_run.specs.Reported.{script_now, report_now};
+
+use crate::job::{RunReport, RunShowing};
+use node_threads::Entry;
+use script_replay::{ReportKind, Showing, put_end, put_summary};
+use sink_pieces::put_report;
+use sn_io::{Failed, Sink};
+use sn_machine::Machine;
+use sn_probe::ProbeSet;
+use sn_text::Line;
+
+// A turn of a journal: a comment that names its worker, and its event as a line of a script.
+#[tactic(auto, unfolding(crate::specs::Pieces::entry_lines))]
+fn write_entry(line: &mut Line, entry: &Entry)
+    ensures { line.new ≡ entry_lines entry.now }
+{
+    line.clear();
+    line.count("# ", "worker", u64::from(entry.worker));
+    line.script(&entry.event);
+}
+
+// Puts the turns of a journal.
+fn put_journal<R: Sink>(line: &mut Line, journal: &[Entry], report: &mut R) -> Result<(), Failed>
+    ensures ok { OnOk result ((c : Option (List ℕ)) →
+        ends c (R.written report.new) ≡ after (ends c (R.written report.old)) (journal_pieces journal.now)) }
+    ensures err { OnErr result ((c : Option (List ℕ)) →
+        Breaks (journal_pieces journal.now) (ends c (R.written report.old)) (ends c (R.written report.new))) }
+    ensures later { R.faults report.old ≤ R.faults report.new }
+    ensures cause { OnErr result (Rose (R.faults report.old) (R.faults report.new)) }
+{
+    'turns: for entry in journal {
+        write_entry(line, entry);
+        put_report(report, line.bytes())?;
+    }
+    Ok(())
+}
+
+// Puts a journal, and then the summary.
+fn put_script<R: Sink>(
+    line: &mut Line,
+    machine: &Machine,
+    journal: &[Entry],
+    watch: Option<u32>,
+    probes: &ProbeSet,
+    report: &mut R,
+) -> Result<(), Failed>
+    requires watched { IsWatchable watch }
+    ensures ok { OnOk result ((c : Option (List ℕ)) → ends c (R.written report.new) ≡ after (ends c (R.written report.old))
+        (script_now machine.now journal.now watch (tallies_of (meters_in first tally step probes.now.probes.items)))) }
+    ensures err { OnErr result ((c : Option (List ℕ)) →
+        Breaks (script_now machine.now journal.now watch (tallies_of (meters_in first tally step probes.now.probes.items)))
+        (ends c (R.written report.old)) (ends c (R.written report.new))) }
+    ensures later { R.faults report.old ≤ R.faults report.new }
+    ensures cause { OnErr result (Rose (R.faults report.old) (R.faults report.new)) }
+{
+    put_journal(line, journal, report)?;
+    put_summary(line, "# ", machine, watch, probes, report)?;
+    Ok(())
+}
+
+/// Puts what the report has of a run that left this machine and this journal.
+pub(crate) fn put_run<R: Sink>(
+    line: &mut Line,
+    machine: &Machine,
+    journal: &[Entry],
+    showing: &RunShowing,
+    probes: &ProbeSet,
+    report: &mut R,
+) -> Result<(), Failed>
+    requires watched { IsWatchable showing.now.watch }
+    ensures ok { OnOk result ((c : Option (List ℕ)) → ends c (R.written report.new) ≡ after (ends c (R.written report.old))
+        (report_now machine.now journal.now showing.now (tallies_of (meters_in first tally step probes.now.probes.items)))) }
+    ensures err { OnErr result ((c : Option (List ℕ)) →
+        Breaks (report_now machine.now journal.now showing.now (tallies_of (meters_in first tally step probes.now.probes.items)))
+        (ends c (R.written report.old)) (ends c (R.written report.new))) }
+    ensures later { R.faults report.old ≤ R.faults report.new }
+    ensures cause { OnErr result (Rose (R.faults report.old) (R.faults report.new)) }
+{
+    let watch = showing.watch;
+    match showing.report {
+        RunReport::Summary => put_summary(line, "", machine, watch, probes, report),
+        RunReport::Trace => {
+            let showing = Showing {
+                report: ReportKind::Trace,
+                watch,
+            };
+            put_end(line, machine, &showing, probes, report)
+        }
+        RunReport::Journal => put_script(line, machine, journal, watch, probes, report),
+    }
+}

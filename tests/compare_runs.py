@@ -1,0 +1,102 @@
+#!/usr/bin/env python3
+"""Runs programs by node threads, and replays the journals that the runs report.
+
+    tests/compare_runs.py PROGRAM [COUNT] [SEED] [SIMULATOR]
+
+PROGRAM is the built program, or the script `safetynet` at the top of the repository. Each of COUNT runs (100) is of a random
+program on 1 to 16 nodes with random seeds, losses and dying switches, and ends as it does: by its budget, cut off, with a trap or
+with all exits. The journal that it reports, given to `replay` as a script, must give the same console and the same summary, and
+so must a run's trace be legal by `check`. On one node the same words must give the same run again. SIMULATOR is a reference
+simulator, whose `judge` says of a journal whether each of its events was the one that was due.
+"""
+import random
+import subprocess
+import sys
+import tempfile
+from pathlib import Path
+
+from compare_replay import hexadecimal_image, program
+
+# Status 0, and those of a budget that is spent, of nodes that are cut off and of a trap.
+ENDS = {0: "exited", 6: "budget", 8: "cut off", 10: "trapped"}
+
+
+def call(command, words, folder):
+    done = subprocess.run([*command, *words], cwd=folder, capture_output=True)
+    return done.returncode, done.stdout, done.stderr.decode().splitlines()
+
+
+def sizes(choose, nodes):
+    words = ["--nodes", nodes]
+    for name, value in [("sets", choose.choice([1, 4, 16])), ("ways", choose.choice([1, 2, 4])), ("log", choose.choice([4, 16, 256]))]:
+        words += [f"--{name}", value] if choose.random() < 0.3 else []
+    return [str(word) for word in words]
+
+
+def rules(choose, nodes):
+    words = ["--seed", choose.randrange(2**64), "--budget", choose.randrange(1, 5000), "--interval", choose.choice([1, 3, 10, 40]),
+             "--wait", choose.choice([100, 400, 2000]), "--lose-every", choose.choice([0, 0, 13, 60])]
+    if choose.random() < 0.3:
+        words += ["--kill", f"{choose.choice('ab')}{choose.randrange(nodes)}@{choose.randrange(300)}"]
+    return [str(word) for word in words]
+
+
+def summary(lines):
+    """The lines after the groups of a replay's report, without the line that names the status."""
+    start = next(place for place, line in enumerate(lines) if line.startswith("events "))
+    return [line for line in lines[start:] if not line.startswith("# safetynet: ")]
+
+
+def differences(command, simulator, choose, folder):
+    """What is wrong with one run, and how it ended."""
+    nodes = choose.choice([1, 2, 2, 3, 4, 4, 6, 8, 16, choose.randrange(1, 17)])
+    Path(folder, "program").write_bytes(hexadecimal_image(choose, program(choose)))
+    size, rule = sizes(choose, nodes), rules(choose, nodes)
+    status, console, report = call(command, ["run", *size, *rule, "--journal", "program"], folder)
+    if status not in ENDS:
+        return [f"{size + rule}: status {status}"], "other"
+    script = [line for line in report if not line.startswith("# safetynet: ")]
+    Path(folder, "journal").write_text("".join(line + "\n" for line in script))
+    wrong = []
+    again, released, replayed = call(command, ["replay", *size, "program", "journal"], folder)
+    marked = [line[2:] for line in script if line.startswith("# ") and not line.startswith("# worker ")]
+    if again != 0 or released != console:
+        wrong.append(f"{size + rule}: the replay has status {again}, or another console")
+    elif summary(replayed) != marked:
+        wrong.append(f"{size + rule}: the replay has another summary")
+    if nodes == 1 and call(command, ["run", *size, *rule, "--journal", "program"], folder) != (status, console, report):
+        wrong.append(f"{size + rule}: the run on one node is another one the second time")
+    _, _, trace = call(command, ["run", *size, *rule, "--trace", "program"], folder)
+    Path(folder, "trace").write_text("".join(line + "\n" for line in trace))
+    judged, _, verdict = call(command, ["check", "--nodes", str(nodes), "program", "trace"], folder)
+    if judged != 0:
+        wrong.append(f"{size + rule}: the trace is {verdict}")
+    if simulator:
+        found = subprocess.run([simulator, "judge", *size, *rule, "program", "journal"], cwd=folder, capture_output=True)
+        if found.returncode != 0:
+            wrong.append(f"{size + rule}: the simulator says {(found.stdout + found.stderr).decode().strip()[-200:]}")
+    return wrong, ENDS[status]
+
+
+def main():
+    if len(sys.argv) < 2:
+        print(__doc__)
+        return 2
+    command = [str(Path(sys.argv[1]).resolve())]
+    count = int(sys.argv[2]) if len(sys.argv) > 2 else 100
+    seed = sys.argv[3] if len(sys.argv) > 3 else "1"
+    simulator = str(Path(sys.argv[4]).resolve()) if len(sys.argv) > 4 else None
+    failed, ends = 0, {}
+    with tempfile.TemporaryDirectory() as folder:
+        for case in range(count):
+            wrong, end = differences(command, simulator, random.Random(f"{seed} {case}"), folder)
+            ends[end] = ends.get(end, 0) + 1
+            failed += bool(wrong)
+            for line in wrong:
+                print(f"run {case}: {line}")
+    print(f"{count} runs, {failed} of them wrong; " + ", ".join(f"{number} {end}" for end, number in sorted(ends.items())))
+    return 1 if failed else 0
+
+
+if __name__ == "__main__":
+    sys.exit(main())
