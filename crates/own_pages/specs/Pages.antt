@@ -9,7 +9,7 @@ Text = List ℕ
 
 -- the commands, in the order of the page of help
 abbrev pub commands : List Text
-commands = codes "replay" ∷ codes "check" ∷ codes "demo" ∷ codes "asm" ∷ codes "dis" ∷ []
+commands = codes "replay" ∷ codes "run" ∷ codes "check" ∷ codes "demo" ∷ codes "asm" ∷ codes "dis" ∷ []
 
 -- the words that ask for the page of help
 abbrev pub calls_for_help : List Text

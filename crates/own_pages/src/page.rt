@@ -22,7 +22,7 @@ fn asked_by(word: &str) -> Option<Page>
 fn is_command(word: &str) -> bool
     ensures { result ≡ is_one_of commands word.now }
 {
-    matches!(word, "replay" | "check" | "demo" | "asm" | "dis")
+    matches!(word, "replay" | "run" | "check" | "demo" | "asm" | "dis")
 }
 
 /// The page that the words ask for, of which the first is the program's own name. None where the call is to be done as a

@@ -17,14 +17,14 @@ fn words_of(alloc: Global, line: &str) -> Result<Vec<String>, AllocError> {
 
 /// The lines are parted by semicolons.
 const HELP: &str = "\
-;--help;-h;help;replay --help;replay -h;replay help;check --help;demo -h;asm help;dis --help;help replay;help check;\
+;--help;-h;help;replay --help;replay -h;replay help;run --help;check --help;demo -h;asm help;dis --help;help replay;help run;help check;\
 help demo;help asm;help dis";
 
 const VERSION: &str =
-    "--version;replay --version;check --version;demo --version;asm --version;dis --version";
+    "--version;replay --version;run --version;check --version;demo --version;asm --version;dis --version";
 
 const NEITHER: &str = "\
-'';--;-;-V;--Help;HELP;--helper;hel;--help=1;version;replay;check;demo;asm;dis;fly;fly --help;fly --version;--help fly;\
+'';--;-;-V;--Help;HELP;--helper;hel;--help=1;version;replay;run;check;demo;asm;dis;fly;fly --help;fly --version;--help fly;\
 --help --help;help --help;help help;help fly;help '';-h replay;--help replay;--version replay;Replay --help;\
 replay replay;replay --help --help;replay a --help;help replay help;help replay check;replay --nodes 2 --help;\
 demo 5 --help;asm a;dis a -h;replay ''";

@@ -135,8 +135,8 @@ pub fn trap_word(cause: Cause) -> &'static str
 
 impl Status {
     /// The program's exit status.
-    pub fn number(self) -> u8
-        ensures { result ≡ number_of self }
+    pub fn number(&self) -> u8
+        ensures { result ≡ number_of self.now }
     {
         match self {
             Status::Done => 0,
@@ -155,16 +155,16 @@ impl Status {
     }
 
     /// The word that names it; the cause of a file's refusal is a second word.
-    pub fn word(self) -> &'static str
-        ensures { result.now ≡ word_of self }
+    pub fn word(&self) -> &'static str
+        ensures { result.now ≡ word_of self.now }
     {
         match self {
             Status::Done => "done",
             Status::Usage => "usage",
             Status::StoreFault => "store",
-            Status::BadProgram(cause) => program_word(cause),
-            Status::BadScript(cause) => script_word(cause),
-            Status::BadAsm(cause) => asm_word(cause),
+            Status::BadProgram(cause) => program_word(*cause),
+            Status::BadScript(cause) => script_word(*cause),
+            Status::BadAsm(cause) => asm_word(*cause),
             Status::SinkFault => "sink",
             Status::Budget => "budget",
             Status::Memory => "memory",
@@ -175,11 +175,11 @@ impl Status {
     }
 
     /// The number that follows the word: the place of the record that is refused.
-    pub fn place(self) -> Option<u64>
-        ensures { result ≡ place_of self }
+    pub fn place(&self) -> Option<u64>
+        ensures { result ≡ place_of self.now }
     {
         match self {
-            Status::Refused(place) => Some(place),
+            Status::Refused(place) => Some(*place),
             _ => None,
         }
     }

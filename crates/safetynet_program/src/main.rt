@@ -224,7 +224,7 @@ where
 
 // Names on standard error the status of a call in which not all is done, a trace is refused, or a run didn't end with all
 // cores at their exits.
-fn name_status(rt: &HostRuntime, status: Status) {
+fn name_status(rt: &HostRuntime, status: &Status) {
     let word = status.word();
     let _ = match status {
         Status::Refused(place) => eprintln!(rt; "# safetynet: {word} {place}"),
@@ -233,7 +233,7 @@ fn name_status(rt: &HostRuntime, status: Status) {
             eprintln!(rt;
                 "# safetynet: {word} {} {}",
                 node.number(),
-                trap_word(cause)
+                trap_word(*cause)
             )
         }
         _ => eprintln!(rt; "# safetynet: {word}"),
@@ -257,7 +257,7 @@ fn main(rt: HostRuntime) -> ExitCode {
         Err(_) => Status::Memory,
     };
     if status != Status::Done {
-        name_status(&rt, status);
+        name_status(&rt, &status);
     }
     ExitCode::from(status.number())
 }

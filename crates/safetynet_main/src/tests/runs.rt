@@ -79,7 +79,7 @@ fn a_run_ends_with_its_least_trap_or_with_all_exits(rt: HostRuntime) -> Result<(
     );
     let left = call(&rt, alloc, words, PUTS_A.as_bytes(), "", NO_FAULT)?;
     assert_eq!(rt; left.status, Status::Done);
-    assert_eq!(rt; left.console.as_slice(), b"A");
+    assert_eq!(rt; left.console.as_slice(), "A".as_bytes());
     Ok(())
 }
 
