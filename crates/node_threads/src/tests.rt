@@ -13,6 +13,7 @@ use std::process::Abort;
 use std::sync::atomic::{AtomicU64, Ordering};
 use std::sync::{Arc, Wait};
 use std::test::Fail;
+use std::thread;
 use std::thread::Threads;
 
 /// Each core adds 1 to a word and exits with its number.
@@ -209,6 +210,7 @@ impl Gate for Meeting {
             if self.begun.load(Ordering::SeqCst) >= 4 {
                 return;
             }
+            thread::yield_now();
         }
         self.missed.fetch_add(1, Ordering::SeqCst);
     }
@@ -275,6 +277,7 @@ impl Gate for Late {
             if self.bytes.load(Ordering::SeqCst) > 0 {
                 return;
             }
+            thread::yield_now();
         }
         self.missed.fetch_add(1, Ordering::SeqCst);
     }
