@@ -1,7 +1,103 @@
 #!/usr/bin/env bash
-# Ten runs by node threads on 1 to 16 nodes: the journal of each, given to `replay`, gives the same console and summary, and its
-# trace is legal.
+# Runs by node threads: how each kind of run ends, what its summary says whatever the order of the turns was, and words that are
+# refused. Then ten runs on 1 to 16 nodes: the journal of each, given to `replay`, gives the same console and summary, and its trace
+# is legal.
 set -u
 cd "$(dirname "$0")/../.." || exit 1
+failed=0 passed=0
+work=$(mktemp -d)
+trap 'rm -rf "$work"' EXIT
+
 ./safetynet --build || { echo "the program was not built" >&2; exit 1; }
-tests/compare_runs.py ./safetynet 10 "gate"
+
+# Runs a program, which is to end with this status; its report is to have a line that begins with each of these.
+ends() { # status, beginnings of lines, words
+  local want=$1 lines=$2 status line lacking=0
+  shift 2
+  ./safetynet run "$@" >"$work/console" 2>"$work/report"
+  status=$?
+  while IFS= read -r line; do
+    grep -qE -- "^$line( |\$)" "$work/report" || { echo "run $*: no line '$line'" >&2; lacking=1; }
+  done <<<"$lines"
+  if [ "$status" -eq "$want" ] && [ "$lacking" -eq 0 ]; then
+    passed=$((passed + 1))
+  else
+    echo "run $*: status $status, or a line is lacking" >&2
+    failed=$((failed + 1))
+  fi
+}
+
+# Words that are no run's: nothing is written but the word of the status.
+refused() { # words
+  ./safetynet run "$@" >"$work/console" 2>"$work/report"
+  local status=$?
+  if [ "$status" -eq 1 ] && [ ! -s "$work/console" ] && diff <(echo "# safetynet: usage") "$work/report"; then
+    passed=$((passed + 1))
+  else
+    echo "run $*: status $status, or something else was written" >&2
+    failed=$((failed + 1))
+  fi
+}
+
+count=examples/shared/count.hex
+echo 00000000 >"$work/trap.hex"
+echo 0000006f >"$work/spin.hex"
+
+# Four cores add 1 to a word and exit, while messages are lost; the journal, as a script, gives the same summary.
+ends 0 '# committed 20
+# released 0
+# watch 80001000 00000004
+# core 0 80000010 exited 0
+# core 1 80000010 exited 1
+# core 2 80000010 exited 2
+# core 3 80000010 exited 3' --nodes 4 --watch 80001000 --lose-every 60 --seed 7 --journal "$count"
+cp "$work/report" "$work/journal"
+./safetynet replay --nodes 4 --watch 80001000 "$count" "$work/journal" >/dev/null 2>"$work/report"
+if diff <(grep '^# ' "$work/journal" | grep -v '^# worker ' | sed 's/^# //') <(sed -n '/^events /,$p' "$work/report"); then
+  passed=$((passed + 1))
+else
+  echo "the journal of four cores, replayed, has another summary" >&2
+  failed=$((failed + 1))
+fi
+
+ends 10 'committed 1
+core 0 80000000 trapped illegal
+# safetynet: trapped 0 illegal' --nodes 1 "$work/trap.hex"
+ends 6 'events 50
+# safetynet: budget' --nodes 1 --budget 50 "$work/spin.hex"
+# The kill, three steps of each node, one hop into the dead switch, and the recovery.
+ends 8 'events 9
+point 0
+committed 0
+# safetynet: cutoff 0 1' --nodes 2 --kill a0@0 "$count"
+# Every second event is a recovery.
+ends 6 'events 1000
+point 0
+committed 0
+released 0
+probe 0 9 500' --nodes 4 --wait 1 --budget 1000 "$count"
+# No input comes to a run, so a core that wants a byte waits until the budget is spent.
+ends 6 'events 2000
+released 0' --nodes 1 --budget 2000 examples/shared/echo.hex
+
+refused --nodes 4 --kill a0@0 --kill b0@0 examples/first/a.hex
+refused --nodes 2 --kill a2@0 "$count"
+refused --nodes 2 --kill c0@0 "$count"
+refused --nodes 2 --kill a0@1000001 "$count"
+refused --nodes 2 --kill a00@0 "$count"
+refused --nodes 2 --kill a0 "$count"
+refused --trace --journal "$count"
+refused --interval 0 "$count"
+refused --interval 1000001 "$count"
+refused --wait 0 "$count"
+refused --budget 0 "$count"
+refused --budget 1000001 "$count"
+refused --lose-every 1000001 "$count"
+refused --seed 18446744073709551616 "$count"
+refused --seed -1 "$count"
+refused --journal=x "$count"
+refused "$count" "$count"
+
+echo "runs: $passed passed, $failed failed"
+tests/compare_runs.py ./safetynet 10 "gate" || failed=$((failed + 1))
+[ "$failed" -eq 0 ]
