@@ -128,6 +128,7 @@ const REQUESTS: [(&str, &str); 31] = [
         "replay  s (4 nodes, 16 sets, 4 ways, log 256) None false",
     ),
     (
+        "run p",
         "run p (4 nodes, 16 sets, 4 ways, log 256) interval 100 wait 20000 lose 0 kill None budget 1000000 seed 1 None Summary",
     ),
     (
@@ -175,7 +176,7 @@ fn words_that_are_requests(rt: HostRuntime) -> Result<(), Fail> {
     Ok(())
 }
 
-const USAGE: [&str; 82] = [
+const USAGE: [&str; 83] = [
     "",
     "''",
     "help",
