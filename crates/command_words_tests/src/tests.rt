@@ -176,7 +176,7 @@ fn words_that_are_requests(rt: HostRuntime) -> Result<(), Fail> {
     Ok(())
 }
 
-const USAGE: [&str; 83] = [
+const USAGE: [&str; 82] = [
     "",
     "''",
     "help",
@@ -188,7 +188,6 @@ const USAGE: [&str; 83] = [
     "-- replay p s",
     "Replay p s",
     "repla p s",
-    "run p",
     "--nodes 4 replay p s",
     "replay",
     "replay p",
