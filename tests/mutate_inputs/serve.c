@@ -7,6 +7,7 @@
    alarm then ends it. The program's standard input is what the server's is. */
 #define _GNU_SOURCE
 #include <dlfcn.h>
+#include <link.h>
 #include <stdlib.h>
 #include <string.h>
 #include <sys/mman.h>
@@ -78,13 +79,38 @@ static char **split(char *list, int size, int *count) {
     return words;
 }
 
+struct words {
+    int count;
+    char **words, **variables;
+};
+
+/* Does again what the program does before its main, with the words of this run, since it may keep them there. The first of the loaded
+   files is the program. */
+static int begin_again(struct dl_phdr_info *program, size_t size, void *given) {
+    (void)size;
+    struct words *of = given;
+    void (**begin)(int, char **, char **) = NULL;
+    size_t bytes = 0;
+    for (int i = 0; i < program->dlpi_phnum; i++) {
+        if (program->dlpi_phdr[i].p_type != PT_DYNAMIC) continue;
+        for (ElfW(Dyn) *it = (void *)(program->dlpi_addr + program->dlpi_phdr[i].p_vaddr); it->d_tag != DT_NULL; it++) {
+            if (it->d_tag == DT_INIT_ARRAY) begin = (void *)(program->dlpi_addr + it->d_un.d_ptr);
+            if (it->d_tag == DT_INIT_ARRAYSZ) bytes = it->d_un.d_val;
+        }
+    }
+    for (size_t i = 0; begin && i < bytes / sizeof *begin; i++) begin[i](of->count, of->words, of->variables);
+    return 1;
+}
+
 static int run(char **words, int count, char **variables) {
+    struct words of = {count, words, variables};
     if (dup2(console, 1) < 0 || dup2(report, 2) < 0) fail();
     close(words_pipe);
     close(answers_pipe);
     close(console);
     close(report);
     alarm(seconds);
+    dl_iterate_phdr(begin_again, &of);
     return program_main(count, words, variables);
 }
 
