@@ -1,8 +1,10 @@
 -- Laws of the pieces of a journal.
-use Rattle.std.proofs.Common.{◌≡◌, ℕ, ◌+◌, ◌<◌, List, [], ◌∷◌, ◌++◌, drop, length, get_or, ap, sym, subst, ◌∙◌, arith}
-use Rattle.std.proofs.lemmas.List.{drop_more, drop_all}
-use Rattle.std.specs.Prelude.{Option, Result, OnErr, codes}
+use Rattle.std.proofs.Common.{◌≡◌, ℕ, ◌+◌, ◌<◌, List, [], ◌∷◌, ◌++◌, take, drop, length, get_or, All, ap, sym, subst, ◌∙◌, arith}
+use Rattle.std.proofs.lemmas.List.{drop_more, drop_all, take_more, take_all}
+use Rattle.std.proofs.lemmas.List.Elements.{All-nil, All-push}
+use Rattle.std.specs.Prelude.{Option, Result, Ok, Err, OnOk, OnErr, codes}
 use Rattle.sn_io.specs.declared.outside.Failed.{Failed}
+use Rattle.sn_text.specs.Written.{HasNumbers}
 use Rattle.sn_machine.specs.Machine.{MachineData}
 use Rattle.sink_pieces.specs.Pieces.{Piece, Report, Ends, ends, after, Breaks}
 use Rattle.sink_pieces.proofs.PieceLaws.{after-append, after-nil, Breaks-more, Breaks-after}
@@ -14,7 +16,7 @@ use Rattle.node_run.specs.Pieces.{entry_lines, journal_pieces}
 use Rattle.node_run.specs.declared.job.RunReport.{RunReport}
 use Rattle.node_run.specs.declared.job.RunReport.TheVariants.{Summary, Trace, Journal}
 use Rattle.node_run.specs.declared.job.RunShowing.{RunShowing}
-use Rattle.node_run.specs.Reported.{script_now, report_by_kind, report_now}
+use Rattle.node_run.specs.Reported.{script_now, report_by_kind, report_now, HaveNumbers}
 
 -- the turns, one after another
 journal_pieces-drop : (journal : List Entry) (i : ℕ) (entry : Entry) → i < length journal → entry ≡ get_or journal i entry → journal_pieces (drop i journal) ≡ Report (entry_lines entry) ∷ journal_pieces (drop (i + 1) journal)
@@ -41,6 +43,18 @@ turn-breaks journal i entry line bytes a b d below is put same h broken =
 pub turns-whole : (journal : List Entry) (i : ℕ) (a b : Ends) → length journal ≡ i → SoFar (journal_pieces journal) (journal_pieces (drop i journal)) a b → b ≡ after a (journal_pieces journal)
 turns-whole journal i a b e h =
     SoFar-whole (journal_pieces journal) [] a b b (subst (λ (t : List Piece). SoFar (journal_pieces journal) t a b) (journal_pieces-end journal i e) h) (sym (after-nil b))
+
+-- their numbers
+pub numbers-none : (journal : List Entry) → HaveNumbers (take 0 journal)
+numbers-none journal = All-nil (λ (e : Entry). HasNumbers e.event)
+
+pub numbers-next : (journal : List Entry) (i : ℕ) (entry : Entry) → i < length journal → entry ≡ get_or journal i entry → HasNumbers entry.event → HaveNumbers (take i journal) → HaveNumbers (take (i + 1) journal)
+numbers-next journal i entry below is here before =
+    subst (λ (l : List Entry). HaveNumbers l) (sym (take_more journal i entry below))
+    (All-push (λ (e : Entry). HasNumbers e.event) (take i journal) (get_or journal i entry) before (subst (λ (e : Entry). HasNumbers e.event) is here))
+
+pub numbers-all : (journal : List Entry) (i : ℕ) → length journal ≡ i → HaveNumbers (take i journal) → HaveNumbers journal
+numbers-all journal i e h = subst (λ (l : List Entry). HaveNumbers l) (take_all i journal (omega (arith, e))) h
 
 -- and then the summary
 module _ (m : MachineData) (journal : List Entry) (watch : Option ℕ) (tallies : List (List ℕ)) where
@@ -71,3 +85,31 @@ module _ (m : MachineData) (journal : List Entry) (showing : RunShowing) (tallie
 
   pub script-breaks : showing.report ≡ Journal → BreaksIn (script_now m journal showing.watch tallies) → BreaksIn (report_now m journal showing tallies)
   script-breaks is h = of_kind Journal is h
+
+-- the numbers of a journal that was put where it was asked for
+on-ok : (r : Result (Unit {0}) Failed) (P Q : Type 0) → (P → Q) → OnOk r P → OnOk r Q
+on-ok (Ok done) P Q f h = f h
+on-ok (Err e) P Q f h = tt
+
+always : (r : Result (Unit {0}) Failed) (P : Type 0) → P → OnOk r P
+always (Ok done) P h = h
+always (Err e) P h = tt
+
+no-summary : Summary ≡ Journal → ⊥
+no-summary e = cc
+
+no-trace : Trace ≡ Journal → ⊥
+no-trace e = cc
+
+module _ (journal : List Entry) (showing : RunShowing) (r : Result (Unit {0}) Failed) where
+  abbrev IfAsked : Type 0
+  IfAsked = showing.report ≡ Journal → HaveNumbers journal
+
+  pub summary-numbers : showing.report ≡ Summary → OnOk r IfAsked
+  summary-numbers is = always r IfAsked (λ kind. absurd (no-summary (sym is ∙ kind)))
+
+  pub trace-numbers : showing.report ≡ Trace → OnOk r IfAsked
+  trace-numbers is = always r IfAsked (λ kind. absurd (no-trace (sym is ∙ kind)))
+
+  pub script-numbers : OnOk r (HaveNumbers journal) → OnOk r IfAsked
+  script-numbers h = on-ok r (HaveNumbers journal) IfAsked (λ all kind. all) h

@@ -1,5 +1,5 @@
 -- What a run has put, by what its workers left.
-use Rattle.std.proofs.Common.{◌≡◌, ℕ, ◌≤◌, List, [], ◌∷◌, ◌++◌, length, refl, ap, sym, subst, ◌∙◌, append_assoc, inl, inr}
+use Rattle.std.proofs.Common.{◌≡◌, ℕ, ◌≤◌, List, [], ◌∷◌, ◌++◌, length, arith, refl, ap, sym, subst, ◌∙◌, append_assoc, inl, inr}
 use Rattle.std.specs.Prelude.{Option, Some, None, codes, option_and_then}
 use Rattle.sn_base.specs.Image.{ImageData}
 use Rattle.sn_base.specs.declared.config.Config.{Config}
@@ -32,8 +32,10 @@ use Rattle.node_run.specs.declared.job.RunReport.TheVariants.{Summary, Trace, Jo
 use Rattle.node_run.specs.declared.job.RunShowing.{RunShowing}
 use Rattle.node_run.specs.Endings.{ending_by, flat_after, ending_of}
 use Rattle.node_run.specs.Pieces.{begins, replay_of, tallies_by, entry_lines, journal_text, journal_pieces, summary_by, report_by, run_pieces}
-use Rattle.node_run.specs.Reported.{report_by_kind, report_now}
-use Rattle.node_run.specs.Shown.{IsJournal, IsLawful, IsTrace, IsScript, IsShown, IsShownInPart, IsStopped, IsRun, IsCutShort, IsDone, IsBrokenOff, KnowAll, output_by}
+use Rattle.node_run.specs.Reported.{report_by_kind, report_now, HaveNumbers}
+use Rattle.node_run.specs.Shown.{MayBegin, IsJournal, IsLawful, IsTrace, IsScript, IsShown, IsShownInPart, IsStopped, IsRun, IsCutShort, IsDone, IsBrokenOff, KnowAll, output_by}
+use Rattle.node_run.proofs.Comments.{skips-summary}
+use Rattle.node_run.proofs.ReadBack.{journal-read}
 use Rattle.node_run.proofs.Replays.{told-replayed, replayed-so}
 
 report_text-journal : (journal : List Entry) → report_text (journal_pieces journal) ≡ journal_text journal
@@ -61,12 +63,12 @@ ended-by nodes m began journal (finish.CutOff a b) ending released before after_
 ended-by nodes m began journal finish.Budget ending released before after_ was is e h = h
 ended-by nodes m began journal finish.Stopped ending released before after_ was is e h = absurd cc
 
-module _ (r : Run) (began : Began) (m : MachineData) (journal : List Entry) (answers : List Answer) (same : began ≡ begins r) (left : IsRunOf began m journal answers) (consistent : IsConsistentNow m) where
+module _ (r : Run) (began : Began) (m : MachineData) (journal : List Entry) (answers : List Answer) (same : began ≡ begins r) (left : IsRunOf began m journal answers) (consistent : IsConsistentNow m) (may : MayBegin r) where
   by_run : IsRunOf (begins r) m journal answers
   by_run = subst (λ (b : Began). IsRunOf b m journal answers) same left
 
   its-journal : IsJournal r journal
-  its-journal = record { due = by_run.due; few = by_run.few }
+  its-journal = record { due = by_run.due; fit = by_run.fit may.ruled; few = by_run.few }
 
   lawful : IsLawful r journal
   lawful =
@@ -119,11 +121,13 @@ module _ (r : Run) (began : Began) (m : MachineData) (journal : List Entry) (ans
         ∙ ap (λ t. t ++ report_text (summary_by (codes "# ") r probes journal)) (report_text-trace (state_of (begins r) journal).committed));
   }
 
-  is-script : (probes : List Meter) (before behind : Option (List ℕ)) → r.showing.report ≡ Journal → behind ≡ followed_by before (report_text (report_by r.showing.report r probes journal)) → IsScript r probes journal before behind
-  is-script probes before behind kind put = record {
+  is-script : (probes : List Meter) (before behind : Option (List ℕ)) → HaveNumbers journal → r.showing.report ≡ Journal → behind ≡ followed_by before (report_text (report_by r.showing.report r probes journal)) → IsScript r probes journal before behind
+  is-script probes before behind numbers kind put = record {
     written = put ∙ ap (λ (k : RunReport). followed_by before (report_text (report_by k r probes journal))) kind
         ∙ ap (followed_by before) (report_text-append (journal_pieces journal) (summary_by (codes "# ") r probes journal)
         ∙ ap (λ t. t ++ report_text (summary_by (codes "# ") r probes journal)) (report_text-journal journal));
+    read = journal-read r.config.nodes may.ruled.few journal (report_text (summary_by (codes "# ") r probes journal)) (by_run.fit may.ruled) numbers (omega (arith, by_run.few, may.few))
+        (skips-summary r.config.nodes r.program r.config r.showing.watch (tallies_by r probes journal) (length journal) (state_of (begins r) journal));
   }
 
   -- where the run ended
@@ -146,8 +150,8 @@ module _ (r : Run) (began : Began) (m : MachineData) (journal : List Entry) (ans
     console-put : ends written report ≡ after (ends console report) (console_piece (state_of (begins r) journal).released)
     console-put = after-console_piece console written report (state_of (begins r) journal).released (all-released ∙ ap (λ (s : State). followed_by console s.released) by_run.state)
 
-    pub run-done : (listed : List Entry) → listed ≡ journal → ((c : Option (List ℕ)) → ends c shown ≡ after (ends c report) (report_now m listed r.showing (tallies_of told))) → IsDone r probes ending (ends console report) (ends written shown) told
-    run-done listed all put =
+    pub run-done : (listed : List Entry) → listed ≡ journal → (r.showing.report ≡ Journal → HaveNumbers listed) → ((c : Option (List ℕ)) → ends c shown ≡ after (ends c report) (report_now m listed r.showing (tallies_of told))) → IsDone r probes ending (ends console report) (ends written shown) told
+    run-done listed all numbers put =
         let whole : ends written shown ≡ after (ends written report) (report_by r.showing.report r probes journal) = put written ∙ ap (λ (l : List Entry). after (ends written report) (report_now m l r.showing (tallies_of told))) all ∙ ap (after (ends written report)) (report-is probes told are) in
         let text : shown ≡ followed_by report (report_text (report_by r.showing.report r probes journal)) = report-after (ends written report) (ends written shown) (report_by r.showing.report r probes journal) whole in (
           journal,
@@ -160,7 +164,7 @@ module _ (r : Run) (began : Began) (m : MachineData) (journal : List Entry) (ans
               lawful = lawful;
               output = output-is;
               traced = λ kind. is-trace probes report shown kind text;
-              journaled = λ kind. is-script probes report shown kind text;
+              journaled = λ kind. is-script probes report shown (subst (λ (l : List Entry). HaveNumbers l) all (numbers kind)) kind text;
               replayed = replayed-so r probes journal lawful.1.output;
             };
           },

@@ -1,5 +1,7 @@
 -- The report of a run, by the machine that it left.
 use Rattle.std.specs.Prelude.{ℕ, List, [], ◌++◌, codes, Option}
+use Rattle.std.specs.List.{All}
+use Rattle.sn_text.specs.Written.{HasNumbers}
 use Rattle.sn_machine.specs.Machine.{MachineData}
 use Rattle.sink_pieces.specs.Pieces.{Piece}
 use Rattle.script_replay.specs.declared.job.ReportKind.TheVariants as replayed
@@ -22,3 +24,7 @@ report_by_kind Journal m journal showing tallies = script_now m journal showing.
 
 abbrev pub report_now : MachineData → List Entry → RunShowing → List (List ℕ) → List Piece
 report_now m journal showing tallies = report_by_kind showing.report m journal showing tallies
+
+-- the numbers of each event of a journal are numbers of their types
+abbrev pub HaveNumbers : List Entry → Type 0
+HaveNumbers journal = All (λ e. HasNumbers e.event) journal

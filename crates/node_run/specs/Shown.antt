@@ -1,10 +1,13 @@
 -- What the sinks show of a run.
 use Rattle.std.specs.Prelude.{◌≡◌, ◌⊎◌, ℕ, ◌≤◌, true, List, [], ◌++◌, length, codes, Option, Some, None, IfSome, Ok}
+use Rattle.std.specs.List.{All}
 use Rattle.rv_core.specs.Execution.{IsExecution, out_of}
 use Rattle.sn_base.specs.Config.{config_fits}
+use Rattle.sn_base.specs.Events.{event_fits}
 use Rattle.sn_model.specs.Trace.{Entry as Retirement}
 use Rattle.consistent_cuts.specs.Headline.{IsConsistent}
 use Rattle.sn_io.specs.Outside.{followed_by}
+use Rattle.sn_text.specs.Script.{script_of}
 use Rattle.sn_text.specs.Written.{trace_text}
 use Rattle.sn_probe.specs.Probes.{Meter}
 use Rattle.sink_pieces.specs.Pieces.{Ends, after, Breaks, console_text, report_text, HasBeginning}
@@ -28,9 +31,10 @@ pub record MayBegin (r : Run) : Type 0 where
   pub few : r.budget ≤ 1000000
   pub watched : IsWatchable r.showing.watch
 
--- the journal of a run: each of its events was due, and there are no more than the budget
+-- the journal of a run: each of its events was due and fits the machine, and there are no more than the budget
 pub record IsJournal (r : Run) (journal : List Entry) : Type 0 where
   pub due : IsDue (begins r) journal
+  pub fit : All (λ e. event_fits r.config.nodes e.event ≡ true) journal
   pub few : length journal ≤ r.budget
 
 -- the bytes that its committed trace puts out
@@ -43,9 +47,14 @@ pub record IsTrace (r : Run) (probes : List Meter) (journal : List Entry) (befor
   pub written : behind ≡ followed_by before
       (trace_text (state_of (begins r) journal).committed ++ report_text (summary_by (codes "# ") r probes journal))
 
--- the report is a script: the journal, and then the summary, marked as comments
+-- a journal, and then the summary, marked as comments
+abbrev pub written_script : Run → List Meter → List Entry → List ℕ
+written_script r probes journal = journal_text journal ++ report_text (summary_by (codes "# ") r probes journal)
+
+-- the report is this script, which is read as the journal's events
 pub record IsScript (r : Run) (probes : List Meter) (journal : List Entry) (before behind : Option (List ℕ)) : Type 0 where
-  pub written : behind ≡ followed_by before (journal_text journal ++ report_text (summary_by (codes "# ") r probes journal))
+  pub written : behind ≡ followed_by before (written_script r probes journal)
+  pub read : script_of r.config.nodes (written_script r probes journal) ≡ Ok (events_of journal)
 
 -- a replay of the journal's events puts the same bytes to the console, and the same summary to the report
 pub record IsReplayedSo (r : Run) (probes : List Meter) (journal : List Entry) : Type 0 where

@@ -2,8 +2,9 @@
 //!
 //! The layer above knows of it that there is a due journal, as whose end it ended: the console has the output of its committed
 //! trace, and the report the journal, or that trace, or nothing, and then the summary. What is put to the console, and the
-//! summary, are those of a replay of the journal's events. Where the console failed there is a due journal too, of whose output
-//! it has the beginning, and the report has nothing. Nothing here knows words, files or statuses.
+//! summary, are those of a replay of the journal's events, and a report with the journal is read as a script of just these
+//! events. Where the console failed there is a due journal too, of whose output it has the beginning, and the report has
+//! nothing. Nothing here knows words, files or statuses.
 #![tactic(auto)]
 
 mod ending;

@@ -1,27 +1,49 @@
 //! What the report has of a run.
 ghost use Rattle.std.specs.Prelude.{◌≡◌, ℕ, List, ◌≤◌, Option, OnOk, OnErr};
 ghost use Rattle.sn_io.specs.Outside.{Rose};
+ghost use Rattle.sn_text.specs.Written.{HasNumbers};
 ghost use Rattle.sn_machine.specs.Machine.{MachineData};
 ghost use Rattle.sn_probe.specs.Probes.{meters_in, tallies_of};
 ghost use Rattle.sink_pieces.specs.Pieces.{ends, after, Breaks};
 ghost use Rattle.script_replay.specs.Played.{IsWatchable};
 ghost use Rattle.node_run.specs.Pieces.{entry_lines, journal_pieces};
-ghost use Rattle.node_run.specs.Reported.{script_now, report_now};
+ghost use Rattle.node_run.specs.Reported.{script_now, report_now, HaveNumbers};
 
 use crate::job::{RunReport, RunShowing};
 use node_threads::Entry;
 use script_replay::{ReportKind, Showing, put_end, put_summary};
 use sink_pieces::put_report;
+use sn_base::Event;
 use sn_io::{Failed, Sink};
 use sn_machine::Machine;
 use sn_probe::ProbeSet;
 use sn_text::Line;
 
+// Does nothing: that an event's numbers are numbers of their types is known where it is taken apart.
+fn see_numbers(event: &Event)
+    ensures { HasNumbers event.now }
+{
+    match event {
+        Event::Hop(id) | Event::Deliver(id) | Event::Lose(id) => {
+            let _id = *id;
+        }
+        Event::Evict(_, block) => {
+            let _number = block.number();
+        }
+        Event::Input(_, byte) => {
+            let _byte = *byte;
+        }
+        _ => {}
+    }
+}
+
 // A turn of a journal: a comment that names its worker, and its event as a line of a script.
 #[tactic(auto, unfolding(crate::specs::Pieces::entry_lines))]
 fn write_entry(line: &mut Line, entry: &Entry)
-    ensures { line.new ≡ entry_lines entry.now }
+    ensures text { line.new ≡ entry_lines entry.now }
+    ensures numbers { HasNumbers entry.now.event }
 {
+    see_numbers(&entry.event);
     line.clear();
     line.count("# ", "worker", u64::from(entry.worker));
     line.script(&entry.event);
@@ -33,6 +55,7 @@ fn put_journal<R: Sink>(line: &mut Line, journal: &[Entry], report: &mut R) -> R
         ends c (R.written report.new) ≡ after (ends c (R.written report.old)) (journal_pieces journal.now)) }
     ensures err { OnErr result ((c : Option (List ℕ)) →
         Breaks (journal_pieces journal.now) (ends c (R.written report.old)) (ends c (R.written report.new))) }
+    ensures numbers { OnOk result (HaveNumbers journal.now) }
     ensures later { R.faults report.old ≤ R.faults report.new }
     ensures cause { OnErr result (Rose (R.faults report.old) (R.faults report.new)) }
 {
@@ -58,6 +81,7 @@ fn put_script<R: Sink>(
     ensures err { OnErr result ((c : Option (List ℕ)) →
         Breaks (script_now machine.now journal.now watch (tallies_of (meters_in first tally step probes.now.probes.items)))
         (ends c (R.written report.old)) (ends c (R.written report.new))) }
+    ensures numbers { OnOk result (HaveNumbers journal.now) }
     ensures later { R.faults report.old ≤ R.faults report.new }
     ensures cause { OnErr result (Rose (R.faults report.old) (R.faults report.new)) }
 {
@@ -81,6 +105,7 @@ pub(crate) fn put_run<R: Sink>(
     ensures err { OnErr result ((c : Option (List ℕ)) →
         Breaks (report_now machine.now journal.now showing.now (tallies_of (meters_in first tally step probes.now.probes.items)))
         (ends c (R.written report.old)) (ends c (R.written report.new))) }
+    ensures numbers { OnOk result (showing.now.report ≡ RunReport.Journal → HaveNumbers journal.now) }
     ensures later { R.faults report.old ≤ R.faults report.new }
     ensures cause { OnErr result (Rose (R.faults report.old) (R.faults report.new)) }
 {

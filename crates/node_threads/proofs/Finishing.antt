@@ -21,7 +21,7 @@ run-of s began m journal answers kept same machine_is journal_is answers_is =
     (subst (λ (x : MachineData). IsRunOf (began_with s) x journal answers) (sym machine_is)
     (subst (λ (l : List Entry). IsRunOf (began_with s) s.machine l answers) (sym journal_is)
     (subst (λ (l : List Answer). IsRunOf (began_with s) s.machine s.journal l) (sym answers_is)
-    (record { image = refl; config = refl; state = kept.state; applied = kept.applied; few = kept.few; answers_are = kept.answers; due = kept.due }))))
+    (record { image = refl; config = refl; state = kept.state; applied = kept.applied; few = kept.few; answers_are = kept.answers; due = kept.due; fit = kept.fit }))))
 
 by_kept : (s : LockedData) → IsKept s → finish_by (began_with s) s.journal ≡ refusal_of s.driver s.machine (nat_le s.budget (length s.journal))
 by_kept s kept =

@@ -1,5 +1,8 @@
 -- A turn keeps what the lock keeps.
 use Rattle.std.proofs.Common.{◌≡◌, ℕ, ◌+◌, ◌-◌, ◌<◌, Bool, List, [], ◌∷◌, ◌++◌, length, Some, sym, ap, subst, ◌∙◌, arith, length-append}
+use Rattle.std.proofs.lemmas.List.Elements.{All-push}
+use Rattle.std.specs.Prelude.{true}
+use Rattle.sn_base.specs.Events.{event_fits}
 use Rattle.sn_base.specs.declared.event.Event.{Event}
 use Rattle.sn_base.specs.declared.event.Answer.{Answer}
 use Rattle.sn_model.specs.Machine.{State}
@@ -18,6 +21,7 @@ use Rattle.run_journals.proofs.Dues.{IsDue-snoc}
 use Rattle.run_journals.proofs.Released.{released-grows}
 use Rattle.shared_machine.specs.Shared.{LockedData, began_with, Did}
 use Rattle.shared_machine.specs.Kept.{IsKept, HasRoom}
+use Rattle.shared_machine.proofs.Fits.{due-fits}
 
 -- the locked value after a turn that left this machine and this driver
 abbrev pub after_turn : LockedData → ℕ → Event → Answer → MachineData → DriverData → List ℕ → LockedData
@@ -47,9 +51,9 @@ module _ (s : LockedData) (worker : ℕ) (event : Event) (answer : Answer) (pass
   abbrev step_at : State → Answer
   step_at x = (step_of b.image b.config x event).answer
 
-  keeps : IsKept s → due_at s.driver s.machine worker (next_pick s.seed s.journal worker) ≡ Some event → answer ≡ (next_of s.machine event).answer →
+  keeps : IsKept s → worker < s.machine.config.nodes → due_at s.driver s.machine worker (next_pick s.seed s.journal worker) ≡ Some event → answer ≡ (next_of s.machine event).answer →
       IsFirstOf passes machine_next.state.released → length s.journal < s.budget → IsKept (after_turn s worker event answer machine_next driver_next passes)
-  keeps kept due said first left =
+  keeps kept there due said first left =
       let grown = length-append s.journal (entry_of worker event ∷ []) in
       let answered : answer ≡ step_at (state_of b s.journal) = said ∙ ap step_at kept.state in record {
         state = ap (λ (x : State). (step_of b.image b.config x event).state) kept.state ∙ sym (state_of-snoc b s.journal worker event);
@@ -61,16 +65,18 @@ module _ (s : LockedData) (worker : ℕ) (event : Event) (answer : Answer) (pass
             (ap (λ (x : State). due_of b.rules b.image b.config x (numbers_of b s.journal) worker (next_pick s.seed s.journal worker)) (sym kept.state)
             ∙ ap (λ (x : Numbers). due_of b.rules b.image b.config s.machine.state x worker (next_pick s.seed s.journal worker)) (sym kept.numbers)
             ∙ due);
+        fit = λ ruled. All-push (λ (e : Entry). event_fits s.machine.config.nodes e.event ≡ true) s.journal (entry_of worker event) (kept.fit ruled)
+            (due-fits s.driver.rules s.machine.image s.machine.config s.machine.state s.driver.numbers worker (next_pick s.seed s.journal worker) event ruled there due);
         applied = omega (arith, grown, kept.applied);
         few = omega (arith, grown, left);
         passed = first;
       }
 
-  pub kept-next : (machine : MachineData) (driver : DriverData) (spent : Bool) → IsKept s →
+  pub kept-next : (machine : MachineData) (driver : DriverData) (spent : Bool) → IsKept s → worker < s.machine.config.nodes →
       Did s.driver s.machine worker (next_pick s.seed s.journal worker) spent event answer driver machine → IsFirstOf passes machine.state.released →
       length s.journal < s.budget → IsKept (after_turn s worker event answer machine driver passes)
-  kept-next machine driver spent kept did first left =
-      let here = keeps kept did.due did.applied.answer (subst (λ (m : MachineData). IsFirstOf passes m.state.released) did.applied.left first) left in
+  kept-next machine driver spent kept there did first left =
+      let here = keeps kept there did.due did.applied.answer (subst (λ (m : MachineData). IsFirstOf passes m.state.released) did.applied.left first) left in
       subst (λ (m : MachineData). IsKept (after_turn s worker event answer m driver passes)) (sym did.applied.left)
       (subst (λ (d : DriverData). IsKept (after_turn s worker event answer machine_next d passes)) (sym did.counted) here)
 
@@ -104,11 +110,11 @@ module _ (s : LockedData) (worker : ℕ) (event : Event) (answer : Answer) (mach
   by_pick : Did s.driver s.machine worker (next_pick s.seed s.journal worker) spent event answer driver machine
   by_pick = subst (λ (p : ℕ). Did s.driver s.machine worker p spent event answer driver machine) picked did
 
-  pub turn-keeps : IsKept s → IsFirstOf passes machine.state.released → length s.journal < s.budget → IsKept turned
-  turn-keeps kept first left =
+  pub turn-keeps : IsKept s → worker < s.machine.config.nodes → IsFirstOf passes machine.state.released → length s.journal < s.budget → IsKept turned
+  turn-keeps kept there first left =
       subst (λ (l : List Entry). IsKept (record turned { journal = l })) (sym longer)
       (subst (λ (l : List Answer). IsKept (record turned { journal = s.journal ++ entry_of worker event ∷ []; answers = l })) (sym more)
-      (kept-next s worker event answer passes machine driver spent kept by_pick first left))
+      (kept-next s worker event answer passes machine driver spent kept there by_pick first left))
 
   pub turn-room : HasRoom s → length s.journal < s.budget → HasRoom turned
   turn-room room left =

@@ -3,3 +3,4 @@ pub mod Goes
 pub mod Draws
 pub mod Drawings
 pub mod Starts
+pub mod Fits

@@ -1,5 +1,8 @@
 -- What the lock keeps at the run's start.
 use Rattle.std.proofs.Common.{◌≡◌, ℕ, List, [], length, refl, ap, arith}
+use Rattle.std.proofs.lemmas.List.Elements.{All-nil}
+use Rattle.std.specs.Prelude.{true}
+use Rattle.sn_base.specs.Events.{event_fits}
 use Rattle.sn_base.specs.declared.event.Answer.{Answer}
 use Rattle.due_events.specs.Numbers.{Numbers}
 use Rattle.run_journals.specs.declared.entry.Entry.{Entry}
@@ -16,6 +19,7 @@ module _ (s : SharedData) (drawings : List Drawing) (ready : IsReady s drawings)
     answers = refl;
     numbers = ready.numbers;
     due = refl;
+    fit = λ ruled. All-nil (λ (e : Entry). event_fits s.machine.config.nodes e.event ≡ true);
     applied = ready.applied;
     few = omega arith;
     passed = record { rest = s.machine.state.released; whole = refl };

@@ -1,7 +1,10 @@
 -- What the lock keeps.
-use Rattle.std.specs.Prelude.{◌≡◌, ◌+◌, ◌≤◌, List, [], length}
+use Rattle.std.specs.Prelude.{◌≡◌, ◌+◌, ◌≤◌, true, List, [], length}
+use Rattle.std.specs.List.{All}
+use Rattle.sn_base.specs.Events.{event_fits}
 use Rattle.sn_model.specs.Machine.{start_of}
 use Rattle.due_events.specs.Numbers.{first_numbers}
+use Rattle.sn_driver.specs.Driver.{AreRules}
 use Rattle.run_journals.specs.Journal.{IsDue, state_of, answers_of, numbers_of}
 use Rattle.sn_console.specs.Handed.{IsFirstOf}
 use Rattle.shared_machine.specs.declared.drawing.Drawing.{Drawing}
@@ -9,13 +12,14 @@ use Rattle.shared_machine.specs.Drawn.{AreDrawn}
 use Rattle.shared_machine.specs.Shared.{SharedData, LockedData, began_with}
 
 -- the journal, folded from the run's start, gives the machine, the answers and the driver's numbers; each of its events was due
--- for its worker with that worker's next pick; no other event was applied, and there are no more than the budget; what was passed
+-- for its worker with that worker's next pick, and fits the machine, where the rules are ones for its nodes; no other event was applied, and there are no more than the budget; what was passed
 -- on to the console is the first of what is released
 pub record IsKept (s : LockedData) : Type 0 where
   pub state : s.machine.state ≡ state_of (began_with s) s.journal
   pub answers : s.answers ≡ answers_of (began_with s) s.journal
   pub numbers : s.driver.numbers ≡ numbers_of (began_with s) s.journal
   pub due : IsDue (began_with s) s.journal
+  pub fit : AreRules s.driver.rules s.machine.config.nodes → All (λ e. event_fits s.machine.config.nodes e.event ≡ true) s.journal
   pub applied : s.machine.applied ≡ length s.journal
   pub few : length s.journal ≤ s.budget
   pub passed : IsFirstOf s.passed s.machine.state.released

@@ -1,4 +1,4 @@
-use Rattle.node_run.proofs.Journals.{summary-breaks, trace-breaks, script-breaks}
+use Rattle.node_run.proofs.Journals.{summary-breaks, trace-breaks, script-breaks, summary-numbers, trace-numbers, script-numbers}
 use Rattle.node_run.proofs.reporting.put_run.Goals as goal
 
 pub returns-in-Summary-clause-err : goal.returns-in-Summary-clause-err
@@ -12,3 +12,12 @@ returns-in-Trace-clause-err g c =
 pub returns-in-Journal-clause-err : goal.returns-in-Journal-clause-err
 returns-in-Journal-clause-err g c =
     script-breaks c.args.machine.now c.args.journal.now c.args.showing.now _ c.put_script.result _ _ c.in-Journal.is c.put_script.ensures.err
+
+pub returns-in-Summary-clause-numbers : goal.returns-in-Summary-clause-numbers
+returns-in-Summary-clause-numbers g c = summary-numbers c.args.journal.now c.args.showing.now c.put_summary.result c.in-Summary.is
+
+pub returns-in-Trace-clause-numbers : goal.returns-in-Trace-clause-numbers
+returns-in-Trace-clause-numbers g c = trace-numbers c.args.journal.now c.args.showing.now c.put_end.result c.in-Trace.is
+
+pub returns-in-Journal-clause-numbers : goal.returns-in-Journal-clause-numbers
+returns-in-Journal-clause-numbers g c = script-numbers c.args.journal.now c.args.showing.now c.put_script.result c.put_script.ensures.numbers

@@ -2,6 +2,7 @@ use Rattle.std.proofs.Common.{◌≡◌, ◌<◌, length, sym, ap, subst, ◌∙
 use Rattle.std.proofs.lemmas.Bool.Decides.{nat_tests}
 use Rattle.sn_base.specs.declared.config.Config.{Config}
 use Rattle.run_journals.specs.declared.entry.Entry.{Entry}
+use Rattle.run_journals.specs.Journal.{Began}
 use Rattle.shared_machine.specs.Drawn.{AreDrawn}
 use Rattle.shared_machine.specs.Shared.{LockedData}
 use Rattle.sn_console.specs.Ends.{passed}
@@ -28,10 +29,11 @@ invariant_of-self-2 g c =
     let picked = c.pick_of-pick.ensures s.seed s.journal c.self.invariant.5 in
     let over : nat_le s.budget (length s.journal) ≡ false = sym c.is_spent-spent.ensures ∙ did.unspent in
     let left : length s.journal < s.budget = grind (arith, nat_tests, over) in
+    let there : c.args.worker < s.machine.config.nodes = subst (λ (b : Began). c.args.worker < b.config.nodes) (sym c.self.invariant.7) c.requires.worker in
     let passes : List ℕ = passed c.pass.new.outbox in
     let longer = c.note.ensures.entry in
     let more = c.note.ensures.answer in (
-      turn-keeps s c.args.worker c.in_ok-event.event c.in_ok-event.answer _ _ _ _ passes _ _ longer more picked did c.self.invariant.0 c.pass.ensures.first left,
+      turn-keeps s c.args.worker c.in_ok-event.event c.in_ok-event.answer _ _ _ _ passes _ _ longer more picked did c.self.invariant.0 there c.pass.ensures.first left,
       turn-room s c.args.worker c.in_ok-event.event c.in_ok-event.answer _ _ _ _ passes _ _ longer more picked did c.self.invariant.1 left,
       omega (arith, c.self.invariant.2, c.note.ensures.room.0),
       omega (arith, c.self.invariant.3, c.note.ensures.room.1),
