@@ -4,7 +4,8 @@
     tests/compare_check.py PROGRAM SIMULATOR [COUNT] [SEED]
 
 PROGRAM is the built program, SIMULATOR a reference simulator; both take `check [OPTIONS] FILE TRACE`, and the simulator `--main` before it,
-to name a status as the program does. Console, report and exit status must be the same for each of COUNT (20,000) traces.
+to name a status as the program does. Console, report and exit status must be the same for each of COUNT (20,000) traces. Both are started
+once, and each trace is judged in a process of its own that is forked from there (served_program.py).
 
 A trace is the committed one of a run that the simulator makes, with losses and recoveries, of a program as in compare_replay.py. It is
 judged as it is, cut, for another number of nodes, and spoiled: a word seen, a done store-conditional or a byte changed, a record of another
@@ -19,9 +20,11 @@ from pathlib import Path
 
 sys.path.insert(0, str(Path(__file__).resolve().parent))
 from compare_replay import hexadecimal_image, program
+from served_program import ServedProgram, built_server
 
-# How many traces are judged of one run.
+# How many traces are judged of one run, and how many seconds one may take.
 OF_A_RUN = 20
+SECONDS = 20
 
 
 def trace(choose, simulator, nodes, folder):
@@ -92,11 +95,6 @@ def text_of(choose, lines, nodes):
     return choose.choice([text, text, text.rstrip()])
 
 
-def run(command, words, folder):
-    done = subprocess.run([*command, "check", *words], cwd=folder, capture_output=True)
-    return done.returncode, done.stdout, done.stderr
-
-
 def judged(choose, nodes):
     """How many nodes the trace is judged for: in most cases those of the run."""
     count = nodes if choose.random() < 0.95 else choose.randrange(1, 17)
@@ -111,6 +109,8 @@ def main():
     count, seed = int(sys.argv[3]) if len(sys.argv) > 3 else 20_000, sys.argv[4] if len(sys.argv) > 4 else "1"
     statuses, records = Counter(), 0
     with tempfile.TemporaryDirectory() as folder:
+        library = built_server(folder)
+        judge, other = ServedProgram(library, built, [], folder, SECONDS), ServedProgram(library, simulator, ["--main"], folder, SECONDS)
         for case in range(count):
             choose = random.Random(f"{seed} {case}")
             if case % OF_A_RUN == 0:
@@ -119,14 +119,16 @@ def main():
                 lines = trace(choose, simulator, nodes, folder)
             text = text_of(choose, lines, nodes)
             Path(folder, "records.trace").write_text(text, newline="")
-            given = [*judged(choose, nodes), "program", "records.trace"]
-            found, expected = run([built], given, folder), run([simulator, "--main"], given, folder)
+            given = ["check", *judged(choose, nodes), "program", "records.trace"]
+            found, expected = judge.run(given), other.run(given)
             if found != expected:
                 print(f"case {case}, {' '.join(given)}: {found} and not {expected}")
                 print(Path(folder, "program").read_text(), text)
                 return 1
             statuses[found[0]] += 1
             records += sum(is_record(line) for line in text.splitlines())
+        judge.end()
+        other.end()
     print(f"{count} traces of {records} records, no difference; of each status {dict(sorted(statuses.items()))}")
     return 0
 
