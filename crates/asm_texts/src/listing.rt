@@ -5,14 +5,8 @@ ghost use Rattle.asm_texts.specs.Texts.{heading, lines_at, listing};
 
 use crate::words::add_digits_line;
 use rv_asm::add_line;
-use sn_base::{Image, Memory};
+use sn_base::{Image, Memory, RAM_SIZE, RAM_START};
 use std::alloc::Global;
-
-/// The first address of memory.
-const MEMORY: u32 = 0x8000_0000;
-
-/// How many words memory has.
-const WORDS: u32 = 0x10_0000;
 
 /// The lines of a program's words at multiples of 4 whose four bytes are executable, in order of address. A line `# ADDRESS`
 /// of eight lower-case digits stands before the first and wherever a word isn't next to the one before. It looks at each word
@@ -21,9 +15,9 @@ pub fn listing_of(alloc: Global, image: &Image) -> Result<Vec<u8>, Memory>
     ensures { IfOk result (λ text. text.items ≡ listing image.now.segments) }
 {
     let mut text = Vec::new(alloc);
-    let mut is_next = image.fetch(MEMORY - 4).is_some();
-    'places: for place in 0..WORDS {
-        let address = MEMORY + 4 * place;
+    let mut is_next = image.fetch(RAM_START - 4).is_some();
+    'places: for place in 0..RAM_SIZE / 4 {
+        let address = RAM_START + 4 * place;
         let word = image.fetch(address);
         add_lines(&mut text, is_next, address, word)?;
         is_next = word.is_some();

@@ -5,13 +5,9 @@ ghost use Rattle.text_lines.specs.Lines.{lines_of};
 ghost use Rattle.elf_load.specs.Loading.{IsRefusedAs};
 
 use crate::fault::{LoadCause, LoadFault};
-use sn_base::{Image, Segment};
+use sn_base::{Image, RAM_SIZE, RAM_START, Segment};
 use std::alloc::Global;
 use text_lines::lines_of;
-
-const RAM_START: u32 = 0x8000_0000;
-
-const RAM_SIZE: usize = 0x40_0000;
 
 /// What a line of the text is.
 #[derive(Clone, Copy, PartialEq, Eq, Debug)]
@@ -74,7 +70,7 @@ fn add_line(code: &mut Vec<u8>, number: u64, text: &[u8]) -> Result<(), LoadFaul
         Line::Skipped => Ok(()),
         Line::Malformed => Err(LoadFault::Refused(LoadCause::BadHexLine(number))),
         Line::Word(word) => {
-            if code.len() >= RAM_SIZE {
+            if code.len() >= RAM_SIZE as usize {
                 return Err(LoadFault::Refused(LoadCause::TooManyWords));
             }
             code.extend_from_slice(&word.to_le_bytes())?;

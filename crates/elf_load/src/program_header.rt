@@ -8,7 +8,7 @@ ghost use Rattle.elf_load.specs.Loading.{IsRefusedAs};
 use crate::fault::{LoadCause, LoadFault};
 use crate::file_header::{reaches, word_at};
 use bitflags::{Flag, Flags, bitflag_items};
-use sn_base::Segment;
+use sn_base::{RAM_END, RAM_START, Segment};
 use std::alloc::{AllocError, Global};
 
 /// p_type of a segment that is loaded.
@@ -16,10 +16,6 @@ const LOAD: u32 = 1;
 
 /// The size of a program header.
 const HEADER_SIZE: usize = 32;
-
-const RAM_START: u64 = 0x8000_0000;
-
-const RAM_END: u64 = 0x8040_0000;
 
 /// p_flags: what may be done with a segment.
 #[derive(Clone, Copy, PartialEq, Eq, Debug)]
@@ -112,7 +108,7 @@ impl ProgramHeader {
     fn is_inside(&self) -> bool
         ensures { result ≡ is_inside self.now }
     {
-        RAM_START <= u64::from(self.address) && self.end() <= RAM_END
+        RAM_START <= self.address && self.end() <= u64::from(RAM_END)
     }
 
     /// Whether both segments have a byte.

@@ -10,7 +10,7 @@ ghost use Rattle.generated_runs.specs.Generated.{generated_events, IsFresh};
 use crate::turns::drive;
 use asm_texts::words_text;
 use byteorder::{ByteOrder, LittleEndian};
-use sn_base::{Config, Event, Image, Memory, Segment};
+use sn_base::{Config, Event, Image, Memory, RAM_START, Segment};
 use sn_driver::{Driver, Rules};
 use sn_machine::Machine;
 use std::alloc::Global;
@@ -47,13 +47,13 @@ fn counting_image(alloc: Global) -> Result<Image, Memory>
     add_words(&mut bytes, &COUNTING)?;
     let mut segments = Vec::new(alloc);
     segments.push(Segment {
-        start: 0x8000_0000,
+        start: RAM_START,
         size: 32,
         bytes,
         write: false,
         exec: true,
     })?;
-    Ok(Image::new(segments, 0x8000_0000))
+    Ok(Image::new(segments, RAM_START))
 }
 
 /// A fresh machine of the program, with room for so many events.

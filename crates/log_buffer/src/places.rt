@@ -3,11 +3,8 @@
 ghost use Rattle.std.specs.Prelude.{◌≡◌, ℕ, ◌<◌, Bool, None, if◌then◌else◌, length, replicate, IfOk};
 ghost use Rattle.log_buffer.specs.Log.{is_home_side};
 
-use sn_base::{BlockNo, LogEntry, Memory, Old};
+use sn_base::{BLOCKS, BlockNo, LogEntry, Memory, Old};
 use std::alloc::Global;
-
-/// How many blocks the memory has.
-const BLOCKS: usize = 65_536;
 
 /// An entry in its list, and the place of the next older entry of its side and block.
 #[derive(Clone, Copy)]

@@ -3,10 +3,7 @@ ghost use Rattle.std.specs.Prelude.{◌≡◌, true, IfSome, option_map};
 ghost use Rattle.option_values.specs.Values.{address_in, watch_by, is_word_address};
 
 use crate::digits::number_in_radix;
-
-const RAM_START: u64 = 0x8000_0000;
-
-const RAM_END: u64 = 0x8040_0000;
+use sn_base::{RAM_END, RAM_START};
 
 fn read_address(text: &str) -> Option<u32>
     ensures address { result ≡ address_in text.now }
@@ -16,7 +13,7 @@ fn read_address(text: &str) -> Option<u32>
         return None;
     }
     let address = number_in_radix(text, 16)?;
-    if (RAM_START..RAM_END).contains(&address) && address % 4 == 0 {
+    if (u64::from(RAM_START)..u64::from(RAM_END)).contains(&address) && address % 4 == 0 {
         Some(address as u32)
     } else {
         None

@@ -2,13 +2,14 @@
 use Rattle.std.specs.Prelude.{ℕ, ◌+◌, List, ◌++◌, length, take, drop}
 use Rattle.sn_base.specs.declared.block.Width.{Width}
 use Rattle.sn_base.specs.declared.block.Width.TheVariants.{Byte, Half, Word}
+use Rattle.sn_base.specs.declared.limits.TheConstants.{RAM_START, RAM_SIZE}
 
 -- the first address of memory, and how many bytes it has
 abbrev pub ram_start : ℕ
-ram_start = 2147483648
+ram_start = RAM_START
 
 abbrev pub ram_size : ℕ
-ram_size = 4194304
+ram_size = RAM_SIZE
 
 -- how many bytes an access touches
 abbrev pub bytes_of : Width → ℕ

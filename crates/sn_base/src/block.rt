@@ -3,6 +3,7 @@ ghost use Rattle.std.specs.Prelude.{◌≡◌, ℕ, ◌+◌, ◌-◌, ◌*◌, �
 ghost use Rattle.byteorder.specs.Endian.{little_number, little_bytes};
 ghost use Rattle.sn_base.specs.Blocks.{bytes_of, ram_start, ram_size, stored_in};
 
+use crate::limits::{BLOCK_SIZE, RAM_END, RAM_START};
 use crate::node::NodeId;
 use byteorder::{ByteOrder, LittleEndian};
 use std::marker::Model;
@@ -59,12 +60,21 @@ impl BlockNo {
         ensures some { IsSome result ↔ ((ram_start ≤ address) × (address < ram_start + ram_size)) }
         ensures block { IfSome result (λ b. b ≡ (address - ram_start) / 64) }
     {
-        if address < 0x8000_0000 || address >= 0x8040_0000 {
+        if address < RAM_START || address >= RAM_END {
             return None;
         }
         Some(BlockNo {
-            number: ((address - 0x8000_0000) / 64) as u16,
+            number: ((address - RAM_START) / BLOCK_SIZE) as u16,
         })
+    }
+
+    /// Where the byte at an address of memory stands in its block.
+    pub fn offset(address: u32) -> usize
+        requires { ram_start ≤ address }
+        ensures same { result ≡ (address - ram_start) % 64 }
+        ensures small { result < 64 }
+    {
+        ((address - RAM_START) % BLOCK_SIZE) as usize
     }
 
     /// The node whose home keeps the block, in a machine of 1 to 16 nodes.

@@ -5,6 +5,7 @@ ghost use Rattle.sn_base.specs.Image.{bytes_from, covers};
 
 use crate::block::{Block, BlockNo, Width};
 use crate::image::{Image, Segment};
+use crate::limits::{BLOCK_SIZE, RAM_START};
 
 impl Image {
     /// The bytes that a block begins with.
@@ -23,7 +24,7 @@ impl Image {
 fn is_given_none(image: &Image, block: BlockNo) -> bool
     ensures { result ≡ true → bytes_from 64 image.now.segments (ram_start + 64 * block) ≡ replicate 64 0 }
 {
-    let start = 0x8000_0000 + 64 * u64::from(block.number());
+    let start = u64::from(RAM_START + BLOCK_SIZE * u32::from(block.number()));
     'segments: for segment in image.segments() {
         if reaches(segment, start) {
             return false;
@@ -45,9 +46,9 @@ fn reaches(segment: &Segment, start: u64) -> bool
 fn given_content(image: &Image, block: BlockNo) -> Block
     ensures { result ≡ bytes_from 64 image.now.segments (ram_start + 64 * block) }
 {
-    let start = 0x8000_0000 + 64 * u32::from(block.number());
+    let start = RAM_START + BLOCK_SIZE * u32::from(block.number());
     let mut content = Block::zero();
-    'bytes: for place in 0..64u32 {
+    'bytes: for place in 0..BLOCK_SIZE {
         let byte = image.byte(start + place);
         content.store(place as usize, Width::Byte, u32::from(byte));
     }

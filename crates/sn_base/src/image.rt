@@ -4,6 +4,7 @@ ghost use Rattle.sn_base.specs.Blocks.{bytes_of};
 ghost use Rattle.sn_base.specs.Image.{SegmentData, ImageData, IsImage, covers, byte_in, byte_at, is_executable, is_writable, all_executable, all_writable, fetched};
 
 use crate::block::Width;
+use crate::limits::{RAM_END, RAM_START};
 use std::marker::Model;
 
 /// A stretch of memory that a program gives: its first address, how many bytes it has, the first of these bytes (the
@@ -121,7 +122,7 @@ impl Image {
     fn may_be_written(&self, address: u32) -> bool
         ensures { result ≡ is_writable self.now.segments address }
     {
-        if !(0x8000_0000..0x8040_0000).contains(&address) {
+        if !(RAM_START..RAM_END).contains(&address) {
             return false;
         }
         'segments: for segment in self.segments.iter() {

@@ -4,7 +4,7 @@ ghost use Rattle.sn_model.specs.Net.{posted, sent_by};
 ghost use Rattle.switch_net.specs.Net.{IsNet};
 ghost use Rattle.sn_fabric.specs.Nets.{net_as};
 
-use sn_base::{BlockNo, Interval, NodeId};
+use sn_base::{BlockNo, Interval, MESSAGES, NodeId};
 use sn_model::{Out, Sent};
 use sn_msg::Message;
 use switch_net::Net;
@@ -23,7 +23,7 @@ pub fn lacks_room(net: &Net, more: usize) -> bool
     ensures full { result ≡ nat_lt 1024 (length net.now.flights + more) }
     ensures sound { IsNet net.now }
 {
-    net.count() + more > 1024
+    net.count() + more > MESSAGES
 }
 
 /// Sends a message from a node, about a block, with its interval, and puts it on the list.

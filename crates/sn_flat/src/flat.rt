@@ -8,7 +8,7 @@ ghost use Rattle.rv_core.specs.Flat.{HasStep, flat_start, flat_step, first_cores
 
 use byteorder::{ByteOrder, LittleEndian};
 use rv_core::{CoreState, End, Record, Want};
-use sn_base::{BlockNo, Image, Memory, NodeId, Width, Write};
+use sn_base::{BlockNo, Image, Memory, NodeId, RAM_SIZE, RAM_START, Width, Write};
 use std::alloc::Global;
 use std::marker::Model;
 
@@ -137,7 +137,7 @@ fn word_in(memory: &[u8], address: u32) -> u32
     requires inside { IsAddress address }
     ensures { result ≡ word_at memory.now address }
 {
-    let place = (address - 0x8000_0000) as usize / 4 * 4;
+    let place = (address - RAM_START) as usize / 4 * 4;
     LittleEndian::read_u32(&memory[place..])
 }
 
@@ -171,7 +171,7 @@ fn store(memory: &mut [u8], write: &Write)
     requires below { write.now.address + bytes_of write.now.width ≤ ram_start + ram_size }
     ensures { memory.new ≡ written memory.old (Some write.now) }
 {
-    let place = (write.address - 0x8000_0000) as usize;
+    let place = (write.address - RAM_START) as usize;
     let bytes = write.value.to_le_bytes();
     match write.width {
         Width::Byte => memory[place..place + 1].copy_from_slice(&bytes[..1]),
@@ -209,9 +209,9 @@ fn lose_reservation(core: &mut CoreState, block: BlockNo)
 fn first_memory(alloc: Global, image: &Image) -> Result<Vec<u8>, Memory>
     ensures { IfOk result (λ memory. memory.items ≡ initial_memory image.now) }
 {
-    let mut memory = Vec::with_capacity(alloc, 0x40_0000)?;
-    'bytes: for place in 0..0x40_0000u32 {
-        memory.push(image.byte(0x8000_0000 + place))?;
+    let mut memory = Vec::with_capacity(alloc, RAM_SIZE as usize)?;
+    'bytes: for place in 0..RAM_SIZE {
+        memory.push(image.byte(RAM_START + place))?;
     }
     Ok(memory)
 }

@@ -66,7 +66,7 @@ impl View<'_> {
         let content = hardware
             .fabric
             .block_at(block_at(address), hardware.point());
-        content.load(((address - 0x8000_0000) % 64) as usize, Width::Word)
+        content.load(BlockNo::offset(address), Width::Word)
     }
 
     /// Whom the home of a block names as its owner.

@@ -1,5 +1,6 @@
 -- A cache as a value: its lines, its open miss and its open put. A map from blocks is a list in order of block numbers.
 use Rattle.std.specs.Prelude.{ℕ, zero, suc, ◌+◌, ◌%◌, Bool, true, false, ◌&&◌, ◌||◌, nat_eq, if◌then◌else◌, List, [], slice_index_or, slice_set, replicate, Option, Some, None}
+use Rattle.sn_base.specs.declared.limits.TheConstants.{BLOCKS}
 use Rattle.sn_model.specs.declared.cache.LineState.{LineState}
 use Rattle.sn_model.specs.declared.cache.LineState.TheVariants.{Absent, Shared, Owned, Modified, Exclusive}
 use Rattle.sn_model.specs.declared.cache.Need.{Need}
@@ -31,7 +32,7 @@ pub record Cache : Type 0 where
 
 -- how many blocks memory has
 abbrev pub block_count : ℕ
-block_count = 65536
+block_count = BLOCKS
 
 abbrev pub no_line : Line
 no_line = record { state = Absent; content = [] }

@@ -1,6 +1,7 @@
 -- What the network does with messages: it sends, carries and loses them.
 use Rattle.std.specs.Prelude.{ℕ, ◌+◌, Bool, not, nat_eq, nat_lt, if◌then◌else◌, List, [], ◌∷◌, ◌++◌, length, filter, find, map, Option, Some, None}
 use Rattle.sn_base.specs.declared.event.Answer.{Answer}
+use Rattle.sn_base.specs.declared.limits.TheConstants.{MESSAGES}
 use Rattle.sn_msg.specs.declared.Message.{Message}
 use Rattle.route_plan.specs.Grid.{node_of}
 use Rattle.route_plan.specs.Distances.{Switches, is_dead}
@@ -11,7 +12,7 @@ use Rattle.sn_model.specs.Fabric.{Fabric, Net, Flight, Moved, node_at}
 
 -- how many messages may be in flight
 abbrev pub net_limit : ℕ
-net_limit = 1024
+net_limit = MESSAGES
 
 -- the switches as they were when the routes were made
 abbrev pub routes_of : Fabric → Switches

@@ -8,10 +8,7 @@ ghost use Rattle.sn_text.specs.Script.{node_in, message_in, switch_in, parted, e
 
 use crate::cause::Fault;
 use crate::numbers::number_in;
-use sn_base::{BlockNo, Event, NodeId, SwitchId};
-
-/// How many blocks memory has.
-const BLOCKS: u64 = 65_536;
+use sn_base::{BLOCKS, BlockNo, Event, NodeId, SwitchId};
 
 /// A node of the machine by its number.
 pub(crate) fn node_by(nodes: u8, number: u64) -> Result<NodeId, Fault>
@@ -74,7 +71,7 @@ pub(crate) fn parted(text: &[u8]) -> Option<(&[u8], &[u8])>
 fn block_by(node: NodeId, block: u64) -> Result<Event, Fault>
     ensures { result ≡ if nat_lt block block_count then Ok (Event.Evict node block) else Err Fault.NotThere }
 {
-    if block >= BLOCKS {
+    if block >= BLOCKS as u64 {
         return Err(Fault::NotThere);
     }
     Ok(Event::Evict(node, BlockNo::new(block as u16)))

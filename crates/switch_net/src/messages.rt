@@ -11,12 +11,9 @@ ghost use Rattle.switch_net.specs.Net.{find_flight, without, outside, moved};
 
 use crate::flight::Flight;
 use indexmap::IndexMap;
-use sn_base::{Memory, MsgId, SwitchId};
+use sn_base::{MESSAGES, Memory, MsgId, SwitchId};
 use std::alloc::Global;
 use std::marker::Model;
-
-/// How many messages may be in flight.
-pub const ROOM: usize = 1024;
 
 /// Contracts see the list of messages, in the order in which they were sent.
 #[derive(Drop)]
@@ -113,8 +110,8 @@ impl Messages {
     pub fn new(alloc: Global) -> Result<Messages, Memory>
         ensures { IfOk result (λ m. m ≡ []) }
     {
-        let numbered = IndexMap::with_capacity(alloc, ROOM)?;
-        let beside = Vec::with_capacity(alloc, ROOM)?;
+        let numbered = IndexMap::with_capacity(alloc, MESSAGES)?;
+        let beside = Vec::with_capacity(alloc, MESSAGES)?;
         Ok(Messages { numbered, beside })
     }
 

@@ -8,9 +8,9 @@ ghost use Rattle.switch_net.specs.Net.{NetData, IsNet, IsPlaced, has_arrived, ne
 
 use crate::answers::{HopAnswer, TakeFault};
 use crate::flight::Flight;
-use crate::messages::{Messages, ROOM};
+use crate::messages::Messages;
 use route_plan::{Dead, PlanFault, Routes, cut_off, plan};
-use sn_base::{BlockNo, Interval, Memory, MsgId, NodeId, SwitchId};
+use sn_base::{BlockNo, Interval, MESSAGES, Memory, MsgId, NodeId, SwitchId};
 use sn_msg::{Body, Message};
 use std::alloc::Global;
 use std::marker::Model;
@@ -63,7 +63,7 @@ impl Net {
     pub fn spare(&self) -> usize
         ensures { result ≡ 1024 - length self.now.flights }
     {
-        ROOM - self.messages.len()
+        MESSAGES - self.messages.len()
     }
 
     /// The number of the next message.

@@ -189,7 +189,7 @@ impl Cache {
         let Some(block) = BlockNo::of(address) else {
             unreachable!()
         };
-        let place = ((address - 0x8000_0000) % 64 / 4 * 4) as usize;
+        let place = BlockNo::offset(address) / 4 * 4;
         self.lines.content(block).load(place, Width::Word)
     }
 
@@ -217,7 +217,7 @@ impl Cache {
         };
         let mut content = self.lines.content(block);
         log.note(now, block, Old::Owned(content));
-        let place = ((write.address - 0x8000_0000) % 64) as usize;
+        let place = BlockNo::offset(write.address);
         content.store(place, write.width, write.value);
         self.lines.put(block, LineState::Modified, content);
     }
