@@ -237,10 +237,10 @@ valid s rows has free e =
     e free (there (λ a. is_given a.id rows) s.rules)
 
 -- whether no argument has a rule on another, and each default passes
-abbrev pub is_settled : Shape → Bool
-is_settled s = list_all (λ a. a.is_free) s.rules && list_all default_passes s.rules
+abbrev pub all_free : Shape → Bool
+all_free s = list_all (λ a. a.is_free) s.rules && list_all default_passes s.rules
 
-level : (s : Shape) (names : Names) (h : Held) (words : List Text) (has : Bool) (below : Kinds) → is_settled s ≡ true → level_fault s names h words has below ≡ []
+level : (s : Shape) (names : Names) (h : Held) (words : List Text) (has : Bool) (below : Kinds) → all_free s ≡ true → level_fault s names h words has below ≡ []
     → (level_passes s names h words has ≡ true) × (below ≡ [])
 level s names h words has below fine e =
     let end = (walk s.rules names h words).held in
@@ -263,17 +263,17 @@ first_of_two : (words : List Text) (b : Bool) (o p : Option Shape) → Fits word
 first_of_two words true o p here below = here
 first_of_two words false o p here below = below
 
-found : (test : Shape → Bool) (subs : List Shape) (words : List Text) → list_all is_settled subs ≡ true → Fits words (find test subs)
+found : (test : Shape → Bool) (subs : List Shape) (words : List Text) → list_all all_free subs ≡ true → Fits words (find test subs)
 found test [] words fine = λ e. refl
 found test (s ∷ rest) words fine =
-    let p = parts (is_settled s) (list_all is_settled rest) fine in
+    let p = parts (all_free s) (list_all all_free rest) fine in
     first_of_two words (test s) (Some s) (find test rest) (λ h. (level s [] nothing_held words false [] p.0 h).0) (found test rest words p.1)
 
-entered_below : (a : App) (stop : Option (Text × List Text)) → list_all is_settled a.subs ≡ true → entered_fault a stop ≡ [] → entered_passes a stop ≡ true
+entered_below : (a : App) (stop : Option (Text × List Text)) → list_all all_free a.subs ≡ true → entered_fault a stop ≡ [] → entered_passes a stop ≡ true
 entered_below a None fine e = refl
 entered_below a (Some p) fine e = found (λ s. answers_to p.0 (label_of s)) a.subs p.1 fine e
 
-pub taken : (a : App) (words : List Text) → is_simple a ≡ true → is_settled (built a).top ≡ true → list_all is_settled (built a).subs ≡ true → fault_of a words ≡ []
+pub taken : (a : App) (words : List Text) → is_simple a ≡ true → all_free (built a).top ≡ true → list_all all_free (built a).subs ≡ true → fault_of a words ≡ []
     → takes a words ≡ true
 taken a words simple top subs e =
     let b = built a in

@@ -38,7 +38,7 @@ use Rattle.consistent_cuts.proofs.Turns.{edge_joins, input_joins}
 use Rattle.consistent_cuts.proofs.Points.{validation_joins, recovery_joins, restored_is}
 use Rattle.consistent_cuts.proofs.FabricAfter.{FabricHalf}
 use Rattle.consistent_cuts.proofs.Retirement.{stepped_joins}
-use Rattle.consistent_cuts.proofs.SteppedCases.{settles}
+use Rattle.consistent_cuts.proofs.SteppedCases.{is_point_answer}
 use Rattle.consistent_cuts.proofs.Traced.{before}
 
 -- an event that isn't an instruction
@@ -48,39 +48,39 @@ IsNoStep _ = Unit {0}
 
 -- which answers don't
 
-pub ordinary_begins : (s : Fabric) (n block : ℕ) → settles (begins_put s n block).answer ≡ false
+pub ordinary_begins : (s : Fabric) (n block : ℕ) → is_point_answer (begins_put s n block).answer ≡ false
 ordinary_begins s n block = grind arith
 
-pub ordinary_evicts : (s : Fabric) (n block : ℕ) (state : LineState) → settles (evicts s n block state).answer ≡ false
+pub ordinary_evicts : (s : Fabric) (n block : ℕ) (state : LineState) → is_point_answer (evicts s n block state).answer ≡ false
 ordinary_evicts s n block line.Absent = refl
 ordinary_evicts s n block line.Shared = refl
 ordinary_evicts s n block line.Owned = ordinary_begins s n block
 ordinary_evicts s n block line.Modified = ordinary_begins s n block
 ordinary_evicts s n block line.Exclusive = ordinary_begins s n block
 
-pub ordinary_evicted : (s : Fabric) (n block : ℕ) → settles (evicted s n block).answer ≡ false
+pub ordinary_evicted : (s : Fabric) (n block : ℕ) → is_point_answer (evicted s n block).answer ≡ false
 ordinary_evicted s n block = grind (arith, ordinary_evicts s n block (line_of (node_at s n).cache block).state)
 
-pub ordinary_delivers : (config : Config) (s : Fabric) (m : Message) (outcome : Outcome) → settles (delivers config s m outcome).answer ≡ false
+pub ordinary_delivers : (config : Config) (s : Fabric) (m : Message) (outcome : Outcome) → is_point_answer (delivers config s m outcome).answer ≡ false
 ordinary_delivers config s m Busy = refl
 ordinary_delivers config s m (AtCache reply) = grind arith
 ordinary_delivers config s m (AtHome reply) = grind arith
 ordinary_delivers config s m (Noted fabric told) = refl
 
-pub ordinary_flight : (config : Config) (s : Fabric) (f : Option Flight) → settles (delivers_flight config s f).answer ≡ false
+pub ordinary_flight : (config : Config) (s : Fabric) (f : Option Flight) → is_point_answer (delivers_flight config s f).answer ≡ false
 ordinary_flight config s None = refl
 ordinary_flight config s (Some f) = grind (arith, ordinary_delivers config s f.message (outcome_of s f.message f.message.body))
 
-pub ordinary_hops : (s : Fabric) (f : Option Flight) → settles (hops s f).answer ≡ false
+pub ordinary_hops : (s : Fabric) (f : Option Flight) → is_point_answer (hops s f).answer ≡ false
 ordinary_hops s None = refl
 ordinary_hops s (Some f) = grind arith
 
-pub ordinary_loses : (s : Fabric) (f : Option Flight) → settles (loses s f).answer ≡ false
+pub ordinary_loses : (s : Fabric) (f : Option Flight) → is_point_answer (loses s f).answer ≡ false
 ordinary_loses s None = refl
 ordinary_loses s (Some f) = refl
 
 -- so the retirements stay
-stays_by : (image : ImageData) (s : State) (e : Event) (a : Answer) (trace : List Retired) → IsNoStep e → settles a ≡ false → traced image s e a trace ≡ trace
+stays_by : (image : ImageData) (s : State) (e : Event) (a : Answer) (trace : List Retired) → IsNoStep e → is_point_answer a ≡ false → traced image s e a trace ≡ trace
 stays_by image s e a trace plain b = by_answer a b
   where
     others : (e : Event) → IsNoStep e → traced image s e answer.Retired trace ≡ trace
@@ -96,7 +96,7 @@ stays_by image s e a trace plain b = by_answer a b
     others event.Recover plain = refl
     others (event.Input n byte) plain = refl
 
-    by_answer : (a : Answer) → settles a ≡ false → traced image s e a trace ≡ trace
+    by_answer : (a : Answer) → is_point_answer a ≡ false → traced image s e a trace ≡ trace
     by_answer answer.Retired b = others e plain
     by_answer (answer.Recovered undo) b = cc
     by_answer _ b = refl
@@ -118,13 +118,13 @@ module _ (half : FabricHalf) (image : ImageData) (config : Config) (s : State) (
   is_node n e = grind (arith, nat_tests)
 
   -- an event of the fabric of which the rest hears
-  heard_joins : (moved : Moved) (e : Event) → IsNoStep e → settles moved.answer ≡ false → Rightly s.fabric moved.fabric moved.told → KeepsRecords moved.fabric (λ b. heard_by moved.told b (r b)) →
+  heard_joins : (moved : Moved) (e : Event) → IsNoStep e → is_point_answer moved.answer ≡ false → Rightly s.fabric moved.fabric moved.told → KeepsRecords moved.fabric (λ b. heard_by moved.told b (r b)) →
       Joins image (hearing s moved).state (traced image s e moved.answer trace)
   heard_joins moved e plain ordinary right k =
       subst (Joins image (hearing s moved).state) (sym (stays_by image s e moved.answer trace plain ordinary)) ((λ b. heard_by moved.told b (r b)), list, hearing_joins image s r list trace j moved.fabric moved.told right k)
 
   -- one of which nobody hears
-  quiet_joins : (moved : Moved) (e : Event) → IsNoStep e → settles moved.answer ≡ false → IsQuiet s.fabric moved → KeepsRecords moved.fabric (λ b. heard_by moved.told b (r b)) →
+  quiet_joins : (moved : Moved) (e : Event) → IsNoStep e → is_point_answer moved.answer ≡ false → IsQuiet s.fabric moved → KeepsRecords moved.fabric (λ b. heard_by moved.told b (r b)) →
       Joins image (carried s moved).state (traced image s e moved.answer trace)
   quiet_joins moved e plain ordinary quiet k =
       subst (λ x. Joins image (record (heard s x) { fabric = moved.fabric }) (traced image s e moved.answer trace)) quiet.told

@@ -32,7 +32,7 @@ use Rattle.sn_consistency.specs.Entries.{Entry}
 use Rattle.sn_consistency.specs.Committed.{Begins}
 use Rattle.sn_consistency.specs.Laws.{own_reservation}
 use Rattle.sn_consistency.proofs.CoreLaws.{next_reservation}
-use Rattle.fabric_coherence.specs.Coherent.{IsFinished}
+use Rattle.fabric_coherence.specs.Coherent.{NothingUnfinished}
 use Rattle.consistent_cuts.specs.Headline.{IsStepOfRun, IsUntouched, MayUnreserve, Reserving}
 use Rattle.consistent_cuts.specs.Joined.{IsJoined}
 use Rattle.consistent_cuts.specs.Lists.{retirement_of}
@@ -43,14 +43,14 @@ use Rattle.consistent_cuts.proofs.FabricAfter.{FabricHalf}
 use Rattle.consistent_cuts.proofs.Points.{restored_state, restored_is}
 use Rattle.consistent_cuts.proofs.Restored.{is_restored, is_untouched}
 use Rattle.consistent_cuts.proofs.RestSays.{IsOrdinary, begins_same, ordinary_carried, ordinary_hearing, ordinary_retired, unreserved_told}
-use Rattle.consistent_cuts.proofs.SteppedCases.{settles, stepped_cases, LeavesTrace}
+use Rattle.consistent_cuts.proofs.SteppedCases.{is_point_answer, stepped_cases, LeavesTrace}
 
 -- an ordinary answer validates nothing and recovers nothing
-no_validation : (a : Answer) (k : ℕ) → settles a ≡ false → a ≡ answer.Validated k → ⊥
-no_validation a k e is = true≢false (sym (ap settles is) ∙ e)
+no_validation : (a : Answer) (k : ℕ) → is_point_answer a ≡ false → a ≡ answer.Validated k → ⊥
+no_validation a k e is = true≢false (sym (ap is_point_answer is) ∙ e)
 
-no_recovery : (a : Answer) (undo : Undo) → settles a ≡ false → a ≡ answer.Recovered undo → ⊥
-no_recovery a undo e is = true≢false (sym (ap settles is) ∙ e)
+no_recovery : (a : Answer) (undo : Undo) → is_point_answer a ≡ false → a ≡ answer.Recovered undo → ⊥
+no_recovery a undo e is = true≢false (sym (ap is_point_answer is) ∙ e)
 
 -- an answer that leaves the retirements isn't Retired
 leaves_unretired : (image : ImageData) (s : State) (n : ℕ) (a : Answer) → LeavesTrace image s n a → a ≡ answer.Retired → ⊥
@@ -75,10 +75,10 @@ module _ (half : FabricHalf) (image : ImageData) (config : Config) (s : State) (
   -- an event that neither moves the point nor goes back to it
   ordinary : (e : Event) (x : Stepped) → IsOrdinary s x → Retires e x → Unreserves e x → IsStepOfRun image config s e x
   ordinary e x o retires unreserves = record {
-    validated = λ k is. absurd (no_validation x.answer k o.settled is);
-    grows = λ k is. absurd (no_validation x.answer k o.settled is);
+    validated = λ k is. absurd (no_validation x.answer k o.no_point is);
+    grows = λ k is. absurd (no_validation x.answer k o.no_point is);
     stays = λ no. (o.committed, o.released);
-    restored = λ undo is. absurd (no_recovery x.answer undo o.settled is);
+    restored = λ undo is. absurd (no_recovery x.answer undo o.no_point is);
     given = o.given;
     retires = retires;
     conditional = conditional_is;
@@ -127,7 +127,7 @@ module _ (half : FabricHalf) (image : ImageData) (config : Config) (s : State) (
   step_of_run n l = stepped_cases image config s n l (IsStepOfRun image config s (event.Step n))
       (λ can. ordinary (event.Step n) (retired image s n) (ordinary_retired image s n) (λ m same is. ap (λ x. s.pending ++ retirement_of (entry_at image s x) ∷ []) (node_same n m same)) (λ m block lm a b. unreserved_by n m block lm a b))
       (λ block access low leaves. ordinary_step (carried s (accessed config s.fabric n block access)) (ordinary_carried s (accessed config s.fabric n block access) leaves.0) leaves (λ m b lm x y. kept m b (processor_at s m) refl x y))
-      (λ a leaves. ordinary_step (step.refused s a) (record { settled = leaves.0; committed = refl; released = refl; given = λ m. begins_same (processor_at s m).given }) leaves (λ m b lm x y. kept m b (processor_at s m) refl x y))
+      (λ a leaves. ordinary_step (step.refused s a) (record { no_point = leaves.0; committed = refl; released = refl; given = λ m. begins_same (processor_at s m).given }) leaves (λ m b lm x y. kept m b (processor_at s m) refl x y))
     where
       node_same : (n m : ℕ) → event.Step n ≡ event.Step m → n ≡ m
       node_same n m e = cc
@@ -146,7 +146,7 @@ module _ (half : FabricHalf) (image : ImageData) (config : Config) (s : State) (
   abbrev Says : Event → Stepped → Type 0
   Says e x = IsStepOfRun image config s e x
 
-  carried_says : (e : Event) (moved : Moved) → ((n : ℕ) → e ≡ event.Step n → ⊥) → settles moved.answer ≡ false → Says e (carried s moved)
+  carried_says : (e : Event) (moved : Moved) → ((n : ℕ) → e ≡ event.Step n → ⊥) → is_point_answer moved.answer ≡ false → Says e (carried s moved)
   carried_says e moved other calm = ordinary e (carried s moved) (ordinary_carried s moved calm) (λ n same is. absurd (other n same)) (kept_all e (carried s moved) (λ n. refl))
 
   evicted_says : (n block : ℕ) → Says (event.Evict n block) (hearing s (evicted s.fabric n block))
@@ -169,8 +169,8 @@ module _ (half : FabricHalf) (image : ImageData) (config : Config) (s : State) (
           absurd (kept m block (processor_at (with_processor s n (with_checkpoint (processor_at s n))) m) (ap (λ p. p.core) (get_or-set_other s.processors n m (with_checkpoint (processor_at s n)) (first_processor 0 0) d)) a b)
 
   edging : (n : ℕ) (full : Bool) → Says (event.Edge n) (edges s n (if full then refused s.fabric answer.CheckpointsFull else answered (with_node s.fabric n (after_edge (node_at s.fabric n))) (answer.Edged ((node_at s.fabric n).now + 1))))
-  edging n true = ordinary (event.Edge n) (step.refused s answer.CheckpointsFull) (record { settled = refl; committed = refl; released = refl; given = λ m. begins_same (processor_at s m).given }) (λ m same is. absurd (let x = same in cc)) (kept_all (event.Edge n) (step.refused s answer.CheckpointsFull) (λ m. refl))
-  edging n false = ordinary (event.Edge n) after (record { settled = refl; committed = refl; released = refl; given = λ m. subst (Begins (processor_at s m).given) (sym (given_same m)) (begins_same (processor_at s m).given) }) (λ m same is. absurd (let x = same in cc))
+  edging n true = ordinary (event.Edge n) (step.refused s answer.CheckpointsFull) (record { no_point = refl; committed = refl; released = refl; given = λ m. begins_same (processor_at s m).given }) (λ m same is. absurd (let x = same in cc)) (kept_all (event.Edge n) (step.refused s answer.CheckpointsFull) (λ m. refl))
+  edging n false = ordinary (event.Edge n) after (record { no_point = refl; committed = refl; released = refl; given = λ m. subst (Begins (processor_at s m).given) (sym (given_same m)) (begins_same (processor_at s m).given) }) (λ m same is. absurd (let x = same in cc))
       (λ m b l x y. edge_unreserves n s.fabric m b x y)
     where
       after : Stepped
@@ -199,13 +199,13 @@ module _ (half : FabricHalf) (image : ImageData) (config : Config) (s : State) (
           (subst (Begins (processor_at s n).given) (ap (λ p. p.given) (sym (get_or-set_same s.processors n (more n byte) (first_processor 0 0) l))) (record { more = byte ∷ []; is = refl }))
 
   input_says : (n byte : ℕ) → n < length s.processors → Says (event.Input n byte) (given s n byte)
-  input_says n byte l = ordinary (event.Input n byte) (given s n byte) (record { settled = refl; committed = refl; released = refl; given = grown n byte l }) (λ m same is. absurd (let x = same in cc))
+  input_says n byte l = ordinary (event.Input n byte) (given s n byte) (record { no_point = refl; committed = refl; released = refl; given = grown n byte l }) (λ m same is. absurd (let x = same in cc))
       (kept_all (event.Input n byte) (given s n byte) (core_same n byte))
 
   -- a validation
 
-  refusal_says : (e : Event) (a : Answer) → ((n : ℕ) → e ≡ event.Step n → ⊥) → settles a ≡ false → Says e (step.refused s a)
-  refusal_says e a other calm = ordinary e (step.refused s a) (record { settled = calm; committed = refl; released = refl; given = λ m. begins_same (processor_at s m).given }) (λ n same is. absurd (other n same)) (kept_all e (step.refused s a) (λ n. refl))
+  refusal_says : (e : Event) (a : Answer) → ((n : ℕ) → e ≡ event.Step n → ⊥) → is_point_answer a ≡ false → Says e (step.refused s a)
+  refusal_says e a other calm = ordinary e (step.refused s a) (record { no_point = calm; committed = refl; released = refl; given = λ m. begins_same (processor_at s m).given }) (λ n same is. absurd (other n same)) (kept_all e (step.refused s a) (λ n. refl))
 
   abbrev committed : Stepped
   committed = commits s (sending (record s.fabric { point = s.fabric.point + 1 }) 0 0 (advances (s.fabric.point + 1) 0 s.fabric.nodes) (answer.Validated (s.fabric.point + 1)))
@@ -214,7 +214,7 @@ module _ (half : FabricHalf) (image : ImageData) (config : Config) (s : State) (
       Says event.Validate (commits s (if full then refused s.fabric answer.NetFull else sending (record s.fabric { point = s.fabric.point + 1 }) 0 0 (advances (s.fabric.point + 1) 0 s.fabric.nodes) (answer.Validated (s.fabric.point + 1))))
   committing none true = refusal_says event.Validate answer.NetFull (λ n e. cc) refl
   committing none false = record {
-    validated = λ k is. (sym (number k is), subst (IsFinished s.fabric) (number k is) (half.finished s.fabric r j.fabric (all_reported half image config s trace r list j none)));
+    validated = λ k is. (sym (number k is), subst (NothingUnfinished s.fabric) (number k is) (half.finished s.fabric r j.fabric (all_reported half image config s trace r list j none)));
     grows = λ k is. (refl, refl);
     stays = λ no. absurd (no (s.fabric.point + 1) refl);
     restored = λ undo is. cc;

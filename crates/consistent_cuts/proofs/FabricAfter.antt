@@ -25,7 +25,7 @@ use Rattle.consistent_cuts.specs.Accesses.{line_at, write_of, CanServe, CanServe
 use Rattle.fabric_coherence.specs.Events.{CanUse, CanWrite}
 use Rattle.fabric_coherence.specs.Recorded.{KeepsRecords, MayBeRecorded, recorded_by, at_block}
 use Rattle.fabric_coherence.specs.Told.{Tells}
-use Rattle.fabric_coherence.specs.Coherent.{IsFinished}
+use Rattle.fabric_coherence.specs.Coherent.{NothingUnfinished}
 use Rattle.fabric_coherence.specs.Steps.{IsShaped, IsInFlight}
 
 -- what the fabric's half says of the records, in its own words: what they tell, and that they are kept by each event and by
@@ -47,8 +47,8 @@ pub record FabricHalf : Type 0 where
   pub undone : (s : Fabric) (r : ℕ → Records) (n : ℕ) → KeepsRecords s r → n < length s.nodes → KeepsRecords s (λ o. unreserves (r o) n)
   -- the start; that a validation comes where nothing is unfinished; and what a message in flight is
   pub start : (image : ImageData) (nodes : ℕ) → 1 ≤ nodes → nodes ≤ 16 → KeepsRecords (first_fabric image nodes) (λ b. no_records (initial_block image b))
-  pub finished : (s : Fabric) (r : ℕ → Records) → KeepsRecords s r → ((b n : ℕ) → b < block_count → n < length s.nodes → s.point < (r b).reported n) → IsFinished s (s.point + 1)
-  pub settled : (s : Fabric) (r : ℕ → Records) → KeepsRecords s r → is_unfinished s s.point ≡ false
+  pub finished : (s : Fabric) (r : ℕ → Records) → KeepsRecords s r → ((b n : ℕ) → b < block_count → n < length s.nodes → s.point < (r b).reported n) → NothingUnfinished s (s.point + 1)
+  pub none_unfinished : (s : Fabric) (r : ℕ → Records) → KeepsRecords s r → is_unfinished s s.point ≡ false
   pub nodes : (config : Config) (s : Fabric) (event : FabricEvent) → length (moved_by config s event).fabric.nodes ≡ length s.nodes
   pub flight : (s : Fabric) (id : ℕ) (f : Flight) → IsShaped s → flight_of s.net.flights id ≡ Some f → IsInFlight s f.message
 

@@ -21,6 +21,6 @@ half = record {
   start = λ image nodes some few. (first_beside, start-kept image nodes some few, start-recorded image nodes some few);
   finished = λ s r k above. reported_finished s k.0 k.1 r k.2 above;
   flight = in_flight;
-  settled = λ s r k. (point_finished s k.0 k.1).none;
+  none_unfinished = λ s r k. (point_finished s k.0 k.1).none;
   nodes = nodes_same;
 }

@@ -168,8 +168,8 @@ answered = at_first (node 0 empty_lines (miss_in 0) taken_log) taken (flight 2 0
 abbrev got : Moment
 got = at_first (node 0 complete None written_log) taken (flight 3 0 0 0 64 (Unblock 0) 0 ∷ []) 4 (pointed 0) twos entries
 
-abbrev settled : Moment
-settled = at_first (node 0 complete None written_log) closed [] 4 (pointed 0) twos entries
+abbrev unblocked : Moment
+unblocked = at_first (node 0 complete None written_log) closed [] 4 (pointed 0) twos entries
 
 abbrev all_entries : List Entry
 all_entries = retirement 0 0 ∷ retirement 0 0 ∷ retirement 0 0 ∷ []
@@ -218,11 +218,11 @@ gets = record {
   trace = refl;
 }
 
-settles : Leads storing small got (Deliver 3) Delivered settled
+unblocks : Leads storing small got (Deliver 3) Delivered unblocked
 unfolding step_of enter_of distance comes is_living some_below least_below is_linked along partner row_count column_count
-settles = record { answers = rw at_taken refl; state = rw at_taken refl; trace = refl }
+unblocks = record { answers = rw at_taken refl; state = rw at_taken refl; trace = refl }
 
-third : Leads storing small settled (Step 0) Retired three_done
+third : Leads storing small unblocked (Step 0) Retired three_done
 unfolding step_of want_of next_of decoded
 third = record {
   answers = rw (found arrived (modified zeros) whole_arrived) refl;
@@ -421,7 +421,7 @@ recovers = record { answers = refl; state = refl; trace = refl }
 
 to_report : {events : List Event} {b : Moment} → Comes storing small both_heard events b → Comes storing small start (example.reporting ++ events) b
 to_report h =
-    first ⨾ second ⨾ asks ⨾ answers ⨾ gets ⨾ settles ⨾ third ⨾ fourth
+    first ⨾ second ⨾ asks ⨾ answers ⨾ gets ⨾ unblocks ⨾ third ⨾ fourth
     ⨾ ticks_0 ⨾ ticks_1 ⨾ reports_0 ⨾ reports_1 ⨾ hears_0 ⨾ hops_1 ⨾ hears_1 ⨾ h
 
 to_move : {events : List Event} {b : Moment} → Comes storing small gave events b → Comes storing small start (moving ++ events) b

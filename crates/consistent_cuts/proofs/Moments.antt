@@ -10,7 +10,7 @@ use Rattle.sn_model.specs.Caches.{block_count, line_of, is_present}
 use Rattle.sn_model.specs.Fabric.{node_at}
 use Rattle.sn_model.specs.Cuts.{names_at}
 use Rattle.sn_model.specs.Machine.{State, processor_at}
-use Rattle.sn_model.specs.RecoveryPoint.{KeepsCheckpoint, IsHeld, IsCut, block_in}
+use Rattle.sn_model.specs.RecoveryPoint.{KeepsCheckpoint, HasOneHolderWith, IsCut, block_in}
 use Rattle.sn_model.specs.Trace.{Entry as Retired}
 use Rattle.sn_coherence.specs.Records.{Records}
 use Rattle.sn_consistency.specs.Words as words
@@ -20,7 +20,7 @@ use Rattle.sn_consistency.specs.Shows.{Shows}
 use Rattle.sn_consistency.proofs.CommittedPart.{committed_execution, committed_out}
 use Rattle.sn_consistency.proofs.Kept.{end_content, end_core, given_begins}
 use Rattle.sn_consistency.proofs.Start.{start_shows}
-use Rattle.fabric_coherence.specs.Coherent.{IsFinished}
+use Rattle.fabric_coherence.specs.Coherent.{NothingUnfinished}
 use Rattle.consistent_cuts.specs.Outlined.{outline_of, start_places}
 use Rattle.consistent_cuts.specs.Joined.{IsJoined}
 use Rattle.consistent_cuts.specs.Headline.{IsConsistent}
@@ -94,11 +94,11 @@ module _ (half : FabricHalf) (image : ImageData) (s : State) (r : ℕ → Record
   pub cuts : IsCut s point end
   cuts = record {
     cores = keeps_checkpoint;
-    blocks = λ b l. subst (λ v. IsHeld s.fabric b point v (names_at s.fabric b point)) (sym (end_block b)) (half.tell s.fabric r j.fabric b l).point;
+    blocks = λ b l. subst (λ v. HasOneHolderWith s.fabric b point v (names_at s.fabric b point)) (sym (end_block b)) (half.tell s.fabric r j.fabric b l).point;
   }
 
-  pub point_finished : IsFinished s.fabric point
-  point_finished = record { now = point_now; none = half.settled s.fabric r j.fabric }
+  pub point_finished : NothingUnfinished s.fabric point
+  point_finished = record { now = point_now; none = half.none_unfinished s.fabric r j.fabric }
 
   pub reserved_copy : (n block : ℕ) → n < N → block < block_count → is_reserved (processor_at s n).core.reservation block ≡ true → is_present (line_of (node_at s.fabric n).cache block).state ≡ true
   reserved_copy n block l low h = ((half.tell s.fabric r j.fabric block low).reserved n l (j.agrees.reserved block n low l ∙ h)).0

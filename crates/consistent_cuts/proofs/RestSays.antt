@@ -11,7 +11,7 @@ use Rattle.sn_model.specs.Machine.{State, Processor, processor_at, with_processo
 use Rattle.sn_model.specs.Instructions.{Stepped, retired, carried, found_at, next_with}
 use Rattle.sn_model.specs.MachineEvents.{heard, hearing, without_reservation, freed}
 use Rattle.sn_consistency.specs.Committed.{Begins}
-use Rattle.consistent_cuts.proofs.SteppedCases.{settles}
+use Rattle.consistent_cuts.proofs.SteppedCases.{is_point_answer}
 use Rattle.consistent_cuts.proofs.Clocks.{part_set}
 use Rattle.consistent_cuts.proofs.Hears.{at_itself, unreserved_is}
 
@@ -20,14 +20,14 @@ begins_same xs = record { more = []; is = sym (append-nil xs) }
 
 -- what is committed and released stays, and given bytes only grow
 pub record IsOrdinary (s : State) (x : Stepped) : Type 0 where
-  pub settled : settles x.answer ≡ false
+  pub no_point : is_point_answer x.answer ≡ false
   pub committed : x.state.committed ≡ s.committed
   pub released : x.state.released ≡ s.released
   pub given : (n : ℕ) → Begins (processor_at s n).given (processor_at x.state n).given
 
 -- an event of the fabric of which nobody hears
-pub ordinary_carried : (s : State) (moved : Moved) → settles moved.answer ≡ false → IsOrdinary s (carried s moved)
-ordinary_carried s moved e = record { settled = e; committed = refl; released = refl; given = λ n. begins_same (processor_at s n).given }
+pub ordinary_carried : (s : State) (moved : Moved) → is_point_answer moved.answer ≡ false → IsOrdinary s (carried s moved)
+ordinary_carried s moved e = record { no_point = e; committed = refl; released = refl; given = λ n. begins_same (processor_at s n).given }
 
 -- a processor in its place, whether its node is there or not
 module _ (s : State) (n : ℕ) (processor : Processor) where
@@ -56,9 +56,9 @@ released_told s (Some (told.LostCopy e block)) = refl
 released_told s (Some (told.Ready e k)) = refl
 released_told s (Some (told.Advance e k)) = refl
 
-pub ordinary_hearing : (s : State) (moved : Moved) → settles moved.answer ≡ false → IsOrdinary s (hearing s moved)
+pub ordinary_hearing : (s : State) (moved : Moved) → is_point_answer moved.answer ≡ false → IsOrdinary s (hearing s moved)
 ordinary_hearing s moved e = record {
-  settled = e;
+  no_point = e;
   committed = committed_told s moved.told;
   released = released_told s moved.told;
   given = λ n. subst (Begins (processor_at s n).given) (sym (ordinary_told s moved.told n)) (begins_same (processor_at s n).given);
@@ -67,7 +67,7 @@ ordinary_hearing s moved e = record {
 -- an instruction that retires
 pub ordinary_retired : (image : ImageData) (s : State) (n : ℕ) → IsOrdinary s (retired image s n)
 ordinary_retired image s n = record {
-  settled = refl;
+  no_point = refl;
   committed = refl;
   released = refl;
   given = λ m. subst (Begins (processor_at s m).given) (sym (same_given s n (record (processor_at s n) { core = (next_with image (processor_at s n) (found_at image s n)).core }) refl m)) (begins_same (processor_at s m).given);

@@ -49,14 +49,14 @@ module _ (config : Config) (s : Fabric) (n b : ℕ) (l : n < length s.nodes) (lo
       (not (is_present (line_of (node_at s n).cache b).state) && nat_le config.ways (frames_taken (node_at s n).cache config.sets b)) (is_full s 1) refl refl refl refl is
 
 -- an answer that moves the point or goes back to it
-abbrev pub settles : Answer → Bool
-settles (Validated k) = true
-settles (Recovered undo) = true
-settles _ = false
+abbrev pub is_point_answer : Answer → Bool
+is_point_answer (Validated k) = true
+is_point_answer (Recovered undo) = true
+is_point_answer _ = false
 
 -- no answer of an access or a refusal of a step takes a retirement away, and none but Retired adds one
 abbrev pub LeavesTrace : ImageData → State → ℕ → Answer → Type 0
-LeavesTrace image s n answer = (settles answer ≡ false) × ((trace : List Entry) → traced image s (Step n) answer trace ≡ trace)
+LeavesTrace image s n answer = (is_point_answer answer ≡ false) × ((trace : List Entry) → traced image s (Step n) answer trace ≡ trace)
 
 access_leaves : (image : ImageData) (s : State) (n b : ℕ) (access : Need) (a p c d e f : Bool) →
     is_retired (if a then fabric.refused s.fabric Waits else if p then fabric.refused s.fabric Waits else if c then (if d then fabric.refused s.fabric LogFull else fabric.answered s.fabric Retired) else if e then fabric.refused s.fabric NeedsEvict else if f then fabric.refused s.fabric NetFull else missed s.fabric n b access).answer ≡ false →

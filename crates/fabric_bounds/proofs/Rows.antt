@@ -6,7 +6,7 @@ use Rattle.sn_model.specs.declared.cache.LineState.{LineState}
 use Rattle.sn_model.specs.declared.cache.LineState.TheVariants.{Absent, Shared, Owned, Modified, Exclusive}
 use Rattle.sn_model.specs.declared.cache.Need.{Need}
 use Rattle.sn_model.specs.Caches.{Cache, Line, Miss, no_line, line_of, with_line, is_present, is_owned, is_writable_state, misses_on, takes_frame}
-use Rattle.sn_model.specs.CacheRows.{Logged, CacheReply, AwaitsAnswer, content_of, line_when_done, completed, settled, settled_by, fixed_at, acknowledged, taken_over, forward_read, forward_write, invalidate, data_shared, data_modified, data_exclusive, upgrade_granted, acknowledge, put_go, put_done}
+use Rattle.sn_model.specs.CacheRows.{Logged, CacheReply, AwaitsAnswer, content_of, line_when_done, completed, completed_or_waiting, completed_or_waiting_by, fixed_at, acknowledged, taken_over, forward_read, forward_write, invalidate, data_shared, data_modified, data_exclusive, upgrade_granted, acknowledge, put_go, put_done}
 use Rattle.mosi_cache.proofs.Taken.{TakesFewer, fewer-set}
 
 -- a row takes no new frame, and sends one message at most
@@ -73,17 +73,17 @@ module _ (at : Logged) (d : Cache) (fewer : TakesFewer at.cache d) (home : ℕ) 
       (record { state = line_when_done (line_of at.cache miss.block).state miss.need; content = content_of at miss.block }) refl
       (λ o h. absurd (cc)) (λ h. own_block (is_present (line_of at.cache miss.block).state) miss.block) b e)
 
-  settled_by_small : (miss : Miss) (fixed : Option ℕ) → IsOn (Some miss) → IsSmall (settled_by at home miss fixed) d
-  settled_by_small miss None on = record { fewer = waits miss on; sends = omega arith }
-  settled_by_small miss (Some fixed) on = all_in (nat_eq miss.acks miss.due)
+  completed_or_waiting_by_small : (miss : Miss) (fixed : Option ℕ) → IsOn (Some miss) → IsSmall (completed_or_waiting_by at home miss fixed) d
+  completed_or_waiting_by_small miss None on = record { fewer = waits miss on; sends = omega arith }
+  completed_or_waiting_by_small miss (Some fixed) on = all_in (nat_eq miss.acks miss.due)
     where
       all_in : (c : Bool) → IsSmall (if c then completed at home miss fixed else record { after = record at { cache = record at.cache { miss = Some miss } }; sends = []; lost = None }) d
       all_in true = record { fewer = completes miss fixed on; sends = omega arith }
       all_in false = record { fewer = waits miss on; sends = omega arith }
 
-  pub settled_small : (o : Option Miss) → IsOn o → IsSmall (settled at home o) d
-  settled_small None on = record { fewer = fewer; sends = omega arith }
-  settled_small (Some miss) on = settled_by_small miss miss.fixed on
+  pub completed_or_waiting_small : (o : Option Miss) → IsOn o → IsSmall (completed_or_waiting at home o) d
+  completed_or_waiting_small None on = record { fewer = fewer; sends = omega arith }
+  completed_or_waiting_small (Some miss) on = completed_or_waiting_by_small miss miss.fixed on
 
 -- what becomes of the open miss is on the same block
 fixed_on : (o : Option Miss) (tag due b : ℕ) → misses_on (fixed_at o tag due) b ≡ true → misses_on o b ≡ true
@@ -128,16 +128,16 @@ module _ (at : Logged) where
 
   module _ (home block tag : ℕ) where
     pub data_shared_small : (content : List ℕ) → takes_frame at.cache block ≡ true → IsSmall (data_shared at home block tag content) at.cache
-    data_shared_small content takes = settled_small (record at { cache = with_new block Shared content }) at.cache (arrives block Shared content takes) home (fixed_at at.cache.miss tag 0) (λ b e. missed_takes b (fixed_on at.cache.miss tag 0 b e))
+    data_shared_small content takes = completed_or_waiting_small (record at { cache = with_new block Shared content }) at.cache (arrives block Shared content takes) home (fixed_at at.cache.miss tag 0) (λ b e. missed_takes b (fixed_on at.cache.miss tag 0 b e))
 
     pub data_modified_small : (content : List ℕ) (due : ℕ) → takes_frame at.cache block ≡ true → IsSmall (data_modified at home block tag content due) at.cache
-    data_modified_small content due takes = settled_small (taken_over at block tag Modified content) at.cache (arrives block Modified content takes) home (fixed_at at.cache.miss tag due) (λ b e. missed_takes b (fixed_on at.cache.miss tag due b e))
+    data_modified_small content due takes = completed_or_waiting_small (taken_over at block tag Modified content) at.cache (arrives block Modified content takes) home (fixed_at at.cache.miss tag due) (λ b e. missed_takes b (fixed_on at.cache.miss tag due b e))
 
     pub data_exclusive_small : (content : List ℕ) → takes_frame at.cache block ≡ true → IsSmall (data_exclusive at home block tag content) at.cache
-    data_exclusive_small content takes = settled_small (taken_over at block tag Exclusive content) at.cache (arrives block Exclusive content takes) home (fixed_at at.cache.miss tag 0) (λ b e. missed_takes b (fixed_on at.cache.miss tag 0 b e))
+    data_exclusive_small content takes = completed_or_waiting_small (taken_over at block tag Exclusive content) at.cache (arrives block Exclusive content takes) home (fixed_at at.cache.miss tag 0) (λ b e. missed_takes b (fixed_on at.cache.miss tag 0 b e))
 
   pub upgrade_granted_small : (home tag due : ℕ) → IsSmall (upgrade_granted at home tag due) at.cache
-  upgrade_granted_small home tag due = settled_small at at.cache stays home (fixed_at at.cache.miss tag due) (λ b e. missed_takes b (fixed_on at.cache.miss tag due b e))
+  upgrade_granted_small home tag due = completed_or_waiting_small at at.cache stays home (fixed_at at.cache.miss tag due) (λ b e. missed_takes b (fixed_on at.cache.miss tag due b e))
 
   pub acknowledge_small : (home : ℕ) → IsSmall (acknowledge at home) at.cache
-  acknowledge_small home = settled_small at at.cache stays home (acknowledged at.cache.miss) (λ b e. missed_takes b (acknowledged_on at.cache.miss b e))
+  acknowledge_small home = completed_or_waiting_small at at.cache stays home (acknowledged at.cache.miss) (λ b e. missed_takes b (acknowledged_on at.cache.miss b e))

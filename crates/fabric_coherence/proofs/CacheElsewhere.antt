@@ -12,12 +12,12 @@ use Rattle.sn_model.specs.declared.cache.Need.TheVariants.{Read, Write}
 use Rattle.sn_model.specs.Caches.{Line, Miss, Put, line_of, is_present, with_line, block_count, no_line, puts_on}
 use Rattle.sn_model.specs.Fabric.{Fabric, node_at, home_node}
 use Rattle.sn_model.specs.NetEvents.{logged_at}
-use Rattle.sn_model.specs.CacheRows.{Logged, send, completed, waiting, settled, settled_by, fixed_at, acknowledged, with_miss, taken_over, line_when_done, AwaitsAnswer, forward_read, forward_write, invalidate, put_go, put_done, data_shared, data_modified, data_exclusive, upgrade_granted, acknowledge, MayTakeCopy, MayTakeOwnership, MayUpgrade, MayCount}
+use Rattle.sn_model.specs.CacheRows.{Logged, send, completed, waiting, completed_or_waiting, completed_or_waiting_by, fixed_at, acknowledged, with_miss, taken_over, line_when_done, AwaitsAnswer, forward_read, forward_write, invalidate, put_go, put_done, data_shared, data_modified, data_exclusive, upgrade_granted, acknowledge, MayTakeCopy, MayTakeOwnership, MayUpgrade, MayCount}
 use Rattle.sn_coherence.specs.Block as block
 use Rattle.sn_coherence.specs.OtherEvents.{end_miss_elsewhere, end_put_elsewhere}
 use Rattle.fabric_coherence.specs.View.{Beside, block_seen, miss_seen, miss_here, put_seen, put_issued}
 use Rattle.fabric_coherence.specs.Steps.{elsewhere, IsShaped, IsInFlight}
-use Rattle.fabric_coherence.specs.CacheSeen.{KeepsHomeSide, KeepsCacheSide, IsElsewhere, settled_elsewhere}
+use Rattle.fabric_coherence.specs.CacheSeen.{KeepsHomeSide, KeepsCacheSide, IsElsewhere, completed_or_waiting_elsewhere}
 use Rattle.fabric_coherence.proofs.CacheSeen.{set_kept, home_side_same, home_side_noted_owned, home_side_noted_not, cache_side_same, cache_side_noted_owned, cache_side_noted_not, eq_other}
 use Rattle.fabric_coherence.proofs.CacheApart.{Waiting, line_unwritten, one_elsewhere, none_elsewhere}
 use Rattle.fabric_coherence.proofs.CacheSends.{miss_is}
@@ -154,15 +154,15 @@ module _ (s : Fabric) (t : Beside) (m : Message) (shape : IsShaped s) (flight : 
           put_issued = λ n. ap (λ p. block.set there.put_issued m.to (put_issued p) n) put ∙ same_put_issued n;
         })
 
-    settled_case : (all : Bool) (now : Miss) (fixed : ℕ) → now.block ≡ m.block → now.issued ≡ miss.issued →
-        IsElsewhere s t m (if all then completed before home now fixed else waiting before now) row o (settled_elsewhere there m.id m.to all)
-    settled_case true now fixed same issued = complete_elsewhere now fixed same
-    settled_case false now fixed same issued = waiting_elsewhere now same issued
+    completed_or_waiting_case : (all : Bool) (now : Miss) (fixed : ℕ) → now.block ≡ m.block → now.issued ≡ miss.issued →
+        IsElsewhere s t m (if all then completed before home now fixed else waiting before now) row o (completed_or_waiting_elsewhere there m.id m.to all)
+    completed_or_waiting_case true now fixed same issued = complete_elsewhere now fixed same
+    completed_or_waiting_case false now fixed same issued = waiting_elsewhere now same issued
 
     fixed_case : (fixed : Option ℕ) (now : Miss) → now.block ≡ m.block → now.issued ≡ miss.issued →
-        IsElsewhere s t m (settled_by before home now fixed) row o (settled_elsewhere there m.id m.to (is_some fixed && nat_eq now.acks now.due))
+        IsElsewhere s t m (completed_or_waiting_by before home now fixed) row o (completed_or_waiting_elsewhere there m.id m.to (is_some fixed && nat_eq now.acks now.due))
     fixed_case None now same issued = waiting_elsewhere now same issued
-    fixed_case (Some fixed) now same issued = settled_case (nat_eq now.acks now.due) now fixed same issued
+    fixed_case (Some fixed) now same issued = completed_or_waiting_case (nat_eq now.acks now.due) now fixed same issued
 
     -- whether all acknowledgements are in, as the block of the row sees it
     abbrev here : block.Miss
@@ -171,14 +171,14 @@ module _ (s : Fabric) (t : Beside) (m : Message) (shape : IsShaped s) (flight : 
     seen_miss : here ≡ miss_here miss
     seen_miss = miss_is s t m shape flight (node_at s m.to).cache.miss miss open_is on
 
-    answered_miss : (tag a : ℕ) → IsElsewhere s t m (settled before home (fixed_at (node_at s m.to).cache.miss tag a)) row o (settled_elsewhere there m.id m.to (here.acks == a))
-    answered_miss tag a = subst (λ x. IsElsewhere s t m (settled before home (fixed_at x tag a)) row o (settled_elsewhere there m.id m.to (here.acks == a))) (sym open_is)
-        (subst (λ x. IsElsewhere s t m (settled before home (fixed_at (Some miss) tag a)) row o (settled_elsewhere there m.id m.to x)) (sym (eq_same miss.acks a) ∙ ap (λ x. x.acks == a) (sym seen_miss))
+    answered_miss : (tag a : ℕ) → IsElsewhere s t m (completed_or_waiting before home (fixed_at (node_at s m.to).cache.miss tag a)) row o (completed_or_waiting_elsewhere there m.id m.to (here.acks == a))
+    answered_miss tag a = subst (λ x. IsElsewhere s t m (completed_or_waiting before home (fixed_at x tag a)) row o (completed_or_waiting_elsewhere there m.id m.to (here.acks == a))) (sym open_is)
+        (subst (λ x. IsElsewhere s t m (completed_or_waiting before home (fixed_at (Some miss) tag a)) row o (completed_or_waiting_elsewhere there m.id m.to x)) (sym (eq_same miss.acks a) ∙ ap (λ x. x.acks == a) (sym seen_miss))
         (fixed_case (Some tag) (record miss { fixed = Some tag; due = a }) on refl))
 
-    counted_miss : IsElsewhere s t m (settled before home (acknowledged (node_at s m.to).cache.miss)) row o (settled_elsewhere there m.id m.to (here.is_fixed && (here.acks + 1 == here.due)))
-    counted_miss = subst (λ x. IsElsewhere s t m (settled before home (acknowledged x)) row o (settled_elsewhere there m.id m.to (here.is_fixed && (here.acks + 1 == here.due)))) (sym open_is)
-        (subst (λ x. IsElsewhere s t m (settled before home (acknowledged (Some miss))) row o (settled_elsewhere there m.id m.to x))
+    counted_miss : IsElsewhere s t m (completed_or_waiting before home (acknowledged (node_at s m.to).cache.miss)) row o (completed_or_waiting_elsewhere there m.id m.to (here.is_fixed && (here.acks + 1 == here.due)))
+    counted_miss = subst (λ x. IsElsewhere s t m (completed_or_waiting before home (acknowledged x)) row o (completed_or_waiting_elsewhere there m.id m.to (here.is_fixed && (here.acks + 1 == here.due)))) (sym open_is)
+        (subst (λ x. IsElsewhere s t m (completed_or_waiting before home (acknowledged (Some miss))) row o (completed_or_waiting_elsewhere there m.id m.to x))
         (ap (λ x. is_some miss.fixed && x) (sym (eq_same (miss.acks + 1) miss.due)) ∙ ap (λ x. x.is_fixed && (x.acks + 1 == x.due)) (sym seen_miss))
         (fixed_case miss.fixed (record miss { acks = miss.acks + 1 }) on refl))
 
@@ -187,9 +187,9 @@ module _ (s : Fabric) (t : Beside) (m : Message) (shape : IsShaped s) (flight : 
   miss_here_now = (block_seen s t m.block).miss m.to
 
   taken_elsewhere : (state : LineState) (content : List ℕ) (a : ℕ) (need : Need) → AwaitsAnswer (node_at s m.to).cache.miss m.block need → logged_to (node_at s m.to).log false m.block ≤ m.tag + 1 →
-      IsElsewhere s t m (settled (taken_over at m.block m.tag state content) home (fixed_at (node_at s m.to).cache.miss m.tag a)) row o (settled_elsewhere there m.id m.to (miss_here_now.acks == a))
+      IsElsewhere s t m (completed_or_waiting (taken_over at m.block m.tag state content) home (fixed_at (node_at s m.to).cache.miss m.tag a)) row o (completed_or_waiting_elsewhere there m.id m.to (miss_here_now.acks == a))
   taken_elsewhere state content a need may low = awaited (node_at s m.to).cache.miss m.block need
-      (IsElsewhere s t m (settled (taken_over at m.block m.tag state content) home (fixed_at (node_at s m.to).cache.miss m.tag a)) row o (settled_elsewhere there m.id m.to (miss_here_now.acks == a))) may
+      (IsElsewhere s t m (completed_or_waiting (taken_over at m.block m.tag state content) home (fixed_at (node_at s m.to).cache.miss m.tag a)) row o (completed_or_waiting_elsewhere there m.id m.to (miss_here_now.acks == a))) may
       (λ miss open_is on n. answered_miss miss open_is on (taken_over at m.block m.tag state content) (as_long (record { state = state; content = content })) (unwritten (record { state = state; content = content })) refl
       (home_side_noted_not (node_at s m.to).log m.tag m.block o low) (cache_side_noted_not (node_at s m.to).log m.tag m.block o low apart) m.tag a)
 
@@ -199,27 +199,27 @@ module _ (s : Fabric) (t : Beside) (m : Message) (shape : IsShaped s) (flight : 
 
   pub data_shared-elsewhere : (content : List ℕ) → MayTakeCopy (logged_at s m.to) m.block → ((block_seen s t m.block).miss m.to).acks ≡ 0 →
       IsElsewhere s t m (data_shared (logged_at s m.to) (home_node s m.block) m.block m.tag content) row o (end_miss_elsewhere (elsewhere (block_seen s t o) m.id 1) m.to)
-  data_shared-elsewhere content may acks = none_due (λ x. IsElsewhere s t m (data_shared at home m.block m.tag content) row o (settled_elsewhere there m.id m.to x)) acks
-      (awaited (node_at s m.to).cache.miss m.block Read (IsElsewhere s t m (data_shared at home m.block m.tag content) row o (settled_elsewhere there m.id m.to (miss_here_now.acks == 0))) may.0
+  data_shared-elsewhere content may acks = none_due (λ x. IsElsewhere s t m (data_shared at home m.block m.tag content) row o (completed_or_waiting_elsewhere there m.id m.to x)) acks
+      (awaited (node_at s m.to).cache.miss m.block Read (IsElsewhere s t m (data_shared at home m.block m.tag content) row o (completed_or_waiting_elsewhere there m.id m.to (miss_here_now.acks == 0))) may.0
       (λ miss open_is on n. answered_miss miss open_is on (record at { cache = with_line at.cache m.block Shared content }) (as_long (record { state = Shared; content = content })) (unwritten (record { state = Shared; content = content })) refl home_same cache_same m.tag 0))
 
   pub data_exclusive-elsewhere : (content : List ℕ) → MayTakeCopy (logged_at s m.to) m.block → ((block_seen s t m.block).miss m.to).acks ≡ 0 → logged_to (node_at s m.to).log false m.block ≤ m.tag + 1 →
       IsElsewhere s t m (data_exclusive (logged_at s m.to) (home_node s m.block) m.block m.tag content) row o (end_miss_elsewhere (elsewhere (block_seen s t o) m.id 1) m.to)
-  data_exclusive-elsewhere content may acks low = none_due (λ x. IsElsewhere s t m (data_exclusive at home m.block m.tag content) row o (settled_elsewhere there m.id m.to x)) acks
+  data_exclusive-elsewhere content may acks low = none_due (λ x. IsElsewhere s t m (data_exclusive at home m.block m.tag content) row o (completed_or_waiting_elsewhere there m.id m.to x)) acks
       (taken_elsewhere Exclusive content 0 Read may.0 low)
 
   pub data_modified-elsewhere : (content : List ℕ) (a : ℕ) → MayTakeOwnership (logged_at s m.to) m.block → logged_to (node_at s m.to).log false m.block ≤ m.tag + 1 →
-      IsElsewhere s t m (data_modified (logged_at s m.to) (home_node s m.block) m.block m.tag content a) row o (settled_elsewhere (block_seen s t o) m.id m.to (((block_seen s t m.block).miss m.to).acks == a))
+      IsElsewhere s t m (data_modified (logged_at s m.to) (home_node s m.block) m.block m.tag content a) row o (completed_or_waiting_elsewhere (block_seen s t o) m.id m.to (((block_seen s t m.block).miss m.to).acks == a))
   data_modified-elsewhere content a may low = taken_elsewhere Modified content a Write may.0 low
 
   pub upgrade_granted-elsewhere : (a : ℕ) → MayUpgrade (logged_at s m.to) m.block →
-      IsElsewhere s t m (upgrade_granted (logged_at s m.to) (home_node s m.block) m.tag a) row o (settled_elsewhere (block_seen s t o) m.id m.to (((block_seen s t m.block).miss m.to).acks == a))
-  upgrade_granted-elsewhere a may = awaited (node_at s m.to).cache.miss m.block Write (IsElsewhere s t m (upgrade_granted at home m.tag a) row o (settled_elsewhere there m.id m.to (miss_here_now.acks == a))) may.0
+      IsElsewhere s t m (upgrade_granted (logged_at s m.to) (home_node s m.block) m.tag a) row o (completed_or_waiting_elsewhere (block_seen s t o) m.id m.to (((block_seen s t m.block).miss m.to).acks == a))
+  upgrade_granted-elsewhere a may = awaited (node_at s m.to).cache.miss m.block Write (IsElsewhere s t m (upgrade_granted at home m.tag a) row o (completed_or_waiting_elsewhere there m.id m.to (miss_here_now.acks == a))) may.0
       (λ miss open_is on n. answered_miss miss open_is on at (shape.lines m.to flight.to) refl refl home_same cache_same m.tag a)
 
   pub acknowledge-elsewhere : MayCount (node_at s m.to).cache.miss m.block →
       IsElsewhere s t m (acknowledge (logged_at s m.to) (home_node s m.block)) row o
-      (settled_elsewhere (block_seen s t o) m.id m.to (((block_seen s t m.block).miss m.to).is_fixed && (((block_seen s t m.block).miss m.to).acks + 1 == ((block_seen s t m.block).miss m.to).due)))
+      (completed_or_waiting_elsewhere (block_seen s t o) m.id m.to (((block_seen s t m.block).miss m.to).is_fixed && (((block_seen s t m.block).miss m.to).acks + 1 == ((block_seen s t m.block).miss m.to).due)))
   acknowledge-elsewhere may = counted (node_at s m.to).cache.miss m.block
-      (IsElsewhere s t m (acknowledge at home) row o (settled_elsewhere there m.id m.to (miss_here_now.is_fixed && (miss_here_now.acks + 1 == miss_here_now.due)))) may
+      (IsElsewhere s t m (acknowledge at home) row o (completed_or_waiting_elsewhere there m.id m.to (miss_here_now.is_fixed && (miss_here_now.acks + 1 == miss_here_now.due)))) may
       (λ miss open_is on. counted_miss miss open_is on at (shape.lines m.to flight.to) refl refl home_same cache_same)

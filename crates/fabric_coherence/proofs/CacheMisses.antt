@@ -13,7 +13,7 @@ use Rattle.sn_model.specs.declared.cache.Need.TheVariants.{Read, Write}
 use Rattle.sn_model.specs.Caches.{Line, Miss, line_of, is_owned, with_line, block_count}
 use Rattle.sn_model.specs.Fabric.{Fabric, node_at, home_node}
 use Rattle.sn_model.specs.NetEvents.{logged_at}
-use Rattle.sn_model.specs.CacheRows.{Logged, completed, waiting, settled, settled_by, fixed_at, acknowledged, with_miss, taken_over, line_when_done, is_absent_or_shared, AwaitsAnswer, data_shared, data_modified, data_exclusive, upgrade_granted, acknowledge, MayTakeCopy, MayTakeOwnership, MayUpgrade, MayCount}
+use Rattle.sn_model.specs.CacheRows.{Logged, completed, waiting, completed_or_waiting, completed_or_waiting_by, fixed_at, acknowledged, with_miss, taken_over, line_when_done, is_absent_or_shared, AwaitsAnswer, data_shared, data_modified, data_exclusive, upgrade_granted, acknowledge, MayTakeCopy, MayTakeOwnership, MayUpgrade, MayCount}
 use Rattle.sn_coherence.specs.Block as block
 use Rattle.sn_coherence.specs.Log.{was_owned, old_content, told_at, NoteLaw}
 use Rattle.sn_coherence.specs.CacheRows as rows
@@ -103,7 +103,7 @@ module _ (s : Fabric) (t : Beside) (m : Message) (shape : IsShaped s) (flight : 
       with_copy = record at { cache = with_line at.cache m.block Shared content }
 
       copy_reply : data_shared at home m.block m.tag content ≡ completed with_copy home (record miss { fixed = Some m.tag; due = 0 }) m.tag
-      copy_reply = ap (λ o. settled with_copy home (fixed_at o m.tag 0)) open_is
+      copy_reply = ap (λ o. completed_or_waiting with_copy home (fixed_at o m.tag 0)) open_is
           ∙ ap (λ x. if nat_eq x 0 then completed with_copy home (record miss { fixed = Some m.tag; due = 0 }) m.tag else waiting with_copy (record miss { fixed = Some m.tag; due = 0 })) (ap (λ x. x.acks) (sym seen_miss) ∙ acks)
 
       copy_row : IsOwnRow s t m (completed with_copy home (record miss { fixed = Some m.tag; due = 0 }) m.tag) (rows.data_shared b m.id)
@@ -149,7 +149,7 @@ module _ (s : Fabric) (t : Beside) (m : Message) (shape : IsShaped s) (flight : 
         exclusive = taken_over at m.block m.tag Exclusive content
 
         exclusive_reply : data_exclusive at home m.block m.tag content ≡ completed exclusive home (record miss { fixed = Some m.tag; due = 0 }) m.tag
-        exclusive_reply = ap (λ o. settled exclusive home (fixed_at o m.tag 0)) open_is
+        exclusive_reply = ap (λ o. completed_or_waiting exclusive home (fixed_at o m.tag 0)) open_is
             ∙ ap (λ x. if nat_eq x 0 then completed exclusive home (record miss { fixed = Some m.tag; due = 0 }) m.tag else waiting exclusive (record miss { fixed = Some m.tag; due = 0 })) (ap (λ x. x.acks) (sym seen_miss) ∙ acks)
 
         exclusive_row : IsOwnRow s t m (completed exclusive home (record miss { fixed = Some m.tag; due = 0 }) m.tag) (rows.data_exclusive b m.id)
@@ -181,7 +181,7 @@ module _ (s : Fabric) (t : Beside) (m : Message) (shape : IsShaped s) (flight : 
         modified = taken_over at m.block m.tag Modified content
 
         modified_reply : data_modified at home m.block m.tag content a ≡ (if nat_eq miss.acks a then completed modified home (record miss { fixed = Some m.tag; due = a }) m.tag else waiting modified (record miss { fixed = Some m.tag; due = a }))
-        modified_reply = ap (λ o. settled modified home (fixed_at o m.tag a)) open_is
+        modified_reply = ap (λ o. completed_or_waiting modified home (fixed_at o m.tag a)) open_is
 
         modified_row : IsOwnRow s t m (completed modified home (record miss { fixed = Some m.tag; due = a }) m.tag) (rows.data_modified_complete b m.id)
         modified_row = complete_seen s t m shape flight modified (record miss { fixed = Some m.tag; due = a }) m.tag (record { state = Modified; content = content }) (rows.data_modified_complete b m.id)
@@ -231,7 +231,7 @@ module _ (s : Fabric) (t : Beside) (m : Message) (shape : IsShaped s) (flight : 
       granted = sym (flight.seen ∙ ap (message_seen m) is)
 
       upgrade_reply : upgrade_granted at home m.tag a ≡ (if nat_eq miss.acks a then completed at home (record miss { fixed = Some m.tag; due = a }) m.tag else waiting at (record miss { fixed = Some m.tag; due = a }))
-      upgrade_reply = ap (λ o. settled at home (fixed_at o m.tag a)) open_is
+      upgrade_reply = ap (λ o. completed_or_waiting at home (fixed_at o m.tag a)) open_is
 
       upgraded : line_when_done line.state miss.need ≡ Modified
       upgraded = ap (λ x. line_when_done x miss.need) owned ∙ ap (line_when_done Owned) need
@@ -321,7 +321,7 @@ module _ (s : Fabric) (t : Beside) (m : Message) (shape : IsShaped s) (flight : 
           is_mine = owned (ap (λ x. x.is_fixed) seen_miss ∙ ap is_some e)
 
       acknowledge_cases : (fixed : Option ℕ) (all : Bool) → miss.fixed ≡ fixed → nat_eq (miss.acks + 1) miss.due ≡ all →
-          IsOwnRow s t m (settled_by at home one_more fixed) (cond (is_some fixed && all) (rows.acknowledge_complete b m.id) (rows.acknowledge_open b m.id))
+          IsOwnRow s t m (completed_or_waiting_by at home one_more fixed) (cond (is_some fixed && all) (rows.acknowledge_complete b m.id) (rows.acknowledge_open b m.id))
       acknowledge_cases None all e d = counted_row
       acknowledge_cases (Some fixed) true e d = subst (λ c. IsOwnRow s t m (if c then completed at home one_more fixed else waiting at one_more) (rows.acknowledge_complete b m.id)) (sym d) (last_row fixed e)
       acknowledge_cases (Some fixed) false e d = subst (λ c. IsOwnRow s t m (if c then completed at home one_more fixed else waiting at one_more) (rows.acknowledge_open b m.id)) (sym d) counted_row
@@ -331,8 +331,8 @@ module _ (s : Fabric) (t : Beside) (m : Message) (shape : IsShaped s) (flight : 
           ∙ ap (λ x. (b.miss x.to).is_fixed && ((b.miss x.to).acks + 1 == (b.miss x.to).due)) acknowledgement
 
       acknowledged_row : IsOwnRow s t m (acknowledge at home) (rows.acknowledge b m.id)
-      acknowledged_row = subst (λ x. IsOwnRow s t m x (rows.acknowledge b m.id)) (sym (ap (λ o. settled at home (acknowledged o)) open_is))
-          (subst (λ x. IsOwnRow s t m (settled_by at home one_more miss.fixed) (cond x (rows.acknowledge_complete b m.id) (rows.acknowledge_open b m.id))) last_is
+      acknowledged_row = subst (λ x. IsOwnRow s t m x (rows.acknowledge b m.id)) (sym (ap (λ o. completed_or_waiting at home (acknowledged o)) open_is))
+          (subst (λ x. IsOwnRow s t m (completed_or_waiting_by at home one_more miss.fixed) (cond x (rows.acknowledge_complete b m.id) (rows.acknowledge_open b m.id))) last_is
           (acknowledge_cases miss.fixed (nat_eq (miss.acks + 1) miss.due) refl refl))
 
   pub data_shared-seen : (content : List ℕ) → m.body ≡ DataS content → MayTakeCopy (logged_at s m.to) m.block → (b.miss m.to).acks ≡ 0 →

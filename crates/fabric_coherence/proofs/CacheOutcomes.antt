@@ -9,7 +9,7 @@ use Rattle.sn_msg.specs.declared.Body.TheVariants.{FwdGetS, FwdGetM, Inv, DataS,
 use Rattle.sn_model.specs.declared.cache.LineState.TheVariants.{Shared, Owned, Modified, Exclusive}
 use Rattle.sn_model.specs.declared.cache.Need.TheVariants.{Read, Write}
 use Rattle.sn_model.specs.Caches.{Line, Miss, block_count, no_line, line_of, with_line, is_present}
-use Rattle.sn_model.specs.CacheRows.{Logged, CacheReply, completed, waiting, settled, settled_by, taken_over, fixed_at, acknowledged, forward_read, forward_write, invalidate, data_shared, data_modified, data_exclusive, upgrade_granted, acknowledge, put_go, put_done, MayTakeCopy, MayTakeOwnership, MayUpgrade, MayCount, MayGiveBack}
+use Rattle.sn_model.specs.CacheRows.{Logged, CacheReply, completed, waiting, completed_or_waiting, completed_or_waiting_by, taken_over, fixed_at, acknowledged, forward_read, forward_write, invalidate, data_shared, data_modified, data_exclusive, upgrade_granted, acknowledge, put_go, put_done, MayTakeCopy, MayTakeOwnership, MayUpgrade, MayCount, MayGiveBack}
 use Rattle.sn_model.specs.Fabric.{Fabric, node_at, home_node}
 use Rattle.sn_model.specs.NetEvents.{logged_at}
 use Rattle.sn_coherence.specs.Block as block
@@ -24,7 +24,7 @@ use Rattle.sn_coherence.proofs.WhatFollows.{kept_meets_rows, kept_meets_notes}
 use Rattle.fabric_coherence.specs.View.{Beside, block_seen, net_seen, message_seen}
 use Rattle.fabric_coherence.specs.Steps.{IsShaped, IsInFlight, elsewhere, named}
 use Rattle.fabric_coherence.specs.Sends.{OutsWithin}
-use Rattle.fabric_coherence.specs.CacheSeen.{settled_elsewhere}
+use Rattle.fabric_coherence.specs.CacheSeen.{completed_or_waiting_elsewhere}
 use Rattle.fabric_coherence.specs.CacheEvents.{told_of, IsCacheEvent}
 use Rattle.fabric_coherence.proofs.CacheRows.{forward_read-seen, forward_write-seen, invalidate-seen, put_go-seen, put_done-seen}
 use Rattle.fabric_coherence.proofs.CacheMisses.{data_shared-seen, data_modified-seen, data_exclusive-seen, upgrade_granted-seen, acknowledge-seen}
@@ -34,24 +34,24 @@ use Rattle.fabric_coherence.proofs.KeptCommon.{told_here, told_there, event_lead
 use Rattle.fabric_coherence.proofs.KeptNode.{absent_seen}
 
 -- another block, whether the miss is complete or waits
-settled_leads : (N : ℕ) (b : block.Block) (i n : ℕ) (all : Bool) → (b.miss n).want ≡ block.Elsewhere → Leads N b (λ r. r) (settled_elsewhere b i n all)
-settled_leads N b i n true e = end_miss_elsewhere_leads N b (elsewhere b i 1) n (elsewhere_leads N b i 1) e
-settled_leads N b i n false e = elsewhere_leads N b i 0
+completed_or_waiting_leads : (N : ℕ) (b : block.Block) (i n : ℕ) (all : Bool) → (b.miss n).want ≡ block.Elsewhere → Leads N b (λ r. r) (completed_or_waiting_elsewhere b i n all)
+completed_or_waiting_leads N b i n true e = end_miss_elsewhere_leads N b (elsewhere b i 1) n (elsewhere_leads N b i 1) e
+completed_or_waiting_leads N b i n false e = elsewhere_leads N b i 0
 
--- a miss that settles loses no copy
-pub settled_loses : (at : Logged) (home : ℕ) (o : Option Miss) → (settled at home o).lost ≡ None
-settled_loses at home None = refl
-settled_loses at home (Some miss) = by_fixed miss.fixed
+-- a miss that completes or waits loses no copy
+pub completed_or_waiting_loses : (at : Logged) (home : ℕ) (o : Option Miss) → (completed_or_waiting at home o).lost ≡ None
+completed_or_waiting_loses at home None = refl
+completed_or_waiting_loses at home (Some miss) = by_fixed miss.fixed
   where
     by_count : (all : Bool) (fixed : ℕ) → (if all then completed at home miss fixed else waiting at miss).lost ≡ None
     by_count true fixed = refl
     by_count false fixed = refl
 
-    by_fixed : (fixed : Option ℕ) → (settled_by at home miss fixed).lost ≡ None
+    by_fixed : (fixed : Option ℕ) → (completed_or_waiting_by at home miss fixed).lost ≡ None
     by_fixed None = refl
     by_fixed (Some fixed) = by_count (nat_eq miss.acks miss.due) fixed
 
--- what a miss leaves and sends as it settles
+-- what a miss leaves and sends as it completes or waits
 module _ (nodes home : ℕ) (some : 1 ≤ nodes) (home_low : home < nodes) (at : Logged) (long : length at.cache.lines ≡ block_count) where
   abbrev Fits : CacheReply → Type 0
   Fits reply = (length reply.after.cache.lines ≡ block_count) × OutsWithin reply.sends nodes
@@ -60,13 +60,13 @@ module _ (nodes home : ℕ) (some : 1 ≤ nodes) (home_low : home < nodes) (at :
   complete_fits true miss fixed = (length-set at.cache.lines miss.block _ ∙ long, ((home_low, some), tt))
   complete_fits false miss fixed = (long, tt)
 
-  settled_by_fits : (fixed : Option ℕ) (miss : Miss) → Fits (settled_by at home miss fixed)
-  settled_by_fits None miss = (long, tt)
-  settled_by_fits (Some fixed) miss = complete_fits (nat_eq miss.acks miss.due) miss fixed
+  completed_or_waiting_by_fits : (fixed : Option ℕ) (miss : Miss) → Fits (completed_or_waiting_by at home miss fixed)
+  completed_or_waiting_by_fits None miss = (long, tt)
+  completed_or_waiting_by_fits (Some fixed) miss = complete_fits (nat_eq miss.acks miss.due) miss fixed
 
-  settled_fits : (o : Option Miss) → Fits (settled at home o)
-  settled_fits None = (long, tt)
-  settled_fits (Some miss) = settled_by_fits miss.fixed miss
+  completed_or_waiting_fits : (o : Option Miss) → Fits (completed_or_waiting at home o)
+  completed_or_waiting_fits None = (long, tt)
+  completed_or_waiting_fits (Some miss) = completed_or_waiting_by_fits miss.fixed miss
 
 module _ (s : Fabric) (t : Beside) (m : Message) (shape : IsShaped s) (flight : IsInFlight s m) (kept : AllSentences (length s.nodes) (block_seen s t m.block)) (reached : m.tag ≤ (node_at s m.to).now) where
   abbrev here : block.Block
@@ -207,16 +207,16 @@ module _ (s : Fabric) (t : Beside) (m : Message) (shape : IsShaped s) (flight : 
     leads = quiet_leads (length s.nodes) here (DataShared m.id) (arrives (DataS content) block.DataS is refl refl refl) tt;
     passes = λ o other. data_shared-elsewhere s t m shape flight (Becomes (DataShared m.id)) o other content may.0 may.1;
     passed = λ o other. end_miss_elsewhere_leads (length s.nodes) (block_seen s t o) (Passing 1 o) m.to (elsewhere_leads (length s.nodes) (block_seen s t o) m.id 1) (awaits_elsewhere (node_at s m.to).cache.miss m.block o Read may.0.0 other);
-    loses = settled_loses (record at { cache = with_line at.cache m.block Shared content }) home (fixed_at at.cache.miss m.tag 0);
-    lines = settles.0;
-    sends = settles.1;
+    loses = completed_or_waiting_loses (record at { cache = with_line at.cache m.block Shared content }) home (fixed_at at.cache.miss m.tag 0);
+    lines = fitting.0;
+    sends = fitting.1;
   }
     where
       may : MayTakeCopy at m.block × ((here.miss m.to).acks ≡ 0)
       may = meets_data_shared s t m flight rows content is
 
-      settles : (length (data_shared at home m.block m.tag content).after.cache.lines ≡ block_count) × OutsWithin (data_shared at home m.block m.tag content).sends (length s.nodes)
-      settles = settled_fits (length s.nodes) home shape.some kept.nodes.home_low (record at { cache = with_line at.cache m.block Shared content }) (as_long (record { state = Shared; content = content })) (fixed_at at.cache.miss m.tag 0)
+      fitting : (length (data_shared at home m.block m.tag content).after.cache.lines ≡ block_count) × OutsWithin (data_shared at home m.block m.tag content).sends (length s.nodes)
+      fitting = completed_or_waiting_fits (length s.nodes) home shape.some kept.nodes.home_low (record at { cache = with_line at.cache m.block Shared content }) (as_long (record { state = Shared; content = content })) (fixed_at at.cache.miss m.tag 0)
 
   pub data_exclusive-event : (content : List ℕ) → m.body ≡ DataE content → IsCacheEvent s t m (data_exclusive at home m.block m.tag content) (DataExclusive m.id) (λ o. end_miss_elsewhere (Passing 1 o) m.to) None
   data_exclusive-event content is = record {
@@ -224,9 +224,9 @@ module _ (s : Fabric) (t : Beside) (m : Message) (shape : IsShaped s) (flight : 
     leads = quiet_leads (length s.nodes) here (DataExclusive m.id) (arrives (DataE content) block.DataE is refl refl refl) tt;
     passes = λ o other. data_exclusive-elsewhere s t m shape flight (Becomes (DataExclusive m.id)) o other content may.0 may.1 low;
     passed = λ o other. end_miss_elsewhere_leads (length s.nodes) (block_seen s t o) (Passing 1 o) m.to (elsewhere_leads (length s.nodes) (block_seen s t o) m.id 1) (awaits_elsewhere (node_at s m.to).cache.miss m.block o Read may.0.0 other);
-    loses = settled_loses (taken_over at m.block m.tag Exclusive content) home (fixed_at at.cache.miss m.tag 0);
-    lines = settles.0;
-    sends = settles.1;
+    loses = completed_or_waiting_loses (taken_over at m.block m.tag Exclusive content) home (fixed_at at.cache.miss m.tag 0);
+    lines = fitting.0;
+    sends = fitting.1;
   }
     where
       may : MayTakeCopy at m.block × ((here.miss m.to).acks ≡ 0)
@@ -235,18 +235,18 @@ module _ (s : Fabric) (t : Beside) (m : Message) (shape : IsShaped s) (flight : 
       low : logged_to (node_at s m.to).log false m.block ≤ m.tag + 1
       low = notes_data_exclusive s t m flight notes content is
 
-      settles : (length (data_exclusive at home m.block m.tag content).after.cache.lines ≡ block_count) × OutsWithin (data_exclusive at home m.block m.tag content).sends (length s.nodes)
-      settles = settled_fits (length s.nodes) home shape.some kept.nodes.home_low (taken_over at m.block m.tag Exclusive content) (as_long (record { state = Exclusive; content = content })) (fixed_at at.cache.miss m.tag 0)
+      fitting : (length (data_exclusive at home m.block m.tag content).after.cache.lines ≡ block_count) × OutsWithin (data_exclusive at home m.block m.tag content).sends (length s.nodes)
+      fitting = completed_or_waiting_fits (length s.nodes) home shape.some kept.nodes.home_low (taken_over at m.block m.tag Exclusive content) (as_long (record { state = Exclusive; content = content })) (fixed_at at.cache.miss m.tag 0)
 
-  pub data_modified-event : (content : List ℕ) (a : ℕ) → m.body ≡ DataM content a → IsCacheEvent s t m (data_modified at home m.block m.tag content a) (DataModified m.id) (λ o. settled_elsewhere (block_seen s t o) m.id m.to ((here.miss m.to).acks == a)) None
+  pub data_modified-event : (content : List ℕ) (a : ℕ) → m.body ≡ DataM content a → IsCacheEvent s t m (data_modified at home m.block m.tag content a) (DataModified m.id) (λ o. completed_or_waiting_elsewhere (block_seen s t o) m.id m.to ((here.miss m.to).acks == a)) None
   data_modified-event content a is = record {
     own = data_modified-seen s t m shape flight content a is may low;
     leads = quiet_leads (length s.nodes) here (DataModified m.id) (arrives (DataM content a) block.DataM is refl refl refl) tt;
     passes = λ o other. data_modified-elsewhere s t m shape flight (Becomes (DataModified m.id)) o other content a may low;
-    passed = λ o other. settled_leads (length s.nodes) (block_seen s t o) m.id m.to ((here.miss m.to).acks == a) (awaits_elsewhere (node_at s m.to).cache.miss m.block o Write may.0 other);
-    loses = settled_loses (taken_over at m.block m.tag Modified content) home (fixed_at at.cache.miss m.tag a);
-    lines = settles.0;
-    sends = settles.1;
+    passed = λ o other. completed_or_waiting_leads (length s.nodes) (block_seen s t o) m.id m.to ((here.miss m.to).acks == a) (awaits_elsewhere (node_at s m.to).cache.miss m.block o Write may.0 other);
+    loses = completed_or_waiting_loses (taken_over at m.block m.tag Modified content) home (fixed_at at.cache.miss m.tag a);
+    lines = fitting.0;
+    sends = fitting.1;
   }
     where
       may : MayTakeOwnership at m.block
@@ -255,39 +255,39 @@ module _ (s : Fabric) (t : Beside) (m : Message) (shape : IsShaped s) (flight : 
       low : logged_to (node_at s m.to).log false m.block ≤ m.tag + 1
       low = notes_data_modified s t m flight notes content a is
 
-      settles : (length (data_modified at home m.block m.tag content a).after.cache.lines ≡ block_count) × OutsWithin (data_modified at home m.block m.tag content a).sends (length s.nodes)
-      settles = settled_fits (length s.nodes) home shape.some kept.nodes.home_low (taken_over at m.block m.tag Modified content) (as_long (record { state = Modified; content = content })) (fixed_at at.cache.miss m.tag a)
+      fitting : (length (data_modified at home m.block m.tag content a).after.cache.lines ≡ block_count) × OutsWithin (data_modified at home m.block m.tag content a).sends (length s.nodes)
+      fitting = completed_or_waiting_fits (length s.nodes) home shape.some kept.nodes.home_low (taken_over at m.block m.tag Modified content) (as_long (record { state = Modified; content = content })) (fixed_at at.cache.miss m.tag a)
 
-  pub upgrade_granted-event : (a : ℕ) → m.body ≡ UpgOk a → IsCacheEvent s t m (upgrade_granted at home m.tag a) (UpgradeGranted m.id) (λ o. settled_elsewhere (block_seen s t o) m.id m.to ((here.miss m.to).acks == a)) None
+  pub upgrade_granted-event : (a : ℕ) → m.body ≡ UpgOk a → IsCacheEvent s t m (upgrade_granted at home m.tag a) (UpgradeGranted m.id) (λ o. completed_or_waiting_elsewhere (block_seen s t o) m.id m.to ((here.miss m.to).acks == a)) None
   upgrade_granted-event a is = record {
     own = upgrade_granted-seen s t m shape flight a is may;
     leads = quiet_leads (length s.nodes) here (UpgradeGranted m.id) (arrives (UpgOk a) block.UpgOk is refl refl refl) tt;
     passes = λ o other. upgrade_granted-elsewhere s t m shape flight (Becomes (UpgradeGranted m.id)) o other a may;
-    passed = λ o other. settled_leads (length s.nodes) (block_seen s t o) m.id m.to ((here.miss m.to).acks == a) (awaits_elsewhere (node_at s m.to).cache.miss m.block o Write may.0 other);
-    loses = settled_loses at home (fixed_at at.cache.miss m.tag a);
-    lines = settles.0;
-    sends = settles.1;
+    passed = λ o other. completed_or_waiting_leads (length s.nodes) (block_seen s t o) m.id m.to ((here.miss m.to).acks == a) (awaits_elsewhere (node_at s m.to).cache.miss m.block o Write may.0 other);
+    loses = completed_or_waiting_loses at home (fixed_at at.cache.miss m.tag a);
+    lines = fitting.0;
+    sends = fitting.1;
   }
     where
       may : MayUpgrade at m.block
       may = meets_upgrade_granted s t m flight rows a is
 
-      settles : (length (upgrade_granted at home m.tag a).after.cache.lines ≡ block_count) × OutsWithin (upgrade_granted at home m.tag a).sends (length s.nodes)
-      settles = settled_fits (length s.nodes) home shape.some kept.nodes.home_low at long (fixed_at at.cache.miss m.tag a)
+      fitting : (length (upgrade_granted at home m.tag a).after.cache.lines ≡ block_count) × OutsWithin (upgrade_granted at home m.tag a).sends (length s.nodes)
+      fitting = completed_or_waiting_fits (length s.nodes) home shape.some kept.nodes.home_low at long (fixed_at at.cache.miss m.tag a)
 
-  pub acknowledge-event : m.body ≡ InvAck → IsCacheEvent s t m (acknowledge at home) (Acknowledge m.id) (λ o. settled_elsewhere (block_seen s t o) m.id m.to ((here.miss m.to).is_fixed && ((here.miss m.to).acks + 1 == (here.miss m.to).due))) None
+  pub acknowledge-event : m.body ≡ InvAck → IsCacheEvent s t m (acknowledge at home) (Acknowledge m.id) (λ o. completed_or_waiting_elsewhere (block_seen s t o) m.id m.to ((here.miss m.to).is_fixed && ((here.miss m.to).acks + 1 == (here.miss m.to).due))) None
   acknowledge-event is = record {
     own = acknowledge-seen s t m shape flight is may (fixed_owns s t m flight kept.stages);
     leads = quiet_leads (length s.nodes) here (Acknowledge m.id) (arrives InvAck block.InvAck is refl refl refl) tt;
     passes = λ o other. acknowledge-elsewhere s t m shape flight (Becomes (Acknowledge m.id)) o other may;
-    passed = λ o other. settled_leads (length s.nodes) (block_seen s t o) m.id m.to ((here.miss m.to).is_fixed && ((here.miss m.to).acks + 1 == (here.miss m.to).due)) (counts_elsewhere (node_at s m.to).cache.miss m.block o may other);
-    loses = settled_loses at home (acknowledged at.cache.miss);
-    lines = settles.0;
-    sends = settles.1;
+    passed = λ o other. completed_or_waiting_leads (length s.nodes) (block_seen s t o) m.id m.to ((here.miss m.to).is_fixed && ((here.miss m.to).acks + 1 == (here.miss m.to).due)) (counts_elsewhere (node_at s m.to).cache.miss m.block o may other);
+    loses = completed_or_waiting_loses at home (acknowledged at.cache.miss);
+    lines = fitting.0;
+    sends = fitting.1;
   }
     where
       may : MayCount (node_at s m.to).cache.miss m.block
       may = meets_acknowledge s t m flight rows is
 
-      settles : (length (acknowledge at home).after.cache.lines ≡ block_count) × OutsWithin (acknowledge at home).sends (length s.nodes)
-      settles = settled_fits (length s.nodes) home shape.some kept.nodes.home_low at long (acknowledged at.cache.miss)
+      fitting : (length (acknowledge at home).after.cache.lines ≡ block_count) × OutsWithin (acknowledge at home).sends (length s.nodes)
+      fitting = completed_or_waiting_fits (length s.nodes) home shape.some kept.nodes.home_low at long (acknowledged at.cache.miss)

@@ -19,7 +19,7 @@ use Rattle.sn_coherence.specs.Log.{was_owned, was_home, old_cache, told}
 use Rattle.sn_coherence.proofs.WhatFollows.{kept_one_holder}
 use Rattle.fabric_coherence.specs.View.{Beside, block_seen, line_seen, miss_seen, is_itself, owner_of, kind_open, begun_of}
 use Rattle.fabric_coherence.specs.Coherent.{IsKept}
-use Rattle.sn_model.specs.RecoveryPoint.{IsHeld}
+use Rattle.sn_model.specs.RecoveryPoint.{HasOneHolderWith}
 use Rattle.fabric_coherence.specs.Holders.{HasOneWriter, HasHolder, IsCoherent}
 use Rattle.fabric_coherence.proofs.Recovery.{entry_sided, IsSided}
 use Rattle.fabric_coherence.proofs.HomeRows.{of-cache}
@@ -77,7 +77,7 @@ module _ (s : Fabric) (b k : ℕ) (one : HasOneHolder s b k) where
   not_held : (x : Holder) → names_at s b k ≡ x → (n : ℕ) → n < length s.nodes → (x ≡ OfCache n → ⊥) → holds_at s n b k ≡ None
   not_held x e n l other = none_held (holds_at s n b k) (λ h. other (sym e ∙ one.named n l h))
 
-  held_as : (x : Holder) → names_at s b k ≡ x → (content : List ℕ) × IsHeld s b k content x
+  held_as : (x : Holder) → names_at s b k ≡ x → (content : List ℕ) × HasOneHolderWith s b k content x
   held_as (Itself named) e = (named, (refl, λ n l. not_held (Itself named) e n l (λ q. cc)))
   held_as (OfCache owner) e =
       let h = one.holds owner e in

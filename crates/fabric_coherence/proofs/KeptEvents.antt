@@ -16,7 +16,7 @@ use Rattle.sn_coherence.specs.Block.{is_to_home}
 use Rattle.sn_coherence.specs.Records.{Records}
 use Rattle.fabric_coherence.specs.View.{Beside, message_seen}
 use Rattle.fabric_coherence.specs.Steps.{IsInFlight}
-use Rattle.fabric_coherence.specs.Coherent.{IsKept, Keeps, IsFinished}
+use Rattle.fabric_coherence.specs.Coherent.{IsKept, Keeps, NothingUnfinished}
 use Rattle.fabric_coherence.specs.Events.{MayBe}
 use Rattle.fabric_coherence.specs.Recorded.{KeepsRecords, MayBeRecorded, noted_by, recorded_by}
 use Rattle.fabric_coherence.specs.Leads.{KeepsFrames, Goes, Moves}
@@ -81,10 +81,10 @@ delivery_moves config s t id None kept e = as_it_is s t NoMessage kept.shape
 delivery_moves config s t id (Some f) kept e = arrived_moves config s t id f kept e (is_there f) (nat_lt (node_at s f.message.to).now f.message.tag) refl
 
 -- the recovery point rises
-advanced_moves : (s : Fabric) (t : Beside) (k : ℕ) → IsKept s t → k ≡ s.point + 1 → IsFinished s k → Moves s t (advanced s k)
-advanced_moves s t k kept e f = subst (λ j. IsFinished s j → Moves s t (advanced s j)) (sym e) next f
+advanced_moves : (s : Fabric) (t : Beside) (k : ℕ) → IsKept s t → k ≡ s.point + 1 → NothingUnfinished s k → Moves s t (advanced s k)
+advanced_moves s t k kept e f = subst (λ j. NothingUnfinished s j → Moves s t (advanced s j)) (sym e) next f
   where
-    next : IsFinished s (s.point + 1) → Moves s t (advanced s (s.point + 1))
+    next : NothingUnfinished s (s.point + 1) → Moves s t (advanced s (s.point + 1))
     next f = by_test s t (is_full s (length s.nodes)) (refused s NetFull) (sending (record s { point = s.point + 1 }) 0 0 (advances (s.point + 1) 0 s.nodes) (Validated (s.point + 1)))
         (λ q. as_it_is s t NetFull kept.shape) (λ q. (t, rises_goes s t kept (rises_leads s t kept f)))
 
@@ -172,7 +172,7 @@ each_keeps_records config s r event k m = (
     may (Lose id) m = (m, tt)
     may (Kill switch) m = (m, tt)
     may (Report n) m = (m, tt)
-    may (Advance j) m = ((m.0, subst (IsFinished s) (sym m.0) (reported_finished s k.0 k.1 r k.2 m.1)), tt)
+    may (Advance j) m = ((m.0, subst (NothingUnfinished s) (sym m.0) (reported_finished s k.0 k.1 r k.2 m.1)), tt)
     may (Recover j) m = (m, tt)
 
     goes : (u : Beside) × Goes s k.0 (noted_by s event (moved_by config s event)) (moved_by config s event).fabric u

@@ -10,7 +10,7 @@ use Rattle.sn_model.specs.Cuts.{holds_at, names_at, transaction_before}
 use Rattle.sn_model.specs.Homes.{Holder, Itself, OfCache, HomeEntry}
 use Rattle.sn_model.specs.Fabric.{Fabric, Node, node_at, home_of, home_node, first_node}
 use Rattle.sn_model.specs.PointEvents.{restored, restored_node, restored_line}
-use Rattle.sn_model.specs.RecoveryPoint.{IsHeld, IsOwned}
+use Rattle.sn_model.specs.RecoveryPoint.{HasOneHolderWith, IsOwned}
 use Rattle.sn_coherence.specs.Block as block
 use Rattle.sn_coherence.specs.Consequences.{HasContent, IsLegal}
 use Rattle.sn_coherence.specs.Kept.{AllSentences}
@@ -74,20 +74,20 @@ module _ (s : Fabric) (t : Beside) (kept : IsKept s t) (b : ℕ) (low : b < bloc
     other_caches : (x : Holder) → names_at s b k ≡ x → (n : ℕ) → n < length s.nodes → (x ≡ OfCache n → ⊥) → holds_at s n b k ≡ None
     other_caches x e n l other = none_is (holds_at s n b k) (λ h. other (sym e ∙ one.named n l h))
 
-    held_by_name : (x : Holder) → names_at s b k ≡ x → IsHeld s b k (r.below k) x
+    held_by_name : (x : Holder) → names_at s b k ≡ x → HasOneHolderWith s b k (r.below k) x
     held_by_name (Itself named) e = (sym (ap content_of e) ∙ named_content (ap is_itself e), λ n l. other_caches (Itself named) e n l (λ q. cc))
     held_by_name (OfCache owner) e =
         let h = one.holds owner e in
         (h.0, held_content owner h.1, λ n l other. other_caches (OfCache owner) e n l (λ q. other (sym (ap owner_of q))))
 
-    held : IsHeld s b k (r.below k) (names_at s b k)
+    held : HasOneHolderWith s b k (r.below k) (names_at s b k)
     held = held_by_name (names_at s b k) refl
 
   -- the point is such a cut
   point_begun : transaction_before (home_of s b).transaction s.point ≡ false
   point_begun = home_finished (home_of s b).transaction s.point of_block.clocks.begun_point
 
-  point : IsHeld s b s.point (r.below s.point) (names_at s b s.point)
+  point : HasOneHolderWith s b s.point (r.below s.point) (names_at s b s.point)
   point = held s.point (omega arith) point_begun
 
   -- a recovery to it
@@ -108,7 +108,7 @@ module _ (s : Fabric) (t : Beside) (kept : IsKept s t) (b : ℕ) (low : b < bloc
       inside : n < length s.nodes
       inside = subst (λ c. n < c) many l
 
-  owned_by : (x : Holder) → IsHeld s b s.point (r.below s.point) x → IsOwned (restored s s.point) b (r.below s.point) x
+  owned_by : (x : Holder) → HasOneHolderWith s b s.point (r.below s.point) x → IsOwned (restored s s.point) b (r.below s.point) x
   owned_by (Itself named) h = (h.0, λ n l. absent n l (h.1 n))
   owned_by (OfCache owner) h = (
     subst (λ c. owner < c) (sym many) h.0,

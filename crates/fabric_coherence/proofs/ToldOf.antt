@@ -29,7 +29,7 @@ use Rattle.fabric_coherence.specs.CacheEvents.{told_of}
 use Rattle.fabric_coherence.specs.Coherent.{IsKept, Keeps}
 use Rattle.fabric_coherence.specs.Events.{MayBe}
 use Rattle.fabric_coherence.specs.Recorded.{IsOfFabric}
-use Rattle.fabric_coherence.proofs.CacheOutcomes.{settled_loses}
+use Rattle.fabric_coherence.proofs.CacheOutcomes.{completed_or_waiting_loses}
 use Rattle.fabric_coherence.proofs.InFlight.{in_flight}
 
 abbrev Tells : Fabric → Moved → Type 0
@@ -115,13 +115,13 @@ module _ (config : Config) (s : Fabric) (t : Beside) (id : ℕ) (f : Flight) (ke
   by_body (FwdGetM r due) is = at_cache (forward_write at m.block (node_at s m.to).now r due) (lost_here true)
   by_body (Inv r) is = at_cache (invalidate at m.block r) (lost_here (is_present (line_of at.cache m.block).state))
   by_body (DataS content) is = at_cache (data_shared at home m.block m.tag content)
-      (none_lost (data_shared at home m.block m.tag content) (settled_loses (record at { cache = with_line at.cache m.block Shared content }) home (fixed_at at.cache.miss m.tag 0)))
+      (none_lost (data_shared at home m.block m.tag content) (completed_or_waiting_loses (record at { cache = with_line at.cache m.block Shared content }) home (fixed_at at.cache.miss m.tag 0)))
   by_body (DataM content due) is = at_cache (data_modified at home m.block m.tag content due)
-      (none_lost (data_modified at home m.block m.tag content due) (settled_loses (taken_over at m.block m.tag Modified content) home (fixed_at at.cache.miss m.tag due)))
+      (none_lost (data_modified at home m.block m.tag content due) (completed_or_waiting_loses (taken_over at m.block m.tag Modified content) home (fixed_at at.cache.miss m.tag due)))
   by_body (DataE content) is = at_cache (data_exclusive at home m.block m.tag content)
-      (none_lost (data_exclusive at home m.block m.tag content) (settled_loses (taken_over at m.block m.tag Exclusive content) home (fixed_at at.cache.miss m.tag 0)))
-  by_body (UpgOk due) is = at_cache (upgrade_granted at home m.tag due) (none_lost (upgrade_granted at home m.tag due) (settled_loses at home (fixed_at at.cache.miss m.tag due)))
-  by_body InvAck is = at_cache (acknowledge at home) (none_lost (acknowledge at home) (settled_loses at home (acknowledged at.cache.miss)))
+      (none_lost (data_exclusive at home m.block m.tag content) (completed_or_waiting_loses (taken_over at m.block m.tag Exclusive content) home (fixed_at at.cache.miss m.tag 0)))
+  by_body (UpgOk due) is = at_cache (upgrade_granted at home m.tag due) (none_lost (upgrade_granted at home m.tag due) (completed_or_waiting_loses at home (fixed_at at.cache.miss m.tag due)))
+  by_body InvAck is = at_cache (acknowledge at home) (none_lost (acknowledge at home) (completed_or_waiting_loses at home (acknowledged at.cache.miss)))
   by_body PutGo is = at_cache (put_go at home m.block (node_at s m.to).now) (lost_here true)
   by_body PutDone is = at_cache (put_done at) tt
   by_body (Ready k) is = flight.from

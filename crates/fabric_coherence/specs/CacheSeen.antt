@@ -87,5 +87,5 @@ abbrev pub IsElsewhere : Fabric → Beside → Message → CacheReply → Block 
 IsElsewhere s t m reply row o block = IsSame (block_seen (after_cache s m reply).fabric (beside_with t m.block row) o) block
 
 -- another block, where node n's miss is complete or waits for acknowledgements
-abbrev pub settled_elsewhere : Block → ℕ → ℕ → Bool → Block
-settled_elsewhere block i n complete = cond complete (end_miss_elsewhere (elsewhere block i 1) n) (elsewhere block i 0)
+abbrev pub completed_or_waiting_elsewhere : Block → ℕ → ℕ → Bool → Block
+completed_or_waiting_elsewhere block i n complete = cond complete (end_miss_elsewhere (elsewhere block i 1) n) (elsewhere block i 0)

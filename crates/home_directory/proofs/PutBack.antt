@@ -11,7 +11,7 @@ use Rattle.sn_model.specs.Homes.{HomeEntry, Holder, Transaction}
 use Rattle.sn_model.specs.Fabric.{no_entry}
 use Rattle.home_directory.specs.Home.{HomeData, entry_of}
 use Rattle.home_directory.specs.Open.{opens_from, with_open}
-use Rattle.home_directory.specs.Restored.{settled, old_of, is_here, had, CanHave, with_holder}
+use Rattle.home_directory.specs.Restored.{cleared, old_of, is_here, had, CanHave, with_holder}
 
 -- the block of an old content that a home can have is its own
 pub here-put : (home : HomeData) (block : ℕ) (old : Old) → is_home_side old ≡ true → CanHave home (restored true (had home) block old) → block % home.nodes ≡ home.node
@@ -67,6 +67,6 @@ opens-put [] start place other default l e = absurd (omega arith)
 opens-put (first ∷ entries) start zero other default l e = ap (λ (t : Option Transaction). with_open start t (opens_from (start + 1) entries)) e
 opens-put (first ∷ entries) start (suc place) other default l e = ap (with_open start first.transaction) (opens-put entries (start + 1) place other default (omega arith) e)
 
-pub opens-settled : (entries : List HomeEntry) (start : ℕ) → opens_from start (map settled entries) ≡ []
-opens-settled [] start = refl
-opens-settled (first ∷ entries) start = opens-settled entries (start + 1)
+pub opens-cleared : (entries : List HomeEntry) (start : ℕ) → opens_from start (map cleared entries) ≡ []
+opens-cleared [] start = refl
+opens-cleared (first ∷ entries) start = opens-cleared entries (start + 1)

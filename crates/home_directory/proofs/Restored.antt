@@ -12,7 +12,7 @@ use Rattle.sn_model.specs.Cuts.{named_by}
 use Rattle.sn_model.specs.Fabric.{Fabric, home_of, no_entry}
 use Rattle.sn_model.specs.PointEvents.{log_of_home, restored_homes}
 use Rattle.home_directory.specs.Home.{HomeData, entry_of}
-use Rattle.home_directory.specs.Restored.{settled, begun_restore, old_of, is_here, had, CanHave, Stays}
+use Rattle.home_directory.specs.Restored.{cleared, begun_restore, old_of, is_here, had, CanHave, Stays}
 
 -- what a home has, it can have
 pub can-had : (home : HomeData) → CanHave home (had home)
@@ -66,14 +66,14 @@ entry_by x holder sharers transaction h s t =
     ∙ ap (λ (y : List Bool). record x { holder = holder; sharers = y }) s
     ∙ ap (λ (y : Option Transaction). record { holder = holder; sharers = sharers; transaction = y }) t
 
-pub settled-at : (entries : List HomeEntry) (place : ℕ) → get_or (map settled entries) place no_entry ≡ settled (get_or entries place no_entry)
-settled-at [] place = refl
-settled-at (entry ∷ entries) zero = refl
-settled-at (entry ∷ entries) (suc place) = settled-at entries place
+pub cleared-at : (entries : List HomeEntry) (place : ℕ) → get_or (map cleared entries) place no_entry ≡ cleared (get_or entries place no_entry)
+cleared-at [] place = refl
+cleared-at (entry ∷ entries) zero = refl
+cleared-at (entry ∷ entries) (suc place) = cleared-at entries place
 
-pub length-settled : (entries : List HomeEntry) → length (map settled entries) ≡ length entries
-length-settled [] = refl
-length-settled (entry ∷ entries) = ap suc (length-settled entries)
+pub length-cleared : (entries : List HomeEntry) → length (map cleared entries) ≡ length entries
+length-cleared [] = refl
+length-cleared (entry ∷ entries) = ap suc (length-cleared entries)
 
 -- the machine's entry at its place
 
@@ -105,8 +105,8 @@ module _ (c d e : HomeData) (log : List LogEntry) (k : ℕ) (begun : d ≡ begun
   last-here : is_here e b ≡ true
   last-here = ap (λ (j : ℕ). nat_eq (b % j) e.node) stays.nodes ∙ ap (λ (j : ℕ). nat_eq (b % d.nodes) j) stays.node ∙ begun-here
 
-  entry-begun : entry_of d b ≡ settled (entry_of c b)
-  entry-begun = ap (λ (x : HomeData). entry_of x b) begun ∙ settled-at c.entries (b / c.nodes)
+  entry-begun : entry_of d b ≡ cleared (entry_of c b)
+  entry-begun = ap (λ (x : HomeData). entry_of x b) begun ∙ cleared-at c.entries (b / c.nodes)
 
   had-begun : had d b ≡ old_of (entry_of c b).holder
   had-begun = ap (λ (t : Bool). if t then old_of (entry_of d b).holder else NotOwned) begun-here ∙ ap (λ (x : HomeEntry). old_of x.holder) entry-begun

@@ -15,7 +15,7 @@ use Rattle.sn_model.specs.Cuts.{owned_content, held_by}
 use Rattle.sn_model.specs.PointEvents.{restored_line, restored_lines, restored_cache}
 use Rattle.mosi_cache.specs.Frames.{line_at}
 use Rattle.mosi_cache.specs.Controller.{CacheData, FitsSets}
-use Rattle.mosi_cache.specs.Restored.{begun_line, begun_restore, old_of, held_of, line_holding, lines_holding, cache_holding, HeldFits, AreBegun, StaysAsItIs}
+use Rattle.mosi_cache.specs.Restored.{begun_line, begun_restore, old_of, held_of, line_holding, lines_holding, cache_holding, HeldFits, HasOnlyModified, StaysAsItIs}
 use Rattle.mosi_cache.specs.PartsFit.{fits-within, holding-at}
 
 -- the lines once a recovery has begun
@@ -30,7 +30,7 @@ restored_again : (o : Option (List ℕ)) → begun_line (restored_line o) ≡ re
 restored_again None = refl
 restored_again (Some content) = refl
 
-begun_again : (c : CacheData) → AreBegun (begun c).cache
+begun_again : (c : CacheData) → HasOnlyModified (begun c).cache
 begun_again c b =
     let l = line_of c.cache b in
     ap begun_line (begun-at c.cache.lines b) ∙ restored_again (owned_content l l.state) ∙ sym (begun-at c.cache.lines b)
@@ -98,7 +98,7 @@ restored_at log k s (suc i) b (l ∷ ls) h e = restored_at log k (s + 1) i b ls 
 
 -- the lines after the unwinding
 
-line_then : (e : CacheData) (b : ℕ) → AreBegun e.cache → line_of e.cache b ≡ restored_line (content_of (held_of e b))
+line_then : (e : CacheData) (b : ℕ) → HasOnlyModified e.cache → line_of e.cache b ≡ restored_line (content_of (held_of e b))
 line_then e b h =
     let l = line_of e.cache b in
     sym (h b) ∙ ap restored_line (sym (content_old (owned_content l l.state)))

@@ -11,7 +11,7 @@ use Rattle.sn_model.specs.Caches.{Line, no_line, is_present}
 use Rattle.sn_model.specs.Access.{written_in}
 use Rattle.mosi_cache.specs.Frames.{LinesData, line_at}
 use Rattle.mosi_cache.specs.Probe.{stored}
-use Rattle.mosi_cache.proofs.Settled.{data_by}
+use Rattle.mosi_cache.proofs.CompletedOrWaiting.{data_by}
 
 absent : is_present no_line.state ≡ true → ⊥
 absent h = cc

@@ -5,7 +5,7 @@ ghost use Rattle.std.specs.Prelude.{◌≡◌, ℕ, ◌+◌, ◌<◌, ◌≤◌,
 ghost use Rattle.sn_base.specs.Config.{config_fits};
 ghost use Rattle.sn_base.specs.declared.log.LogEntry.{LogEntry};
 ghost use Rattle.sn_model.specs.Caches.{empty_cache};
-ghost use Rattle.sn_model.specs.CacheRows.{Logged, fixed_at, acknowledged, settled};
+ghost use Rattle.sn_model.specs.CacheRows.{Logged, fixed_at, acknowledged, completed_or_waiting};
 ghost use Rattle.mosi_cache.specs.Controller.{CacheData, logged};
 ghost use Rattle.mosi_cache.specs.Rows.{row_by, row_of, MeetsRow, NotesLast, noted_in, is_over, step_by, look_by, cache_by, log_by, IsDone};
 
@@ -147,7 +147,7 @@ impl Cache {
     }
 
     fn sends_when_answered(&self, due: u8) -> u8
-        ensures { (at : Logged) (home tag : ℕ) → result ≡ length (settled at home (fixed_at self.now.cache.miss tag due)).sends }
+        ensures { (at : Logged) (home tag : ℕ) → result ≡ length (completed_or_waiting at home (fixed_at self.now.cache.miss tag due)).sends }
     {
         match self.transactions.miss() {
             Some(miss) if miss.acks_in == due => 1,
@@ -156,7 +156,7 @@ impl Cache {
     }
 
     fn sends_when_acknowledged(&self) -> u8
-        ensures { (at : Logged) (home : ℕ) → result ≡ length (settled at home (acknowledged self.now.cache.miss)).sends }
+        ensures { (at : Logged) (home : ℕ) → result ≡ length (completed_or_waiting at home (acknowledged self.now.cache.miss)).sends }
     {
         match self.transactions.miss() {
             Some(miss)

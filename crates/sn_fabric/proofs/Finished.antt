@@ -8,7 +8,7 @@ use Rattle.sn_model.specs.Homes.{HomeEntry, Transaction}
 use Rattle.sn_model.specs.Fabric.{Fabric, node_at, no_entry}
 use Rattle.sn_model.specs.NodeEvents.{ready_of, least_begun, begun_by, issued_by, put_issued_by}
 use Rattle.sn_coherence.specs.Block as block
-use Rattle.fabric_coherence.specs.Coherent.{Keeps, IsFinished}
+use Rattle.fabric_coherence.specs.Coherent.{Keeps, NothingUnfinished}
 use Rattle.fabric_coherence.specs.View.{miss_seen, put_seen, put_issued, kind_open, begun_of}
 use Rattle.fabric_coherence.proofs.Finished.{is_finished}
 
@@ -76,7 +76,7 @@ module _ (s : Fabric) (k : ℕ) (ready : (n : ℕ) → n < length s.nodes → k 
   of_least : (n : ℕ) → n < length s.nodes → k ≤ least n
   of_least n l = miss_part k (least n) (node_at s n).cache.miss (of_miss n l)
 
-  pub finished-by-ready : Keeps s → IsFinished s k
+  pub finished-by-ready : Keeps s → NothingUnfinished s k
   finished-by-ready kept = is_finished s kept.0 k
       (λ o l.
       let m : o % length s.nodes < length s.nodes = mod-lt o kept.1.shape.some in

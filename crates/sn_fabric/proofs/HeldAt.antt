@@ -14,7 +14,7 @@ use Rattle.sn_model.specs.Caches.{block_count}
 use Rattle.sn_model.specs.Cuts.{named_by, names_at, holds_at, transaction_before}
 use Rattle.sn_model.specs.Fabric.{Fabric, home_of}
 use Rattle.sn_model.specs.Homes.{Holder, Itself, OfCache, Transaction}
-use Rattle.sn_model.specs.RecoveryPoint.{IsHeld}
+use Rattle.sn_model.specs.RecoveryPoint.{HasOneHolderWith}
 use Rattle.sn_coherence.specs.Block as block
 use Rattle.fabric_coherence.specs.Holders.{HasHolder}
 use Rattle.fabric_coherence.specs.View.{kind_seen, kind_open, begun_of}
@@ -66,12 +66,12 @@ of_cache (Itself content) n e = cc
 of_cache (OfCache node) n e = let f : node ≡ n = cc in ap OfCache f
 
 module _ (s : Fabric) (b k : ℕ) (has : HasHolder s b k) where
-  pub held-home : (content : List ℕ) → names_at s b k ≡ Itself content → IsHeld s b k content (names_at s b k)
-  held-home content e = subst (IsHeld s b k content) (sym e) (refl, (subst (IsHeld s b k has.0) e has.1).1)
+  pub held-home : (content : List ℕ) → names_at s b k ≡ Itself content → HasOneHolderWith s b k content (names_at s b k)
+  held-home content e = subst (HasOneHolderWith s b k content) (sym e) (refl, (subst (HasOneHolderWith s b k has.0) e has.1).1)
 
   module _ (n : ℕ) (names : owner_of (names_at s b k) ≡ Cache n) where
-    held : IsHeld s b k has.0 (OfCache n)
-    held = subst (IsHeld s b k has.0) (of_cache (names_at s b k) n names) has.1
+    held : HasOneHolderWith s b k has.0 (OfCache n)
+    held = subst (HasOneHolderWith s b k has.0) (of_cache (names_at s b k) n names) has.1
 
     pub holder-here : n < length s.nodes
     holder-here = held.0
@@ -79,5 +79,5 @@ module _ (s : Fabric) (b k : ℕ) (has : HasHolder s b k) where
     pub holder-holds : is_some (holds_at s n b k) ≡ true
     holder-holds = ap is_some held.1
 
-    pub held-cache : (content : List ℕ) → holds_at s n b k ≡ Some content → IsHeld s b k content (names_at s b k)
-    held-cache content e = subst (IsHeld s b k content) (sym (of_cache (names_at s b k) n names)) (held.0, e, held.2)
+    pub held-cache : (content : List ℕ) → holds_at s n b k ≡ Some content → HasOneHolderWith s b k content (names_at s b k)
+    held-cache content e = subst (HasOneHolderWith s b k content) (sym (of_cache (names_at s b k) n names)) (held.0, e, held.2)

@@ -35,7 +35,7 @@ use Rattle.fabric_coherence.proofs.NodesStay.{nodes_same}
 use Rattle.fabric_coherence.proofs.Recovery.{each_node}
 use Rattle.fabric_coherence.proofs.RowsMet.{meets_home}
 use Rattle.sn_fabric.specs.Logs.{IsOwnLog, AreOwnLogs}
-use Rattle.sn_fabric.proofs.LogRows.{nothing-own, content-own, from-own, get-shared-own, get-modified-own, put-request-own, unblock-own, put-data-own, settled-log}
+use Rattle.sn_fabric.proofs.LogRows.{nothing-own, content-own, from-own, get-shared-own, get-modified-own, put-request-own, unblock-own, put-data-own, completed_or_waiting-log}
 
 -- what an event makes of each log
 record KeepsLogs (s : Fabric) (x : Moved) : Type 0 where
@@ -150,8 +150,8 @@ module _ (config : Config) (s : Fabric) (t : Beside) (id : ℕ) (f : Flight) (ke
   home = home_node s f.message.block
 
   -- a row by which a miss may complete
-  settled-keeps : (reply : CacheReply) (log : List LogEntry) → reply.after.log ≡ log → (Own at.log → Own log) → KeepsLogs s (delivers config s f.message (AtCache reply))
-  settled-keeps reply log e h = cache-keeps reply (λ own. subst Own (sym e) (h own))
+  miss-keeps : (reply : CacheReply) (log : List LogEntry) → reply.after.log ≡ log → (Own at.log → Own log) → KeepsLogs s (delivers config s f.message (AtCache reply))
+  miss-keeps reply log e h = cache-keeps reply (λ own. subst Own (sym e) (h own))
 
   body-keeps : (x : Body) → f.message.body ≡ x → KeepsLogs s (delivers config s f.message (outcome_of s f.message x))
   body-keeps GetS is = request-keeps _ (home_of s f.message.block).transaction
@@ -168,16 +168,16 @@ module _ (config : Config) (s : Fabric) (t : Beside) (id : ℕ) (f : Flight) (ke
   body-keeps (FwdGetM r due) is = cache-keeps (forward_write at f.message.block now r due)
       (content-own (length s.nodes) f.message.to (node_at s f.message.to).log now f.message.block (content_of at f.message.block))
   body-keeps (Inv r) is = cache-keeps (invalidate at f.message.block r) (λ own. own)
-  body-keeps (DataS content) is = settled-keeps (data_shared at home f.message.block f.message.tag content) (node_at s f.message.to).log
-      (settled-log (record at { cache = with_line at.cache f.message.block state.Shared content }) home (fixed_at at.cache.miss f.message.tag 0)) (λ own. own)
-  body-keeps (DataM content due) is = settled-keeps (data_modified at home f.message.block f.message.tag content due) (taken_over at f.message.block f.message.tag state.Modified content).log
-      (settled-log (taken_over at f.message.block f.message.tag state.Modified content) home (fixed_at at.cache.miss f.message.tag due))
+  body-keeps (DataS content) is = miss-keeps (data_shared at home f.message.block f.message.tag content) (node_at s f.message.to).log
+      (completed_or_waiting-log (record at { cache = with_line at.cache f.message.block state.Shared content }) home (fixed_at at.cache.miss f.message.tag 0)) (λ own. own)
+  body-keeps (DataM content due) is = miss-keeps (data_modified at home f.message.block f.message.tag content due) (taken_over at f.message.block f.message.tag state.Modified content).log
+      (completed_or_waiting-log (taken_over at f.message.block f.message.tag state.Modified content) home (fixed_at at.cache.miss f.message.tag due))
       (nothing-own (length s.nodes) f.message.to at.log f.message.tag f.message.block)
-  body-keeps (DataE content) is = settled-keeps (data_exclusive at home f.message.block f.message.tag content) (taken_over at f.message.block f.message.tag state.Exclusive content).log
-      (settled-log (taken_over at f.message.block f.message.tag state.Exclusive content) home (fixed_at at.cache.miss f.message.tag 0))
+  body-keeps (DataE content) is = miss-keeps (data_exclusive at home f.message.block f.message.tag content) (taken_over at f.message.block f.message.tag state.Exclusive content).log
+      (completed_or_waiting-log (taken_over at f.message.block f.message.tag state.Exclusive content) home (fixed_at at.cache.miss f.message.tag 0))
       (nothing-own (length s.nodes) f.message.to at.log f.message.tag f.message.block)
-  body-keeps (UpgOk due) is = settled-keeps (upgrade_granted at home f.message.tag due) (node_at s f.message.to).log (settled-log at home (fixed_at at.cache.miss f.message.tag due)) (λ own. own)
-  body-keeps InvAck is = settled-keeps (acknowledge at home) (node_at s f.message.to).log (settled-log at home (acknowledged at.cache.miss)) (λ own. own)
+  body-keeps (UpgOk due) is = miss-keeps (upgrade_granted at home f.message.tag due) (node_at s f.message.to).log (completed_or_waiting-log at home (fixed_at at.cache.miss f.message.tag due)) (λ own. own)
+  body-keeps InvAck is = miss-keeps (acknowledge at home) (node_at s f.message.to).log (completed_or_waiting-log at home (acknowledged at.cache.miss)) (λ own. own)
   body-keeps PutGo is = cache-keeps (put_go at (home_node s f.message.block) f.message.block now)
       (content-own (length s.nodes) f.message.to (node_at s f.message.to).log now f.message.block (content_of at f.message.block))
   body-keeps PutDone is = cache-keeps (put_done at) (λ own. own)

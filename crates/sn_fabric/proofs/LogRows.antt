@@ -9,7 +9,7 @@ use Rattle.log_buffer.proofs.Laws.{logged_to-noted_other, logged_to-from}
 use Rattle.sn_model.specs.declared.home.Kind.{Kind}
 use Rattle.sn_model.specs.declared.home.Kind.TheVariants.{Read, Take, Move, Upgrade, Put}
 use Rattle.sn_model.specs.Caches.{Miss}
-use Rattle.sn_model.specs.CacheRows.{Logged, completed, waiting, settled_by, settled}
+use Rattle.sn_model.specs.CacheRows.{Logged, completed, waiting, completed_or_waiting_by, completed_or_waiting}
 use Rattle.sn_model.specs.Homes.{Holder, Itself, OfCache, Transaction, is_owner}
 use Rattle.sn_model.specs.HomeRows.{LoggedEntry, count_others, noted_owner, unblock_of, unblock, grant_exclusive, read_at_home, upgrade, move_ownership, put_begins, put_is_stale, put_data}
 use Rattle.sn_model.specs.NetEvents.{get_shared, get_modified, put_request}
@@ -85,14 +85,14 @@ module _ (nodes n : ℕ) where
     put-data-own tag r content = home-own at.log tag block (WasCache r) here own
 
 -- a miss that completes notes nothing
-settled-by-log : (at : Logged) (home : ℕ) (miss : Miss) (fixed : Option ℕ) → (settled_by at home miss fixed).after.log ≡ at.log
-settled-by-log at home miss None = refl
-settled-by-log at home miss (Some fixed) = by_test (nat_eq miss.acks miss.due)
+completed_or_waiting_by-log : (at : Logged) (home : ℕ) (miss : Miss) (fixed : Option ℕ) → (completed_or_waiting_by at home miss fixed).after.log ≡ at.log
+completed_or_waiting_by-log at home miss None = refl
+completed_or_waiting_by-log at home miss (Some fixed) = by_test (nat_eq miss.acks miss.due)
   where
     by_test : (t : Bool) → (if t then completed at home miss fixed else waiting at miss).after.log ≡ at.log
     by_test true = refl
     by_test false = refl
 
-pub settled-log : (at : Logged) (home : ℕ) (o : Option Miss) → (settled at home o).after.log ≡ at.log
-settled-log at home None = refl
-settled-log at home (Some miss) = settled-by-log at home miss miss.fixed
+pub completed_or_waiting-log : (at : Logged) (home : ℕ) (o : Option Miss) → (completed_or_waiting at home o).after.log ≡ at.log
+completed_or_waiting-log at home None = refl
+completed_or_waiting-log at home (Some miss) = completed_or_waiting_by-log at home miss miss.fixed

@@ -9,7 +9,7 @@ use Rattle.sn_model.specs.declared.cache.Out.{Out}
 use Rattle.sn_model.specs.declared.net.Sent.{Sent}
 use Rattle.sn_model.specs.declared.cache.LineState.TheVariants.{Shared, Modified, Exclusive}
 use Rattle.sn_model.specs.Caches.{Miss, with_line}
-use Rattle.sn_model.specs.CacheRows.{Logged, send, settled, settled_by, completed, waiting, fixed_at, acknowledged, taken_over}
+use Rattle.sn_model.specs.CacheRows.{Logged, send, completed_or_waiting, completed_or_waiting_by, completed, waiting, fixed_at, acknowledged, taken_over}
 use Rattle.sn_model.specs.HomeRows.{invalidations}
 use Rattle.sn_model.specs.Fabric.{Net}
 use Rattle.sn_model.specs.Net.{post, posted, sent_by, message_of, is_lost}
@@ -137,28 +137,28 @@ home-outs home.LogFull sends nodes few e g = absurd e
 
 -- a row of a cache sends one message at most
 
-settle_one : (all : Bool) (at : Logged) (home : ℕ) (miss : Miss) (fixed : ℕ) →
+completed_or_waiting_one_by : (all : Bool) (at : Logged) (home : ℕ) (miss : Miss) (fixed : ℕ) →
     outs_of (first_of (if all then completed at home miss fixed else waiting at miss).sends) ≡ (if all then completed at home miss fixed else waiting at miss).sends
-settle_one true at home miss fixed = refl
-settle_one false at home miss fixed = refl
+completed_or_waiting_one_by true at home miss fixed = refl
+completed_or_waiting_one_by false at home miss fixed = refl
 
-settled_by_one : (at : Logged) (home : ℕ) (miss : Miss) (fixed : Option ℕ) → outs_of (first_of (settled_by at home miss fixed).sends) ≡ (settled_by at home miss fixed).sends
-settled_by_one at home miss None = refl
-settled_by_one at home miss (Some fixed) = settle_one (nat_eq miss.acks miss.due) at home miss fixed
+completed_or_waiting_by_one : (at : Logged) (home : ℕ) (miss : Miss) (fixed : Option ℕ) → outs_of (first_of (completed_or_waiting_by at home miss fixed).sends) ≡ (completed_or_waiting_by at home miss fixed).sends
+completed_or_waiting_by_one at home miss None = refl
+completed_or_waiting_by_one at home miss (Some fixed) = completed_or_waiting_one_by (nat_eq miss.acks miss.due) at home miss fixed
 
-settled_one : (at : Logged) (home : ℕ) (miss : Option Miss) → outs_of (first_of (settled at home miss).sends) ≡ (settled at home miss).sends
-settled_one at home None = refl
-settled_one at home (Some miss) = settled_by_one at home miss miss.fixed
+completed_or_waiting_one : (at : Logged) (home : ℕ) (miss : Option Miss) → outs_of (first_of (completed_or_waiting at home miss).sends) ≡ (completed_or_waiting at home miss).sends
+completed_or_waiting_one at home None = refl
+completed_or_waiting_one at home (Some miss) = completed_or_waiting_by_one at home miss miss.fixed
 
 pub one-sent : (at : Logged) (home block now tag : ℕ) (x : Body) → outs_of (first_of (row_by at home block now tag x).sends) ≡ (row_by at home block now tag x).sends
 one-sent at home block now tag (FwdGetS r) = refl
 one-sent at home block now tag (FwdGetM r due) = refl
 one-sent at home block now tag (Inv r) = refl
-one-sent at home block now tag (DataS content) = settled_one (record { cache = with_line at.cache block Shared content; log = at.log }) home (fixed_at at.cache.miss tag 0)
-one-sent at home block now tag (DataM content due) = settled_one (taken_over at block tag Modified content) home (fixed_at at.cache.miss tag due)
-one-sent at home block now tag (DataE content) = settled_one (taken_over at block tag Exclusive content) home (fixed_at at.cache.miss tag 0)
-one-sent at home block now tag (UpgOk due) = settled_one at home (fixed_at at.cache.miss tag due)
-one-sent at home block now tag InvAck = settled_one at home (acknowledged at.cache.miss)
+one-sent at home block now tag (DataS content) = completed_or_waiting_one (record { cache = with_line at.cache block Shared content; log = at.log }) home (fixed_at at.cache.miss tag 0)
+one-sent at home block now tag (DataM content due) = completed_or_waiting_one (taken_over at block tag Modified content) home (fixed_at at.cache.miss tag due)
+one-sent at home block now tag (DataE content) = completed_or_waiting_one (taken_over at block tag Exclusive content) home (fixed_at at.cache.miss tag 0)
+one-sent at home block now tag (UpgOk due) = completed_or_waiting_one at home (fixed_at at.cache.miss tag due)
+one-sent at home block now tag InvAck = completed_or_waiting_one at home (acknowledged at.cache.miss)
 one-sent at home block now tag PutGo = refl
 one-sent at home block now tag PutDone = refl
 one-sent at home block now tag GetS = refl

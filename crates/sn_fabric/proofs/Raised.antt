@@ -9,7 +9,7 @@ use Rattle.sn_model.specs.Fabric.{Fabric, refused}
 use Rattle.sn_model.specs.FabricEvents.{moved_by, Advance}
 use Rattle.sn_model.specs.Net.{is_full, posted, sent_by, sending}
 use Rattle.sn_model.specs.PointEvents.{advances, advanced}
-use Rattle.fabric_coherence.specs.Coherent.{IsFinished}
+use Rattle.fabric_coherence.specs.Coherent.{NothingUnfinished}
 use Rattle.sn_fabric.specs.declared.node.Seat.{Seat}
 use Rattle.sn_fabric.specs.Nets.{net_as}
 use Rattle.sn_fabric.specs.Parts.{Parts, fabric_as, AreWhole, AreParts}
@@ -26,7 +26,7 @@ advance_is_moved config s k = refl
 whole_point : (config : Config) (p : Parts) (k : ℕ) → AreWhole config p → AreWhole config (record p { point = k })
 whole_point config p k w = record { fits = w.fits; count = w.count; count_homes = w.count_homes; count_routes = w.count_routes; seats = w.seats; homes = w.homes }
 
-pub point-comes : (config : Config) (p : Parts) (now k : ℕ) (x : Seat) (net : NetData) (sends : List Sent) → AreParts config p → k ≡ (fabric_as p).point + 1 → IsFinished (fabric_as p) k →
+pub point-comes : (config : Config) (p : Parts) (now k : ℕ) (x : Seat) (net : NetData) (sends : List Sent) → AreParts config p → k ≡ (fabric_as p).point + 1 → NothingUnfinished (fabric_as p) k →
     is_full (fabric_as p) (length (fabric_as p).nodes) ≡ false → x ≡ get_or p.seats 0 x → now ≡ x.clock.interval → net.routes ≡ p.net.routes →
     net_as net ≡ posted p.net.routes (net_as p.net) 0 now 0 (tellings k config.nodes) → sends ≡ sent_by p.net.routes (net_as p.net) 0 now 0 (tellings k config.nodes) →
     Comes config p (record p { net = net; point = k }) sends (Validated k) (advanced (fabric_as p) k)

@@ -26,7 +26,7 @@ use Rattle.sn_model.specs.PointEvents.{restored_node, log_of_home, restored_home
 use Rattle.mosi_cache.specs.Controller.{FitsSets}
 use Rattle.home_directory.specs.Home.{HomeData, entry_of, places_of}
 use Rattle.home_directory.specs.Restored.{begun_restore, had, is_here, Stays}
-use Rattle.home_directory.proofs.Restored.{length-settled, restored-is}
+use Rattle.home_directory.proofs.Restored.{length-cleared, restored-is}
 use Rattle.fabric_bounds.specs.Bounds.{Fits, cache_at}
 use Rattle.fabric_bounds.proofs.Cuts.{cut_fits}
 use Rattle.sn_fabric.specs.declared.node.Seat.{Seat}
@@ -113,7 +113,7 @@ home-restored config n before after i h =
       whole = record {
         inside = subst (λ (j : ℕ). j < after.nodes) (sym h.node) (subst (λ (j : ℕ). before.node < j) (sym h.nodes) i.whole.inside);
         few = subst (λ (j : ℕ). j ≤ 16) (sym h.nodes) i.whole.few;
-        filled = h.count ∙ length-settled before.entries ∙ i.whole.filled ∙ places;
+        filled = h.count ∙ length-cleared before.entries ∙ i.whole.filled ∙ places;
       };
     }
 

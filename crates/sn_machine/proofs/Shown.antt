@@ -18,7 +18,7 @@ use Rattle.sn_model.specs.Caches.{block_count}
 use Rattle.sn_model.specs.Cuts.{names_at}
 use Rattle.sn_model.specs.Fabric.{Fabric, node_at}
 use Rattle.sn_model.specs.Homes.{Holder, Itself, OfCache}
-use Rattle.sn_model.specs.RecoveryPoint.{IsHeld, block_in}
+use Rattle.sn_model.specs.RecoveryPoint.{HasOneHolderWith, block_in}
 use Rattle.consistent_cuts.proofs.Run.{holds_consistent}
 use Rattle.sn_machine.specs.declared.processor.Processor.{Processor as Seat}
 use Rattle.sn_machine.specs.declared.hardware.Hardware.{Hardware}
@@ -50,7 +50,7 @@ module _ (image : ImageData) (config : Config) (h : Hardware) (applied spare : �
 
 -- a word of memory
 
-contents : (s : Fabric) (b k : ℕ) (x y : List ℕ) (holder : Holder) → IsHeld s b k x holder → IsHeld s b k y holder → x ≡ y
+contents : (s : Fabric) (b k : ℕ) (x y : List ℕ) (holder : Holder) → HasOneHolderWith s b k x holder → HasOneHolderWith s b k y holder → x ≡ y
 contents s b k x y (Itself named) p q = sym p.0 ∙ q.0
 contents s b k x y (OfCache owner) p q = let a = p.1 in let c = q.1 in cc
 
@@ -63,7 +63,7 @@ word_of memory address place content i aligned low is =
 
 module _ (image : ImageData) (config : Config) (h : Hardware) (applied spare : ℕ) (m : IsMachine image config h applied spare) where
   pub word-shown : (address place block point value : ℕ) (content : List ℕ) → ram_start ≤ address → address < ram_start + ram_size → address % 4 ≡ 0 → place ≡ (address - ram_start) % 64 → block ≡ block_of address → point ≡ h.fabric.fabric.point →
-      IsHeld h.fabric.fabric block point content (names_at h.fabric.fabric block point) → value ≡ little_number 4 (drop place content) → value ≡ word_at (end_of image config.nodes h.history.committed).memory address
+      HasOneHolderWith h.fabric.fabric block point content (names_at h.fabric.fabric block point) → value ≡ little_number 4 (drop place content) → value ≡ word_at (end_of image config.nodes h.history.committed).memory address
   word-shown address place block point value content low high aligned i b p held is =
       let inside : block_of address < block_count = omega (arith, low, high) in
       let blocks = (holds_consistent image config.nodes (state_of h) m.trace m.holds).cut.blocks (block_of address) inside in

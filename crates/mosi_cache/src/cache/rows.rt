@@ -3,7 +3,7 @@ ghost use Rattle.std.specs.Prelude.{◌≡◌, ◌+◌, ◌%◌, ◌<◌, ◌≤
 ghost use Rattle.sn_base.specs.declared.log.LogEntry.{LogEntry};
 ghost use Rattle.log_buffer.specs.Log.{logged_to, has_entry, noted};
 ghost use Rattle.sn_model.specs.Caches.{line_of};
-ghost use Rattle.sn_model.specs.CacheRows.{forward_read, forward_write, invalidate, data_shared, data_modified, upgrade_granted, acknowledge, put_go, put_done, data_exclusive, settled, MayForward, MayTakeCopy, MayTakeOwnership, MayUpgrade, MayCount, MayGiveBack, MayClosePut};
+ghost use Rattle.sn_model.specs.CacheRows.{forward_read, forward_write, invalidate, data_shared, data_modified, upgrade_granted, acknowledge, put_go, put_done, data_exclusive, completed_or_waiting, MayForward, MayTakeCopy, MayTakeOwnership, MayUpgrade, MayCount, MayGiveBack, MayClosePut};
 ghost use Rattle.mosi_cache.specs.Controller.{logged};
 ghost use Rattle.mosi_cache.specs.Rows.{IsDone};
 
@@ -70,7 +70,7 @@ impl Cache {
     {
         self.lines.put(block, LineState::Shared, content);
         let _ = self.transactions.answer(tag, 0);
-        self.settle(block)
+        self.complete_or_wait(block)
     }
 
     /// The content to own and write, with so many acknowledgements due: that nothing was owned is noted under the tag, which
@@ -92,7 +92,7 @@ impl Cache {
         log.note(tag, block, Old::NotOwned);
         self.lines.put(block, LineState::Modified, content);
         let _ = self.transactions.answer(tag, due);
-        self.settle(block)
+        self.complete_or_wait(block)
     }
 
     /// The owner may write, with so many acknowledgements due: the tag is the interval of atomicity, and the write is
@@ -102,7 +102,7 @@ impl Cache {
         ensures { (entries : List LogEntry) → IsDone self.old self.new result (upgrade_granted (logged self.old entries) (block % self.old.nodes) tag due) }
     {
         let _ = self.transactions.answer(tag, due);
-        self.settle(block)
+        self.complete_or_wait(block)
     }
 
     /// An acknowledgement: one more is in, and the miss is complete where it is fixed and all that are due are in.
@@ -111,7 +111,7 @@ impl Cache {
         ensures { (entries : List LogEntry) → IsDone self.old self.new result (acknowledge (logged self.old entries) (block % self.old.nodes)) }
     {
         let _ = self.transactions.ack();
-        self.settle(block)
+        self.complete_or_wait(block)
     }
 
     /// The home lets the block be given up: the content is noted under now, the copy is lost, the put is closed, and the home
@@ -157,14 +157,14 @@ impl Cache {
         log.note(tag, block, Old::NotOwned);
         self.lines.put(block, LineState::Exclusive, content);
         let _ = self.transactions.answer(tag, 0);
-        self.settle(block)
+        self.complete_or_wait(block)
     }
 
     /// Completes the miss on the block where it is fixed and all acknowledgements due are in: its home gets the interval of
     /// atomicity, the line, if any, is Modified where it was wanted for a write, and the miss is closed.
-    fn settle(&mut self, block: BlockNo) -> CacheStep
+    fn complete_or_wait(&mut self, block: BlockNo) -> CacheStep
         requires { IfSome self.old.cache.miss (λ m. m.block ≡ block) }
-        ensures { (entries : List LogEntry) → IsDone self.old self.new result (settled (logged self.old entries) (block % self.old.nodes) self.old.cache.miss) }
+        ensures { (entries : List LogEntry) → IsDone self.old self.new result (completed_or_waiting (logged self.old entries) (block % self.old.nodes) self.old.cache.miss) }
     {
         let Some(miss) = self.transactions.miss() else {
             return CacheStep::Took(None, None);

@@ -4,7 +4,7 @@ use Rattle.sn_model.specs.Homes.{HomeEntry}
 use Rattle.sn_model.specs.Fabric.{no_entry}
 use Rattle.home_directory.specs.Home.{HomeData}
 use Rattle.home_directory.proofs.PutBack.{opens-put}
-use Rattle.home_directory.proofs.Listing.{settled-put}
+use Rattle.home_directory.proofs.Listing.{cleared-put}
 use Rattle.home_directory.proofs.Home.put_home.Goals as goal
 
 -- what is open stays
@@ -17,5 +17,5 @@ invariant_of-self c =
       c.self.invariant.1
           ∙ sym (opens-put c.self.inside.entries.items 0 c.place-place.result _ c.index_mut-entry.result.now l (ap (λ (x : HomeEntry). x.transaction) (c.entry.view_is ∙ c.index_mut-entry.ensures.value))),
       omega (arith, s, c.self.invariant.2),
-      settled-put c.self.inside.touched c.self.inside.entries.items c.place-place.result _ l (ap (λ (x : HomeEntry). x.sharers) same) (ap (λ (x : HomeEntry). x.transaction) same) c.self.invariant.3,
+      cleared-put c.self.inside.touched c.self.inside.entries.items c.place-place.result _ l (ap (λ (x : HomeEntry). x.sharers) same) (ap (λ (x : HomeEntry). x.transaction) same) c.self.invariant.3,
     )

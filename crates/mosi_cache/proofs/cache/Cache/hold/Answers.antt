@@ -5,7 +5,7 @@ use Rattle.mosi_cache.specs.Controller.{CacheData, cache_of, FitsSets}
 use Rattle.mosi_cache.specs.Frames.{LinesData}
 use Rattle.mosi_cache.specs.Restored.{held_of, HeldFits}
 use Rattle.mosi_cache.proofs.Held.{room-held, fits-put}
-use Rattle.mosi_cache.proofs.Settled.{data_by}
+use Rattle.mosi_cache.proofs.CompletedOrWaiting.{data_by}
 use Rattle.mosi_cache.proofs.cache.Cache.hold.Goals as goal
 
 -- the controller by its parts

@@ -6,7 +6,7 @@ use Rattle.mosi_cache.specs.Controller.{CacheData}
 use Rattle.mosi_cache.specs.Restored.{HeldFits}
 use Rattle.mosi_cache.proofs.Held.{fits-held, fits-changed}
 use Rattle.mosi_cache.proofs.Fits.{fits-gone}
-use Rattle.mosi_cache.proofs.Settled.{data_by}
+use Rattle.mosi_cache.proofs.CompletedOrWaiting.{data_by}
 use Rattle.mosi_cache.proofs.cache.restore.CacheRestore.forget.Goals as goal
 use Rattle.mosi_cache.proofs.cache.restore.CacheRestore.forget.Goals.{in-WasHome, in-WasHome-2, in-NotOwned}
 

@@ -2,7 +2,7 @@ use Rattle.std.proofs.Common.{◌≡◌, true, Some, None, sym, ap, ◌∙◌, s
 use Rattle.atomicity_point.specs.Txn.{Open}
 use Rattle.sn_model.specs.Caches.{misses_on}
 use Rattle.mosi_cache.specs.Controller.{CacheData, miss_of}
-use Rattle.mosi_cache.proofs.cache.Cache.settle.Goals as goal
+use Rattle.mosi_cache.proofs.cache.Cache.complete_or_wait.Goals as goal
 use Rattle.mosi_cache.proofs.Fits.{fits-missed, misses-block, misses-none}
 use Rattle.std.specs.Prelude.{IfSome}
 use Rattle.std.specs.Option.{option_copied}
