@@ -76,7 +76,8 @@ pub record IsUntouched (s t : State) : Type 0 where
 -- why a core may have lost its reservation: a clock edge of its node, a recovery, loss of the copy, or a load-reserved or
 -- store-conditional of its own
 abbrev pub Reserving : ImageData → State → ℕ → Type 0
-Reserving image s n = (address : ℕ) × ((want_of image (processor_at s n).core ≡ Lr address) ⊎ (want_of image (processor_at s n).core ≡ Sc address))
+Reserving image s n =
+    (address : ℕ) × ((want_of image (processor_at s n).core ≡ Lr address) ⊎ (want_of image (processor_at s n).core ≡ Sc address))
 
 abbrev pub MayUnreserve : ImageData → Config → State → ℕ → ℕ → Event → Type 0
 MayUnreserve image config s n block (Step m) = (m ≡ n) × Reserving image s n
@@ -94,7 +95,8 @@ pub record IsStepOfRun (image : ImageData) (config : Config) (s : State) (event 
   -- no other answer changes what is committed or released
   pub stays : ((k : ℕ) → next.answer ≢ Validated k) → (next.state.committed ≡ s.committed) × (next.state.released ≡ s.released)
   -- a recovery leaves just the cut: the last state of the committed trace
-  pub restored : (undo : Undo) → next.answer ≡ Recovered undo → IsRestored next.state (end_of image config.nodes s.committed) × IsUntouched s next.state
+  pub restored : (undo : Undo) → next.answer ≡ Recovered undo →
+      IsRestored next.state (end_of image config.nodes s.committed) × IsUntouched s next.state
   -- the bytes given to a node only grow
   pub given : (n : ℕ) → Begins (processor_at s n).given (processor_at next.state n).given
   -- an instruction that retires waits with its record; a store-conditional is done exactly where its core has its block reserved

@@ -41,7 +41,8 @@ pub fn each_access_keeps_records()
     ensures store_conditional { (s : Fabric) (r : ℕ → Records) (n : ℕ) (w : Write) → KeepsRecords s r → CanWrite s n w
         → (r (block_of w.address)).reserved n ≡ true
         → KeepsRecords (stored s n w) (at_block (block_of w.address)
-        (stores_conditional (r (block_of w.address)) n (node_at s n).now (written_in (line_of (node_at s n).cache (block_of w.address)).content w)) (λ o. unreserves (r o) n)) }
+        (stores_conditional (r (block_of w.address)) n (node_at s n).now
+        (written_in (line_of (node_at s n).cache (block_of w.address)).content w)) (λ o. unreserves (r o) n)) }
     ensures undone { (s : Fabric) (r : ℕ → Records) (n : ℕ) → KeepsRecords s r → n < length s.nodes
         → KeepsRecords s (λ o. unreserves (r o) n) }
 {}

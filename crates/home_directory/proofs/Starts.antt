@@ -25,15 +25,19 @@ closed_more s (x ∷ xs) e h = ap (with_open s x.transaction) (closed_more (s + 
 pub nothing_open : (places s : ℕ) (image : ImageData) (node nodes : ℕ) → opens_from s (entries_below places image node nodes) ≡ []
 nothing_open zero s image node nodes = refl
 nothing_open (suc place) s image node nodes =
-    closed_more s (entries_below place image node nodes) (first_home image (node + nodes * place)) refl ∙ nothing_open place s image node nodes
+    closed_more s (entries_below place image node nodes) (first_home image (node + nodes * place)) refl
+    ∙ nothing_open place s image node nodes
 
-cleared_more : (xs : List HomeEntry) (e : HomeEntry) → IsCleared e → ((p : ℕ) → IsCleared (get_or xs p no_entry)) → (p : ℕ) → IsCleared (get_or (xs ++ e ∷ []) p no_entry)
+cleared_more : (xs : List HomeEntry) (e : HomeEntry) → IsCleared e → ((p : ℕ) → IsCleared (get_or xs p no_entry)) → (p : ℕ) →
+    IsCleared (get_or (xs ++ e ∷ []) p no_entry)
 cleared_more [] e h k zero = h
 cleared_more [] e h k (suc p) = refl
 cleared_more (x ∷ xs) e h k zero = k zero
 cleared_more (x ∷ xs) e h k (suc p) = cleared_more xs e h (λ q. k (suc q)) p
 
-pub cleared_first : (places : ℕ) (image : ImageData) (node nodes : ℕ) (p : ℕ) → IsCleared (get_or (entries_below places image node nodes) p no_entry)
+pub cleared_first : (places : ℕ) (image : ImageData) (node nodes : ℕ) (p : ℕ) →
+    IsCleared (get_or (entries_below places image node nodes) p no_entry)
 cleared_first zero image node nodes p = refl
 cleared_first (suc place) image node nodes p =
-    cleared_more (entries_below place image node nodes) (first_home image (node + nodes * place)) refl (cleared_first place image node nodes) p
+    cleared_more (entries_below place image node nodes) (first_home image (node + nodes * place)) refl
+    (cleared_first place image node nodes) p

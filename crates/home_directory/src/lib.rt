@@ -61,7 +61,9 @@ impl Model for Home {
 
     ghost view = { λ h. record { node = h.node; nodes = h.nodes; entries = h.entries.items } };
 
-    ghost invariant = { λ h. IsHome (record { node = h.node; nodes = h.nodes; entries = h.entries.items }) × (h.opens.items ≡ opens_from 0 h.entries.items) × (length h.entries.items ≤ vec_capacity h.opens) × AreCleared h.touched h.entries.items };
+    ghost invariant = { λ h. IsHome (record { node = h.node; nodes = h.nodes; entries = h.entries.items })
+        × (h.opens.items ≡ opens_from 0 h.entries.items) × (length h.entries.items ≤ vec_capacity h.opens)
+        × AreCleared h.touched h.entries.items };
 }
 
 impl Home {

@@ -65,7 +65,12 @@ line_when_done Exclusive Write = Modified
 -- the miss is complete: its home gets the interval of atomicity
 abbrev pub completed : Logged → ℕ → Miss → ℕ → CacheReply
 completed at home miss fixed = record {
-  after = record at { cache = record (with_line at.cache miss.block (line_when_done (line_of at.cache miss.block).state miss.need) (content_of at miss.block)) { miss = None } };
+  after =
+      record at {
+        cache = record
+            (with_line at.cache miss.block (line_when_done (line_of at.cache miss.block).state miss.need)
+            (content_of at miss.block)) { miss = None };
+      };
   sends = send home (Unblock fixed) ∷ [];
   lost = None;
 }

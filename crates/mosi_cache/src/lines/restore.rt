@@ -13,7 +13,8 @@ use sn_model::LineState;
 fn free_if_shared(frames: &mut Frames, frame: usize, state: LineState)
     requires inside { frame < frames.old.sets * frames.old.ways }
     requires slots { AreSlots frames.old }
-    ensures freed { frames.new ≡ record frames.old { slots = slice_set frames.old.slots frame (unshared state (block_at frames.old frame)) } }
+    ensures freed { frames.new
+        ≡ record frames.old { slots = slice_set frames.old.slots frame (unshared state (block_at frames.old frame)) } }
     ensures slots { AreSlots frames.new }
 {
     if !matches!(state, LineState::Shared) {
@@ -35,7 +36,8 @@ fn free_shared(frames: &mut Frames, kept: &[FrameLine])
 }
 
 fn make_modified(kept: &mut [FrameLine])
-    ensures { (frame : ℕ) (d : FrameLine) → frame < length kept.old → slice_index_or kept.new frame d ≡ modified (slice_index_or kept.old frame d) }
+    ensures { (frame : ℕ) (d : FrameLine) → frame < length kept.old →
+        slice_index_or kept.new frame d ≡ modified (slice_index_or kept.old frame d) }
 {
     'frames: for line in kept.iter_mut() {
         line.state = LineState::Modified;

@@ -8,7 +8,8 @@ use Rattle.home_directory.proofs.Home.begin_restore.Goals as goal
 -- nothing is open
 pub invariant_of-self : goal.invariant_of-self
 invariant_of-self c =
-    let e : length c.clear_entries.new.entries.items ≡ length c.self.inside.entries.items = ap length c.clear_entries.ensures ∙ length-cleared c.self.inside.entries.items in (
+    let e : length c.clear_entries.new.entries.items ≡ length c.self.inside.entries.items = ap length c.clear_entries.ensures
+    ∙ length-cleared c.self.inside.entries.items in (
       record {
         inside = c.self.invariant.0.inside;
         few = c.self.invariant.0.few;

@@ -29,5 +29,6 @@ invariant_of-self c =
           ∙ ap (relisted c.place-place.result _) c.self.invariant.1
           ∙ relisted_is c.self.inside.entries.items c.place-place.result c.receive-step.new.entry l,
       omega (arith, s, c.self.invariant.2, c.relist.ensures.room),
-      rw c.touch.ensures (cleared-touched c.self.inside.touched c.self.inside.entries.items c.place-place.result c.receive-step.new.entry l c.self.invariant.3),
+      rw c.touch.ensures
+          (cleared-touched c.self.inside.touched c.self.inside.entries.items c.place-place.result c.receive-step.new.entry l c.self.invariant.3),
     )

@@ -23,4 +23,6 @@ places-preserved c =
 
 -- what isn't listed was cleared before
 pub returns : goal.returns
-returns c = clearing-all c.args.entries.now.items c.places.entries.items c.places-place-items.result.now c.places.place-index (omega arith) c.places.invariant
+returns c =
+    clearing-all c.args.entries.now.items c.places.entries.items c.places-place-items.result.now c.places.place-index
+    (omega arith) c.places.invariant
