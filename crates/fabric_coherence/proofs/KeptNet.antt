@@ -14,7 +14,7 @@ use Rattle.sn_model.specs.Net.{routes_of, flight_of, without_flight, moved, is_t
 use Rattle.sn_model.specs.NetEvents.{learned, hops_to, hops, hopped, loses, lost, killed, delivers, outcome_of}
 use Rattle.sn_model.specs.PointEvents.{advances}
 use Rattle.sn_coherence.specs.Block as block
-use Rattle.sn_coherence.specs.Block.{Block, Message, with_number}
+use Rattle.sn_coherence.specs.Block.{Message, with_number}
 use Rattle.sn_coherence.specs.OtherEvents.{lose, deliver_ready, deliver_advance, validate}
 use Rattle.sn_coherence.specs.Events.{Lose, DeliverAdvance, Arrives, DeliverReady}
 use Rattle.sn_coherence.specs.Records.{hears}

@@ -20,7 +20,6 @@ use Rattle.sn_model.specs.Fabric.{Fabric, Node, node_at, home_node}
 use Rattle.sn_msg.specs.declared.Body.TheVariants.{GetS, GetM}
 use Rattle.sn_base.specs.declared.event.Answer.TheVariants.{Missed}
 use Rattle.sn_coherence.specs.Block as miss
-use Rattle.sn_coherence.specs.Block.{Block, Message, gone, set, set_row}
 use Rattle.sn_coherence.specs.OtherEvents.{store, begin_read_miss, begin_write_miss, begin_miss_elsewhere, numbers_elsewhere}
 use Rattle.sn_coherence.specs.Same.{IsSame}
 use Rattle.sn_coherence.specs.Log.{was_owned, old_content, was_home, old_cache, told_at, NoteLaw}

@@ -5,7 +5,6 @@
 //! and how many frames of a set the lines take. A line never finds its set full: who adds one asks before.
 ghost use Rattle.std.specs.Prelude.{◌≡◌, ℕ, ◌*◌, ◌+◌, ◌<◌, ◌≤◌, ◌%◌, ◌&&◌, true, false, nat_le, length, slice_set, IfOk, IfSome, IsNone};
 ghost use Rattle.std.specs.Prelude.{not, Some};
-ghost use Rattle.cache_array.specs.Slots.{FrameSlots};
 ghost use Rattle.sn_model.specs.Caches.{no_line, empty_lines, is_present, block_count, frames_taken};
 ghost use Rattle.mosi_cache.specs.Frames.{LinesData, HasRoom, closed, line_at, line_kept, completed, is_spared, may_leave, leaves};
 ghost use Rattle.mosi_cache.specs.Frames.{lesser_of, leaving_at, IsLeastLeaving};

@@ -2,7 +2,7 @@
 ghost use Rattle.std.specs.Prelude.{◌≡◌, ℕ, ◌+◌, ◌*◌, ◌<◌, ◌≤◌, ◌↔◌, Bool, true, false, if◌then◌else◌, nat_le, replicate, Option, Some};
 ghost use Rattle.std.specs.Prelude.{None, Ok, Err, IsNone, IfNone, IfSome, IsOk, OnErr, IfOk, IfErr, MatchResult};
 ghost use Rattle.route_plan.specs.Grid.{node_of};
-ghost use Rattle.route_plan.specs.Distances.{Switches, is_living, is_dead, distance};
+ghost use Rattle.route_plan.specs.Distances.{Switches, is_living};
 ghost use Rattle.route_plan.specs.Routes.{next_of, enter_of, first_cut_off};
 ghost use Rattle.route_plan.specs.Paths.{AreJoined, IsFirstCutOff, IsStep, IsShortestWalk, IsShortestEntry};
 ghost use Rattle.route_plan.specs.Tables.{IsSized};

@@ -4,7 +4,7 @@ ghost use Rattle.rv_decode.specs.Table.{instr_fits};
 ghost use Rattle.rv_core.specs.Core.{register, with_register, trapped};
 ghost use Rattle.rv_core.specs.Arithmetic.{as_word, loaded, amo_result};
 ghost use Rattle.rv_core.specs.Access.{fault_of, width_of};
-ghost use Rattle.rv_core.specs.Step.{does, becomes, writing, passed, gets, branches, jumps, address_in, even, reserves, conditionally};
+ghost use Rattle.rv_core.specs.Step.{does, becomes, writing, passed, gets, branches, jumps, address_in, reserves, conditionally};
 ghost use Rattle.rv_core.specs.Step.{called, unless_fault};
 
 use crate::access::{fault, width_of};

@@ -10,7 +10,7 @@ use Rattle.sn_msg.specs.declared.Message.{Message}
 use Rattle.switch_net.specs.Net.{NetData, without}
 use Rattle.sn_model.specs.declared.cache.Out.{Out}
 use Rattle.sn_model.specs.Fabric as model
-use Rattle.sn_model.specs.Fabric.{Fabric, Node, Moved, node_at}
+use Rattle.sn_model.specs.Fabric.{Fabric, Node, node_at}
 use Rattle.sn_model.specs.Net.{without_flight}
 use Rattle.sn_model.specs.NetEvents.{delivered}
 use Rattle.fabric_coherence.specs.Steps.{IsInFlight}

@@ -9,7 +9,7 @@ use Rattle.switch_net.specs.declared.flight.Flight.{Flight as Carried}
 use Rattle.switch_net.specs.Net.{NetData, find_flight, without, outside, moved, hop_answer, after_hop, next_switch, has_arrived, or_else}
 use Rattle.route_plan.specs.Distances.{is_dead}
 use Rattle.sn_model.specs.Fabric as model
-use Rattle.sn_model.specs.Fabric.{Fabric, with_net, answered}
+use Rattle.sn_model.specs.Fabric.{with_net, answered}
 use Rattle.sn_model.specs.Net as net
 use Rattle.sn_model.specs.Net.{routes_of}
 use Rattle.route_plan.specs.Routes.{next_of}

@@ -21,7 +21,7 @@ use Rattle.sn_model.specs.declared.net.Sent.{Sent}
 use Rattle.sn_model.specs.Caches.{block_count}
 use Rattle.sn_model.specs.Homes.{HomeEntry}
 use Rattle.sn_model.specs.Fabric as model
-use Rattle.sn_model.specs.Fabric.{Fabric, Node, Moved, node_at, home_of, no_entry, answered}
+use Rattle.sn_model.specs.Fabric.{Fabric, Node, node_at, home_of, no_entry, answered}
 use Rattle.sn_model.specs.FabricEvents.{moved_by, Recover}
 use Rattle.sn_model.specs.PointEvents.{restored_node, log_of_home, restored_homes, restored, undone, living_switches, recovers, recovered}
 use Rattle.mosi_cache.specs.Controller.{FitsSets}

@@ -16,7 +16,7 @@ use Rattle.sn_model.specs.declared.net.Told.{Told}
 use Rattle.sn_model.specs.Caches.{block_count}
 use Rattle.sn_model.specs.CacheRows.{send}
 use Rattle.sn_model.specs.Fabric as model
-use Rattle.sn_model.specs.Fabric.{Fabric, Node, Moved, node_at, with_node, home_node}
+use Rattle.sn_model.specs.Fabric.{Fabric, Node, Moved, node_at, with_node}
 use Rattle.sn_model.specs.FabricEvents.{FabricEvent, moved_by, Access}
 use Rattle.sn_model.specs.Net.{posted, sent_by, sending}
 use Rattle.sn_model.specs.Access.{accessed, missed, missing, request_for}

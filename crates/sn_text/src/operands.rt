@@ -4,7 +4,6 @@ ghost use Rattle.std.specs.Prelude.{length, true};
 ghost use Rattle.std.specs.List.{position};
 ghost use Rattle.sn_base.specs.Events.{event_fits};
 ghost use Rattle.sn_model.specs.Caches.{block_count};
-ghost use Rattle.sn_text.specs.Digits.{number_of};
 ghost use Rattle.sn_text.specs.Script.{node_in, message_in, switch_in, parted, evicted_at, eviction_in, hex_value, byte_of, given_to};
 ghost use Rattle.sn_text.specs.Script.{input_in};
 

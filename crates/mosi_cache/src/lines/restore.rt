@@ -1,7 +1,7 @@
 //! The lines once a recovery begins: each that owns its block is Modified, and the Shared copies are gone.
 ghost use Rattle.std.specs.Prelude.{◌≡◌, ℕ, ◌*◌, ◌<◌, length, map, slice_index_or, slice_set};
-ghost use Rattle.cache_array.specs.Slots.{FrameSlots, AreSlots, block_at};
-ghost use Rattle.mosi_cache.specs.Frames.{LinesData, FrameLine};
+ghost use Rattle.cache_array.specs.Slots.{AreSlots, block_at};
+ghost use Rattle.mosi_cache.specs.Frames.{FrameLine};
 ghost use Rattle.mosi_cache.specs.Restored.{begun_line};
 ghost use Rattle.mosi_cache.specs.Unshared.{unshared, AreUnshared, modified};
 
