@@ -1,5 +1,6 @@
 -- The bytes that a disassembler writes: those inside of an operand or a mnemonic, and those of a whole line.
-use Rattle.std.proofs.Common.{◌≡◌, ℕ, zero, suc, ◌-◌, ◌<◌, Bool, true, false, not, ◌&&◌, ◌||◌, nat_eq, nat_le, List, [], ◌∷◌, ◌++◌, length, get_or, reverse, refl, ap, ◌∙◌, arith}
+use Rattle.std.proofs.Common.{◌≡◌, ℕ, zero, suc, ◌-◌, ◌<◌, Bool, true, false, not, ◌&&◌, ◌||◌, nat_eq, nat_le, List, [], ◌∷◌, ◌++◌, length}
+use Rattle.std.proofs.Common.{get_or, reverse, refl, ap, ◌∙◌, arith}
 use Rattle.std.proofs.lemmas.Bool.{and_parts, and_from}
 use Rattle.std.proofs.lemmas.Bool.Decides.{nat_tests}
 use Rattle.std.proofs.lemmas.List.{length-append, length-reverse, reverse-append, get_or_append_left, get_or-reverse}
@@ -15,7 +16,8 @@ none test text = all (λ byte. not (test byte)) text
 
 pub all-append : (test : ℕ → Bool) (xs ys : List ℕ) → all test xs ≡ true → all test ys ≡ true → all test (xs ++ ys) ≡ true
 all-append test [] ys a b = b
-all-append test (x ∷ xs) ys a b = let p = and_parts (test x) (all test xs) a in and_from (test x) (all test (xs ++ ys)) p.0 (all-append test xs ys p.1 b)
+all-append test (x ∷ xs) ys a b =
+    let p = and_parts (test x) (all test xs) a in and_from (test x) (all test (xs ++ ys)) p.0 (all-append test xs ys p.1 b)
 
 pub all-weaker : (p q : ℕ → Bool) → ((byte : ℕ) → p byte ≡ true → q byte ≡ true) → (xs : List ℕ) → all p xs ≡ true → all q xs ≡ true
 all-weaker p q f [] a = refl
@@ -91,10 +93,15 @@ pub ends-after : (byte : ℕ) (b : List ℕ) → Ends b → Ends (byte ∷ b)
 ends-after byte b h = ends-append (byte ∷ []) b h
 
 pub solid-begins : (text : List ℕ) → all is_solid text ≡ true → 0 < length text → Begins text
-solid-begins text h some = record { some = some; first = unblank (get_or text 0 0) (solid-unblank (get_or text 0 0) (all-at is_solid text 0 h some)) }
+solid-begins text h some =
+    record { some = some; first = unblank (get_or text 0 0) (solid-unblank (get_or text 0 0) (all-at is_solid text 0 h some)) }
 
 pub solid-ends : (text : List ℕ) → all is_solid text ≡ true → 0 < length text → Ends text
 solid-ends text h some =
     let place : length text - 1 - 0 < length text = omega arith in
     let byte = get_or text (length text - 1 - 0) 0 in
-    record { some = some; last = ap is_blank (get_or-reverse text 0 0 some) ∙ unblank byte (solid-unblank byte (all-at is_solid text (length text - 1 - 0) h place)) }
+    record {
+      some = some;
+      last = ap is_blank (get_or-reverse text 0 0 some)
+          ∙ unblank byte (solid-unblank byte (all-at is_solid text (length text - 1 - 0) h place));
+    }

@@ -1,12 +1,14 @@
 -- Where a text is cut, and what is left without the blanks at its ends.
-use Rattle.std.proofs.Common.{◌≡◌, ℕ, suc, ◌+◌, Bool, true, false, not, List, [], ◌∷◌, ◌++◌, length, get_or, drop, reverse, Option, Some, None, refl, ap, ◌∙◌, arith, add-one}
+use Rattle.std.proofs.Common.{◌≡◌, ℕ, suc, ◌+◌, Bool, true, false, not, List, [], ◌∷◌, ◌++◌, length, get_or, drop, reverse, Option, Some}
+use Rattle.std.proofs.Common.{None, refl, ap, ◌∙◌, arith, add-one}
 use Rattle.std.proofs.lemmas.Bool.{and_parts, not-true, lt-ltb, le-ltb}
 use Rattle.std.proofs.lemmas.List.{length-append, reverse-reverse, take_at}
 use Rattle.std.specs.List.{position, position_or_len}
 use Rattle.rv_statement.specs.Lines.{is_blank, skipped, trimmed, cut, cut_at}
 use Rattle.asm_round_trip.proofs.Bytes.{all, none, is_solid, Begins, Ends, solid-begins, solid-ends}
 
-found-at : (test : ℕ → Bool) (front rest : List ℕ) (byte : ℕ) → none test front ≡ true → test byte ≡ true → position_or_len test (front ++ byte ∷ rest) ≡ length front
+found-at : (test : ℕ → Bool) (front rest : List ℕ) (byte : ℕ) → none test front ≡ true → test byte ≡ true →
+    position_or_len test (front ++ byte ∷ rest) ≡ length front
 found-at test [] rest byte h is = rw is refl
 found-at test (x ∷ front) rest byte h is =
     let p = and_parts (not (test x)) (none test front) h in
@@ -25,16 +27,22 @@ rest-past (x ∷ front) rest byte = rest-past front rest byte
 rest-after : (front rest : List ℕ) (byte : ℕ) → drop (length front + 1) (front ++ byte ∷ rest) ≡ rest
 rest-after front rest byte = rw add-one (rest-past front rest byte)
 
-position-at : (test : ℕ → Bool) (front rest : List ℕ) (byte : ℕ) → none test front ≡ true → test byte ≡ true → position test (front ++ byte ∷ rest) ≡ Some (length front)
+position-at : (test : ℕ → Bool) (front rest : List ℕ) (byte : ℕ) → none test front ≡ true → test byte ≡ true →
+    position test (front ++ byte ∷ rest) ≡ Some (length front)
 position-at test front rest byte h is =
-    rw (found-at test front rest byte h is, lt-ltb (length front) (length (front ++ byte ∷ rest)) (omega (arith, length-append front (byte ∷ rest)))) refl
+    rw (
+      found-at test front rest byte h is,
+      lt-ltb (length front) (length (front ++ byte ∷ rest)) (omega (arith, length-append front (byte ∷ rest))),
+    ) refl
 
 -- cut at the first byte that passes
-pub cut-at : (test : ℕ → Bool) (front rest : List ℕ) (byte : ℕ) → none test front ≡ true → test byte ≡ true → cut test (front ++ byte ∷ rest) ≡ Some (front, rest)
+pub cut-at : (test : ℕ → Bool) (front rest : List ℕ) (byte : ℕ) → none test front ≡ true → test byte ≡ true →
+    cut test (front ++ byte ∷ rest) ≡ Some (front, rest)
 unfolding cut
 cut-at test front rest byte h is =
     ap (cut_at (front ++ byte ∷ rest)) (position-at test front rest byte h is)
-    ∙ ap (λ (l : List ℕ). let cut : Option (List ℕ × List ℕ) = Some (l, drop (length front + 1) (front ++ byte ∷ rest)) in cut) (take_at front (byte ∷ rest) (length front) refl)
+    ∙ ap (λ (l : List ℕ). let cut : Option (List ℕ × List ℕ) = Some (l, drop (length front + 1) (front ++ byte ∷ rest)) in cut)
+    (take_at front (byte ∷ rest) (length front) refl)
     ∙ ap (λ (l : List ℕ). let cut : Option (List ℕ × List ℕ) = Some (front, l) in cut) (rest-after front rest byte)
 
 pub cut-nowhere : (test : ℕ → Bool) (text : List ℕ) → none test text ≡ true → cut test text ≡ None

@@ -1,5 +1,6 @@
 -- The word of an instruction's line is decoded as that instruction.
-use Rattle.std.proofs.Common.{◌≡◌, ℕ, pos, Bool, true, false, nat_eq, List, [], length, take, get_or, codes, Option, Some, None, Ok, refl, sym, ap, ◌∙◌, subst, ◌-◌}
+use Rattle.std.proofs.Common.{◌≡◌, ℕ, pos, Bool, true, false, nat_eq, List, [], length, take, get_or, codes, Option, Some, None, Ok, refl}
+use Rattle.std.proofs.Common.{sym, ap, ◌∙◌, subst, ◌-◌}
 use Rattle.std.specs.Prelude.{option_map, if◌then◌else◌, ◌-ℤ◌}
 use Rattle.std.specs.Str.{bytes_eq}
 use Rattle.std.proofs.lemmas.Slice.Eq.{bytes_eq-Decides}
@@ -9,7 +10,8 @@ use Rattle.rv_decode.specs.Table.{word_of, instr_fits}
 use Rattle.rv_decode.proofs.Words.{decoded-word_of}
 use Rattle.rv_statement.specs.Lines.{bare, cut, is_blank, trimmed}
 use Rattle.rv_statement.specs.Operands.{number_of, is_name}
-use Rattle.rv_statement.specs.Reading.{Named, Read, whole, fixed, read_of, coded, with_offset, word_in, named_by, named_in, operation_of, row_of, on_parts, instruction_of, nothing, label, formless, said, said_or, label_or, statement_of}
+use Rattle.rv_statement.specs.Reading.{Named, Read, whole, fixed, read_of, coded, with_offset, word_in, named_by, named_in, operation_of}
+use Rattle.rv_statement.specs.Reading.{row_of, on_parts, instruction_of, nothing, label, formless, said, said_or, label_or, statement_of}
 use Rattle.rv_asm.specs.Assembly.{in_range}
 use Rattle.asm_round_trip.specs.Decoding.{Names, Says, HasWord}
 
@@ -70,7 +72,9 @@ no-words read h = cc
 statement-is : (text : List ℕ) (read : Read) → statement_of text ≡ said read → instruction_of text ≡ Some read
 unfolding statement_of
 statement-is text read e = by_test (nat_eq (length text) 0) (nat_eq (get_or text (length text - 1) 0) 58) e where
-  by_test : (a b : Bool) → (if a then nothing else if b then label_or (take (length text - 1) text) else said_or (instruction_of text)) ≡ said read → instruction_of text ≡ Some read
+  by_test : (a b : Bool) →
+      (if a then nothing else if b then label_or (take (length text - 1) text) else said_or (instruction_of text)) ≡ said read →
+      instruction_of text ≡ Some read
   by_test true b h = absurd (no-words read h)
   by_test false true h = absurd (no-label (take (length text - 1) text) (is_name (take (length text - 1) text)) read h)
   by_test false false h = said-is (instruction_of text) read h
@@ -83,5 +87,8 @@ in_range-is : (line : ℕ) (found : Option ℕ) (word : ℕ) → in_range line f
 in_range-is line None word h = cc
 in_range-is line (Some other) word h = cc
 
-pub led-decoded : (line : ℕ) (instr : Instr) (here place word : ℕ) → HasWord line instr here place word → decoded word ≡ Some (with_offset instr (pos place -ℤ pos here))
-led-decoded line instr here place word h = coded-decoded (with_offset instr (pos place -ℤ pos here)) word (in_range-is line (coded (with_offset instr (pos place -ℤ pos here))) word h)
+pub led-decoded : (line : ℕ) (instr : Instr) (here place word : ℕ) → HasWord line instr here place word →
+    decoded word ≡ Some (with_offset instr (pos place -ℤ pos here))
+led-decoded line instr here place word h =
+    coded-decoded (with_offset instr (pos place -ℤ pos here)) word
+    (in_range-is line (coded (with_offset instr (pos place -ℤ pos here))) word h)

@@ -1,5 +1,6 @@
 -- A word's line reads back as the word.
-use Rattle.std.proofs.Common.{◌≡◌, ℕ, pos, ◌-◌, ◌<◌, ◌^◌, Bool, true, false, not, nat_eq, List, ◌++◌, length, get_or, codes, Option, Some, None, refl, ap, ◌∙◌, arith, subst}
+use Rattle.std.proofs.Common.{◌≡◌, ℕ, pos, ◌-◌, ◌<◌, ◌^◌, Bool, true, false, not, nat_eq, List, ◌++◌, length, get_or, codes, Option, Some}
+use Rattle.std.proofs.Common.{None, refl, ap, ◌∙◌, arith, subst}
 use Rattle.std.specs.Prelude.{option_map, if◌then◌else◌, IfSome}
 use Rattle.std.proofs.lemmas.Bool.{eqb-true, ne_eqb, lt-ltb, le-leb}
 use Rattle.rv_decode.specs.declared.instr.Instr.{Instr}
@@ -9,7 +10,8 @@ use Rattle.rv_decode.proofs.Sound.{decoded-sound}
 use Rattle.rv_statement.specs.Lines.{trimmed, bare, front_or}
 use Rattle.rv_statement.specs.Reading.{Read, fixed, word_in, said, said_or, operation_of, instruction_of, statement_of}
 use Rattle.rv_asm.specs.Text.{digits_text, if_written, written, line_of, word_text}
-use Rattle.asm_round_trip.proofs.Bytes.{all, all-at, all-weaker, is_solid, is_inner, solid-inner, inner-no_comment, inner-no_colon, solid-begins, solid-ends}
+use Rattle.asm_round_trip.proofs.Bytes.{all, all-at, all-weaker, is_solid, is_inner, solid-inner, inner-no_comment, inner-no_colon}
+use Rattle.asm_round_trip.proofs.Bytes.{solid-begins, solid-ends}
 use Rattle.asm_round_trip.proofs.Cuts.{cut-nowhere, trimmed-none}
 use Rattle.asm_round_trip.proofs.Numbers.{word-read, digits-text_solid}
 use Rattle.asm_round_trip.proofs.Forms.{Stands}
@@ -71,7 +73,8 @@ text-says word h = says-of word (decoded word) h refl
 bare-is : (text : List ℕ) → Stands text → bare text ≡ text
 unfolding bare
 bare-is text s =
-    ap (λ parts. trimmed (front_or text parts)) (cut-nowhere (λ byte. nat_eq byte 35) text (all-weaker is_inner (λ byte. not (nat_eq byte 35)) inner-no_comment text s.inner))
+    ap (λ parts. trimmed (front_or text parts))
+    (cut-nowhere (λ byte. nat_eq byte 35) text (all-weaker is_inner (λ byte. not (nat_eq byte 35)) inner-no_comment text s.inner))
     ∙ trimmed-none text s.begins s.ends
 
 statement-is : (text : List ℕ) (read : Read) → Stands text → instruction_of text ≡ Some read → statement_of text ≡ said read
@@ -79,7 +82,8 @@ unfolding statement_of
 statement-is text read s e =
     let place : length text - 1 < length text = omega (arith, s.begins.some) in
     let some : nat_eq (length text) 0 ≡ false = ne_eqb (length text) 0 (λ z. omega (arith, s.begins.some)) in
-    let colon : nat_eq (get_or text (length text - 1) 0) 58 ≡ false = inner-no_colon (get_or text (length text - 1) 0) (all-at is_inner text (length text - 1) s.inner place) in
+    let colon : nat_eq (get_or text (length text - 1) 0) 58
+    ≡ false = inner-no_colon (get_or text (length text - 1) 0) (all-at is_inner text (length text - 1) s.inner place) in
     rw (some, colon) (ap said_or e)
 
 -- what a word's line is to the assembler
@@ -90,4 +94,7 @@ pub record IsLineOf (word : ℕ) (text : List ℕ) : Type 0 where
 pub word_text-line : (word : ℕ) → word < 2 ^ 32 → IsLineOf word (word_text word)
 word_text-line word h =
     let s = text-says word h in
-    record { inner = s.stands.inner; says = ap statement_of (bare-is (word_text word) s.stands) ∙ statement-is (word_text word) (fixed (Some word)) s.stands s.reads }
+    record {
+      inner = s.stands.inner;
+      says = ap statement_of (bare-is (word_text word) s.stands) ∙ statement-is (word_text word) (fixed (Some word)) s.stands s.reads;
+    }

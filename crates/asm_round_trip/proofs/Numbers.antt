@@ -1,5 +1,6 @@
 -- A number that is written reads back.
-use Rattle.std.proofs.Common.{◌≡◌, ℕ, ℤ, pos, negsuc, suc, ◌+◌, ◌-◌, ◌*◌, ◌/◌, ◌%◌, ◌^◌, ◌<◌, ◌≤◌, true, false, nat_eq, List, [], ◌∷◌, ◌++◌, length, map, codes, decimal, Some, refl, ap, ◌∙◌, arith}
+use Rattle.std.proofs.Common.{◌≡◌, ℕ, ℤ, pos, negsuc, suc, ◌+◌, ◌-◌, ◌*◌, ◌/◌, ◌%◌, ◌^◌, ◌<◌, ◌≤◌, true, false, nat_eq, List, [], ◌∷◌, ◌++◌}
+use Rattle.std.proofs.Common.{length, map, codes, decimal, Some, refl, ap, ◌∙◌, arith}
 use Rattle.std.specs.Prelude.{option_map, neg_ℤ}
 use Rattle.std.proofs.lemmas.Bool.{ne_eqb, lt-ltb, le-leb, and_right, and_from}
 use Rattle.std.proofs.lemmas.Bool.Decides.{nat_tests}
@@ -27,7 +28,8 @@ digits-read : (number : ℕ) (text : List ℕ) → AllDigits 10 text → digits_
 digits-read number [] h = refl
 digits-read number (c ∷ text) h =
     let r = is_decimal c h.0 in
-    rw (our-value c r.0 r.1, same-value c r.0 r.1, lt-ltb (c - 48) 10 (omega (arith, r.0, r.1))) (digits-read (number * 10 + (c - 48)) text h.1)
+    rw (our-value c r.0 r.1, same-value c r.0 r.1, lt-ltb (c - 48) 10 (omega (arith, r.0, r.1)))
+    (digits-read (number * 10 + (c - 48)) text h.1)
 
 digits_of-read : (text : List ℕ) → AllDigits 10 text → 0 < length text → length text ≤ 12 → digits_of 10 text ≡ Some (digits_value 10 text)
 unfolding digits_of
@@ -46,7 +48,8 @@ plain-read : (text : List ℕ) → AllDigits 10 text → 0 < length text → len
 unfolding number_of
 plain-read text h some few = rw (no-minus text h some, no-prefix text h) (ap (option_map pos) (digits_of-read text h some few))
 
-minus-read : (text : List ℕ) → AllDigits 10 text → 0 < length text → length text ≤ 12 → number_of (45 ∷ text) ≡ Some (neg_ℤ (pos (digits_value 10 text)))
+minus-read : (text : List ℕ) → AllDigits 10 text → 0 < length text → length text ≤ 12 →
+    number_of (45 ∷ text) ≡ Some (neg_ℤ (pos (digits_value 10 text)))
 unfolding number_of
 minus-read text h some few = ap (option_map (λ number. neg_ℤ (pos number))) (digits_of-read text h some few)
 
@@ -61,14 +64,16 @@ signed-read (pos n) small = decimal-read n (omega arith)
 signed-read (negsuc n) small =
     let fits : suc n < 2 ^ 64 = omega arith in
     let d = decimal_is_IsNumeral (suc n) fits in
-    minus-read (decimal (suc n)) d.0.1 d.0.0 (length-decimal-le 12 (suc n) (omega arith) (omega arith) fits) ∙ ap (λ m. Some (neg_ℤ (pos m))) d.1
+    minus-read (decimal (suc n)) d.0.1 d.0.0 (length-decimal-le 12 (suc n) (omega arith) (omega arith) fits)
+    ∙ ap (λ m. Some (neg_ℤ (pos m))) d.1
 
 digit-solid : (c : ℕ) → 48 ≤ c → c ≤ 57 → is_solid c ≡ true
 digit-solid c l h = grind (arith, nat_tests)
 
 digits-solid : (text : List ℕ) → AllDigits 10 text → all is_solid text ≡ true
 digits-solid [] h = refl
-digits-solid (c ∷ text) h = let r = is_decimal c h.0 in and_from (is_solid c) (all is_solid text) (digit-solid c r.0 r.1) (digits-solid text h.1)
+digits-solid (c ∷ text) h =
+    let r = is_decimal c h.0 in and_from (is_solid c) (all is_solid text) (digit-solid c r.0 r.1) (digits-solid text h.1)
 
 pub decimal-solid : (n : ℕ) → n < 2 ^ 64 → all is_solid (decimal n) ≡ true
 decimal-solid n fits = digits-solid (decimal n) (decimal_is_IsNumeral n fits).0.1
@@ -101,13 +106,15 @@ abbrev value_after : ℕ → List ℕ → ℕ
 value_after number [] = number
 value_after number (d ∷ digits) = value_after (number * 16 + d) digits
 
-hex-read : (number : ℕ) (digits : List ℕ) → AreBelow digits → digits_from 16 number (map hex_digit digits) ≡ Some (value_after number digits)
+hex-read : (number : ℕ) (digits : List ℕ) → AreBelow digits →
+    digits_from 16 number (map hex_digit digits) ≡ Some (value_after number digits)
 hex-read number [] h = refl
 hex-read number (d ∷ digits) h = rw (hex-value d h.0, lt-ltb d 16 h.0) (hex-read (number * 16 + d) digits h.1)
 
 hex-all_solid : (digits : List ℕ) → AreBelow digits → all is_solid (map hex_digit digits) ≡ true
 hex-all_solid [] h = refl
-hex-all_solid (d ∷ digits) h = and_from (is_solid (hex_digit d)) (all is_solid (map hex_digit digits)) (hex-solid d h.0) (hex-all_solid digits h.1)
+hex-all_solid (d ∷ digits) h =
+    and_from (is_solid (hex_digit d)) (all is_solid (map hex_digit digits)) (hex-solid d h.0) (hex-all_solid digits h.1)
 
 below_16 : (n : ℕ) → n % 16 < 16
 below_16 n = omega arith
@@ -119,7 +126,8 @@ digits-whole word small = omega arith
 -- the eight digits of a word
 abbrev digits_in : ℕ → List ℕ
 digits_in word =
-    word / 268435456 % 16 ∷ word / 16777216 % 16 ∷ word / 1048576 % 16 ∷ word / 65536 % 16 ∷ word / 4096 % 16 ∷ word / 256 % 16 ∷ word / 16 % 16 ∷ word % 16 ∷ []
+    word / 268435456 % 16 ∷ word / 16777216 % 16 ∷ word / 1048576 % 16 ∷ word / 65536 % 16 ∷ word / 4096 % 16 ∷ word / 256 % 16
+    ∷ word / 16 % 16 ∷ word % 16 ∷ []
 
 are-below : (word : ℕ) → AreBelow (digits_in word)
 are-below word = (

@@ -26,7 +26,8 @@ lines_at is_next address (Some word) = heading is_next address ++ word_text word
 
 -- the lines of a place of memory, counted in words: its four bytes are a word where all of them are executable
 abbrev pub place_lines : List SegmentData → ℕ → List ℕ
-place_lines segments place = lines_at (is_some (fetched segments (ram_start + 4 * place - 4))) (ram_start + 4 * place) (fetched segments (ram_start + 4 * place))
+place_lines segments place =
+    lines_at (is_some (fetched segments (ram_start + 4 * place - 4))) (ram_start + 4 * place) (fetched segments (ram_start + 4 * place))
 
 -- the lines of the first places of memory, in order
 unfoldable pub first_lines : List SegmentData → ℕ → List ℕ

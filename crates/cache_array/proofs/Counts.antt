@@ -1,5 +1,6 @@
 -- How many blocks of a set have a frame.
-use Rattle.std.proofs.Common.{◌≡◌, ℕ, suc, ◌+◌, ◌*◌, ◌<◌, ◌≤◌, ◌%◌, Bool, true, false, ◌&&◌, cond, List, [], ◌∷◌, ◌++◌, length, get_or, take, drop, Option, Some, None, refl, sym, ap, ◌∙◌, arith, ◌⊎◌, inl, inr, ⊎_elim}
+use Rattle.std.proofs.Common.{◌≡◌, ℕ, suc, ◌+◌, ◌*◌, ◌<◌, ◌≤◌, ◌%◌, Bool, true, false, ◌&&◌, cond, List, [], ◌∷◌, ◌++◌, length, get_or}
+use Rattle.std.proofs.Common.{take, drop, Option, Some, None, refl, sym, ap, ◌∙◌, arith, ◌⊎◌, inl, inr, ⊎_elim}
 use Rattle.std.specs.Prelude.{nat_eq, nat_le, slice_range, is_some}
 use Rattle.std.specs.List.{list_all}
 use Rattle.std.proofs.Math.Nat.{mul-le-mul_right}
@@ -32,7 +33,8 @@ count_none p (x ∷ xs) d h =
     let t : p x ≡ false = h 0 (omega arith) in
     rw (t, count_none p xs d (λ k l. h (suc k) (omega arith))) refl
 
-count_same : {X : Type 0} (p q : X → Bool) (xs : List X) (d : X) → ((k : ℕ) → k < length xs → p (get_or xs k d) ≡ q (get_or xs k d)) → how_many p xs ≡ how_many q xs
+count_same : {X : Type 0} (p q : X → Bool) (xs : List X) (d : X) → ((k : ℕ) → k < length xs → p (get_or xs k d) ≡ q (get_or xs k d)) →
+    how_many p xs ≡ how_many q xs
 count_same p q [] d h = refl
 count_same p q (x ∷ xs) d h =
     let t : p x ≡ q x = h 0 (omega arith) in
@@ -58,7 +60,8 @@ count_append : {X : Type 0} (p : X → Bool) (xs ys : List X) → how_many p (xs
 count_append p [] ys = omega arith
 count_append p (x ∷ xs) ys = rw (count_append p xs ys) (omega arith)
 
-three_parts : {X : Type 0} (p : X → Bool) (xs : List X) (a b : ℕ) → a ≤ b → how_many p xs ≡ how_many p (take a xs) + (how_many p (slice_range xs a b) + how_many p (drop b xs))
+three_parts : {X : Type 0} (p : X → Bool) (xs : List X) (a b : ℕ) → a ≤ b →
+    how_many p xs ≡ how_many p (take a xs) + (how_many p (slice_range xs a b) + how_many p (drop b xs))
 three_parts p xs a b l =
     ap (how_many p) (sym (take-append-drop a xs))
     ∙ count_append p (take a xs) (drop a xs)
@@ -78,10 +81,12 @@ sets_apart s t w f a b c e =
     (cases_lt s t)
 
 -- a block whose frame is of another block's set is of that set
-pub same-set : (d : FrameSlots) (f x b : ℕ) → AreSlots d → block_at d f ≡ Some x → first_of d b ≤ f → f < first_of d b + d.ways → x % d.sets ≡ b % d.sets
+pub same-set : (d : FrameSlots) (f x b : ℕ) → AreSlots d → block_at d f ≡ Some x → first_of d b ≤ f → f < first_of d b + d.ways →
+    x % d.sets ≡ b % d.sets
 same-set d f x b h e l m = let p = h.placed f x e in sets_apart (x % d.sets) (b % d.sets) d.ways f p.0 p.1 l m
 
-outside_step : (d : FrameSlots) (f b : ℕ) (o : Option ℕ) → AreSlots d → (f < first_of d b) ⊎ (first_of d b + d.ways ≤ f) → block_at d f ≡ o → is_in d.sets (b % d.sets) o ≡ false
+outside_step : (d : FrameSlots) (f b : ℕ) (o : Option ℕ) → AreSlots d → (f < first_of d b) ⊎ (first_of d b + d.ways ≤ f) →
+    block_at d f ≡ o → is_in d.sets (b % d.sets) o ≡ false
 outside_step d f b None h l e = refl
 outside_step d f b (Some x) h l e =
     let p = h.placed f x e in
@@ -92,7 +97,8 @@ outside_step d f b (Some x) h l e =
     (λ (i : x % d.sets ≡ b % d.sets → ⊥). grind (arith, nat_tests))
     (cases_eq (x % d.sets) (b % d.sets))
 
-inside_step : (d : FrameSlots) (f b : ℕ) (o : Option ℕ) → AreSlots d → first_of d b ≤ f → f < first_of d b + d.ways → block_at d f ≡ o → is_in d.sets (b % d.sets) o ≡ is_some o
+inside_step : (d : FrameSlots) (f b : ℕ) (o : Option ℕ) → AreSlots d → first_of d b ≤ f → f < first_of d b + d.ways → block_at d f ≡ o →
+    is_in d.sets (b % d.sets) o ≡ is_some o
 inside_step d f b None h l m e = refl
 inside_step d f b (Some x) h l m e =
     let q : x % d.sets ≡ b % d.sets = same-set d f x b h e l m in grind (arith, nat_tests)

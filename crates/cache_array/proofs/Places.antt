@@ -1,5 +1,6 @@
 -- The first place that passes a test, and a part of a list.
-use Rattle.std.proofs.Common.{◌≡◌, ℕ, ◌+◌, ◌-◌, ◌<◌, ◌≤◌, Bool, true, false, cond, List, length, get_or, drop, Some, None, refl, ◌∙◌, arith, length-drop}
+use Rattle.std.proofs.Common.{◌≡◌, ℕ, ◌+◌, ◌-◌, ◌<◌, ◌≤◌, Bool, true, false, cond, List, length, get_or, drop, Some, None, refl, ◌∙◌, arith}
+use Rattle.std.proofs.Common.{length-drop}
 use Rattle.std.specs.Prelude.{nat_lt, slice_range}
 use Rattle.std.specs.List.{position, position_or_len}
 use Rattle.std.proofs.lemmas.Bool.Decides.{nat_tests}
@@ -11,7 +12,8 @@ none_past true n h = cc
 none_past false n h = refl
 
 -- where no place was found, none passes
-pub position-None : {X : Type 0} (p : X → Bool) (xs : List X) (k : ℕ) (d : X) → position p xs ≡ None → k < length xs → p (get_or xs k d) ≡ false
+pub position-None : {X : Type 0} (p : X → Bool) (xs : List X) (k : ℕ) (d : X) → position p xs ≡ None → k < length xs →
+    p (get_or xs k d) ≡ false
 position-None p xs k d h l =
     let t = none_past (nat_lt (position_or_len p xs) (length xs)) (position_or_len p xs) h in
     let m : length xs ≤ position_or_len p xs = grind (arith, nat_tests) in

@@ -1,5 +1,6 @@
 -- Where a block is, and after each change.
-use Rattle.std.proofs.Common.{◌≡◌, ℕ, suc, ◌+◌, ◌-◌, ◌*◌, ◌<◌, ◌≤◌, ◌%◌, true, false, cond, List, [], ◌∷◌, length, get_or, set, Option, Some, None, refl, sym, ap, ◌∙◌, subst, arith, ⊎_elim, length-set, get_or-set_same, get_or-set_other}
+use Rattle.std.proofs.Common.{◌≡◌, ℕ, suc, ◌+◌, ◌-◌, ◌*◌, ◌<◌, ◌≤◌, ◌%◌, true, false, cond, List, [], ◌∷◌, length, get_or, set, Option}
+use Rattle.std.proofs.Common.{Some, None, refl, sym, ap, ◌∙◌, subst, arith, ⊎_elim, length-set, get_or-set_same, get_or-set_other}
 use Rattle.std.specs.Prelude.{nat_eq, is_some, is_none, IsSome}
 use Rattle.std.specs.List.{position, list_all}
 use Rattle.std.proofs.Math.Nat.{mul-le-mul_right}
@@ -79,7 +80,8 @@ ways-length d b h =
     let e = length-range d.slots (first_of d b) (first_of d b + d.ways) (omega (arith, set-inside d b h.some, h.whole)) in omega (arith, e)
 
 -- the way that was found in the set is the block's frame
-pub found-in-set : (d : FrameSlots) (b w : ℕ) → AreSlots d → position (is_of b) (ways_of d b) ≡ Some w → (w < d.ways) × (frame_of d b ≡ Some (first_of d b + w))
+pub found-in-set : (d : FrameSlots) (b w : ℕ) → AreSlots d → position (is_of b) (ways_of d b) ≡ Some w →
+    (w < d.ways) × (frame_of d b ≡ Some (first_of d b + w))
 found-in-set d b w h e =
     let s = position-Some (is_of b) (ways_of d b) w None e in
     let l : w < d.ways = omega (arith, s.0, ways-length d b h) in
@@ -94,8 +96,10 @@ none-in-set d b h e =
     frame-none d b (λ f i.
     let p = h.placed f b i in
     let k = part_of (first_of d b) f d.ways p.0 p.1 in
-    let n : is_of b (get_or (ways_of d b) k.0 None) ≡ false = position-None (is_of b) (ways_of d b) k.0 None e (omega (arith, ways-length d b h, k.1.0)) in
-    let y : is_of b (get_or (ways_of d b) k.0 None) ≡ true = of_self (get_or (ways_of d b) k.0 None) b (way-at d b k.0 k.1.0 ∙ ap (block_at d) k.1.1 ∙ i) in cc)
+    let n : is_of b (get_or (ways_of d b) k.0 None)
+    ≡ false = position-None (is_of b) (ways_of d b) k.0 None e (omega (arith, ways-length d b h, k.1.0)) in
+    let y : is_of b (get_or (ways_of d b) k.0 None)
+    ≡ true = of_self (get_or (ways_of d b) k.0 None) b (way-at d b k.0 k.1.0 ∙ ap (block_at d) k.1.1 ∙ i) in cc)
 
 -- a look for a free way
 
@@ -137,12 +141,14 @@ free-in-set d b w h e =
           let k = part_of (first_of d b) f d.ways i.0 i.1 in
           let n : k.0 < w = omega (arith, k.1.1) in
           let t = s.2 k.0 n in
-          subst (λ (g : ℕ). block_at d g ≡ None → ⊥) k.1.1 (subst (λ (o : Option ℕ). o ≡ None → ⊥) (way-at d b k.0 k.1.0) (taken_step (get_or (ways_of d b) k.0 None) t));
+          subst (λ (g : ℕ). block_at d g ≡ None → ⊥) k.1.1
+          (subst (λ (o : Option ℕ). o ≡ None → ⊥) (way-at d b k.0 k.1.0) (taken_step (get_or (ways_of d b) k.0 None) t));
     }
 
 -- after a change of one slot
 
-set_at : (xs : List (Option ℕ)) (f g : ℕ) (o : Option ℕ) → f < length xs → get_or (set xs f o) g None ≡ cond (nat_eq f g) o (get_or xs g None)
+set_at : (xs : List (Option ℕ)) (f g : ℕ) (o : Option ℕ) → f < length xs →
+    get_or (set xs f o) g None ≡ cond (nat_eq f g) o (get_or xs g None)
 set_at xs f g o l =
     ⊎_elim
     (λ (e : f ≡ g). let t : nat_eq f g ≡ true = grind (arith, nat_tests) in rw (t, ← e) (get_or-set_same xs f o None l))
@@ -158,7 +164,8 @@ at_freed : (d : FrameSlots) (f g : ℕ) → f < length d.slots → block_at (fre
 at_freed d f g l = set_at d.slots f g None l
 
 -- what a slot that was set has: what was put there, or what it had
-either : (f g b x : ℕ) (o p : Option ℕ) (P : Type 0) → o ≡ cond (nat_eq f g) (Some b) p → o ≡ Some x → (f ≡ g → b ≡ x → P) → ((f ≡ g → ⊥) → p ≡ Some x → P) → P
+either : (f g b x : ℕ) (o p : Option ℕ) (P : Type 0) → o ≡ cond (nat_eq f g) (Some b) p → o ≡ Some x → (f ≡ g → b ≡ x → P) →
+    ((f ≡ g → ⊥) → p ≡ Some x → P) → P
 either f g b x o p P e h same other =
     ⊎_elim
     (λ (i : f ≡ g). let t : nat_eq f g ≡ true = grind (arith, nat_tests) in same i (same_Some b x (sym (rw t at e) ∙ h)))
@@ -179,7 +186,8 @@ taken_placed d f b g x h i e =
     (λ p q. subst (λ (m : ℕ). IsOfSet d m x) p (subst (λ (m : ℕ). IsOfSet d f m) q i))
     (λ _ q. h.placed g x q)
 
-taken_apart : (d : FrameSlots) (f b g k x : ℕ) → AreSlots d → frame_of d b ≡ None → IsOfSet d f b → block_at (taken d f b) g ≡ Some x → block_at (taken d f b) k ≡ Some x → g ≡ k
+taken_apart : (d : FrameSlots) (f b g k x : ℕ) → AreSlots d → frame_of d b ≡ None → IsOfSet d f b → block_at (taken d f b) g ≡ Some x →
+    block_at (taken d f b) k ≡ Some x → g ≡ k
 taken_apart d f b g k x h n i e u =
     let l = frame-inside d f b h i in
     either f g b x (block_at (taken d f b) g) (block_at d g) (g ≡ k) (at_taken d f b g l) e
@@ -205,12 +213,15 @@ slots-freed d f h l = record {
   some = h.some;
   whole = length-set d.slots f None ∙ h.whole;
   placed = λ g x e. h.placed g x (still f g x (block_at (freed d f) g) (block_at d g) (at_freed d f g l) e).1;
-  apart = λ g k x e u. h.apart g k x (still f g x (block_at (freed d f) g) (block_at d g) (at_freed d f g l) e).1 (still f k x (block_at (freed d f) k) (block_at d k) (at_freed d f k l) u).1;
+  apart =
+      λ g k x e u. h.apart g k x (still f g x (block_at (freed d f) g) (block_at d g) (at_freed d f g l) e).1
+      (still f k x (block_at (freed d f) k) (block_at d k) (at_freed d f k l) u).1;
 }
 
 -- which frame is found afterwards
 
-other_found : (d e : FrameSlots) (x : ℕ) (o : Option ℕ) → AreSlots e → ((g : ℕ) → block_at d g ≡ Some x → block_at e g ≡ Some x) → ((g : ℕ) → block_at e g ≡ Some x → block_at d g ≡ Some x) → frame_of d x ≡ o → frame_of e x ≡ o
+other_found : (d e : FrameSlots) (x : ℕ) (o : Option ℕ) → AreSlots e → ((g : ℕ) → block_at d g ≡ Some x → block_at e g ≡ Some x) →
+    ((g : ℕ) → block_at e g ≡ Some x → block_at d g ≡ Some x) → frame_of d x ≡ o → frame_of e x ≡ o
 other_found d e x None h to from i = frame-none e x (λ g j. none-at d g x i (from g j))
 other_found d e x (Some g) h to from i = frame-found e g x h (to g (found-at d g x i))
 
@@ -221,7 +232,8 @@ differs d f g x n e =
     (λ (i : f ≡ g → ⊥). grind (arith, nat_tests))
     (cases_eq f g)
 
-pub frame-taken : (d : FrameSlots) (f b x : ℕ) → AreSlots d → frame_of d b ≡ None → block_at d f ≡ None → IsOfSet d f b → frame_of (taken d f b) x ≡ cond (nat_eq b x) (Some f) (frame_of d x)
+pub frame-taken : (d : FrameSlots) (f b x : ℕ) → AreSlots d → frame_of d b ≡ None → block_at d f ≡ None → IsOfSet d f b →
+    frame_of (taken d f b) x ≡ cond (nat_eq b x) (Some f) (frame_of d x)
 frame-taken d f b x h n z i =
     let l = frame-inside d f b h i in
     let k = slots-taken d f b h n i in
@@ -231,7 +243,8 @@ frame-taken d f b x h n z i =
     (λ (e : b ≡ x → ⊥). let t : nat_eq b x ≡ false = grind (arith, nat_tests) in
     rw t (other_found d (taken d f b) x (frame_of d x) k
     (λ g u. at_taken d f b g l ∙ rw (differs d f g x z u) u)
-    (λ g u. either f g b x (block_at (taken d f b) g) (block_at d g) (block_at d g ≡ Some x) (at_taken d f b g l) u (λ _ q. absurd (e q)) (λ _ q. q))
+    (λ g u. either f g b x (block_at (taken d f b) g) (block_at d g) (block_at d g ≡ Some x) (at_taken d f b g l) u (λ _ q. absurd (e q))
+    (λ _ q. q))
     refl))
     (cases_eq b x)
 
@@ -242,7 +255,8 @@ parted f g b x o p h i s e =
     (λ (j : f ≡ g → ⊥). grind (arith, nat_tests))
     (cases_eq f g)
 
-pub frame-freed : (d : FrameSlots) (f b x : ℕ) → AreSlots d → frame_of d b ≡ Some f → frame_of (freed d f) x ≡ cond (nat_eq b x) None (frame_of d x)
+pub frame-freed : (d : FrameSlots) (f b x : ℕ) → AreSlots d → frame_of d b ≡ Some f →
+    frame_of (freed d f) x ≡ cond (nat_eq b x) None (frame_of d x)
 frame-freed d f b x h i =
     let a = found-at d f b i in
     let l = at-inside d f b a in

@@ -1,5 +1,6 @@
 -- The frames of a cache as slots, one for each way of each set: a slot has a block or is free.
-use Rattle.std.specs.Prelude.{◌≡◌, ℕ, ◌+◌, ◌*◌, ◌<◌, ◌≤◌, ◌%◌, Bool, false, nat_eq, List, length, slice_index_or, slice_set, slice_range, Option, Some, None, is_some}
+use Rattle.std.specs.Prelude.{◌≡◌, ℕ, ◌+◌, ◌*◌, ◌<◌, ◌≤◌, ◌%◌, Bool, false, nat_eq, List, length, slice_index_or, slice_set, slice_range}
+use Rattle.std.specs.Prelude.{Option, Some, None, is_some}
 use Rattle.std.specs.List.{position, list_all}
 
 -- how many sets there are, of how many ways each, and the slots in order of their frames' numbers

@@ -1,5 +1,6 @@
 -- A command's arguments, added one after another.
-use Rattle.std.proofs.Common.{◌≡◌, ◌∙◌, ◌+◌, ◌<◌, ℕ, zero, suc, refl, ap, arith, add-one, List, [], ◌∷◌, map, take, length, slice_index_or, Bor}
+use Rattle.std.proofs.Common.{◌≡◌, ◌∙◌, ◌+◌, ◌<◌, ℕ, zero, suc, refl, ap, arith, add-one, List, [], ◌∷◌, map, take, length, slice_index_or}
+use Rattle.std.proofs.Common.{Bor}
 use Rattle.clap.specs.Words.{App, Text, with_rule}
 use Rattle.command_words.specs.Command.{rule_by, with_args}
 use Rattle.command_words.specs.declared.command.Kind.{Kind}
@@ -17,4 +18,5 @@ module _ (kind : Kind) where
 pub with_args-next : (kind : Kind) (names : List (Bor Text)) (i : ℕ) (d : Bor Text) (app : App) → i < length names
     → with_args kind (map (λ name. name.now) (take (i + 1) names)) app
     ≡ with_rule (with_args kind (map (λ name. name.now) (take i names)) app) (rule_by kind (slice_index_or names i d).now)
-with_args-next kind names i d app lt = ap (λ n. with_args kind (map (λ name. name.now) (take n names)) app) (add-one i) ∙ next kind names i d app lt
+with_args-next kind names i d app lt =
+    ap (λ n. with_args kind (map (λ name. name.now) (take n names)) app) (add-one i) ∙ next kind names i d app lt

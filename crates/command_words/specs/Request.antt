@@ -1,5 +1,6 @@
 -- What the words ask for.
-use Rattle.std.specs.Prelude.{ℕ, Bool, true, false, ◌&&◌, if◌then◌else◌, List, codes, bytes_eq, Option, Some, None, option_map, option_and_then, string_bytes}
+use Rattle.std.specs.Prelude.{ℕ, Bool, true, false, ◌&&◌, if◌then◌else◌, List, codes, bytes_eq, Option, Some, None, option_map}
+use Rattle.std.specs.Prelude.{option_and_then, string_bytes}
 use Rattle.std.specs.Option.{option_map_or}
 use Rattle.sn_base.specs.Config.{lies_in, config_fits}
 use Rattle.sn_base.specs.declared.config.Config.{Config}
@@ -83,7 +84,8 @@ request_of command entries =
 
 -- the request of the words: none where they aren't a command's, or where the text of an entry breaks its rule
 abbrev pub ask_of : List Text → Option Request
-ask_of words = if takes the_app words then option_and_then (λ command. request_of command.0 command.1) (subcommand_of the_app words) else None
+ask_of words =
+    if takes the_app words then option_and_then (λ command. request_of command.0 command.1) (subcommand_of the_app words) else None
 
 -- requests of the code, with their names as bytes
 abbrev pub as_replay : code_replay.Replay → Request

@@ -2,7 +2,8 @@
 ghost use Rattle.std.specs.Prelude.{◌≡◌, ◌↔◌, IfOk, IfErr, false, true, [], map, string_bytes, codes};
 ghost use Rattle.clap.specs.Words.{app_of, rule_of, with_rule, takes, kind_of, subcommand_of, subcommand_rows_of};
 ghost use Rattle.clap.specs.declared.builder.command.Command.TheViews.{out-Command as fields_of};
-ghost use Rattle.command_words.specs.Command.{rule_by, with_args, command_app, replay_app, run_app, check_app, demo_app, asm_app, dis_app, named_app, with_command, the_app};
+ghost use Rattle.command_words.specs.Command.{rule_by, with_args, command_app, replay_app, run_app, check_app, demo_app, asm_app, dis_app};
+ghost use Rattle.command_words.specs.Command.{named_app, with_command, the_app};
 
 use crate::request::WordsFault;
 use clap::error::ErrorKind;
@@ -61,7 +62,9 @@ fn command_by<'a>(
     options: &[&'a str],
     flags: &[&'a str],
 ) -> Result<Command<'a>, AllocError>
-    ensures app { IfOk result (λ c. app_of c ≡ command_app name.entry.now (map (λ name. name.now) words.now) (map (λ name. name.now) options.now) (map (λ name. name.now) flags.now)) }
+    ensures app { IfOk result
+        (λ c. app_of c ≡ command_app name.entry.now (map (λ name. name.now) words.now) (map (λ name. name.now) options.now)
+        (map (λ name. name.now) flags.now)) }
     ensures alone { IfOk result (λ c. (fields_of c).has_globals ≡ false) }
 {
     let command = Command::new(alloc, name);

@@ -3,7 +3,8 @@ ghost use Rattle.std.specs.Prelude.{◌≡◌, ◌≤◌, IfOk, IfErr, true, Som
 ghost use Rattle.sn_base.specs.Config.{lies_in, config_fits};
 ghost use Rattle.option_values.specs.Runs.{run_rules_fit};
 ghost use Rattle.clap.specs.Words.{found_of, rows_of, first_of};
-ghost use Rattle.command_words.specs.Request.{ask_of, as_request, request_of, config_of, replay_of, run_rules_of, run_report_of, run_of, check_of, demo_of, as_replay, as_run, as_check, watch_fits, request_fits};
+ghost use Rattle.command_words.specs.Request.{ask_of, as_request, request_of, config_of, replay_of, run_rules_of, run_report_of, run_of};
+ghost use Rattle.command_words.specs.Request.{check_of, demo_of, as_replay, as_run, as_check, watch_fits, request_fits};
 
 use crate::command::entries_of;
 use crate::entries::{command_of, has_flag, text_of};

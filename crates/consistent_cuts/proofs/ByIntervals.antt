@@ -55,7 +55,8 @@ reporting flights next reports =
 
 abbrev edged : Moment
 edged =
-    moment (fabric (bare 0 ∷ bare 1 ∷ []) homes [] 1 0) (waiting_first ∷ processor (begun 1) (begun 1 ∷ begun 1 ∷ []) ∷ []) (0 ∷ 0 ∷ []) [] [] []
+    moment (fabric (bare 0 ∷ bare 1 ∷ []) homes [] 1 0) (waiting_first ∷ processor (begun 1) (begun 1 ∷ begun 1 ∷ []) ∷ [])
+    (0 ∷ 0 ∷ []) [] [] []
 
 abbrev retired : Moment
 retired =
@@ -92,7 +93,8 @@ abbrev validated : Moment
 validated = moment (fabric (bare 2 ∷ bare 2 ∷ []) homes (told 3 1) 5 1) last (2 ∷ 2 ∷ []) (waits 1 1 ∷ []) (plain 0 ∷ []) entries
 
 abbrev both_validated : Moment
-both_validated = moment (fabric (bare 2 ∷ bare 2 ∷ []) homes (told 3 1 ++ told 5 2) 7 2) last (2 ∷ 2 ∷ []) [] (plain 0 ∷ plain 1 ∷ []) entries
+both_validated =
+    moment (fabric (bare 2 ∷ bare 2 ∷ []) homes (told 3 1 ++ told 5 2) 7 2) last (2 ∷ 2 ∷ []) [] (plain 0 ∷ plain 1 ∷ []) entries
 
 -- the events
 

@@ -1,12 +1,14 @@
 -- Which events of the fabric leave its clocks: each node's interval and the point that it knows, and the recovery point.
-use Rattle.std.proofs.Common.{◌≡◌, ◌≢◌, ℕ, ◌<◌, ◌≤◌, Bool, true, false, not, ◌&&◌, nat_le, List, [], ◌∷◌, length, Option, Some, None, arith, refl, sym, ap, ◌∙◌, subst, get_or-set_same, get_or-set_other, length-set, ◌⊎◌, inl, inr, if◌then◌else◌}
+use Rattle.std.proofs.Common.{◌≡◌, ◌≢◌, ℕ, ◌<◌, ◌≤◌, Bool, true, false, not, ◌&&◌, nat_le, List, [], ◌∷◌, length, Option, Some, None, arith}
+use Rattle.std.proofs.Common.{refl, sym, ap, ◌∙◌, subst, get_or-set_same, get_or-set_other, length-set, ◌⊎◌, inl, inr, if◌then◌else◌}
 use Rattle.std.specs.Prelude.{slice_index_or, slice_set}
 use Rattle.std.proofs.Math.Seq.{set_out}
 use Rattle.std.proofs.lemmas.Bool.{cases_order}
 use Rattle.sn_base.specs.declared.block.Write.{Write}
 use Rattle.sn_base.specs.declared.config.Config.{Config}
 use Rattle.sn_base.specs.declared.event.Answer.{Answer}
-use Rattle.sn_base.specs.declared.event.Answer.TheVariants.{Retired, Waits, NeedsEvict, LogFull, NetFull, Reported, Hopped, LostInDead, Arrived, NoMessage, Lost, Killed, AlreadyDead, Delivered}
+use Rattle.sn_base.specs.declared.event.Answer.TheVariants.{Retired, Waits, NeedsEvict, LogFull, NetFull, Reported, Hopped, LostInDead}
+use Rattle.sn_base.specs.declared.event.Answer.TheVariants.{Arrived, NoMessage, Lost, Killed, AlreadyDead, Delivered}
 use Rattle.sn_msg.specs.declared.Message.{Message}
 use Rattle.sn_msg.specs.declared.Body.TheVariants.{Ready}
 use Rattle.route_plan.specs.Distances.{is_dead}
@@ -42,9 +44,12 @@ module _ {A B : Type 0} (part : A → B) (xs : List A) (i j : ℕ) (v d : A) (sa
       out e = ap (λ ys. part (slice_index_or ys j d)) (set_out xs i v e)
 
       here : j ≡ i → i < length xs → part (slice_index_or (slice_set xs i v) j d) ≡ part (slice_index_or xs j d)
-      here e l = subst (λ k. part (slice_index_or (slice_set xs i v) k d) ≡ part (slice_index_or xs k d)) (sym e) (ap part (get_or-set_same xs i v d l) ∙ same)
+      here e l =
+          subst (λ k. part (slice_index_or (slice_set xs i v) k d) ≡ part (slice_index_or xs k d)) (sym e)
+          (ap part (get_or-set_same xs i v d l) ∙ same)
 
-      go : ((j ≡ i) ⊎ ((j < i) ⊎ (i < j))) → ((i ≡ length xs) ⊎ ((i < length xs) ⊎ (length xs < i))) → part (slice_index_or (slice_set xs i v) j d) ≡ part (slice_index_or xs j d)
+      go : ((j ≡ i) ⊎ ((j < i) ⊎ (i < j))) → ((i ≡ length xs) ⊎ ((i < length xs) ⊎ (length xs < i))) →
+          part (slice_index_or (slice_set xs i v) j d) ≡ part (slice_index_or xs j d)
       go (inl e) (inl l) = out (omega arith)
       go (inl e) (inr (inl l)) = here e l
       go (inl e) (inr (inr l)) = out (omega arith)
@@ -52,7 +57,8 @@ module _ {A B : Type 0} (part : A → B) (xs : List A) (i j : ℕ) (v d : A) (sa
       go (inr (inr e)) l = other (omega arith)
 
 -- a node in its place with the same clocks
-pub same_with_node : (s : Fabric) (n : ℕ) (node : Node) → node.now ≡ (node_at s n).now → node.known ≡ (node_at s n).known → IsSameClocks s (with_node s n node)
+pub same_with_node : (s : Fabric) (n : ℕ) (node : Node) → node.now ≡ (node_at s n).now → node.known ≡ (node_at s n).known →
+    IsSameClocks s (with_node s n node)
 same_with_node s n node now known = record {
   count = length-set s.nodes n node;
   now = λ m. part_set (λ x. x.now) s.nodes n m node first_node now;
@@ -88,13 +94,21 @@ quiet s answer = record { clocks = same_clocks s; told = refl }
 -- an access that isn't served, by the tests in their order
 pub same_accessed : (config : Config) (s : Fabric) (n block : ℕ) (need : Need) → IsQuiet s (accessed config s n block need)
 same_accessed config s n block need =
-    go (has_miss (node_at s n).cache.miss) (puts_on (node_at s n).cache.put block) (serves need (line_of (node_at s n).cache block).state) (lacks_room config (node_at s n) block need)
-    (not (is_present (line_of (node_at s n).cache block).state) && nat_le config.ways (frames_taken (node_at s n).cache config.sets block)) (is_full s 1)
+    go (has_miss (node_at s n).cache.miss) (puts_on (node_at s n).cache.put block) (serves need (line_of (node_at s n).cache block).state)
+    (lacks_room config (node_at s n) block need)
+    (not (is_present (line_of (node_at s n).cache block).state) && nat_le config.ways (frames_taken (node_at s n).cache config.sets block))
+    (is_full s 1)
   where
     begun : IsSameClocks s (missed s n block need).fabric
-    begun = same_then s (with_node s n (missing (node_at s n) block need)) (missed s n block need).fabric (same_with_node s n (missing (node_at s n) block need) refl refl) (same_nodes (with_node s n (missing (node_at s n) block need)) (missed s n block need).fabric refl refl)
+    begun =
+        same_then s (with_node s n (missing (node_at s n) block need)) (missed s n block need).fabric
+        (same_with_node s n (missing (node_at s n) block need) refl refl)
+        (same_nodes (with_node s n (missing (node_at s n) block need)) (missed s n block need).fabric refl refl)
 
-    go : (a b c d e f : Bool) → IsQuiet s (if a then refused s Waits else if b then refused s Waits else if c then (if d then refused s LogFull else answered s Retired) else if e then refused s NeedsEvict else if f then refused s NetFull else missed s n block need)
+    go : (a b c d e f : Bool) →
+        IsQuiet s (if a then refused s Waits else if b then refused s Waits
+        else if c then (if d then refused s LogFull else answered s Retired) else if e then refused s NeedsEvict
+        else if f then refused s NetFull else missed s n block need)
     go true b c d e f = quiet s Waits
     go false true c d e f = quiet s Waits
     go false false true true e f = quiet s LogFull
@@ -111,16 +125,23 @@ same_stored s n w = same_with_node s n (with_write (node_at s n) w) refl refl
 pub same_reported : (s : Fabric) (n : ℕ) → IsQuiet s (reported s n)
 same_reported s n = go (is_full s 1)
   where
-    go : (a : Bool) → IsQuiet s (if a then refused s NetFull else sending s n 0 (send 0 (Ready (ready_of s n)) ∷ []) (Reported (ready_of s n)))
+    go : (a : Bool) → IsQuiet s
+        (if a then refused s NetFull else sending s n 0 (send 0 (Ready (ready_of s n)) ∷ []) (Reported (ready_of s n)))
     go true = quiet s NetFull
-    go false = record { clocks = same_nodes s (sending s n 0 (send 0 (Ready (ready_of s n)) ∷ []) (Reported (ready_of s n))).fabric refl refl; told = refl }
+    go false =
+        record {
+          clocks = same_nodes s (sending s n 0 (send 0 (Ready (ready_of s n)) ∷ []) (Reported (ready_of s n))).fabric refl refl;
+          told = refl;
+        }
 
 -- what the network does
 module _ (s : Fabric) where
   with_other_net : (net : Net) (answer : Answer) → IsQuiet s (answered (with_net s net) answer)
   with_other_net net answer = record { clocks = same_nodes s (with_net s net) refl refl; told = refl }
 
-  hopping : (f : Flight) (a b : Bool) → IsQuiet s (if a then refused s Arrived else if b then answered (with_net s (without_flight s.net f.message.id)) LostInDead else answered (with_net s (moved s.net f.message.id (next_switch (routes_of s) f))) Hopped)
+  hopping : (f : Flight) (a b : Bool) →
+      IsQuiet s (if a then refused s Arrived else if b then answered (with_net s (without_flight s.net f.message.id)) LostInDead
+      else answered (with_net s (moved s.net f.message.id (next_switch (routes_of s) f))) Hopped)
   hopping f true b = quiet s Arrived
   hopping f false true = with_other_net (without_flight s.net f.message.id) LostInDead
   hopping f false false = with_other_net (moved s.net f.message.id (next_switch (routes_of s) f)) Hopped
@@ -148,16 +169,28 @@ module _ (s : Fabric) where
 
 -- what a row of a cache and of a home leaves
 module _ (s : Fabric) (m : Message) where
-  pub cache_clocks : (reply : CacheReply) → IsSameClocks s (sending (with_net (with_node s m.to (node_after (node_at s m.to) reply)) (without_flight s.net m.id)) m.to m.block reply.sends Delivered).fabric
+  pub cache_clocks : (reply : CacheReply) →
+      IsSameClocks s (sending
+      (with_net (with_node s m.to (node_after (node_at s m.to) reply))
+      (without_flight s.net m.id)) m.to m.block reply.sends Delivered).fabric
   cache_clocks reply =
-      same_then s (with_node s m.to (node_after (node_at s m.to) reply)) _ (same_with_node s m.to (node_after (node_at s m.to) reply) refl refl)
-      (same_nodes (with_node s m.to (node_after (node_at s m.to) reply)) (sending (with_net (with_node s m.to (node_after (node_at s m.to) reply)) (without_flight s.net m.id)) m.to m.block reply.sends Delivered).fabric refl refl)
+      same_then s (with_node s m.to (node_after (node_at s m.to) reply)) _
+      (same_with_node s m.to (node_after (node_at s m.to) reply) refl refl)
+      (same_nodes (with_node s m.to (node_after (node_at s m.to) reply))
+      (sending (with_net (with_node s m.to (node_after (node_at s m.to) reply))
+      (without_flight s.net m.id)) m.to m.block reply.sends Delivered).fabric refl refl)
 
   entry_clocks : (reply : HomeReply) → IsSameClocks s (home_after s m.to m.block reply)
-  entry_clocks reply = same_then s (with_home s m.block reply.after.entry) (home_after s m.to m.block reply) (same_nodes s (with_home s m.block reply.after.entry) refl refl)
+  entry_clocks reply =
+      same_then s (with_home s m.block reply.after.entry) (home_after s m.to m.block reply)
+      (same_nodes s (with_home s m.block reply.after.entry) refl refl)
       (same_with_node (with_home s m.block reply.after.entry) m.to (record (node_at s m.to) { log = reply.after.log }) refl refl)
 
-  pub home_clocks : (reply : HomeReply) → IsSameClocks s (sending (with_net (home_after s m.to m.block reply) (without_flight s.net m.id)) m.to m.block reply.sends Delivered).fabric
+  pub home_clocks : (reply : HomeReply) →
+      IsSameClocks s (sending
+      (with_net (home_after s m.to m.block reply) (without_flight s.net m.id)) m.to m.block reply.sends Delivered).fabric
   home_clocks reply =
       same_then s (home_after s m.to m.block reply) _ (entry_clocks reply)
-      (same_nodes (home_after s m.to m.block reply) (sending (with_net (home_after s m.to m.block reply) (without_flight s.net m.id)) m.to m.block reply.sends Delivered).fabric refl refl)
+      (same_nodes (home_after s m.to m.block reply)
+      (sending (with_net (home_after s m.to m.block reply)
+      (without_flight s.net m.id)) m.to m.block reply.sends Delivered).fabric refl refl)

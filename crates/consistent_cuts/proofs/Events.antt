@@ -1,5 +1,6 @@
 -- What each event does to a machine after a run.
-use Rattle.std.proofs.Common.{◌≡◌, ◌≢◌, ℕ, ◌+◌, ◌-◌, ◌<◌, Bool, true, false, List, [], ◌∷◌, ◌++◌, length, Option, Some, None, arith, refl, sym, ap, ◌∙◌, subst, nat_eq, nat_lt, true≢false, if◌then◌else◌, inl, inr, get_or-set_same, get_or-set_other}
+use Rattle.std.proofs.Common.{◌≡◌, ◌≢◌, ℕ, ◌+◌, ◌-◌, ◌<◌, Bool, true, false, List, [], ◌∷◌, ◌++◌, length, Option, Some, None, arith, refl}
+use Rattle.std.proofs.Common.{sym, ap, ◌∙◌, subst, nat_eq, nat_lt, true≢false, if◌then◌else◌, inl, inr, get_or-set_same, get_or-set_other}
 use Rattle.std.proofs.lemmas.Bool.Decides.{nat_tests}
 use Rattle.sn_base.specs.Image.{ImageData}
 use Rattle.sn_base.specs.declared.config.Config.{Config}
@@ -32,7 +33,7 @@ use Rattle.sn_consistency.specs.Entries.{Entry}
 use Rattle.sn_consistency.specs.Committed.{Begins}
 use Rattle.sn_consistency.specs.Laws.{own_reservation}
 use Rattle.sn_consistency.proofs.CoreLaws.{next_reservation}
-use Rattle.fabric_coherence.specs.Coherent.{IsFinished}
+use Rattle.fabric_coherence.specs.Coherent.{NothingUnfinished}
 use Rattle.consistent_cuts.specs.Headline.{IsStepOfRun, IsUntouched, MayUnreserve, Reserving}
 use Rattle.consistent_cuts.specs.Joined.{IsJoined}
 use Rattle.consistent_cuts.specs.Lists.{retirement_of}
@@ -43,18 +44,20 @@ use Rattle.consistent_cuts.proofs.FabricAfter.{FabricHalf}
 use Rattle.consistent_cuts.proofs.Points.{restored_state, restored_is}
 use Rattle.consistent_cuts.proofs.Restored.{is_restored, is_untouched}
 use Rattle.consistent_cuts.proofs.RestSays.{IsOrdinary, begins_same, ordinary_carried, ordinary_hearing, ordinary_retired, unreserved_told}
-use Rattle.consistent_cuts.proofs.SteppedCases.{settles, stepped_cases, LeavesTrace}
+use Rattle.consistent_cuts.proofs.SteppedCases.{is_point_answer, stepped_cases, LeavesTrace}
 
 -- an ordinary answer validates nothing and recovers nothing
-no_validation : (a : Answer) (k : ℕ) → settles a ≡ false → a ≡ answer.Validated k → ⊥
-no_validation a k e is = true≢false (sym (ap settles is) ∙ e)
+no_validation : (a : Answer) (k : ℕ) → is_point_answer a ≡ false → a ≡ answer.Validated k → ⊥
+no_validation a k e is = true≢false (sym (ap is_point_answer is) ∙ e)
 
-no_recovery : (a : Answer) (undo : Undo) → settles a ≡ false → a ≡ answer.Recovered undo → ⊥
-no_recovery a undo e is = true≢false (sym (ap settles is) ∙ e)
+no_recovery : (a : Answer) (undo : Undo) → is_point_answer a ≡ false → a ≡ answer.Recovered undo → ⊥
+no_recovery a undo e is = true≢false (sym (ap is_point_answer is) ∙ e)
 
 -- an answer that leaves the retirements isn't Retired
 leaves_unretired : (image : ImageData) (s : State) (n : ℕ) (a : Answer) → LeavesTrace image s n a → a ≡ answer.Retired → ⊥
-leaves_unretired image s n a leaves is = let h : traced image s (event.Step n) answer.Retired [] ≡ [] = subst (λ x. traced image s (event.Step n) x [] ≡ []) is (leaves.1 []) in cc
+leaves_unretired image s n a leaves is =
+    let h : traced image s (event.Step n) answer.Retired [] ≡ [] = subst (λ x. traced image s (event.Step n) x [] ≡ []) is (leaves.1 []) in
+    cc
 
 module _ (half : FabricHalf) (image : ImageData) (config : Config) (s : State) (r : ℕ → Records) (list : ℕ → List Entry) (trace : List Retired) (j : IsJoined image s r list trace) (count : length s.fabric.nodes ≡ config.nodes) where
   abbrev N : ℕ
@@ -63,22 +66,26 @@ module _ (half : FabricHalf) (image : ImageData) (config : Config) (s : State) (
   there : (n : ℕ) → n < config.nodes → n < length s.processors
   there n l = let a = j.shape.processors in omega (arith, a, l, count)
 
-  conditional_is : (n address : ℕ) → want_of image (processor_at s n).core ≡ want.Sc address → (entry_at image s n).did.sc_done ≡ is_reserved (processor_at s n).core.reservation (block_of address)
+  conditional_is : (n address : ℕ) → want_of image (processor_at s n).core ≡ want.Sc address →
+      (entry_at image s n).did.sc_done ≡ is_reserved (processor_at s n).core.reservation (block_of address)
   conditional_is n address e = ap (λ w. (found_by s n w).sc_done) e
 
   abbrev Retires : Event → Stepped → Type 0
-  Retires e x = (n : ℕ) → e ≡ event.Step n → x.answer ≡ answer.Retired → x.state.pending ≡ s.pending ++ retirement_of (entry_at image s n) ∷ []
+  Retires e x =
+      (n : ℕ) → e ≡ event.Step n → x.answer ≡ answer.Retired → x.state.pending ≡ s.pending ++ retirement_of (entry_at image s n) ∷ []
 
   abbrev Unreserves : Event → Stepped → Type 0
-  Unreserves e x = (n block : ℕ) → n < config.nodes → is_reserved (processor_at s n).core.reservation block ≡ true → is_reserved (processor_at x.state n).core.reservation block ≡ false → MayUnreserve image config s n block e
+  Unreserves e x =
+      (n block : ℕ) → n < config.nodes → is_reserved (processor_at s n).core.reservation block ≡ true →
+      is_reserved (processor_at x.state n).core.reservation block ≡ false → MayUnreserve image config s n block e
 
   -- an event that neither moves the point nor goes back to it
   ordinary : (e : Event) (x : Stepped) → IsOrdinary s x → Retires e x → Unreserves e x → IsStepOfRun image config s e x
   ordinary e x o retires unreserves = record {
-    validated = λ k is. absurd (no_validation x.answer k o.settled is);
-    grows = λ k is. absurd (no_validation x.answer k o.settled is);
+    validated = λ k is. absurd (no_validation x.answer k o.no_point is);
+    grows = λ k is. absurd (no_validation x.answer k o.no_point is);
     stays = λ no. (o.committed, o.released);
-    restored = λ undo is. absurd (no_recovery x.answer undo o.settled is);
+    restored = λ undo is. absurd (no_recovery x.answer undo o.no_point is);
     given = o.given;
     retires = retires;
     conditional = conditional_is;
@@ -86,7 +93,8 @@ module _ (half : FabricHalf) (image : ImageData) (config : Config) (s : State) (
   }
 
   -- that a reservation isn't lost where the core is as before
-  kept : (n block : ℕ) (p : Processor) → p.core ≡ (processor_at s n).core → is_reserved (processor_at s n).core.reservation block ≡ true → is_reserved p.core.reservation block ≡ false → ⊥
+  kept : (n block : ℕ) (p : Processor) → p.core ≡ (processor_at s n).core → is_reserved (processor_at s n).core.reservation block ≡ true →
+      is_reserved p.core.reservation block ≡ false → ⊥
   kept n block p same a b = true≢false (sym a ∙ ap (λ c. is_reserved c.reservation block) (sym same) ∙ b)
 
   -- an instruction
@@ -94,7 +102,8 @@ module _ (half : FabricHalf) (image : ImageData) (config : Config) (s : State) (
   abbrev next : ℕ → Processor
   next n = record (processor_at s n) { core = (next_with image (processor_at s n) (found_at image s n)).core }
 
-  lost_by : (m block : ℕ) (w : Want) → want_of image (processor_at s m).core ≡ w → is_reserved (processor_at s m).core.reservation block ≡ true →
+  lost_by : (m block : ℕ) (w : Want) → want_of image (processor_at s m).core ≡ w →
+      is_reserved (processor_at s m).core.reservation block ≡ true →
       is_reserved (own_reservation w (processor_at s m).core.reservation) block ≡ false → Reserving image s m
   lost_by m block (want.Lr address) e a b = (address, inl e)
   lost_by m block (want.Sc address) e a b = (address, inr e)
@@ -108,8 +117,11 @@ module _ (half : FabricHalf) (image : ImageData) (config : Config) (s : State) (
       is_reserved (processor_at (retired image s n).state n).core.reservation block ≡ false → Reserving image s n
   own_unreserved n block l a b =
       lost_by n block (want_of image (processor_at s n).core) refl a
-      (ap (λ x. is_reserved x block) (sym (next_reservation image (processor_at s n).core (found_at image s n).seen (found_at image s n).sc_done (found_at image s n).read))
-      ∙ ap (λ p. is_reserved p.core.reservation block) (sym (get_or-set_same s.processors n (next n) (first_processor 0 0) (there n l))) ∙ b)
+      (ap (λ x. is_reserved x block)
+      (sym (next_reservation image (processor_at s n).core (found_at image s n).seen (found_at image s n).sc_done
+      (found_at image s n).read))
+      ∙ ap (λ p. is_reserved p.core.reservation block) (sym (get_or-set_same s.processors n (next n) (first_processor 0 0) (there n l)))
+      ∙ b)
 
   unreserved_by : (m n block : ℕ) → n < config.nodes → is_reserved (processor_at s n).core.reservation block ≡ true →
       is_reserved (processor_at (retired image s m).state n).core.reservation block ≡ false → (m ≡ n) × Reserving image s n
@@ -118,22 +130,35 @@ module _ (half : FabricHalf) (image : ImageData) (config : Config) (s : State) (
       go : (p : Bool) → nat_eq n m ≡ p → (m ≡ n) × Reserving image s n
       go false i =
           let d : n ≢ m = grind (arith, nat_tests) in
-          absurd (kept n block (processor_at (retired image s m).state n) (ap (λ p. p.core) (get_or-set_other s.processors m n (next m) (first_processor 0 0) d)) a b)
+          absurd (kept n block (processor_at (retired image s m).state n)
+          (ap (λ p. p.core) (get_or-set_other s.processors m n (next m) (first_processor 0 0) d)) a b)
       go true i =
-          let same : m ≡ n = grind (arith, nat_tests) in
-          (same, own_unreserved n block l a (subst (λ x. is_reserved (processor_at (retired image s x).state n).core.reservation block ≡ false) same b))
+          let same : m ≡ n = grind (arith, nat_tests) in (
+            same,
+            own_unreserved n block l a
+                (subst (λ x. is_reserved (processor_at (retired image s x).state n).core.reservation block ≡ false) same b),
+          )
 
   step_of_run : (n : ℕ) → n < N → IsStepOfRun image config s (event.Step n) (stepped image config s n)
   step_of_run n l = stepped_cases image config s n l (IsStepOfRun image config s (event.Step n))
-      (λ can. ordinary (event.Step n) (retired image s n) (ordinary_retired image s n) (λ m same is. ap (λ x. s.pending ++ retirement_of (entry_at image s x) ∷ []) (node_same n m same)) (λ m block lm a b. unreserved_by n m block lm a b))
-      (λ block access low leaves. ordinary_step (carried s (accessed config s.fabric n block access)) (ordinary_carried s (accessed config s.fabric n block access) leaves.0) leaves (λ m b lm x y. kept m b (processor_at s m) refl x y))
-      (λ a leaves. ordinary_step (step.refused s a) (record { settled = leaves.0; committed = refl; released = refl; given = λ m. begins_same (processor_at s m).given }) leaves (λ m b lm x y. kept m b (processor_at s m) refl x y))
+      (λ can. ordinary (event.Step n) (retired image s n) (ordinary_retired image s n)
+      (λ m same is. ap (λ x. s.pending ++ retirement_of (entry_at image s x) ∷ []) (node_same n m same))
+      (λ m block lm a b. unreserved_by n m block lm a b))
+      (λ block access low leaves. ordinary_step (carried s (accessed config s.fabric n block access))
+      (ordinary_carried s (accessed config s.fabric n block access) leaves.0) leaves (λ m b lm x y. kept m b (processor_at s m) refl x y))
+      (λ a leaves. ordinary_step (step.refused s a)
+      (record { no_point = leaves.0; committed = refl; released = refl; given = λ m. begins_same (processor_at s m).given }) leaves
+      (λ m b lm x y. kept m b (processor_at s m) refl x y))
     where
       node_same : (n m : ℕ) → event.Step n ≡ event.Step m → n ≡ m
       node_same n m e = cc
 
-      ordinary_step : (x : Stepped) → IsOrdinary s x → LeavesTrace image s n x.answer → ((m b : ℕ) → m < config.nodes → is_reserved (processor_at s m).core.reservation b ≡ true → is_reserved (processor_at x.state m).core.reservation b ≡ false → ⊥) → IsStepOfRun image config s (event.Step n) x
-      ordinary_step x o leaves never = ordinary (event.Step n) x o (λ m same is. absurd (leaves_unretired image s n x.answer leaves is)) (λ m b lm p q. absurd (never m b lm p q))
+      ordinary_step : (x : Stepped) → IsOrdinary s x → LeavesTrace image s n x.answer →
+          ((m b : ℕ) → m < config.nodes → is_reserved (processor_at s m).core.reservation b ≡ true →
+          is_reserved (processor_at x.state m).core.reservation b ≡ false → ⊥) → IsStepOfRun image config s (event.Step n) x
+      ordinary_step x o leaves never =
+          ordinary (event.Step n) x o (λ m same is. absurd (leaves_unretired image s n x.answer leaves is))
+          (λ m b lm p q. absurd (never m b lm p q))
 
   -- the other events of a node, and of the network
 
@@ -146,15 +171,23 @@ module _ (half : FabricHalf) (image : ImageData) (config : Config) (s : State) (
   abbrev Says : Event → Stepped → Type 0
   Says e x = IsStepOfRun image config s e x
 
-  carried_says : (e : Event) (moved : Moved) → ((n : ℕ) → e ≡ event.Step n → ⊥) → settles moved.answer ≡ false → Says e (carried s moved)
-  carried_says e moved other calm = ordinary e (carried s moved) (ordinary_carried s moved calm) (λ n same is. absurd (other n same)) (kept_all e (carried s moved) (λ n. refl))
+  carried_says : (e : Event) (moved : Moved) → ((n : ℕ) → e ≡ event.Step n → ⊥) → is_point_answer moved.answer ≡ false →
+      Says e (carried s moved)
+  carried_says e moved other calm =
+      ordinary e (carried s moved) (ordinary_carried s moved calm) (λ n same is. absurd (other n same))
+      (kept_all e (carried s moved) (λ n. refl))
 
   evicted_says : (n block : ℕ) → Says (event.Evict n block) (hearing s (evicted s.fabric n block))
-  evicted_says n block = ordinary (event.Evict n block) (hearing s (evicted s.fabric n block)) (ordinary_hearing s (evicted s.fabric n block) (ordinary_evicted s.fabric n block)) (λ m same is. absurd (let x = same in cc))
+  evicted_says n block =
+      ordinary (event.Evict n block) (hearing s (evicted s.fabric n block))
+      (ordinary_hearing s (evicted s.fabric n block) (ordinary_evicted s.fabric n block)) (λ m same is. absurd (let x = same in cc))
       (λ m b l x y. unreserved_told s (evicted s.fabric n block).told m b (there m l) x y)
 
   delivered_says : (id : ℕ) → Says (event.Deliver id) (hearing s (delivered config s.fabric id))
-  delivered_says id = ordinary (event.Deliver id) (hearing s (delivered config s.fabric id)) (ordinary_hearing s (delivered config s.fabric id) (ordinary_flight config s.fabric (flight_of s.fabric.net.flights id))) (λ m same is. absurd (let x = same in cc))
+  delivered_says id =
+      ordinary (event.Deliver id) (hearing s (delivered config s.fabric id))
+      (ordinary_hearing s (delivered config s.fabric id) (ordinary_flight config s.fabric (flight_of s.fabric.net.flights id)))
+      (λ m same is. absurd (let x = same in cc))
       (λ m b l x y. unreserved_told s (delivered config s.fabric id).told m b (there m l) x y)
 
   -- a clock edge
@@ -166,11 +199,26 @@ module _ (half : FabricHalf) (image : ImageData) (config : Config) (s : State) (
       go true i = grind (arith, nat_tests)
       go false i =
           let d : m ≢ n = grind (arith, nat_tests) in
-          absurd (kept m block (processor_at (with_processor s n (with_checkpoint (processor_at s n))) m) (ap (λ p. p.core) (get_or-set_other s.processors n m (with_checkpoint (processor_at s n)) (first_processor 0 0) d)) a b)
+          absurd (kept m block (processor_at (with_processor s n (with_checkpoint (processor_at s n))) m)
+          (ap (λ p. p.core) (get_or-set_other s.processors n m (with_checkpoint (processor_at s n)) (first_processor 0 0) d)) a b)
 
-  edging : (n : ℕ) (full : Bool) → Says (event.Edge n) (edges s n (if full then refused s.fabric answer.CheckpointsFull else answered (with_node s.fabric n (after_edge (node_at s.fabric n))) (answer.Edged ((node_at s.fabric n).now + 1))))
-  edging n true = ordinary (event.Edge n) (step.refused s answer.CheckpointsFull) (record { settled = refl; committed = refl; released = refl; given = λ m. begins_same (processor_at s m).given }) (λ m same is. absurd (let x = same in cc)) (kept_all (event.Edge n) (step.refused s answer.CheckpointsFull) (λ m. refl))
-  edging n false = ordinary (event.Edge n) after (record { settled = refl; committed = refl; released = refl; given = λ m. subst (Begins (processor_at s m).given) (sym (given_same m)) (begins_same (processor_at s m).given) }) (λ m same is. absurd (let x = same in cc))
+  edging : (n : ℕ) (full : Bool) →
+      Says (event.Edge n) (edges s n
+      (if full then refused s.fabric answer.CheckpointsFull
+      else answered (with_node s.fabric n (after_edge (node_at s.fabric n))) (answer.Edged ((node_at s.fabric n).now + 1))))
+  edging n true =
+      ordinary (event.Edge n) (step.refused s answer.CheckpointsFull)
+      (record { no_point = refl; committed = refl; released = refl; given = λ m. begins_same (processor_at s m).given })
+      (λ m same is. absurd (let x = same in cc)) (kept_all (event.Edge n) (step.refused s answer.CheckpointsFull) (λ m. refl))
+  edging n false =
+      ordinary (event.Edge n) after
+      (record {
+        no_point = refl;
+        committed = refl;
+        released = refl;
+        given = λ m. subst (Begins (processor_at s m).given) (sym (given_same m)) (begins_same (processor_at s m).given);
+      })
+      (λ m same is. absurd (let x = same in cc))
       (λ m b l x y. edge_unreserves n s.fabric m b x y)
     where
       after : Stepped
@@ -186,35 +234,55 @@ module _ (half : FabricHalf) (image : ImageData) (config : Config) (s : State) (
   core_same : (n byte m : ℕ) → (processor_at (with_processor s n (more n byte)) m).core ≡ (processor_at s m).core
   core_same n byte m = part_set (λ p. p.core) s.processors n m (more n byte) (first_processor 0 0) refl
 
-  grown : (n byte : ℕ) → n < length s.processors → (m : ℕ) → Begins (processor_at s m).given (processor_at (with_processor s n (more n byte)) m).given
+  grown : (n byte : ℕ) → n < length s.processors → (m : ℕ) →
+      Begins (processor_at s m).given (processor_at (with_processor s n (more n byte)) m).given
   grown n byte l m = go (nat_eq m n) refl
     where
       go : (p : Bool) → nat_eq m n ≡ p → Begins (processor_at s m).given (processor_at (with_processor s n (more n byte)) m).given
       go false i =
           let d : m ≢ n = grind (arith, nat_tests) in
-          subst (Begins (processor_at s m).given) (ap (λ p. p.given) (sym (get_or-set_other s.processors n m (more n byte) (first_processor 0 0) d))) (begins_same (processor_at s m).given)
+          subst (Begins (processor_at s m).given)
+          (ap (λ p. p.given) (sym (get_or-set_other s.processors n m (more n byte) (first_processor 0 0) d)))
+          (begins_same (processor_at s m).given)
       go true i =
           let e : n ≡ m = grind (arith, nat_tests) in
           subst (λ x. Begins (processor_at s x).given (processor_at (with_processor s n (more n byte)) x).given) e
-          (subst (Begins (processor_at s n).given) (ap (λ p. p.given) (sym (get_or-set_same s.processors n (more n byte) (first_processor 0 0) l))) (record { more = byte ∷ []; is = refl }))
+          (subst (Begins (processor_at s n).given)
+          (ap (λ p. p.given) (sym (get_or-set_same s.processors n (more n byte) (first_processor 0 0) l)))
+          (record { more = byte ∷ []; is = refl }))
 
   input_says : (n byte : ℕ) → n < length s.processors → Says (event.Input n byte) (given s n byte)
-  input_says n byte l = ordinary (event.Input n byte) (given s n byte) (record { settled = refl; committed = refl; released = refl; given = grown n byte l }) (λ m same is. absurd (let x = same in cc))
+  input_says n byte l =
+      ordinary (event.Input n byte) (given s n byte) (record { no_point = refl; committed = refl; released = refl; given = grown n byte l })
+      (λ m same is. absurd (let x = same in cc))
       (kept_all (event.Input n byte) (given s n byte) (core_same n byte))
 
   -- a validation
 
-  refusal_says : (e : Event) (a : Answer) → ((n : ℕ) → e ≡ event.Step n → ⊥) → settles a ≡ false → Says e (step.refused s a)
-  refusal_says e a other calm = ordinary e (step.refused s a) (record { settled = calm; committed = refl; released = refl; given = λ m. begins_same (processor_at s m).given }) (λ n same is. absurd (other n same)) (kept_all e (step.refused s a) (λ n. refl))
+  refusal_says : (e : Event) (a : Answer) → ((n : ℕ) → e ≡ event.Step n → ⊥) → is_point_answer a ≡ false → Says e (step.refused s a)
+  refusal_says e a other calm =
+      ordinary e (step.refused s a)
+      (record { no_point = calm; committed = refl; released = refl; given = λ m. begins_same (processor_at s m).given })
+      (λ n same is. absurd (other n same)) (kept_all e (step.refused s a) (λ n. refl))
 
   abbrev committed : Stepped
-  committed = commits s (sending (record s.fabric { point = s.fabric.point + 1 }) 0 0 (advances (s.fabric.point + 1) 0 s.fabric.nodes) (answer.Validated (s.fabric.point + 1)))
+  committed =
+      commits s (sending (record s.fabric { point = s.fabric.point + 1 }) 0 0 (advances (s.fabric.point + 1) 0 s.fabric.nodes)
+      (answer.Validated (s.fabric.point + 1)))
 
   committing : (none : unready_node s ≡ None) (full : Bool) →
-      Says event.Validate (commits s (if full then refused s.fabric answer.NetFull else sending (record s.fabric { point = s.fabric.point + 1 }) 0 0 (advances (s.fabric.point + 1) 0 s.fabric.nodes) (answer.Validated (s.fabric.point + 1))))
+      Says event.Validate (commits s
+      (if full then refused s.fabric answer.NetFull
+      else sending (record s.fabric { point = s.fabric.point + 1 }) 0 0 (advances (s.fabric.point + 1) 0 s.fabric.nodes)
+      (answer.Validated (s.fabric.point + 1))))
   committing none true = refusal_says event.Validate answer.NetFull (λ n e. cc) refl
   committing none false = record {
-    validated = λ k is. (sym (number k is), subst (IsFinished s.fabric) (number k is) (half.finished s.fabric r j.fabric (all_reported half image config s trace r list j none)));
+    validated =
+        λ k is. (
+          sym (number k is),
+          subst (NothingUnfinished s.fabric) (number k is)
+              (half.finished s.fabric r j.fabric (all_reported half image config s trace r list j none)),
+        );
     grows = λ k is. (refl, refl);
     stays = λ no. absurd (no (s.fabric.point + 1) refl);
     restored = λ undo is. cc;
@@ -239,10 +307,13 @@ module _ (half : FabricHalf) (image : ImageData) (config : Config) (s : State) (
     validated = λ k is. cc;
     grows = λ k is. cc;
     stays = λ no. (ap (λ x. x.committed) (restored_is s), ap (λ x. x.released) (restored_is s));
-    restored = λ undo is. subst (λ x. IsRestored x (end_of image config.nodes s.committed) × IsUntouched s x) (sym (restored_is s))
-        (subst (λ nodes. IsRestored (restored_state s) (end_of image nodes s.committed)) count (is_restored half image s r list trace j), is_untouched half image s r list trace j);
+    restored = λ undo is. subst (λ x. IsRestored x (end_of image config.nodes s.committed) × IsUntouched s x) (sym (restored_is s)) (
+      subst (λ nodes. IsRestored (restored_state s) (end_of image nodes s.committed)) count (is_restored half image s r list trace j),
+      is_untouched half image s r list trace j,
+    );
     given = λ n. subst (λ x. Begins (processor_at s n).given (processor_at x n).given) (sym (restored_is s))
-        (subst (Begins (processor_at s n).given) (sym ((is_untouched half image s r list trace j).given n)) (begins_same (processor_at s n).given));
+        (subst (Begins (processor_at s n).given) (sym ((is_untouched half image s r list trace j).given n))
+        (begins_same (processor_at s n).given));
     retires = λ n same is. cc;
     conditional = conditional_is;
     unreserves = λ n block l a b. tt;
@@ -256,9 +327,11 @@ module _ (half : FabricHalf) (image : ImageData) (config : Config) (s : State) (
       is_node n e = let c = count in grind (arith, nat_tests)
   event_says (event.Evict n block) fits = evicted_says n block
   event_says (event.Edge n) fits = edging n (nat_eq ((node_at s.fabric n).now - (node_at s.fabric n).known) checkpoint_limit)
-  event_says (event.Hop id) fits = carried_says (event.Hop id) (hopped s.fabric id) (λ n e. cc) (ordinary_hops s.fabric (flight_of s.fabric.net.flights id))
+  event_says (event.Hop id) fits =
+      carried_says (event.Hop id) (hopped s.fabric id) (λ n e. cc) (ordinary_hops s.fabric (flight_of s.fabric.net.flights id))
   event_says (event.Deliver id) fits = delivered_says id
-  event_says (event.Lose id) fits = carried_says (event.Lose id) (lost s.fabric id) (λ n e. cc) (ordinary_loses s.fabric (flight_of s.fabric.net.flights id))
+  event_says (event.Lose id) fits =
+      carried_says (event.Lose id) (lost s.fabric id) (λ n e. cc) (ordinary_loses s.fabric (flight_of s.fabric.net.flights id))
   event_says (event.Kill switch) fits = carried_says (event.Kill switch) (killed s.fabric switch) (λ n e. cc) (grind arith)
   event_says (event.Report n) fits = carried_says (event.Report n) (reported s.fabric n) (λ m e. cc) (grind arith)
   event_says event.Validate fits = validating (unready_node s) refl

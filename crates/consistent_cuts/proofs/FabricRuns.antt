@@ -1,5 +1,6 @@
 -- Each event of the machine is one event of its fabric at most, which can happen there; so a run is one of the fabric.
-use Rattle.std.proofs.Common.{◌≡◌, ℕ, suc, ◌+◌, ◌<◌, ◌≤◌, Bool, true, false, List, [], ◌∷◌, ◌++◌, length, Option, Some, None, arith, refl, sym, ap, ◌∙◌, subst, nat_lt, length-append}
+use Rattle.std.proofs.Common.{◌≡◌, ℕ, suc, ◌+◌, ◌<◌, ◌≤◌, Bool, true, false, List, [], ◌∷◌, ◌++◌, length, Option, Some, None, arith, refl}
+use Rattle.std.proofs.Common.{sym, ap, ◌∙◌, subst, nat_lt, length-append}
 use Rattle.std.proofs.lemmas.Bool.Decides.{nat_tests}
 use Rattle.sn_base.specs.Config.{config_fits}
 use Rattle.sn_base.specs.Image.{ImageData}
@@ -48,15 +49,18 @@ use Rattle.consistent_cuts.proofs.SteppedCases.{stepped_cases}
 pub stays : (config : Config) (s : Fabric) → GoesBy config s s 1
 stays config s = record { events = []; few = omega arith; served = tt; after = refl }
 
-pub goes : (config : Config) (s : Fabric) (e : FabricEvent) → MayBe s e → HasRoom config s e → GoesBy config s (moved_by config s e).fabric 1
+pub goes : (config : Config) (s : Fabric) (e : FabricEvent) → MayBe s e → HasRoom config s e →
+    GoesBy config s (moved_by config s e).fabric 1
 goes config s e may room = record { events = e ∷ []; few = omega arith; served = ((may, room), tt); after = refl }
 
 -- one after the other
-served_then : (config : Config) (s : Fabric) (xs ys : List FabricEvent) → IsServedRun config s xs → IsServedRun config (fabric_after config s xs) ys → IsServedRun config s (xs ++ ys)
+served_then : (config : Config) (s : Fabric) (xs ys : List FabricEvent) → IsServedRun config s xs →
+    IsServedRun config (fabric_after config s xs) ys → IsServedRun config s (xs ++ ys)
 served_then config s [] ys a b = b
 served_then config s (x ∷ xs) ys a b = (a.0, served_then config (moved_by config s x).fabric xs ys a.1 b)
 
-after_then : (config : Config) (s : Fabric) (xs ys : List FabricEvent) → fabric_after config s (xs ++ ys) ≡ fabric_after config (fabric_after config s xs) ys
+after_then : (config : Config) (s : Fabric) (xs ys : List FabricEvent) →
+    fabric_after config s (xs ++ ys) ≡ fabric_after config (fabric_after config s xs) ys
 after_then config s [] ys = refl
 after_then config s (x ∷ xs) ys = after_then config (moved_by config s x).fabric xs ys
 
@@ -84,9 +88,12 @@ module _ (image : ImageData) (config : Config) (s : State) (r : ℕ → Records)
   module _ (n : ℕ) where
     writes : (a : ℕ) (w : Write) → w.address ≡ a → CanServe config s.fabric n (block_of a) need.Write → Goes (stored s.fabric n w)
     unfolding moved_by
-    writes a w e can = goes config s.fabric (fabric.Write n w) (record { line = subst (λ b. CanUse s.fabric n (block_of b)) (sym e) can.line; writable = rw e can.serving }) (rw e can.room)
+    writes a w e can =
+        goes config s.fabric (fabric.Write n w)
+        (record { line = subst (λ b. CanUse s.fabric n (block_of b)) (sym e) can.line; writable = rw e can.serving }) (rw e can.room)
 
-    writes_wanting : (w : Want) (done : Bool) (write : Option Write) → WriteFits w done write → CanServeWant w done config s n → Goes (written_by s.fabric n write)
+    writes_wanting : (w : Want) (done : Bool) (write : Option Write) → WriteFits w done write → CanServeWant w done config s n →
+        Goes (written_by s.fabric n write)
     writes_wanting w done None fits can = stays config s.fabric
     writes_wanting Nothing done (Some x) fits can = absurd (let h = fits.0 in cc)
     writes_wanting Input done (Some x) fits can = absurd (let h = fits.0 in cc)
@@ -99,7 +106,8 @@ module _ (image : ImageData) (config : Config) (s : State) (r : ℕ → Records)
 
     retired_goes : CanRetire image config s n → Goes (retired image s n).state.fabric
     retired_goes can = writes_wanting (want_of image (processor_at s n).core) (found_at image s n).sc_done (write_of image s n)
-        (write_fits image (processor_at s n).core (found_at image s n).seen (found_at image s n).sc_done (found_at image s n).read) can.served
+        (write_fits image (processor_at s n).core (found_at image s n).seen (found_at image s n).sc_done
+        (found_at image s n).read) can.served
 
     stepped_goes : n < N → Goes (stepped image config s n).state.fabric
     unfolding moved_by
@@ -112,7 +120,9 @@ module _ (image : ImageData) (config : Config) (s : State) (r : ℕ → Records)
   validating : (unready : Option ℕ) → unready_node s ≡ unready → Goes (validates s unready).state.fabric
   unfolding moved_by
   validating (Some n) e = stays config s.fabric
-  validating None e = goes config s.fabric (fabric.Advance (s.fabric.point + 1)) (refl, half.finished s.fabric r j.fabric (all_reported half image config s trace r list j e)) tt
+  validating None e =
+      goes config s.fabric (fabric.Advance (s.fabric.point + 1))
+      (refl, half.finished s.fabric r j.fabric (all_reported half image config s trace r list j e)) tt
 
   pub event_goes : (e : Event) → Fits N e → Goes (step_of image config s e).state.fabric
   unfolding step_of moved_by
@@ -130,12 +140,16 @@ module _ (image : ImageData) (config : Config) (s : State) (r : ℕ → Records)
   event_goes event.Recover fits = goes config s.fabric (fabric.Recover s.fabric.point) refl tt
   event_goes (event.Input n byte) fits = stays config s.fabric
 
-pub run_goes : (image : ImageData) (config : Config) (nodes : ℕ) (s : State) (trace : List Retired) (events : List Event) → Holds image nodes s trace → AllFit nodes events →
+pub run_goes : (image : ImageData) (config : Config) (nodes : ℕ) (s : State) (trace : List Retired) (events : List Event) →
+    Holds image nodes s trace → AllFit nodes events →
     GoesBy config s.fabric (state_after image config s events).fabric (length events)
 run_goes image config nodes s trace [] h fits = record { events = []; few = omega arith; served = tt; after = refl }
 run_goes image config nodes s trace (e ∷ events) h fits =
-    goes_then config s.fabric (step_of image config s e).state.fabric (state_after image config (step_of image config s e).state events).fabric 1 (length events) (suc (length events))
-    (first h fits.0) (run_goes image config nodes (step_of image config s e).state (traced image s e (step_of image config s e).answer trace) events (step_holds image config nodes s trace e h fits.0) fits.1) (omega arith)
+    goes_then config s.fabric (step_of image config s e).state.fabric
+    (state_after image config (step_of image config s e).state events).fabric 1 (length events) (suc (length events))
+    (first h fits.0) (run_goes image config nodes (step_of image config s e).state
+    (traced image s e (step_of image config s e).answer trace) events (step_holds image config nodes s trace e h fits.0) fits.1)
+    (omega arith)
   where
     first : Holds image nodes s trace → Fits nodes e → GoesBy config s.fabric (step_of image config s e).state.fabric 1
     first (count, (r, list, j)) fit = event_goes image config s r list trace j e (subst (λ n. Fits n e) (sym count) fit)
@@ -149,11 +163,17 @@ module _ (image : ImageData) (config : Config) (events : List Event) (run : Head
   few fits = grind (arith, nat_tests)
 
   pub reached_goes : GoesBy config (first_fabric image config.nodes) (reached image config events).fabric (length events)
-  reached_goes = run_goes image config config.nodes (start_of image config.nodes) [] events (start_holds image config.nodes (some run.fits) (few run.fits)) run.events_fit
+  reached_goes =
+      run_goes image config config.nodes (start_of image config.nodes) [] events
+      (start_holds image config.nodes (some run.fits) (few run.fits)) run.events_fit
 
   pub reached_bounded : KeepsBounds config (reached image config events).fabric
   reached_bounded = subst (KeepsBounds config) reached_goes.after
-      (run_keeps_bounds config (first_fabric image config.nodes) reached_goes.events (first_beside, start-kept image config.nodes (some run.fits) (few run.fits), start_bounded image config config.nodes) reached_goes.served)
+      (run_keeps_bounds config (first_fabric image config.nodes) reached_goes.events (
+        first_beside,
+        start-kept image config.nodes (some run.fits) (few run.fits),
+        start_bounded image config config.nodes,
+      ) reached_goes.served)
 
   more : (s : Fabric) (m n : ℕ) → m ≤ n → CountsTo m s → CountsTo n s
   more s m n l c = record {
@@ -165,5 +185,6 @@ module _ (image : ImageData) (config : Config) (events : List Event) (run : Head
   pub reached_counts : CountsTo (length events) (reached image config events).fabric
   reached_counts = more (reached image config events).fabric (length reached_goes.events) (length events) reached_goes.few
       (subst (CountsTo (length reached_goes.events)) reached_goes.after
-      (counts_from_the_start config (first_fabric image config.nodes) reached_goes.events (first_beside, start-kept image config.nodes (some run.fits) (few run.fits)) (start_counts image config.nodes)
+      (counts_from_the_start config (first_fabric image config.nodes) reached_goes.events
+      (first_beside, start-kept image config.nodes (some run.fits) (few run.fits)) (start_counts image config.nodes)
       (served_run config (first_fabric image config.nodes) reached_goes.events reached_goes.served)))

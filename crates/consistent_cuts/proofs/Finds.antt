@@ -1,5 +1,6 @@
 -- A node's next instruction, by what it wants: what it finds, and that it may retire in the sorted list.
-use Rattle.std.proofs.Common.{◌≡◌, ℕ, suc, ◌+◌, ◌-◌, ◌*◌, ◌/◌, ◌%◌, ◌<◌, ◌≤◌, Bool, true, false, ◌||◌, List, [], ◌∷◌, ◌++◌, length, drop, Option, Some, is_some, option_to_list, slice_index, refl, ap, arith, drop-cons}
+use Rattle.std.proofs.Common.{◌≡◌, ℕ, suc, ◌+◌, ◌-◌, ◌*◌, ◌/◌, ◌%◌, ◌<◌, ◌≤◌, Bool, true, false, ◌||◌, List, [], ◌∷◌, ◌++◌, length, drop}
+use Rattle.std.proofs.Common.{Option, Some, is_some, option_to_list, slice_index, refl, ap, arith, drop-cons}
 use Rattle.std.proofs.lemmas.Bool.Decides.{nat_tests}
 use Rattle.sn_base.specs.Blocks.{ram_start}
 use Rattle.sn_base.specs.Image.{ImageData}
@@ -37,7 +38,8 @@ module _ (s : State) (r : ℕ → Records) (n : ℕ) where
   done_sc_by (Sc a) e = refl
   done_sc_by Input e = cc
 
-  pub done_by : (w : Want) → (found_by s n w).sc_done ≡ true → is_reserved (processor_at s n).core.reservation (block_of (address_of w)) ≡ true
+  pub done_by : (w : Want) → (found_by s n w).sc_done ≡ true →
+      is_reserved (processor_at s n).core.reservation (block_of (address_of w)) ≡ true
   unfolding address_of
   done_by Nothing e = cc
   done_by (Load a) e = cc
@@ -61,7 +63,9 @@ module _ (s : State) (r : ℕ → Records) (n : ℕ) where
   byte_by Input done h = ap is_some (next_is h)
 
   abbrev pub Takes : Option ℕ → Type 0
-  Takes read = drop (taken_by s n) (processor_at s n).given ≡ option_to_list read ++ drop (length (option_to_list read)) (drop (taken_by s n) (processor_at s n).given)
+  Takes read =
+      drop (taken_by s n) (processor_at s n).given ≡ option_to_list read
+      ++ drop (length (option_to_list read)) (drop (taken_by s n) (processor_at s n).given)
 
   head_of : (xs ys : List ℕ) (x : ℕ) → xs ≡ x ∷ ys → xs ≡ (x ∷ []) ++ drop 1 xs
   head_of xs ys x e = rw e refl
@@ -73,7 +77,9 @@ module _ (s : State) (r : ℕ → Records) (n : ℕ) where
   takes_by (Amo a) done h = refl
   takes_by (Lr a) done h = refl
   takes_by (Sc a) done h = refl
-  takes_by Input done h = rw (next_is h) (head_of (drop (taken_by s n) (processor_at s n).given) (drop (suc (taken_by s n)) (processor_at s n).given) (slice_index (processor_at s n).given (taken_by s n)) (drop-cons (processor_at s n).given (taken_by s n) 0 h))
+  takes_by Input done h =
+      rw (next_is h) (head_of (drop (taken_by s n) (processor_at s n).given) (drop (suc (taken_by s n)) (processor_at s n).given)
+      (slice_index (processor_at s n).given (taken_by s n)) (drop-cons (processor_at s n).given (taken_by s n) 0 h))
 
   -- it takes no more than was given
   pub taken_within : (w : Want) (done : Bool) → IsServed w done s r n → taken_by s n ≤ length (processor_at s n).given →
@@ -86,7 +92,8 @@ module _ (s : State) (r : ℕ → Records) (n : ℕ) where
   taken_within (Sc a) done h l = omega arith
   taken_within Input done h l = rw (next_is h) (omega arith)
 
-  pub read_by : (w : Want) (done : Bool) → IsServed w done s r n → (reads (kind_of w) || writes (kind_of w) done) ≡ true → IsRead s.fabric r n (block_of (address_of w))
+  pub read_by : (w : Want) (done : Bool) → IsServed w done s r n → (reads (kind_of w) || writes (kind_of w) done) ≡ true →
+      IsRead s.fabric r n (block_of (address_of w))
   unfolding kind_of address_of
   read_by Nothing done h e = cc
   read_by (Load a) done h e = h
@@ -97,7 +104,8 @@ module _ (s : State) (r : ℕ → Records) (n : ℕ) where
   read_by (Sc a) false h e = cc
   read_by Input done h e = cc
 
-  pub written_by : (w : Want) (done : Bool) → IsServed w done s r n → writes (kind_of w) done ≡ true → IsWritten s.fabric r n (block_of (address_of w))
+  pub written_by : (w : Want) (done : Bool) → IsServed w done s r n → writes (kind_of w) done ≡ true →
+      IsWritten s.fabric r n (block_of (address_of w))
   unfolding kind_of address_of
   written_by Nothing done h e = cc
   written_by (Load a) done h e = cc
@@ -109,7 +117,8 @@ module _ (s : State) (r : ℕ → Records) (n : ℕ) where
   written_by Input done h e = cc
 
   -- the word seen is that of the line
-  pub word_by : (w : Want) → reads (kind_of w) ≡ true → (found_by s n w).seen ≡ block_word (line_at s.fabric n (block_of (address_of w))).content ((address_of w - ram_start) % 64 / 4 * 4)
+  pub word_by : (w : Want) → reads (kind_of w) ≡ true →
+      (found_by s n w).seen ≡ block_word (line_at s.fabric n (block_of (address_of w))).content ((address_of w - ram_start) % 64 / 4 * 4)
   unfolding kind_of address_of block_word
   word_by Nothing e = cc
   word_by (Load a) e = refl

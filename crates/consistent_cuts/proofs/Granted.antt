@@ -31,7 +31,8 @@ none_on None b e = refl
 none_on (Some miss) b e = cc
 
 module _ (config : Config) (s : State) (r : ℕ → Records) (n : ℕ) (tells : (b : ℕ) → b < block_count → Tells s.fabric b (r b)) where
-  present_read : (b : ℕ) → b < block_count → n < length s.fabric.nodes → is_present (line_at s.fabric n b).state ≡ true → IsRead s.fabric r n b
+  present_read : (b : ℕ) → b < block_count → n < length s.fabric.nodes → is_present (line_at s.fabric n b).state ≡ true →
+      IsRead s.fabric r n b
   present_read b low l there = record {
     below = low;
     present = there;
@@ -47,7 +48,9 @@ module _ (config : Config) (s : State) (r : ℕ → Records) (n : ℕ) (tells : 
     read = present_read b can.line.block can.line.node (writable_present (line_at s.fabric n b).state can.serving);
     writable = can.serving;
     alone = (tells b can.line.block).write n can.line can.serving;
-    unreserved = λ m l other. (tells b can.line.block).alone n m can.line.node can.serving (none_on (node_at s.fabric n).cache.miss b can.line.no_miss) other;
+    unreserved =
+        λ m l other. (tells b can.line.block).alone n m can.line.node can.serving
+        (none_on (node_at s.fabric n).cache.miss b can.line.no_miss) other;
   }
 
   served_want : (w : Want) (done : Bool) → CanServeWant w done config s n → IsServed w done s r n
@@ -61,4 +64,9 @@ module _ (config : Config) (s : State) (r : ℕ → Records) (n : ℕ) (tells : 
   served_want Input done can = can
 
   pub may_retire : (image : ImageData) → CanRetire image config s n → MayRetire image s r n
-  may_retire image can = record { node = can.node; running = can.running; served = served_want (want_of image (processor_at s n).core) (found_at image s n).sc_done can.served }
+  may_retire image can =
+      record {
+        node = can.node;
+        running = can.running;
+        served = served_want (want_of image (processor_at s n).core) (found_at image s n).sc_done can.served;
+      }

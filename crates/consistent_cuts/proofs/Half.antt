@@ -16,11 +16,12 @@ half = record {
   load = λ s r n b k can present. (k.0, k.1, load s k.0 r k.1 k.2 n b can present);
   load_reserved = λ s r n b k can present. (k.0, k.1, load_reserved s k.0 r k.1 k.2 n b can present);
   store = λ s r n w k can. (k.0, stored_kept s k.0 k.1 n w can, store_recorded s k.0 k.1 n w can r k.2);
-  store_conditional = λ s r n w k can reserved. (k.0, stored_kept s k.0 k.1 n w can, store_conditional_recorded s k.0 k.1 n w can r k.2 reserved);
+  store_conditional =
+      λ s r n w k can reserved. (k.0, stored_kept s k.0 k.1 n w can, store_conditional_recorded s k.0 k.1 n w can r k.2 reserved);
   undone = λ s r n k l. (k.0, k.1, undone s k.0 r k.1 k.2 n l);
   start = λ image nodes some few. (first_beside, start-kept image nodes some few, start-recorded image nodes some few);
   finished = λ s r k above. reported_finished s k.0 k.1 r k.2 above;
   flight = in_flight;
-  settled = λ s r k. (point_finished s k.0 k.1).none;
+  none_unfinished = λ s r k. (point_finished s k.0 k.1).none;
   nodes = nodes_same;
 }

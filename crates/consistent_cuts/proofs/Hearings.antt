@@ -1,5 +1,6 @@
 -- What an event of the fabric tells the rest is of nodes that are there, and its clocks change only by the news of a point.
-use Rattle.std.proofs.Common.{◌≡◌, ℕ, ◌+◌, ◌<◌, ◌≤◌, Bool, true, false, not, max, cond, List, [], ◌∷◌, length, Option, Some, None, arith, refl, ap, ◌∙◌, nat_lt, ◌==◌, get_or-set_same, get_or-set_other, length-set, if◌then◌else◌}
+use Rattle.std.proofs.Common.{◌≡◌, ℕ, ◌+◌, ◌<◌, ◌≤◌, Bool, true, false, not, max, cond, List, [], ◌∷◌, length, Option, Some, None, arith}
+use Rattle.std.proofs.Common.{refl, ap, ◌∙◌, nat_lt, ◌==◌, get_or-set_same, get_or-set_other, length-set, if◌then◌else◌}
 use Rattle.std.specs.Prelude.{slice_index_or, slice_set}
 use Rattle.std.specs.Option.{option_map}
 use Rattle.std.proofs.lemmas.Bool.Decides.{nat_tests}
@@ -22,12 +23,14 @@ use Rattle.sn_model.specs.Homes.{Transaction}
 use Rattle.sn_model.specs.Fabric.{Fabric, Flight, Moved, first_node, node_at, with_node, with_net, home_node, home_of, refused}
 use Rattle.sn_model.specs.Net.{net_limit, sending, is_full, flight_of, without_flight, is_there}
 use Rattle.sn_model.specs.NodeEvents.{evicted, evicts, begins_put, has_put, with_put, without_copy}
-use Rattle.sn_model.specs.NetEvents.{delivered, delivers, delivers_flight, fits_in, outcome_of, unless_busy, learned, node_after, home_after, Outcome, AtCache, AtHome, copy_lost, logged_at, kept_at}
+use Rattle.sn_model.specs.NetEvents.{delivered, delivers, delivers_flight, fits_in, outcome_of, unless_busy, learned, node_after}
+use Rattle.sn_model.specs.NetEvents.{home_after, Outcome, AtCache, AtHome, copy_lost, logged_at, kept_at}
 use Rattle.sn_coherence.specs.Block as block
 use Rattle.fabric_coherence.specs.View.{Beside, block_seen, message_seen}
 use Rattle.fabric_coherence.specs.Steps.{IsInFlight}
 use Rattle.fabric_coherence.specs.Coherent.{IsKept}
-use Rattle.consistent_cuts.proofs.Clocks.{IsSameClocks, same_clocks, part_set, same_with_node, same_nodes, same_then, cache_clocks, home_clocks}
+use Rattle.consistent_cuts.proofs.Clocks.{IsSameClocks, same_clocks, part_set, same_with_node, same_nodes, same_then, cache_clocks}
+use Rattle.consistent_cuts.proofs.Clocks.{home_clocks}
 
 -- node n has heard of point k
 pub record IsNews (s t : Fabric) (n k : ℕ) : Type 0 where
@@ -46,11 +49,16 @@ Rightly s t (Some (told.Advance n k)) = (n < length s.nodes) × (k ≤ s.point) 
 -- an eviction
 module _ (s : Fabric) (n block : ℕ) (l : n < length s.nodes) where
   rightly_begins : (a b : Bool) →
-      Rightly s (if a then refused s PutOpen else if b then refused s NetFull else sending (with_node s n (with_put (node_at s n) block)) n block (send (home_node s block) PutReq ∷ []) PutBegun).fabric
-      (if a then refused s PutOpen else if b then refused s NetFull else sending (with_node s n (with_put (node_at s n) block)) n block (send (home_node s block) PutReq ∷ []) PutBegun).told
+      Rightly s (if a then refused s PutOpen else if b then refused s NetFull
+      else sending (with_node s n (with_put (node_at s n) block)) n block (send (home_node s block) PutReq ∷ []) PutBegun).fabric
+      (if a then refused s PutOpen else if b then refused s NetFull
+      else sending (with_node s n (with_put (node_at s n) block)) n block (send (home_node s block) PutReq ∷ []) PutBegun).told
   rightly_begins true b = same_clocks s
   rightly_begins false true = same_clocks s
-  rightly_begins false false = same_then s (with_node s n (with_put (node_at s n) block)) _ (same_with_node s n (with_put (node_at s n) block) refl refl) (same_nodes (with_node s n (with_put (node_at s n) block)) (sending (with_node s n (with_put (node_at s n) block)) n block (send (home_node s block) PutReq ∷ []) PutBegun).fabric refl refl)
+  rightly_begins false false =
+      same_then s (with_node s n (with_put (node_at s n) block)) _ (same_with_node s n (with_put (node_at s n) block) refl refl)
+      (same_nodes (with_node s n (with_put (node_at s n) block))
+      (sending (with_node s n (with_put (node_at s n) block)) n block (send (home_node s block) PutReq ∷ []) PutBegun).fabric refl refl)
 
   rightly_put : Rightly s (begins_put s n block).fabric (begins_put s n block).told
   rightly_put = rightly_begins (has_put (node_at s n).cache.put) (is_full s 1)
@@ -62,7 +70,9 @@ module _ (s : Fabric) (n block : ℕ) (l : n < length s.nodes) where
   rightly_evicts line.Modified = rightly_put
   rightly_evicts line.Exclusive = rightly_put
 
-  rightly_evicting : (a : Bool) → Rightly s (if a then refused s MissOpen else evicts s n block (line_of (node_at s n).cache block).state).fabric (if a then refused s MissOpen else evicts s n block (line_of (node_at s n).cache block).state).told
+  rightly_evicting : (a : Bool) →
+      Rightly s (if a then refused s MissOpen else evicts s n block (line_of (node_at s n).cache block).state).fabric
+      (if a then refused s MissOpen else evicts s n block (line_of (node_at s n).cache block).state).told
   rightly_evicting true = same_clocks s
   rightly_evicting false = rightly_evicts (line_of (node_at s n).cache block).state
 
@@ -74,24 +84,36 @@ module _ (config : Config) (s : Fabric) (t : Beside) (m : Message) (kept : IsKep
   abbrev Comes : Outcome → Type 0
   Comes x = Rightly s (delivers config s m x).fabric (delivers config s m x).told
 
-  rightly_copy : (done : Fabric) (lost : Option ℕ) → IsSameClocks s done → Rightly s done (option_map (λ (b : ℕ). told.LostCopy m.to b) lost)
+  rightly_copy : (done : Fabric) (lost : Option ℕ) → IsSameClocks s done →
+      Rightly s done (option_map (λ (b : ℕ). told.LostCopy m.to b) lost)
   rightly_copy done None h = h
   rightly_copy done (Some b) h = (flight.to, h)
 
-  rightly_room : (done : Moved) (a b : Bool) → Rightly s done.fabric done.told → Rightly s (if a then refused s LogFull else if b then refused s NetFull else done).fabric (if a then refused s LogFull else if b then refused s NetFull else done).told
+  rightly_room : (done : Moved) (a b : Bool) → Rightly s done.fabric done.told →
+      Rightly s (if a then refused s LogFull else if b then refused s NetFull else done).fabric
+      (if a then refused s LogFull else if b then refused s NetFull else done).told
   rightly_room done true b h = same_clocks s
   rightly_room done false true h = same_clocks s
   rightly_room done false false h = h
 
-  in_room : (log : List LogEntry) (sends : List Out) (done : Moved) → Rightly s done.fabric done.told → Rightly s (fits_in config s log sends done).fabric (fits_in config s log sends done).told
-  in_room log sends done h = rightly_room done (nat_lt config.log (length log)) (nat_lt (net_limit + 1) (length s.net.flights + length sends)) h
+  in_room : (log : List LogEntry) (sends : List Out) (done : Moved) → Rightly s done.fabric done.told →
+      Rightly s (fits_in config s log sends done).fabric (fits_in config s log sends done).told
+  in_room log sends done h =
+      rightly_room done (nat_lt config.log (length log)) (nat_lt (net_limit + 1) (length s.net.flights + length sends)) h
 
   at_cache : (reply : CacheReply) → Comes (AtCache reply)
-  at_cache reply = in_room reply.after.log reply.sends (record (sending (with_net (with_node s m.to (node_after (node_at s m.to) reply)) (without_flight s.net m.id)) m.to m.block reply.sends Delivered) { told = copy_lost m.to reply })
-      (rightly_copy (sending (with_net (with_node s m.to (node_after (node_at s m.to) reply)) (without_flight s.net m.id)) m.to m.block reply.sends Delivered).fabric reply.lost (cache_clocks s m reply))
+  at_cache reply =
+      in_room reply.after.log reply.sends
+      (record (sending (with_net (with_node s m.to (node_after (node_at s m.to) reply))
+      (without_flight s.net m.id)) m.to m.block reply.sends Delivered) { told = copy_lost m.to reply })
+      (rightly_copy (sending (with_net (with_node s m.to (node_after (node_at s m.to) reply))
+      (without_flight s.net m.id)) m.to m.block reply.sends Delivered).fabric reply.lost (cache_clocks s m reply))
 
   at_home : (reply : HomeReply) → Comes (AtHome reply)
-  at_home reply = in_room reply.after.log reply.sends (sending (with_net (home_after s m.to m.block reply) (without_flight s.net m.id)) m.to m.block reply.sends Delivered) (home_clocks s m reply)
+  at_home reply =
+      in_room reply.after.log reply.sends
+      (sending (with_net (home_after s m.to m.block reply) (without_flight s.net m.id)) m.to m.block reply.sends Delivered)
+      (home_clocks s m reply)
 
   unless : (begun : Option Transaction) (reply : HomeReply) → Comes (unless_busy begun reply)
   unless None reply = at_home reply
@@ -114,7 +136,9 @@ module _ (config : Config) (s : Fabric) (t : Beside) (m : Message) (kept : IsKep
     known = λ n. known_after n;
   }
     where
-      known_after : (n : ℕ) → (slice_index_or (slice_set s.nodes m.to (learned (node_at s m.to) k)) n first_node).known ≡ cond (n == m.to) (max (node_at s n).known k) (node_at s n).known
+      known_after : (n : ℕ) →
+          (slice_index_or (slice_set s.nodes m.to (learned (node_at s m.to) k)) n first_node).known
+          ≡ cond (n == m.to) (max (node_at s n).known k) (node_at s n).known
       known_after n = let l = flight.to in grind (arith, nat_tests, get_or-set_same, get_or-set_other)
 
   by_body : (x : Body) → m.body ≡ x → Comes (outcome_of s m x)
@@ -139,13 +163,16 @@ module _ (config : Config) (s : Fabric) (t : Beside) (m : Message) (kept : IsKep
 -- a message that may be in flight; `there` is that a message which is found is in flight
 module _ (config : Config) (s : Fabric) (t : Beside) (kept : IsKept s t) (id : ℕ) (there : (f : Flight) → flight_of s.net.flights id ≡ Some f → IsInFlight s f.message) where
   arriving : (f : Flight) → IsInFlight s f.message → (a b : Bool) →
-      Rightly s (if not a then refused s NotArrived else if b then refused s Held else delivers config s f.message (outcome_of s f.message f.message.body)).fabric
-      (if not a then refused s NotArrived else if b then refused s Held else delivers config s f.message (outcome_of s f.message f.message.body)).told
+      Rightly s (if not a then refused s NotArrived else if b then refused s Held
+      else delivers config s f.message (outcome_of s f.message f.message.body)).fabric
+      (if not a then refused s NotArrived else if b then refused s Held
+      else delivers config s f.message (outcome_of s f.message f.message.body)).told
   arriving f flight false b = same_clocks s
   arriving f flight true true = same_clocks s
   arriving f flight true false = by_body config s t f.message kept flight f.message.body refl
 
-  found : (x : Option Flight) → flight_of s.net.flights id ≡ x → Rightly s (delivers_flight config s x).fabric (delivers_flight config s x).told
+  found : (x : Option Flight) → flight_of s.net.flights id ≡ x →
+      Rightly s (delivers_flight config s x).fabric (delivers_flight config s x).told
   found None e = same_clocks s
   found (Some f) e = arriving f (there f e) (is_there f) (nat_lt (node_at s f.message.to).now f.message.tag)
 

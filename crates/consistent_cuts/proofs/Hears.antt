@@ -1,5 +1,7 @@
 -- What the rest hears of an event keeps what is joined.
-use Rattle.std.proofs.Common.{◌≡◌, ◌≢◌, ℕ, ◌+◌, ◌-◌, ◌<◌, ◌≤◌, Bool, true, false, max, cond, List, length, Option, Some, None, arith, refl, sym, ap, ◌∙◌, subst, nat_eq, get_or-set_same, get_or-set_other, length-set, length-drop, get_or-drop, if◌then◌else◌}
+use Rattle.std.proofs.Common.{◌≡◌, ◌≢◌, ℕ, ◌+◌, ◌-◌, ◌<◌, ◌≤◌, Bool, true, false, max, cond, List, length, Option, Some, None, arith, refl}
+use Rattle.std.proofs.Common.{sym, ap, ◌∙◌, subst, nat_eq, get_or-set_same, get_or-set_other, length-set, length-drop, get_or-drop}
+use Rattle.std.proofs.Common.{if◌then◌else◌}
 use Rattle.std.specs.Prelude.{slice_index, slice_set, get_or}
 use Rattle.std.proofs.lemmas.Bool.Decides.{nat_tests}
 use Rattle.std.proofs.lemmas.List.{get_or_default}
@@ -36,21 +38,26 @@ module _ (s : State) (n : ℕ) (processor : Processor) (l : n < length s.process
   pub at_other : (m : ℕ) → m ≢ n → processor_at (with_processor s n processor) m ≡ processor_at s m
   at_other m d = get_or-set_other s.processors n m processor (first_processor 0 0) d
 
-  pub at_each : (P : ℕ → Processor → Type 0) → P n processor → ((m : ℕ) → m ≢ n → P m (processor_at s m)) → (m : ℕ) → P m (processor_at (with_processor s n processor) m)
+  pub at_each : (P : ℕ → Processor → Type 0) → P n processor → ((m : ℕ) → m ≢ n → P m (processor_at s m)) → (m : ℕ) →
+      P m (processor_at (with_processor s n processor) m)
   at_each P here there m = go (nat_eq m n) refl
     where
       go : (b : Bool) → nat_eq m n ≡ b → P m (processor_at (with_processor s n processor) m)
-      go true e = let i : m ≡ n = grind (arith, nat_tests) in subst (λ k. P k (processor_at (with_processor s n processor) k)) (sym i) (subst (P n) (sym at_itself) here)
+      go true e =
+          let i : m ≡ n = grind (arith, nat_tests) in
+          subst (λ k. P k (processor_at (with_processor s n processor) k)) (sym i) (subst (P n) (sym at_itself) here)
       go false e = let d : m ≢ n = grind (arith, nat_tests) in subst (P m) (sym (at_other m d)) (there m d)
 
 -- a core without its reservation on a block
 pub unreserved_bare : (core : CoreState) (block : ℕ) → bare (unreserved core block) ≡ bare core
 unreserved_bare core block = grind arith
 
-pub unreserved_is : (core : CoreState) (block b : ℕ) → is_reserved (unreserved core block).reservation b ≡ cond (nat_eq b block) false (is_reserved core.reservation b)
+pub unreserved_is : (core : CoreState) (block b : ℕ) →
+    is_reserved (unreserved core block).reservation b ≡ cond (nat_eq b block) false (is_reserved core.reservation b)
 unreserved_is core block b = go core.reservation refl
   where
-    go : (x : Option ℕ) → core.reservation ≡ x → is_reserved (unreserved core block).reservation b ≡ cond (nat_eq b block) false (is_reserved core.reservation b)
+    go : (x : Option ℕ) → core.reservation ≡ x →
+        is_reserved (unreserved core block).reservation b ≡ cond (nat_eq b block) false (is_reserved core.reservation b)
     go None i = grind (arith, nat_tests)
     go (Some r) i = grind (arith, nat_tests)
 
@@ -59,7 +66,8 @@ pub kept_checkpoint : (xs : List CoreState) (k : ℕ) (c d : CoreState) → k < 
 kept_checkpoint xs k c d l = get_or_default xs k c d l
 
 -- the same with a number of nodes that is the same
-pub recount : (image : ImageData) (N M : ℕ) (m : sorted.Outline) → M ≡ N → sorted.Keeps image N (start_places image N) m → sorted.Keeps image M (start_places image M) m
+pub recount : (image : ImageData) (N M : ℕ) (m : sorted.Outline) → M ≡ N → sorted.Keeps image N (start_places image N) m →
+    sorted.Keeps image M (start_places image M) m
 recount image N M m e k = subst (λ x. sorted.Keeps image x (start_places image x) m) (sym e) k
 
 -- what is heard changes no history
@@ -102,7 +110,9 @@ module _ (image : ImageData) (s : State) (r : ℕ → Records) (list : ℕ → L
       shape = record {
         processors = j.shape.processors ∙ sym c.count;
         reported = j.shape.reported ∙ sym c.count;
-        checkpoints = λ n l. let a = j.shape.checkpoints n (omega (arith, l, c.count)) in let b = c.known n in let d = c.now n in omega (arith, a, b, d);
+        checkpoints =
+            λ n l. let a = j.shape.checkpoints n (omega (arith, l, c.count)) in let b = c.known n in let d = c.now n in
+            omega (arith, a, b, d);
         taken = λ n l. j.shape.taken n (omega (arith, l, c.count));
       };
       agrees = record {
@@ -111,7 +121,8 @@ module _ (image : ImageData) (s : State) (r : ℕ → Records) (list : ℕ → L
       };
       sorted = recount image N (length f.nodes) (outline_of (hearing_of s f None) (λ b. heard_by None b (r b)) list) c.count
           (less_keeps image N (start_places image N) s (hearing_of s f None) r (λ b. heard_by None b (r b)) list j.sorted (same_history r) c
-          (record { core = λ n. refl; given = λ n. refl; taken = λ n. refl }) (λ n b h. h) (λ n i l u. ap (λ x. checkpoint_of (processor_at s n) x i) (c.known n)));
+          (record { core = λ n. refl; given = λ n. refl; taken = λ n. refl }) (λ n b h. h)
+          (λ n i l u. ap (λ x. checkpoint_of (processor_at s n) x i) (c.known n)));
       traced = traced_same trace s (hearing_of s f None) j.traced c.point refl refl refl refl;
       made = j.made;
     }
@@ -121,7 +132,8 @@ module _ (image : ImageData) (s : State) (r : ℕ → Records) (list : ℕ → L
     abbrev without : State
     without = hearing_of s f (Some (told.LostCopy e block))
 
-    abbrev each : (P : ℕ → Processor → Type 0) → P e (without_reservation (processor_at s e) block) → ((m : ℕ) → m ≢ e → P m (processor_at s m)) → (m : ℕ) → P m (processor_at without m)
+    abbrev each : (P : ℕ → Processor → Type 0) → P e (without_reservation (processor_at s e) block) →
+        ((m : ℕ) → m ≢ e → P m (processor_at s m)) → (m : ℕ) → P m (processor_at without m)
     each = at_each s e (without_reservation (processor_at s e) block) (there e l)
 
     bare_each : (m : ℕ) → bare (processor_at s m).core ≡ bare (processor_at without m).core
@@ -133,27 +145,39 @@ module _ (image : ImageData) (s : State) (r : ℕ → Records) (list : ℕ → L
     kept_each : (m : ℕ) → (processor_at without m).checkpoints ≡ (processor_at s m).checkpoints
     kept_each = each (λ m p. p.checkpoints ≡ (processor_at s m).checkpoints) refl (λ m d. refl)
 
-    fewer_here : (b : ℕ) → is_reserved (unreserved (processor_at s e).core block).reservation b ≡ true → is_reserved (processor_at s e).core.reservation b ≡ true
+    fewer_here : (b : ℕ) → is_reserved (unreserved (processor_at s e).core block).reservation b ≡ true →
+        is_reserved (processor_at s e).core.reservation b ≡ true
     fewer_here b h = let a = unreserved_is (processor_at s e).core block b in grind (arith, nat_tests)
 
-    fewer : (m b : ℕ) → is_reserved (processor_at without m).core.reservation b ≡ true → is_reserved (processor_at s m).core.reservation b ≡ true
-    fewer = each (λ m p. (b : ℕ) → is_reserved p.core.reservation b ≡ true → is_reserved (processor_at s m).core.reservation b ≡ true) fewer_here (λ m d b h. h)
+    fewer : (m b : ℕ) → is_reserved (processor_at without m).core.reservation b ≡ true →
+        is_reserved (processor_at s m).core.reservation b ≡ true
+    fewer =
+        each (λ m p. (b : ℕ) → is_reserved p.core.reservation b ≡ true →
+        is_reserved (processor_at s m).core.reservation b ≡ true) fewer_here (λ m d b h. h)
 
-    checkpoint_each : (m i : ℕ) → (node_at s.fabric m).known ≤ i → i ≤ interval_of s.fabric m → checkpoint_of (processor_at without m) (node_at f m).known i ≡ checkpoint_of (processor_at s m) (node_at s.fabric m).known i
-    checkpoint_each = each (λ m p. (i : ℕ) → (node_at s.fabric m).known ≤ i → i ≤ interval_of s.fabric m → checkpoint_of p (node_at f m).known i ≡ checkpoint_of (processor_at s m) (node_at s.fabric m).known i)
-        (λ i low up. ap (λ x. get_or (processor_at s e).checkpoints (i - x) (unreserved (processor_at s e).core block)) (c.known e) ∙ kept_checkpoint (processor_at s e).checkpoints (i - (node_at s.fabric e).known) (unreserved (processor_at s e).core block) (processor_at s e).core (inside i low up))
+    checkpoint_each : (m i : ℕ) → (node_at s.fabric m).known ≤ i → i ≤ interval_of s.fabric m →
+        checkpoint_of (processor_at without m) (node_at f m).known i ≡ checkpoint_of (processor_at s m) (node_at s.fabric m).known i
+    checkpoint_each =
+        each (λ m p. (i : ℕ) → (node_at s.fabric m).known ≤ i → i ≤ interval_of s.fabric m →
+        checkpoint_of p (node_at f m).known i ≡ checkpoint_of (processor_at s m) (node_at s.fabric m).known i)
+        (λ i low up. ap (λ x. get_or (processor_at s e).checkpoints (i - x) (unreserved (processor_at s e).core block)) (c.known e)
+        ∙ kept_checkpoint (processor_at s e).checkpoints (i - (node_at s.fabric e).known) (unreserved (processor_at s e).core block)
+        (processor_at s e).core (inside i low up))
         (λ m d i low up. ap (λ x. checkpoint_of (processor_at s m) x i) (c.known m))
       where
         interval : interval_of s.fabric e ≡ (node_at s.fabric e).now
         interval = grind (arith, nat_tests)
 
-        inside : (i : ℕ) → (node_at s.fabric e).known ≤ i → i ≤ interval_of s.fabric e → i - (node_at s.fabric e).known < length (processor_at s e).checkpoints
+        inside : (i : ℕ) → (node_at s.fabric e).known ≤ i → i ≤ interval_of s.fabric e →
+            i - (node_at s.fabric e).known < length (processor_at s e).checkpoints
         inside i low up = let a = j.shape.checkpoints e l in let b = interval in omega (arith, a, b, low, up)
 
-    reserved_here : (b : ℕ) → b < block_count → (heard_by (Some (told.LostCopy e block)) b (r b)).reserved e ≡ is_reserved (unreserved (processor_at s e).core block).reservation b
+    reserved_here : (b : ℕ) → b < block_count →
+        (heard_by (Some (told.LostCopy e block)) b (r b)).reserved e ≡ is_reserved (unreserved (processor_at s e).core block).reservation b
     reserved_here b lb = go (nat_eq b block) refl
       where
-        go : (q : Bool) → nat_eq b block ≡ q → (if q then unreserves (r b) e else r b).reserved e ≡ is_reserved (unreserved (processor_at s e).core block).reservation b
+        go : (q : Bool) → nat_eq b block ≡ q →
+            (if q then unreserves (r b) e else r b).reserved e ≡ is_reserved (unreserved (processor_at s e).core block).reservation b
         go true i = let a = unreserved_is (processor_at s e).core block b in grind (arith, nat_tests)
         go false i = let a = unreserved_is (processor_at s e).core block b in let d = j.agrees.reserved b e lb l in grind (arith, nat_tests)
 
@@ -171,7 +195,9 @@ module _ (image : ImageData) (s : State) (r : ℕ → Records) (list : ℕ → L
       shape = record {
         processors = length-set s.processors e (without_reservation (processor_at s e) block) ∙ j.shape.processors ∙ sym c.count;
         reported = j.shape.reported ∙ sym c.count;
-        checkpoints = λ n ln. let a = j.shape.checkpoints n (omega (arith, ln, c.count)) in let b = c.known n in let d = c.now n in let g = ap length (kept_each n) in omega (arith, a, b, d, g);
+        checkpoints =
+            λ n ln. let a = j.shape.checkpoints n (omega (arith, ln, c.count)) in let b = c.known n in let d = c.now n in
+            let g = ap length (kept_each n) in omega (arith, a, b, d, g);
         taken = λ n ln. let a = j.shape.taken n (omega (arith, ln, c.count)) in let g = ap length (given_each n) in omega (arith, a, g);
       };
       agrees = record {
@@ -179,14 +205,17 @@ module _ (image : ImageData) (s : State) (r : ℕ → Records) (list : ℕ → L
         reported = λ b n lb ln. reported_same b n (nat_eq b block) ∙ j.agrees.reported b n lb (omega (arith, ln, c.count));
       };
       sorted = recount image N (length f.nodes) (outline_of without (λ b. heard_by (Some (told.LostCopy e block)) b (r b)) list) c.count
-          (less_keeps image N (start_places image N) s without r (λ b. heard_by (Some (told.LostCopy e block)) b (r b)) list j.sorted (heard_lost r e block) c
+          (less_keeps image N (start_places image N) s without r (λ b. heard_by (Some (told.LostCopy e block)) b (r b)) list j.sorted
+          (heard_lost r e block) c
           (record { core = bare_each; given = given_each; taken = λ n. refl }) fewer checkpoint_each);
       traced = traced_same trace s without j.traced c.point refl refl refl refl;
       made = j.made;
     }
       where
-        reserved_each : (b : ℕ) → b < block_count → (n : ℕ) → n < N → (heard_by (Some (told.LostCopy e block)) b (r b)).reserved n ≡ is_reserved (processor_at without n).core.reservation b
-        reserved_each b lb = each (λ n p. n < N → (heard_by (Some (told.LostCopy e block)) b (r b)).reserved n ≡ is_reserved p.core.reservation b)
+        reserved_each : (b : ℕ) → b < block_count → (n : ℕ) → n < N →
+            (heard_by (Some (told.LostCopy e block)) b (r b)).reserved n ≡ is_reserved (processor_at without n).core.reservation b
+        reserved_each b lb =
+            each (λ n p. n < N → (heard_by (Some (told.LostCopy e block)) b (r b)).reserved n ≡ is_reserved p.core.reservation b)
             (λ ln. reserved_here b lb) (λ m d ln. reserved_there b m (nat_eq b block) d ∙ j.agrees.reserved b m lb ln)
 
   -- the controller heard k from node e
@@ -194,8 +223,11 @@ module _ (image : ImageData) (s : State) (r : ℕ → Records) (list : ℕ → L
     abbrev with_report : State
     with_report = hearing_of s f (Some (told.Ready e k))
 
-    reported_each : (b n : ℕ) → b < block_count → n < N → (hears (r b) e k).reported n ≡ slice_index (slice_set s.reported e (max (slice_index s.reported e) k)) n
-    reported_each b n lb ln = let a = j.agrees.reported b n lb ln in let g = j.agrees.reported b e lb l in let h = j.shape.reported in grind (arith, nat_tests, get_or-set_same, get_or-set_other)
+    reported_each : (b n : ℕ) → b < block_count → n < N →
+        (hears (r b) e k).reported n ≡ slice_index (slice_set s.reported e (max (slice_index s.reported e) k)) n
+    reported_each b n lb ln =
+        let a = j.agrees.reported b n lb ln in let g = j.agrees.reported b e lb l in let h = j.shape.reported in
+        grind (arith, nat_tests, get_or-set_same, get_or-set_other)
 
     report_heard : IsJoined image with_report (λ b. heard_by (Some (told.Ready e k)) b (r b)) list trace
     report_heard = record {
@@ -203,7 +235,9 @@ module _ (image : ImageData) (s : State) (r : ℕ → Records) (list : ℕ → L
       shape = record {
         processors = j.shape.processors ∙ sym c.count;
         reported = length-set s.reported e (max (slice_index s.reported e) k) ∙ j.shape.reported ∙ sym c.count;
-        checkpoints = λ n ln. let a = j.shape.checkpoints n (omega (arith, ln, c.count)) in let b = c.known n in let d = c.now n in omega (arith, a, b, d);
+        checkpoints =
+            λ n ln. let a = j.shape.checkpoints n (omega (arith, ln, c.count)) in let b = c.known n in let d = c.now n in
+            omega (arith, a, b, d);
         taken = λ n ln. j.shape.taken n (omega (arith, ln, c.count));
       };
       agrees = record {
@@ -213,7 +247,8 @@ module _ (image : ImageData) (s : State) (r : ℕ → Records) (list : ℕ → L
       sorted = recount image N (length f.nodes) (outline_of with_report (λ b. heard_by (Some (told.Ready e k)) b (r b)) list) c.count
           (less_keeps image N (start_places image N) s with_report r (λ b. heard_by (Some (told.Ready e k)) b (r b)) list j.sorted
           (record { content = λ b i. refl; value = λ b. refl; last_write = λ b. refl; last_access = λ b n. refl }) c
-          (record { core = λ n. refl; given = λ n. refl; taken = λ n. refl }) (λ n b h. h) (λ n i low up. ap (λ x. checkpoint_of (processor_at s n) x i) (c.known n)));
+          (record { core = λ n. refl; given = λ n. refl; taken = λ n. refl }) (λ n b h. h)
+          (λ n i low up. ap (λ x. checkpoint_of (processor_at s n) x i) (c.known n)));
       traced = traced_same trace s with_report j.traced c.point refl refl refl refl;
       made = j.made;
     }
@@ -226,7 +261,8 @@ module _ (image : ImageData) (s : State) (r : ℕ → Records) (list : ℕ → L
     abbrev less : Processor
     less = freed (processor_at s e) (node_at s.fabric e).known k
 
-    abbrev each_news : (P : ℕ → Processor → Type 0) → P e less → ((m : ℕ) → m ≢ e → P m (processor_at s m)) → (m : ℕ) → P m (processor_at with_news m)
+    abbrev each_news : (P : ℕ → Processor → Type 0) → P e less → ((m : ℕ) → m ≢ e → P m (processor_at s m)) → (m : ℕ) →
+        P m (processor_at with_news m)
     each_news = at_each s e less (there e l)
 
     core_same : (m : ℕ) → (processor_at s m).core ≡ (processor_at with_news m).core
@@ -246,15 +282,21 @@ module _ (image : ImageData) (s : State) (r : ℕ → Records) (list : ℕ → L
 
     count_each : (m : ℕ) → m < N → (node_at f m).known + length (processor_at with_news m).checkpoints ≡ (node_at s.fabric m).now + 1
     count_each = each_news (λ m p. m < N → (node_at f m).known + length p.checkpoints ≡ (node_at s.fabric m).now + 1)
-        (λ ln. let a = j.shape.checkpoints e l in let b = known_here in let d = point_low in let g = length-drop (k - (node_at s.fabric e).known) (processor_at s e).checkpoints in omega (arith, a, b, d, g, low))
+        (λ ln. let a = j.shape.checkpoints e l in let b = known_here in let d = point_low in
+        let g = length-drop (k - (node_at s.fabric e).known) (processor_at s e).checkpoints in omega (arith, a, b, d, g, low))
         (λ m d ln. let a = j.shape.checkpoints m ln in let b = known_there m d in omega (arith, a, b))
 
-    checkpoint_news : (m i : ℕ) → (node_at f m).known ≤ i → i ≤ interval_of s.fabric m → checkpoint_of (processor_at with_news m) (node_at f m).known i ≡ checkpoint_of (processor_at s m) (node_at s.fabric m).known i
-    checkpoint_news = each_news (λ m p. (i : ℕ) → (node_at f m).known ≤ i → i ≤ interval_of s.fabric m → checkpoint_of p (node_at f m).known i ≡ checkpoint_of (processor_at s m) (node_at s.fabric m).known i)
-        (λ i lo up. get_or-drop (k - (node_at s.fabric e).known) (processor_at s e).checkpoints (i - (node_at f e).known) (processor_at s e).core ∙ ap (λ x. get_or (processor_at s e).checkpoints x (processor_at s e).core) (place i lo))
+    checkpoint_news : (m i : ℕ) → (node_at f m).known ≤ i → i ≤ interval_of s.fabric m →
+        checkpoint_of (processor_at with_news m) (node_at f m).known i ≡ checkpoint_of (processor_at s m) (node_at s.fabric m).known i
+    checkpoint_news =
+        each_news (λ m p. (i : ℕ) → (node_at f m).known ≤ i → i ≤ interval_of s.fabric m →
+        checkpoint_of p (node_at f m).known i ≡ checkpoint_of (processor_at s m) (node_at s.fabric m).known i)
+        (λ i lo up. get_or-drop (k - (node_at s.fabric e).known) (processor_at s e).checkpoints (i - (node_at f e).known)
+        (processor_at s e).core ∙ ap (λ x. get_or (processor_at s e).checkpoints x (processor_at s e).core) (place i lo))
         (λ m d i lo up. ap (λ x. checkpoint_of (processor_at s m) x i) (known_there m d))
       where
-        place : (i : ℕ) → (node_at f e).known ≤ i → (k - (node_at s.fabric e).known) + (i - (node_at f e).known) ≡ i - (node_at s.fabric e).known
+        place : (i : ℕ) → (node_at f e).known ≤ i →
+            (k - (node_at s.fabric e).known) + (i - (node_at f e).known) ≡ i - (node_at s.fabric e).known
         place i lo = let a = known_here in omega (arith, a, lo)
 
     interval_same : (n : ℕ) → interval_of f n ≡ interval_of s.fabric n
@@ -277,7 +319,8 @@ module _ (image : ImageData) (s : State) (r : ℕ → Records) (list : ℕ → L
         reported = λ b n lb ln. j.agrees.reported b n lb (omega (arith, ln, c.count));
       };
       sorted = recount image N (length f.nodes) (outline_of with_news (λ b. heard_by (Some (told.Advance e k)) b (r b)) list) c.count
-          (news_keeps image N (start_places image N) s with_news r (λ b. heard_by (Some (told.Advance e k)) b (r b)) list j.sorted (same_history r) e k
+          (news_keeps image N (start_places image N) s with_news r (λ b. heard_by (Some (told.Advance e k)) b (r b)) list j.sorted
+          (same_history r) e k
           (record { core = λ n. ap bare (core_same n); given = given_same; taken = λ n. refl }) low c.point interval_same known_same
           (λ n b. ap (λ x. is_reserved x.reservation b) (core_same n)) checkpoint_news);
       traced = traced_same trace s with_news j.traced c.point refl refl refl refl;
@@ -285,7 +328,8 @@ module _ (image : ImageData) (s : State) (r : ℕ → Records) (list : ℕ → L
     }
 
   -- whatever is heard
-  pub hearing_joins : (x : Option Told) → Rightly s.fabric f x → KeepsRecords f (λ b. heard_by x b (r b)) → IsJoined image (hearing_of s f x) (λ b. heard_by x b (r b)) list trace
+  pub hearing_joins : (x : Option Told) → Rightly s.fabric f x → KeepsRecords f (λ b. heard_by x b (r b)) →
+      IsJoined image (hearing_of s f x) (λ b. heard_by x b (r b)) list trace
   hearing_joins None right k = nothing_heard right k
   hearing_joins (Some (told.LostCopy e block)) right k = copy_lost e block right.0 right.1 k
   hearing_joins (Some (told.Ready e n)) right k = report_heard e n right.0 right.1 k

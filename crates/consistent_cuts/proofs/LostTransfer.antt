@@ -35,8 +35,10 @@ use Rattle.fabric_coherence.proofs.KeptStart.{first_homes_at, length-first_homes
 use Rattle.consistent_cuts.specs.Example as example
 use Rattle.consistent_cuts.specs.Example.{storing, small, plain, retirement, stored_block, moving, losing, recovering, IsLostAndRecovered}
 use Rattle.consistent_cuts.specs.Headline.{IsRun}
-use Rattle.consistent_cuts.proofs.Walk.{Moment, Leads, Comes, IsFree, all_fit, first_free, free_but, free_again, least_of_free, line_restored}
-use Rattle.consistent_cuts.proofs.Written.{begun, added, pointed, stored, processor, waits, node, bare, flight, homes, fabric, moment, start, ◌⨾◌, no_more}
+use Rattle.consistent_cuts.proofs.Walk.{Moment, Leads, Comes, IsFree, all_fit, first_free, free_but, free_again, least_of_free}
+use Rattle.consistent_cuts.proofs.Walk.{line_restored}
+use Rattle.consistent_cuts.proofs.Written.{begun, added, pointed, stored, processor, waits, node, bare, flight, homes, fabric, moment}
+use Rattle.consistent_cuts.proofs.Written.{start, ◌⨾◌, no_more}
 
 -- block 64 at node 0, at its home and in the log
 
@@ -168,8 +170,8 @@ answered = at_first (node 0 empty_lines (miss_in 0) taken_log) taken (flight 2 0
 abbrev got : Moment
 got = at_first (node 0 complete None written_log) taken (flight 3 0 0 0 64 (Unblock 0) 0 ∷ []) 4 (pointed 0) twos entries
 
-abbrev settled : Moment
-settled = at_first (node 0 complete None written_log) closed [] 4 (pointed 0) twos entries
+abbrev unblocked : Moment
+unblocked = at_first (node 0 complete None written_log) closed [] 4 (pointed 0) twos entries
 
 abbrev all_entries : List Entry
 all_entries = retirement 0 0 ∷ retirement 0 0 ∷ retirement 0 0 ∷ []
@@ -182,7 +184,9 @@ three_done = at_first (node 0 written None written_log) closed [] 4 (stored 0) t
 got_with : Line → State
 got_with line = record got.state {
   fabric = record got.state.fabric {
-    nodes = node 0 (slice_set arrived 64 (record { state = line_when_done line.state Write; content = line.content })) None written_log ∷ bare 0 ∷ [];
+    nodes =
+        node 0 (slice_set arrived 64 (record { state = line_when_done line.state Write; content = line.content })) None written_log ∷ bare 0
+        ∷ [];
   };
 }
 
@@ -218,11 +222,11 @@ gets = record {
   trace = refl;
 }
 
-settles : Leads storing small got (Deliver 3) Delivered settled
+unblocks : Leads storing small got (Deliver 3) Delivered unblocked
 unfolding step_of enter_of distance comes is_living some_below least_below is_linked along partner row_count column_count
-settles = record { answers = rw at_taken refl; state = rw at_taken refl; trace = refl }
+unblocks = record { answers = rw at_taken refl; state = rw at_taken refl; trace = refl }
 
-third : Leads storing small settled (Step 0) Retired three_done
+third : Leads storing small unblocked (Step 0) Retired three_done
 unfolding step_of want_of next_of decoded
 third = record {
   answers = rw (found arrived (modified zeros) whole_arrived) refl;
@@ -255,7 +259,8 @@ ticked = moment (fabric (node 1 written None written_log ∷ bare 0 ∷ []) clos
 -- both in interval 1, with these messages in flight and these reports
 abbrev reporting : List Flight → ℕ → List ℕ → Moment
 reporting flights next reports =
-    moment (fabric (node 1 written None written_log ∷ bare 1 ∷ []) closed flights next 0) (edged_0 ∷ edged_1 ∷ []) reports fours [] four_entries
+    moment (fabric (node 1 written None written_log ∷ bare 1 ∷ []) closed flights next 0)
+    (edged_0 ∷ edged_1 ∷ []) reports fours [] four_entries
 
 abbrev report_0 : Flight
 report_0 = flight 4 0 0 1 0 (Ready 1) 0
@@ -336,7 +341,8 @@ four_plain = plain 0 ∷ plain 0 ∷ plain 0 ∷ plain 1 ∷ []
 
 abbrev validated : Moment
 validated =
-    moment (fabric (node 1 written None written_log ∷ bare 1 ∷ []) closed told 8 1) (edged_0 ∷ edged_1 ∷ []) (1 ∷ 1 ∷ []) [] four_plain four_entries
+    moment (fabric (node 1 written None written_log ∷ bare 1 ∷ []) closed told 8 1) (edged_0 ∷ edged_1 ∷ [])
+    (1 ∷ 1 ∷ []) [] four_plain four_entries
 
 -- node 1 has done its second instruction, in interval 1
 abbrev at_second : Node → Node → List HomeEntry → List Flight → ℕ → Moment
@@ -367,7 +373,8 @@ lost = at_second (node 1 given_up None moved_log) wanting moved told 11
 
 abbrev recovered : Moment
 recovered =
-    moment (restored lost.state.fabric 1) (processor (stored 0) (stored 0 ∷ []) ∷ processor (added 1) (added 1 ∷ []) ∷ []) (1 ∷ 1 ∷ []) [] four_plain four_entries
+    moment (restored lost.state.fabric 1) (processor (stored 0) (stored 0 ∷ []) ∷ processor (added 1) (added 1 ∷ []) ∷ [])
+    (1 ∷ 1 ∷ []) [] four_plain four_entries
 
 -- their events
 
@@ -397,7 +404,8 @@ forwards = record { answers = rw at_closed refl; state = rw at_closed refl; trac
 
 gave_with : Line → State
 gave_with line = record gave.state {
-  fabric = fabric (node 1 given_up None (written_log ++ record { interval = 1; block = 64; old = Owned line.content } ∷ []) ∷ wanting ∷ []) moved
+  fabric =
+      fabric (node 1 given_up None (written_log ++ record { interval = 1; block = 64; old = Owned line.content } ∷ []) ∷ wanting ∷ []) moved
       (told ++ flight 10 0 1 1 64 (DataM line.content 0) 0 ∷ []) 11 1;
 }
 
@@ -419,9 +427,10 @@ recovers = record { answers = refl; state = refl; trace = refl }
 
 -- the run
 
-to_report : {events : List Event} {b : Moment} → Comes storing small both_heard events b → Comes storing small start (example.reporting ++ events) b
+to_report : {events : List Event} {b : Moment} → Comes storing small both_heard events b →
+    Comes storing small start (example.reporting ++ events) b
 to_report h =
-    first ⨾ second ⨾ asks ⨾ answers ⨾ gets ⨾ settles ⨾ third ⨾ fourth
+    first ⨾ second ⨾ asks ⨾ answers ⨾ gets ⨾ unblocks ⨾ third ⨾ fourth
     ⨾ ticks_0 ⨾ ticks_1 ⨾ reports_0 ⨾ reports_1 ⨾ hears_0 ⨾ hops_1 ⨾ hears_1 ⨾ h
 
 to_move : {events : List Event} {b : Moment} → Comes storing small gave events b → Comes storing small start (moving ++ events) b

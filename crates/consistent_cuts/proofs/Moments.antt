@@ -10,7 +10,7 @@ use Rattle.sn_model.specs.Caches.{block_count, line_of, is_present}
 use Rattle.sn_model.specs.Fabric.{node_at}
 use Rattle.sn_model.specs.Cuts.{names_at}
 use Rattle.sn_model.specs.Machine.{State, processor_at}
-use Rattle.sn_model.specs.RecoveryPoint.{KeepsCheckpoint, IsHeld, IsCut, block_in}
+use Rattle.sn_model.specs.RecoveryPoint.{KeepsCheckpoint, HasOneHolderWith, IsCut, block_in}
 use Rattle.sn_model.specs.Trace.{Entry as Retired}
 use Rattle.sn_coherence.specs.Records.{Records}
 use Rattle.sn_consistency.specs.Words as words
@@ -20,7 +20,7 @@ use Rattle.sn_consistency.specs.Shows.{Shows}
 use Rattle.sn_consistency.proofs.CommittedPart.{committed_execution, committed_out}
 use Rattle.sn_consistency.proofs.Kept.{end_content, end_core, given_begins}
 use Rattle.sn_consistency.proofs.Start.{start_shows}
-use Rattle.fabric_coherence.specs.Coherent.{IsFinished}
+use Rattle.fabric_coherence.specs.Coherent.{NothingUnfinished}
 use Rattle.consistent_cuts.specs.Outlined.{outline_of, start_places}
 use Rattle.consistent_cuts.specs.Joined.{IsJoined}
 use Rattle.consistent_cuts.specs.Headline.{IsConsistent}
@@ -53,12 +53,15 @@ module _ (half : FabricHalf) (image : ImageData) (s : State) (r : ℕ → Record
   committed_is = committed_sorted image list trace j.made point ∙ sym j.traced.committed
 
   pub executes : IsExecution image N s.committed
-  executes = subst (IsExecution image N) committed_is (committed_execution image N (flat_start image N) (start_places image N) shows list j.sorted.good point)
+  executes =
+      subst (IsExecution image N) committed_is
+      (committed_execution image N (flat_start image N) (start_places image N) shows list j.sorted.good point)
 
   pub puts_out : s.released ≡ out_of image N s.committed
   puts_out =
       j.traced.released ∙ sym (released_sorted image list trace j.made point)
-      ∙ sym (committed_out image N (flat_start image N) (start_places image N) shows list j.sorted.good point) ∙ ap (out_of image N) committed_is
+      ∙ sym (committed_out image N (flat_start image N) (start_places image N) shows list j.sorted.good point)
+      ∙ ap (out_of image N) committed_is
 
   pub reads_first : (n : ℕ) → Begins (in_of n s.committed) (processor_at s n).given
   reads_first n = let b = given_begins image N (start_places image N) (outline_of s r list) j.sorted n refl in
@@ -85,22 +88,29 @@ module _ (half : FabricHalf) (image : ImageData) (s : State) (r : ℕ → Record
   keeps_checkpoint n l = record {
     kept = j.sorted.known_point n;
     reached = point_now n l;
-    same = got (processor_at s n).checkpoints (point - (node_at s.fabric n).known) (processor_at s n).core inside ∙ ap Some (sym (end_register n));
+    same =
+        got (processor_at s n).checkpoints (point - (node_at s.fabric n).known) (processor_at s n).core inside
+        ∙ ap Some (sym (end_register n));
   }
     where
       inside : point - (node_at s.fabric n).known < length (processor_at s n).checkpoints
-      inside = let a = j.shape.checkpoints n l in let b = point_now n l in let c : (node_at s.fabric n).known ≤ point = j.sorted.known_point n in omega (arith, a, b, c)
+      inside =
+          let a = j.shape.checkpoints n l in let b = point_now n l in let c : (node_at s.fabric n).known ≤ point = j.sorted.known_point n in
+          omega (arith, a, b, c)
 
   pub cuts : IsCut s point end
   cuts = record {
     cores = keeps_checkpoint;
-    blocks = λ b l. subst (λ v. IsHeld s.fabric b point v (names_at s.fabric b point)) (sym (end_block b)) (half.tell s.fabric r j.fabric b l).point;
+    blocks =
+        λ b l. subst (λ v. HasOneHolderWith s.fabric b point v (names_at s.fabric b point)) (sym (end_block b))
+        (half.tell s.fabric r j.fabric b l).point;
   }
 
-  pub point_finished : IsFinished s.fabric point
-  point_finished = record { now = point_now; none = half.settled s.fabric r j.fabric }
+  pub point_finished : NothingUnfinished s.fabric point
+  point_finished = record { now = point_now; none = half.none_unfinished s.fabric r j.fabric }
 
-  pub reserved_copy : (n block : ℕ) → n < N → block < block_count → is_reserved (processor_at s n).core.reservation block ≡ true → is_present (line_of (node_at s.fabric n).cache block).state ≡ true
+  pub reserved_copy : (n block : ℕ) → n < N → block < block_count → is_reserved (processor_at s n).core.reservation block ≡ true →
+      is_present (line_of (node_at s.fabric n).cache block).state ≡ true
   reserved_copy n block l low h = ((half.tell s.fabric r j.fabric block low).reserved n l (j.agrees.reserved block n low l ∙ h)).0
 
   pub consistent : (nodes : ℕ) → N ≡ nodes → IsConsistent image nodes s trace

@@ -54,7 +54,8 @@ module _ (image : ImageData) (config : Config) (s : State) where
   stepped_stays : (n : ℕ) → Stays (stepped image config s n)
   stepped_stays n = grind (arith, wanting_stays n (want_of image (processor_at s n).core))
 
-  validates_stays : (unready : Option ℕ) → length (advanced s.fabric (s.fabric.point + 1)).fabric.nodes ≡ length s.fabric.nodes → Stays (validates s unready)
+  validates_stays : (unready : Option ℕ) → length (advanced s.fabric (s.fabric.point + 1)).fabric.nodes ≡ length s.fabric.nodes →
+      Stays (validates s unready)
   validates_stays (Some n) h = refl
   validates_stays None h = h
 

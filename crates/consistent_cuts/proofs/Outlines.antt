@@ -1,5 +1,6 @@
 -- What each event but an instruction does to the outline of the machine: so the sorted list is kept.
-use Rattle.std.proofs.Common.{◌≡◌, ℕ, suc, ◌<◌, ◌≤◌, Bool, true, false, List, ◌++◌, length, drop, arith, refl, sym, ap, ◌∙◌, subst, nat_lt, cond}
+use Rattle.std.proofs.Common.{◌≡◌, ℕ, suc, ◌<◌, ◌≤◌, Bool, true, false, List, ◌++◌, length, drop, arith, refl, sym, ap, ◌∙◌, subst, nat_lt}
+use Rattle.std.proofs.Common.{cond}
 use Rattle.std.proofs.lemmas.Bool.Decides.{nat_tests}
 use Rattle.sn_base.specs.Image.{ImageData}
 use Rattle.rv_core.specs.Core.{bare, is_reserved}
@@ -33,7 +34,8 @@ pub record IsSameKept (m p : Outline) : Type 0 where
   pub last_access : (b n : ℕ) → m.last_access b n ≡ p.last_access b n
 
 pub same_kept : (image : ImageData) (N : ℕ) (F : Places) (m p : Outline) → IsSameKept m p → Keeps image N F m → Keeps image N F p
-same_kept image N F m p s t = same_keeps image N F (record m { checkpoint = p.checkpoint }) p same (exchanged_keeps image N F m t p.checkpoint s.checkpoint)
+same_kept image N F m p s t =
+    same_keeps image N F (record m { checkpoint = p.checkpoint }) p same (exchanged_keeps image N F m t p.checkpoint s.checkpoint)
   where
     same : IsSameOutline (record m { checkpoint = p.checkpoint }) p
     same = record {
@@ -74,11 +76,14 @@ module _ (image : ImageData) (N : ℕ) (F : Places) (s t : State) (r q : ℕ →
 
   -- an event that leaves the clocks, where reservations may be lost
   module _ (clocks : IsSameClocks s.fabric t.fabric) (rest : IsSameRest s t) where
-    pub less_keeps : ((n b : ℕ) → is_reserved (processor_at t n).core.reservation b ≡ true → is_reserved (processor_at s n).core.reservation b ≡ true) →
-        ((n k : ℕ) → (node_at s.fabric n).known ≤ k → k ≤ interval_of s.fabric n → checkpoint_of (processor_at t n) (node_at t.fabric n).known k ≡ checkpoint_of (processor_at s n) (node_at s.fabric n).known k) →
+    pub less_keeps : ((n b : ℕ) → is_reserved (processor_at t n).core.reservation b ≡ true →
+        is_reserved (processor_at s n).core.reservation b ≡ true) →
+        ((n k : ℕ) → (node_at s.fabric n).known ≤ k → k ≤ interval_of s.fabric n →
+        checkpoint_of (processor_at t n) (node_at t.fabric n).known k ≡ checkpoint_of (processor_at s n) (node_at s.fabric n).known k) →
         Keeps image N F (outline_of t q list)
     less_keeps reserved checkpoint =
-        same_kept image N F (lost_to (outline_of s r list) (outline_of t q list).reserved) (outline_of t q list) same (lost_keeps image N F (outline_of s r list) kept (outline_of t q list).reserved reserved)
+        same_kept image N F (lost_to (outline_of s r list) (outline_of t q list).reserved) (outline_of t q list) same
+        (lost_keeps image N F (outline_of s r list) kept (outline_of t q list).reserved reserved)
       where
         interval : (n : ℕ) → interval_of s.fabric n ≡ interval_of t.fabric n
         interval n = let a = clocks.count in let b = clocks.now n in let c = clocks.point in grind arith
@@ -102,11 +107,14 @@ module _ (image : ImageData) (N : ℕ) (F : Places) (s t : State) (r q : ℕ →
 
   -- an edge of node e
   module _ (e : ℕ) (rest : IsSameRest s t) where
-    pub edge_keeps : t.fabric.point ≡ s.fabric.point → ((n : ℕ) → interval_of t.fabric n ≡ (edged (outline_of s r list) e).interval n) → ((n : ℕ) → (node_at t.fabric n).known ≡ (node_at s.fabric n).known) →
+    pub edge_keeps : t.fabric.point ≡ s.fabric.point → ((n : ℕ) → interval_of t.fabric n ≡ (edged (outline_of s r list) e).interval n) →
+        ((n : ℕ) → (node_at t.fabric n).known ≡ (node_at s.fabric n).known) →
         ((n b : ℕ) → (edged (outline_of s r list) e).reserved n b ≡ is_reserved (processor_at t n).core.reservation b) →
-        ((n k : ℕ) → (node_at s.fabric n).known ≤ k → k ≤ interval_of t.fabric n → checkpoint_of (processor_at t n) (node_at t.fabric n).known k ≡ (edged (outline_of s r list) e).checkpoint n k) →
+        ((n k : ℕ) → (node_at s.fabric n).known ≤ k → k ≤ interval_of t.fabric n →
+        checkpoint_of (processor_at t n) (node_at t.fabric n).known k ≡ (edged (outline_of s r list) e).checkpoint n k) →
         Keeps image N F (outline_of t q list)
-    edge_keeps point interval known reserved checkpoint = same_kept image N F (edged (outline_of s r list) e) (outline_of t q list) same (edged_keeps image N F (outline_of s r list) kept e)
+    edge_keeps point interval known reserved checkpoint =
+        same_kept image N F (edged (outline_of s r list) e) (outline_of t q list) same (edged_keeps image N F (outline_of s r list) kept e)
       where
         same : IsSameKept (edged (outline_of s r list) e) (outline_of t q list)
         same = record {
@@ -127,11 +135,15 @@ module _ (image : ImageData) (N : ℕ) (F : Places) (s t : State) (r q : ℕ →
 
   -- node e hears of recovery point k
   module _ (e k : ℕ) (rest : IsSameRest s t) where
-    pub news_keeps : k ≤ s.fabric.point → t.fabric.point ≡ s.fabric.point → ((n : ℕ) → interval_of t.fabric n ≡ interval_of s.fabric n) → ((n : ℕ) → (node_at t.fabric n).known ≡ (learned (outline_of s r list) e k).known n) →
+    pub news_keeps : k ≤ s.fabric.point → t.fabric.point ≡ s.fabric.point → ((n : ℕ) → interval_of t.fabric n ≡ interval_of s.fabric n) →
+        ((n : ℕ) → (node_at t.fabric n).known ≡ (learned (outline_of s r list) e k).known n) →
         ((n b : ℕ) → is_reserved (processor_at s n).core.reservation b ≡ is_reserved (processor_at t n).core.reservation b) →
-        ((n j : ℕ) → (node_at t.fabric n).known ≤ j → j ≤ interval_of s.fabric n → checkpoint_of (processor_at t n) (node_at t.fabric n).known j ≡ checkpoint_of (processor_at s n) (node_at s.fabric n).known j) →
+        ((n j : ℕ) → (node_at t.fabric n).known ≤ j → j ≤ interval_of s.fabric n →
+        checkpoint_of (processor_at t n) (node_at t.fabric n).known j ≡ checkpoint_of (processor_at s n) (node_at s.fabric n).known j) →
         Keeps image N F (outline_of t q list)
-    news_keeps low point interval known reserved checkpoint = same_kept image N F (learned (outline_of s r list) e k) (outline_of t q list) same (learned_keeps image N F (outline_of s r list) kept e k low)
+    news_keeps low point interval known reserved checkpoint =
+        same_kept image N F (learned (outline_of s r list) e k) (outline_of t q list) same
+        (learned_keeps image N F (outline_of s r list) kept e k low)
       where
         same : IsSameKept (learned (outline_of s r list) e k) (outline_of t q list)
         same = record {
@@ -154,11 +166,14 @@ module _ (image : ImageData) (N : ℕ) (F : Places) (s t : State) (r q : ℕ →
   module _ (e byte : ℕ) where
     pub input_keeps : IsSameClocks s.fabric t.fabric → ((n : ℕ) → bare (processor_at s n).core ≡ bare (processor_at t n).core) →
         ((n b : ℕ) → is_reserved (processor_at s n).core.reservation b ≡ is_reserved (processor_at t n).core.reservation b) →
-        ((n k : ℕ) → checkpoint_of (processor_at t n) (node_at t.fabric n).known k ≡ checkpoint_of (processor_at s n) (node_at s.fabric n).known k) →
+        ((n k : ℕ) → checkpoint_of (processor_at t n) (node_at t.fabric n).known k
+        ≡ checkpoint_of (processor_at s n) (node_at s.fabric n).known k) →
         ((n : ℕ) → (processor_at t n).given ≡ (given_to (outline_of s r list) e byte).given n) →
         ((n : ℕ) → drop (taken_by t n) (processor_at t n).given ≡ (given_to (outline_of s r list) e byte).waiting n) →
         Keeps image N F (outline_of t q list)
-    input_keeps clocks core reserved checkpoint given waiting = same_kept image N F (given_to (outline_of s r list) e byte) (outline_of t q list) same (given_keeps image N F (outline_of s r list) kept e byte)
+    input_keeps clocks core reserved checkpoint given waiting =
+        same_kept image N F (given_to (outline_of s r list) e byte) (outline_of t q list) same
+        (given_keeps image N F (outline_of s r list) kept e byte)
       where
         interval : (n : ℕ) → interval_of s.fabric n ≡ interval_of t.fabric n
         interval n = let a = clocks.count in let b = clocks.now n in let c = clocks.point in grind arith
@@ -186,13 +201,17 @@ module _ (image : ImageData) (N : ℕ) (F : Places) (s t : State) (r q : ℕ →
 
   -- the point rises by one
   module _ (rest : IsSameRest s t) (count : length s.fabric.nodes ≡ N) (nobody : IsNobodys t) where
-    pub validation_keeps : length t.fabric.nodes ≡ N → t.fabric.point ≡ suc s.fabric.point → ((n : ℕ) → n < N → suc s.fabric.point ≤ (node_at s.fabric n).now) →
-        ((n : ℕ) → n < N → (node_at t.fabric n).now ≡ (node_at s.fabric n).now) → ((n : ℕ) → n < N → (node_at t.fabric n).known ≡ (node_at s.fabric n).known) →
+    pub validation_keeps : length t.fabric.nodes ≡ N → t.fabric.point ≡ suc s.fabric.point →
+        ((n : ℕ) → n < N → suc s.fabric.point ≤ (node_at s.fabric n).now) →
+        ((n : ℕ) → n < N → (node_at t.fabric n).now ≡ (node_at s.fabric n).now) →
+        ((n : ℕ) → n < N → (node_at t.fabric n).known ≡ (node_at s.fabric n).known) →
         ((n b : ℕ) → is_reserved (processor_at s n).core.reservation b ≡ is_reserved (processor_at t n).core.reservation b) →
-        ((n k : ℕ) → n < N → checkpoint_of (processor_at t n) (node_at t.fabric n).known k ≡ checkpoint_of (processor_at s n) (node_at s.fabric n).known k) →
+        ((n k : ℕ) → n < N → checkpoint_of (processor_at t n) (node_at t.fabric n).known k
+        ≡ checkpoint_of (processor_at s n) (node_at s.fabric n).known k) →
         Keeps image N F (outline_of t q list)
     validation_keeps same_count point reached now known reserved checkpoint =
-        same_kept image N F (validated others) (outline_of t q list) same (validated_keeps image N F others (others_keep image N F (outline_of s r list) kept (suc s.fabric.point)) high)
+        same_kept image N F (validated others) (outline_of t q list) same
+        (validated_keeps image N F others (others_keep image N F (outline_of s r list) kept (suc s.fabric.point)) high)
       where
         others : Outline
         others = others_reach N F (outline_of s r list) (suc s.fabric.point)
@@ -206,7 +225,9 @@ module _ (image : ImageData) (N : ℕ) (F : Places) (s t : State) (r q : ℕ →
         known_same : (n : ℕ) → others.known n ≡ (node_at t.fabric n).known
         known_same n = let a = known n in let b : N ≤ n → (node_at t.fabric n).known ≡ 0 = λ l. (nobody n 0 l).0 in grind (arith, nat_tests)
 
-        kept_same : (n k : ℕ) (node : Bool) → nat_lt n N ≡ node → checkpoint_of (processor_at t n) (node_at t.fabric n).known k ≡ cond node (checkpoint_of (processor_at s n) (node_at s.fabric n).known k) (F.core n)
+        kept_same : (n k : ℕ) (node : Bool) → nat_lt n N ≡ node →
+            checkpoint_of (processor_at t n) (node_at t.fabric n).known k
+            ≡ cond node (checkpoint_of (processor_at s n) (node_at s.fabric n).known k) (F.core n)
         kept_same n k true e = checkpoint n k (grind (arith, nat_tests))
         kept_same n k false e =
             let l : N ≤ n = grind (arith, nat_tests) in
@@ -238,12 +259,14 @@ module _ (image : ImageData) (N : ℕ) (F : Places) (s t : State) (r : ℕ → R
       ((n : ℕ) → n < N → (node_at t.fabric n).now ≡ s.fabric.point) → ((n : ℕ) → n < N → (node_at t.fabric n).known ≡ s.fabric.point) →
       ((n : ℕ) → bare (processor_at t n).core ≡ (outline_of s r list).checkpoint n s.fabric.point) →
       ((n b : ℕ) → is_reserved (processor_at t n).core.reservation b ≡ false) →
-      ((n : ℕ) → n < N → checkpoint_of (processor_at t n) (node_at t.fabric n).known s.fabric.point ≡ checkpoint_of (processor_at s n) (node_at s.fabric n).known s.fabric.point) →
+      ((n : ℕ) → n < N → checkpoint_of (processor_at t n) (node_at t.fabric n).known s.fabric.point
+      ≡ checkpoint_of (processor_at s n) (node_at s.fabric n).known s.fabric.point) →
       ((n : ℕ) → (processor_at s n).given ≡ (processor_at t n).given) →
       ((n : ℕ) → (processor_at s n).given ≡ (at_cut image F list s.fabric.point).taken n ++ drop (taken_by t n) (processor_at t n).given) →
       Keeps image N F (outline_of t back (cut_off list s.fabric.point))
   recovery_keeps count same_count point now known core reserved checkpoint given left =
-      same_kept image N F others (outline_of t back (cut_off list s.fabric.point)) same (others_keep image N F gone (recovered_keeps image N F (outline_of s r list) kept waiting left) 0)
+      same_kept image N F others (outline_of t back (cut_off list s.fabric.point)) same
+      (others_keep image N F gone (recovered_keeps image N F (outline_of s r list) kept waiting left) 0)
     where
       waiting : ℕ → List ℕ
       waiting n = drop (taken_by t n) (processor_at t n).given
@@ -260,10 +283,13 @@ module _ (image : ImageData) (N : ℕ) (F : Places) (s t : State) (r : ℕ → R
       known_same : (n : ℕ) → others.known n ≡ (node_at t.fabric n).known
       known_same n = let a = known n in let b : N ≤ n → (node_at t.fabric n).known ≡ 0 = λ l. (nobody n 0 l).0 in grind (arith, nat_tests)
 
-      kept_same : (n k : ℕ) (node : Bool) → nat_lt n N ≡ node → others.known n ≤ k → k ≤ others.interval n → checkpoint_of (processor_at t n) (node_at t.fabric n).known k ≡ cond node (checkpoint_of (processor_at s n) (node_at s.fabric n).known k) (F.core n)
+      kept_same : (n k : ℕ) (node : Bool) → nat_lt n N ≡ node → others.known n ≤ k → k ≤ others.interval n →
+          checkpoint_of (processor_at t n) (node_at t.fabric n).known k
+          ≡ cond node (checkpoint_of (processor_at s n) (node_at s.fabric n).known k) (F.core n)
       kept_same n k true e l u =
           let i : k ≡ s.fabric.point = grind (arith, nat_tests) in
-          subst (λ j. checkpoint_of (processor_at t n) (node_at t.fabric n).known j ≡ checkpoint_of (processor_at s n) (node_at s.fabric n).known j) (sym i) (checkpoint n (grind (arith, nat_tests)))
+          subst (λ j. checkpoint_of (processor_at t n) (node_at t.fabric n).known j
+          ≡ checkpoint_of (processor_at s n) (node_at s.fabric n).known j) (sym i) (checkpoint n (grind (arith, nat_tests)))
       kept_same n k false e l u =
           let h : N ≤ n = grind (arith, nat_tests) in
           ap (λ j. checkpoint_of (processor_at t n) j k) (nobody n k h).0 ∙ (nobody n k h).1

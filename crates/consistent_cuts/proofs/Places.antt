@@ -1,5 +1,7 @@
 -- The machine after a retirement, at each node.
-use Rattle.std.proofs.Common.{◌≡◌, ◌≢◌, ℕ, ◌+◌, ◌<◌, Bool, true, false, List, [], ◌∷◌, ◌++◌, length, drop, get_or, set, Option, Some, None, option_to_list, if◌then◌else◌, nat_eq, refl, sym, ap, ◌∙◌, ◌⊎◌, inl, inr, arith, subst, length-set, length-append, append_assoc, drop-drop, get_or-set_same, get_or-set_other}
+use Rattle.std.proofs.Common.{◌≡◌, ◌≢◌, ℕ, ◌+◌, ◌<◌, Bool, true, false, List, [], ◌∷◌, ◌++◌, length, drop, get_or, set, Option, Some, None}
+use Rattle.std.proofs.Common.{option_to_list, if◌then◌else◌, nat_eq, refl, sym, ap, ◌∙◌, ◌⊎◌, inl, inr, arith, subst, length-set}
+use Rattle.std.proofs.Common.{length-append, append_assoc, drop-drop, get_or-set_same, get_or-set_other}
 use Rattle.std.proofs.lemmas.Bool.Decides.{nat_tests}
 use Rattle.std.proofs.lemmas.Bool.{cases_eq}
 use Rattle.sn_base.specs.Image.{ImageData}
@@ -46,7 +48,8 @@ pub in_of_one_more : (m : ℕ) (ps : List Retirement) (p : Retirement) →
     in_of m (records_of (ps ++ p ∷ [])) ≡ in_of m (records_of ps) ++ (if nat_eq p.did.core m then option_to_list p.did.read else [])
 in_of_one_more m [] p = grind (arith, nat_tests)
 in_of_one_more m (q ∷ ps) p = ap (λ l. (if nat_eq q.did.core m then option_to_list q.did.read else []) ++ l) (in_of_one_more m ps p)
-    ∙ sym (append_assoc (if nat_eq q.did.core m then option_to_list q.did.read else []) (in_of m (records_of ps)) (if nat_eq p.did.core m then option_to_list p.did.read else []))
+    ∙ sym (append_assoc (if nat_eq q.did.core m then option_to_list q.did.read else []) (in_of m (records_of ps))
+    (if nat_eq p.did.core m then option_to_list p.did.read else []))
 
 module _ (image : ImageData) (s : State) (n : ℕ) where
   abbrev pub after : State
@@ -54,12 +57,17 @@ module _ (image : ImageData) (s : State) (n : ℕ) where
 
   pub taken_after : (m : ℕ) → taken_by after m ≡ taken_by s m + length (if nat_eq n m then option_to_list (found_at image s n).read else [])
   taken_after m =
-      let e = ap length (in_of_one_more m s.pending (record { interval = (node_at s.fabric n).now; did = record_with n (found_at image s n) })) in
+      let e = ap length (in_of_one_more m s.pending
+      (record { interval = (node_at s.fabric n).now; did = record_with n (found_at image s n) })) in
       omega (arith, e, length-append (in_of m (records_of s.pending)) (if nat_eq n m then option_to_list (found_at image s n).read else []))
 
   pub drop_after : (m : ℕ) (given : List ℕ) → drop (taken_by after m) given ≡
-      (if nat_eq n m then drop (length (option_to_list (found_at image s n).read)) (drop (taken_by s m) given) else drop (taken_by s m) given)
-  drop_after m given = ap (λ k. drop k given) (taken_after m) ∙ sym (drop-drop (length (if nat_eq n m then option_to_list (found_at image s n).read else [])) (taken_by s m) given) ∙ split (nat_eq n m)
+      (if nat_eq n m then drop (length (option_to_list (found_at image s n).read)) (drop (taken_by s m) given)
+      else drop (taken_by s m) given)
+  drop_after m given =
+      ap (λ k. drop k given) (taken_after m)
+      ∙ sym (drop-drop (length (if nat_eq n m then option_to_list (found_at image s n).read else [])) (taken_by s m) given)
+      ∙ split (nat_eq n m)
     where
       split : (test : Bool) → drop (length (if test then option_to_list (found_at image s n).read else [])) (drop (taken_by s m) given) ≡
           (if test then drop (length (option_to_list (found_at image s n).read)) (drop (taken_by s m) given) else drop (taken_by s m) given)
@@ -70,10 +78,13 @@ module _ (image : ImageData) (s : State) (n : ℕ) where
   abbrev pub next_processor : Processor
   next_processor = record (processor_at s n) { core = (next_with image (processor_at s n) (found_at image s n)).core }
 
-  pub at_each_processor : (P : ℕ → Processor → Type 0) → n < length s.processors → P n next_processor → ((m : ℕ) → m ≢ n → P m (processor_at s m)) →
+  pub at_each_processor : (P : ℕ → Processor → Type 0) → n < length s.processors → P n next_processor →
+      ((m : ℕ) → m ≢ n → P m (processor_at s m)) →
       (m : ℕ) → P m (processor_at after m)
   at_each_processor P l here there m = go (cases_eq m n)
     where
       go : (m ≡ n) ⊎ (m ≢ n) → P m (processor_at after m)
-      go (inl i) = subst (λ k. P k (processor_at after k)) (sym i) (subst (P n) (sym (get_or-set_same s.processors n next_processor (first_processor 0 0) l)) here)
+      go (inl i) =
+          subst (λ k. P k (processor_at after k)) (sym i)
+          (subst (P n) (sym (get_or-set_same s.processors n next_processor (first_processor 0 0) l)) here)
       go (inr i) = subst (P m) (sym (get_or-set_other s.processors n m next_processor (first_processor 0 0) i)) (there m i)

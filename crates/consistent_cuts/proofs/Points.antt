@@ -1,5 +1,6 @@
 -- A validation and a recovery keep what is joined.
-use Rattle.std.proofs.Common.{◌≡◌, ℕ, zero, suc, ◌+◌, ◌-◌, ◌<◌, ◌≤◌, Bool, true, false, List, [], ◌∷◌, ◌++◌, length, map, drop, arith, refl, sym, ap, ◌∙◌, subst, nat_lt, length-append}
+use Rattle.std.proofs.Common.{◌≡◌, ℕ, zero, suc, ◌+◌, ◌-◌, ◌<◌, ◌≤◌, Bool, true, false, List, [], ◌∷◌, ◌++◌, length, map, drop, arith, refl}
+use Rattle.std.proofs.Common.{sym, ap, ◌∙◌, subst, nat_lt, length-append}
 use Rattle.std.specs.Prelude.{slice_index_or, slice_index, get_or}
 use Rattle.std.proofs.lemmas.Bool.Decides.{nat_tests}
 use Rattle.std.proofs.lemmas.List.{get_or-map}
@@ -45,7 +46,8 @@ module _ (image : ImageData) (u : State) (N n k : ℕ) (high : N ≤ n) (nodes :
   one_checkpoint (suc i) = refl
 
   nobodys_core : core_at (flat_start image N) n ≡ start_of 0 0
-  nobodys_core = get_or-eq_default (first_cores N image.entry) (start_of 0 0) (let a = (start_shows image N).count in omega (arith, a, high))
+  nobodys_core =
+      get_or-eq_default (first_cores N image.entry) (start_of 0 0) (let a = (start_shows image N).count in omega (arith, a, high))
 
   pub nobodys : ((node_at u.fabric n).known ≡ 0) × (checkpoint_of (processor_at u n) 0 k ≡ (start_places image N).core n)
   nobodys = (
@@ -87,7 +89,9 @@ module _ (image : ImageData) (s : State) (r : ℕ → Records) (list : ℕ → L
       shape = record {
         processors = j.shape.processors ∙ sym count;
         reported = j.shape.reported ∙ sym count;
-        checkpoints = λ n ln. let a = j.shape.checkpoints n (omega (arith, ln, count)) in let b = ap (λ x. x.known) (node_same n) in let d = ap (λ x. x.now) (node_same n) in omega (arith, a, b, d);
+        checkpoints =
+            λ n ln. let a = j.shape.checkpoints n (omega (arith, ln, count)) in let b = ap (λ x. x.known) (node_same n) in
+            let d = ap (λ x. x.now) (node_same n) in omega (arith, a, b, d);
         taken = λ n ln. let a = j.shape.taken n (omega (arith, ln, count)) in let g = taken_same n in omega (arith, a, g);
       };
       agrees = record {
@@ -95,9 +99,11 @@ module _ (image : ImageData) (s : State) (r : ℕ → Records) (list : ℕ → L
         reported = λ b n lb ln. j.agrees.reported b n lb (omega (arith, ln, count));
       };
       sorted = recount image N (length f.nodes) (outline_of next r list) count
-          (validation_keeps image N (start_places image N) s next r r list j.sorted (same_history r) (record { core = λ n. refl; given = λ n. refl; taken = taken_same }) refl
+          (validation_keeps image N (start_places image N) s next r r list j.sorted (same_history r)
+          (record { core = λ n. refl; given = λ n. refl; taken = taken_same }) refl
           (λ n i high. nobodys image next N n i high count j.shape.processors) count (omega (arith, point))
-          (λ n ln. let a = reached n ln in omega (arith, a)) (λ n ln. ap (λ x. x.now) (node_same n)) (λ n ln. ap (λ x. x.known) (node_same n)) (λ n b. refl)
+          (λ n ln. let a = reached n ln in omega (arith, a)) (λ n ln. ap (λ x. x.now) (node_same n))
+          (λ n ln. ap (λ x. x.known) (node_same n)) (λ n b. refl)
           (λ n i ln. ap (λ x. checkpoint_of (processor_at s n) x i) (ap (λ x. x.known) (node_same n))));
       traced = traced_validated trace s next j.traced point refl refl refl refl;
       made = j.made;
@@ -123,7 +129,12 @@ map_count f (x ∷ xs) = ap suc (map_count f xs)
 
 -- the fabric and the rest as a recovery leaves them
 abbrev pub restored_fabric : State → Fabric
-restored_fabric s = record s.fabric { nodes = map (restored_node s.fabric.point) s.fabric.nodes; homes = restored_homes s.fabric s.fabric.point 0 s.fabric.homes; net = restored_net s.fabric.net }
+restored_fabric s =
+    record s.fabric {
+      nodes = map (restored_node s.fabric.point) s.fabric.nodes;
+      homes = restored_homes s.fabric s.fabric.point 0 s.fabric.homes;
+      net = restored_net s.fabric.net;
+    }
 
 abbrev pub restored_state : State → State
 restored_state s = record s {
@@ -174,9 +185,12 @@ module _ (image : ImageData) (s : State) (r : ℕ → Records) (list : ℕ → L
       ∙ ap (λ x. restored_processor (processor_at s n) (node_at s.fabric x).known point) e
 
   nobody_is : (n : ℕ) → M ≤ n → processor_at u n ≡ processor_at s n
-  nobody_is n h = nobodys_processor image u M n 0 h count_nodes count_processors ∙ sym (nobodys_processor image s M n 0 h refl j.shape.processors)
+  nobody_is n h =
+      nobodys_processor image u M n 0 h count_nodes count_processors ∙ sym (nobodys_processor image s M n 0 h refl j.shape.processors)
 
-  by_node : (P : ℕ → Processor → Type 0) → ((n : ℕ) → n < M → P n (restored_processor (processor_at s n) (node_at s.fabric n).known point)) → ((n : ℕ) → M ≤ n → P n (processor_at s n)) → (n : ℕ) → P n (processor_at u n)
+  by_node : (P : ℕ → Processor → Type 0) →
+      ((n : ℕ) → n < M → P n (restored_processor (processor_at s n) (node_at s.fabric n).known point)) →
+      ((n : ℕ) → M ≤ n → P n (processor_at s n)) → (n : ℕ) → P n (processor_at u n)
   by_node P inside outside n = go (nat_lt n M) refl
     where
       go : (q : Bool) → nat_lt n M ≡ q → P n (processor_at u n)
@@ -186,10 +200,12 @@ module _ (image : ImageData) (s : State) (r : ℕ → Records) (list : ℕ → L
   nobody_checkpoint : (n : ℕ) → M ≤ n → (processor_at s n).core ≡ checkpoint n
   nobody_checkpoint n h =
       let p = nobodys_processor image s M n 0 h refl j.shape.processors in
-      ap (λ x. x.core) p ∙ sym (one_checkpoint image s M n 0 h refl j.shape.processors (point - (node_at s.fabric n).known)) ∙ ap (λ x. checkpoint_of x (node_at s.fabric n).known point) (sym p)
+      ap (λ x. x.core) p ∙ sym (one_checkpoint image s M n 0 h refl j.shape.processors (point - (node_at s.fabric n).known))
+      ∙ ap (λ x. checkpoint_of x (node_at s.fabric n).known point) (sym p)
 
   core_is : (n : ℕ) → bare (processor_at u n).core ≡ checkpoint n
-  core_is = by_node (λ n p. bare p.core ≡ checkpoint n) (λ n l. checkpoint_bare n) (λ n h. ap bare (nobody_checkpoint n h) ∙ checkpoint_bare n)
+  core_is =
+      by_node (λ n p. bare p.core ≡ checkpoint n) (λ n l. checkpoint_bare n) (λ n h. ap bare (nobody_checkpoint n h) ∙ checkpoint_bare n)
 
   none_reserved : (c : CoreState) (b : ℕ) → bare c ≡ c → is_reserved c.reservation b ≡ false
   none_reserved c b e = ap (λ x. is_reserved x.reservation b) (sym e)
@@ -211,7 +227,9 @@ module _ (image : ImageData) (s : State) (r : ℕ → Records) (list : ℕ → L
   first_of_one i k c e = let z : k - i ≡ 0 = omega (arith, e) in ap (λ x. get_or (c ∷ []) x c) z
 
   checkpoint_is : (n : ℕ) → n < M → checkpoint_of (processor_at u n) (node_at u.fabric n).known point ≡ checkpoint n
-  checkpoint_is n l = ap (λ p. checkpoint_of p (node_at u.fabric n).known point) (processor_is n l) ∙ first_of_one (node_at u.fabric n).known point (checkpoint n) (known_is n l)
+  checkpoint_is n l =
+      ap (λ p. checkpoint_of p (node_at u.fabric n).known point) (processor_is n l)
+      ∙ first_of_one (node_at u.fabric n).known point (checkpoint n) (known_is n l)
 
   -- what was committed is what a node has taken
   committed_is : committed list point ≡ s.committed
@@ -220,19 +238,23 @@ module _ (image : ImageData) (s : State) (r : ℕ → Records) (list : ℕ → L
   pub taken_is : (n : ℕ) → taken_by u n ≡ length (in_of n s.committed)
   taken_is n = omega arith
 
-  left : (n : ℕ) → (processor_at s n).given ≡ (at_cut image (start_places image M) list point).taken n ++ drop (taken_by u n) (processor_at u n).given
+  left : (n : ℕ) → (processor_at s n).given ≡ (at_cut image (start_places image M) list point).taken n
+      ++ drop (taken_by u n) (processor_at u n).given
   left n =
       let b = given_begins image M (start_places image M) (outline_of s r list) j.sorted n refl in
       let is : (processor_at s n).given ≡ in_of n s.committed ++ b.more = b.is ∙ ap (λ rs. in_of n rs ++ b.more) committed_is in
-      let read : (at_cut image (start_places image M) list point).taken n ≡ in_of n s.committed = committed_reads image (start_places image M) list n point ∙ ap (in_of n) committed_is in
+      let read : (at_cut image (start_places image M) list point).taken n
+      ≡ in_of n s.committed = committed_reads image (start_places image M) list n point ∙ ap (in_of n) committed_is in
       let rest : drop (taken_by u n) (processor_at u n).given ≡ b.more =
-      ap (λ k. drop k (processor_at u n).given) (taken_is n) ∙ ap (drop (length (in_of n s.committed))) (sym (given_is n) ∙ is) ∙ drop-append_seam (in_of n s.committed) b.more in
+      ap (λ k. drop k (processor_at u n).given) (taken_is n) ∙ ap (drop (length (in_of n s.committed))) (sym (given_is n) ∙ is)
+      ∙ drop-append_seam (in_of n s.committed) b.more in
       is ∙ ap (λ xs. xs ++ b.more) (sym read) ∙ ap (λ xs. (at_cut image (start_places image M) list point).taken n ++ xs) (sym rest)
 
   enough : (n : ℕ) → taken_by u n ≤ length (processor_at u n).given
   enough n =
       let b = given_begins image M (start_places image M) (outline_of s r list) j.sorted n refl in
-      let is : (processor_at u n).given ≡ in_of n s.committed ++ b.more = sym (given_is n) ∙ b.is ∙ ap (λ rs. in_of n rs ++ b.more) committed_is in
+      let is : (processor_at u n).given ≡ in_of n s.committed ++ b.more = sym (given_is n) ∙ b.is
+      ∙ ap (λ rs. in_of n rs ++ b.more) committed_is in
       let a = ap length is ∙ length-append (in_of n s.committed) b.more in
       let d = taken_is n in
       omega (arith, a, d)
@@ -242,7 +264,8 @@ module _ (image : ImageData) (s : State) (r : ℕ → Records) (list : ℕ → L
       let a = get_or-map (λ (k : ℕ). point) s.reported n 0 0 (let x = j.shape.reported in omega (arith, x, l)) in
       grind (arith, nat_tests)
 
-  pub recovery_joins : KeepsRecords u.fabric (λ b. rolls_back (r b) M point) → IsJoined image u (λ b. rolls_back (r b) M point) (cut_off list point) (before point trace)
+  pub recovery_joins : KeepsRecords u.fabric (λ b. rolls_back (r b) M point) →
+      IsJoined image u (λ b. rolls_back (r b) M point) (cut_off list point) (before point trace)
   recovery_joins k = record {
     fabric = k;
     shape = record {
@@ -256,10 +279,13 @@ module _ (image : ImageData) (s : State) (r : ℕ → Records) (list : ℕ → L
       reported = λ b n lb l. reported_is b n (omega (arith, l, count_nodes));
     };
     sorted = recount image M (length u.fabric.nodes) (outline_of u (λ b. rolls_back (r b) M point) (cut_off list point)) count_nodes
-        (recovery_keeps image M (start_places image M) s u r list j.sorted (λ n i h. nobodys image u M n i h count_nodes count_processors) refl count_nodes refl now_is known_is core_is free checkpoint_is given_is left);
+        (recovery_keeps image M (start_places image M) s u r list j.sorted
+        (λ n i h.
+        nobodys image u M n i h count_nodes count_processors) refl count_nodes refl now_is known_is core_is free checkpoint_is given_is left);
     traced = traced_recovered trace s u j.traced refl refl refl refl refl;
     made = made_recovered image list trace j.made point;
   }
     where
       counted : (n : ℕ) → n < M → (node_at u.fabric n).known + length (processor_at u n).checkpoints ≡ (node_at u.fabric n).now + 1
-      counted n l = let a = known_is n l in let b = now_is n l in let d = ap (λ p. length p.checkpoints) (processor_is n l) in omega (arith, a, b, d)
+      counted n l =
+          let a = known_is n l in let b = now_is n l in let d = ap (λ p. length p.checkpoints) (processor_is n l) in omega (arith, a, b, d)

@@ -1,5 +1,6 @@
 -- What an event that neither moves the point nor goes back to it leaves of the rest of the machine.
-use Rattle.std.proofs.Common.{◌≡◌, ◌≢◌, ℕ, ◌<◌, Bool, true, false, List, [], length, Option, Some, None, arith, refl, sym, ap, ◌∙◌, subst, nat_eq, get_or-set_other, if◌then◌else◌}
+use Rattle.std.proofs.Common.{◌≡◌, ◌≢◌, ℕ, ◌<◌, Bool, true, false, List, [], length, Option, Some, None, arith, refl, sym, ap, ◌∙◌, subst}
+use Rattle.std.proofs.Common.{nat_eq, get_or-set_other, if◌then◌else◌}
 use Rattle.std.proofs.lemmas.Bool.Decides.{nat_tests}
 use Rattle.std.proofs.lemmas.List.{append-nil}
 use Rattle.sn_base.specs.Image.{ImageData}
@@ -11,7 +12,7 @@ use Rattle.sn_model.specs.Machine.{State, Processor, processor_at, with_processo
 use Rattle.sn_model.specs.Instructions.{Stepped, retired, carried, found_at, next_with}
 use Rattle.sn_model.specs.MachineEvents.{heard, hearing, without_reservation, freed}
 use Rattle.sn_consistency.specs.Committed.{Begins}
-use Rattle.consistent_cuts.proofs.SteppedCases.{settles}
+use Rattle.consistent_cuts.proofs.SteppedCases.{is_point_answer}
 use Rattle.consistent_cuts.proofs.Clocks.{part_set}
 use Rattle.consistent_cuts.proofs.Hears.{at_itself, unreserved_is}
 
@@ -20,21 +21,23 @@ begins_same xs = record { more = []; is = sym (append-nil xs) }
 
 -- what is committed and released stays, and given bytes only grow
 pub record IsOrdinary (s : State) (x : Stepped) : Type 0 where
-  pub settled : settles x.answer ≡ false
+  pub no_point : is_point_answer x.answer ≡ false
   pub committed : x.state.committed ≡ s.committed
   pub released : x.state.released ≡ s.released
   pub given : (n : ℕ) → Begins (processor_at s n).given (processor_at x.state n).given
 
 -- an event of the fabric of which nobody hears
-pub ordinary_carried : (s : State) (moved : Moved) → settles moved.answer ≡ false → IsOrdinary s (carried s moved)
-ordinary_carried s moved e = record { settled = e; committed = refl; released = refl; given = λ n. begins_same (processor_at s n).given }
+pub ordinary_carried : (s : State) (moved : Moved) → is_point_answer moved.answer ≡ false → IsOrdinary s (carried s moved)
+ordinary_carried s moved e = record { no_point = e; committed = refl; released = refl; given = λ n. begins_same (processor_at s n).given }
 
 -- a processor in its place, whether its node is there or not
 module _ (s : State) (n : ℕ) (processor : Processor) where
-  pub same_given : processor.given ≡ (processor_at s n).given → (m : ℕ) → (processor_at (with_processor s n processor) m).given ≡ (processor_at s m).given
+  pub same_given : processor.given ≡ (processor_at s n).given → (m : ℕ) →
+      (processor_at (with_processor s n processor) m).given ≡ (processor_at s m).given
   same_given e m = part_set (λ p. p.given) s.processors n m processor (first_processor 0 0) e
 
-  pub same_core : processor.core ≡ (processor_at s n).core → (m : ℕ) → (processor_at (with_processor s n processor) m).core ≡ (processor_at s m).core
+  pub same_core : processor.core ≡ (processor_at s n).core → (m : ℕ) →
+      (processor_at (with_processor s n processor) m).core ≡ (processor_at s m).core
   same_core e m = part_set (λ p. p.core) s.processors n m processor (first_processor 0 0) e
 
 -- one of which the rest hears
@@ -56,9 +59,9 @@ released_told s (Some (told.LostCopy e block)) = refl
 released_told s (Some (told.Ready e k)) = refl
 released_told s (Some (told.Advance e k)) = refl
 
-pub ordinary_hearing : (s : State) (moved : Moved) → settles moved.answer ≡ false → IsOrdinary s (hearing s moved)
+pub ordinary_hearing : (s : State) (moved : Moved) → is_point_answer moved.answer ≡ false → IsOrdinary s (hearing s moved)
 ordinary_hearing s moved e = record {
-  settled = e;
+  no_point = e;
   committed = committed_told s moved.told;
   released = released_told s moved.told;
   given = λ n. subst (Begins (processor_at s n).given) (sym (ordinary_told s moved.told n)) (begins_same (processor_at s n).given);
@@ -67,24 +70,35 @@ ordinary_hearing s moved e = record {
 -- an instruction that retires
 pub ordinary_retired : (image : ImageData) (s : State) (n : ℕ) → IsOrdinary s (retired image s n)
 ordinary_retired image s n = record {
-  settled = refl;
+  no_point = refl;
   committed = refl;
   released = refl;
-  given = λ m. subst (Begins (processor_at s m).given) (sym (same_given s n (record (processor_at s n) { core = (next_with image (processor_at s n) (found_at image s n)).core }) refl m)) (begins_same (processor_at s m).given);
+  given =
+      λ m. subst (Begins (processor_at s m).given)
+      (sym (same_given s n (record (processor_at s n) { core = (next_with image (processor_at s n) (found_at image s n)).core }) refl m))
+      (begins_same (processor_at s m).given);
 }
 
 -- how a reservation is lost by what is heard
-pub unreserved_told : (s : State) (x : Option Told) (n block : ℕ) → n < length s.processors → is_reserved (processor_at s n).core.reservation block ≡ true →
+pub unreserved_told : (s : State) (x : Option Told) (n block : ℕ) → n < length s.processors →
+    is_reserved (processor_at s n).core.reservation block ≡ true →
     is_reserved (processor_at (heard s x) n).core.reservation block ≡ false → x ≡ Some (told.LostCopy n block)
 unreserved_told s None n block l a b = absurd (grind arith)
 unreserved_told s (Some (told.LostCopy e lost)) n block l a b = go (nat_eq n e) (nat_eq block lost) refl refl
   where
     there : n ≢ e → ⊥
-    there d = let h = ap (λ p. is_reserved p.core.reservation block) (get_or-set_other s.processors e n (without_reservation (processor_at s e) lost) (first_processor 0 0) d) in grind arith
+    there d =
+        let h = ap (λ p. is_reserved p.core.reservation block)
+        (get_or-set_other s.processors e n (without_reservation (processor_at s e) lost) (first_processor 0 0) d) in grind arith
 
-    here : n ≡ e → is_reserved (processor_at (heard s (Some (told.LostCopy e lost))) n).core.reservation block ≡ (if nat_eq block lost then false else is_reserved (processor_at s n).core.reservation block)
-    here i = subst (λ x. n ≡ x → is_reserved (processor_at (with_processor s x (without_reservation (processor_at s x) lost)) n).core.reservation block ≡ (if nat_eq block lost then false else is_reserved (processor_at s n).core.reservation block)) i
-        (λ same. ap (λ p. is_reserved p.core.reservation block) (at_itself s n (without_reservation (processor_at s n) lost) l) ∙ unreserved_is (processor_at s n).core lost block) i
+    here : n ≡ e → is_reserved (processor_at (heard s (Some (told.LostCopy e lost))) n).core.reservation block
+        ≡ (if nat_eq block lost then false else is_reserved (processor_at s n).core.reservation block)
+    here i =
+        subst (λ x. n ≡ x → is_reserved
+        (processor_at (with_processor s x (without_reservation (processor_at s x) lost)) n).core.reservation block
+        ≡ (if nat_eq block lost then false else is_reserved (processor_at s n).core.reservation block)) i
+        (λ same. ap (λ p. is_reserved p.core.reservation block) (at_itself s n (without_reservation (processor_at s n) lost) l)
+        ∙ unreserved_is (processor_at s n).core lost block) i
 
     go : (p q : Bool) → nat_eq n e ≡ p → nat_eq block lost ≡ q → Some (told.LostCopy e lost) ≡ Some (told.LostCopy n block)
     go true true i k =
@@ -96,5 +110,7 @@ unreserved_told s (Some (told.Ready e k)) n block l a b = absurd (grind arith)
 unreserved_told s (Some (told.Advance e k)) n block l a b = absurd (kept (nat_eq n e) refl)
   where
     kept : (p : Bool) → nat_eq n e ≡ p → ⊥
-    kept true i = let x : n ≡ e = grind (arith, nat_tests) in let h = same_core s e (freed (processor_at s e) (node_at s.fabric e).known k) refl n in grind arith
+    kept true i =
+        let x : n ≡ e = grind (arith, nat_tests) in let h = same_core s e (freed (processor_at s e) (node_at s.fabric e).known k) refl n in
+        grind arith
     kept false i = let h = same_core s e (freed (processor_at s e) (node_at s.fabric e).known k) refl n in grind arith

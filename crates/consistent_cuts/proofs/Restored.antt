@@ -19,12 +19,14 @@ use Rattle.consistent_cuts.proofs.Moments.{end_block, end_register}
 use Rattle.consistent_cuts.proofs.Points.{restored_state, restored_is, node_is, processor_is, count_nodes, given_is, taken_is}
 
 -- nobody shares, and nothing is open
-none_share : (s : Fabric) (k i : ℕ) (homes : List HomeEntry) (b : ℕ) → (slice_index_or (restored_homes s k i homes) b no_entry).sharers ≡ no_sharers
+none_share : (s : Fabric) (k i : ℕ) (homes : List HomeEntry) (b : ℕ) →
+    (slice_index_or (restored_homes s k i homes) b no_entry).sharers ≡ no_sharers
 none_share s k i [] b = refl
 none_share s k i (h ∷ homes) zero = refl
 none_share s k i (h ∷ homes) (suc b) = none_share s k (i + 1) homes b
 
-none_open : (s : Fabric) (k i : ℕ) (homes : List HomeEntry) (b : ℕ) → (slice_index_or (restored_homes s k i homes) b no_entry).transaction ≡ None
+none_open : (s : Fabric) (k i : ℕ) (homes : List HomeEntry) (b : ℕ) →
+    (slice_index_or (restored_homes s k i homes) b no_entry).transaction ≡ None
 none_open s k i [] b = refl
 none_open s k i (h ∷ homes) zero = refl
 none_open s k i (h ∷ homes) (suc b) = none_open s k (i + 1) homes b
@@ -54,11 +56,13 @@ module _ (half : FabricHalf) (image : ImageData) (s : State) (r : ℕ → Record
   pub is_restored : IsRestored u (end_of image N s.committed)
   is_restored = record {
     nodes = λ n l. node_restored n (low n l);
-    registers = λ n l. ap (λ p. p.core) (processor_is image s r list trace j n (low n l)) ∙ sym (end_register half image s r list trace j n);
+    registers =
+        λ n l. ap (λ p. p.core) (processor_is image s r list trace j n (low n l)) ∙ sym (end_register half image s r list trace j n);
     reported = λ n l. get_or-map (λ (k : ℕ). point) s.reported n 0 0 (let a = j.shape.reported in let b = low n l in omega (arith, a, b));
     taken = λ n l. taken_is image s r list trace j n;
     blocks = λ b l. subst (λ v. IsOwned u.fabric b v (home_of u.fabric b).holder) (sym (end_block half image s r list trace j b))
-        (subst (λ f. IsOwned f b ((r b).below point) (home_of f b).holder) (ap (λ x. x.fabric) (restored_is s)) (half.tell s.fabric r j.fabric b l).restored_to);
+        (subst (λ f. IsOwned f b ((r b).below point) (home_of f b).holder) (ap (λ x. x.fabric) (restored_is s))
+        (half.tell s.fabric r j.fabric b l).restored_to);
     sharers = λ b l. none_share s.fabric point 0 s.fabric.homes b;
     transactions = λ b l. none_open s.fabric point 0 s.fabric.homes b;
     net = refl;
@@ -67,4 +71,5 @@ module _ (half : FabricHalf) (image : ImageData) (s : State) (r : ℕ → Record
   }
 
   pub is_untouched : IsUntouched s u
-  is_untouched = record { point = refl; committed = refl; released = refl; given = λ n. sym (given_is image s r list trace j n); dead = refl }
+  is_untouched =
+      record { point = refl; committed = refl; released = refl; given = λ n. sym (given_is image s r list trace j n); dead = refl }

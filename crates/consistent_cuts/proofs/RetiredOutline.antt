@@ -1,5 +1,6 @@
 -- The outline of the machine after a retirement is the outline of the machine before it, retired.
-use Rattle.std.proofs.Common.{◌≡◌, ℕ, ◌+◌, ◌-◌, ◌<◌, ◌≤◌, Bool, true, false, ◌&&◌, ◌==◌, List, [], length, drop, option_to_list, if◌then◌else◌, nat_eq, nat_lt, refl, sym, ap, ◌∙◌, arith, subst, length-set}
+use Rattle.std.proofs.Common.{◌≡◌, ℕ, ◌+◌, ◌-◌, ◌<◌, ◌≤◌, Bool, true, false, ◌&&◌, ◌==◌, List, [], length, drop, option_to_list}
+use Rattle.std.proofs.Common.{if◌then◌else◌, nat_eq, nat_lt, refl, sym, ap, ◌∙◌, arith, subst, length-set}
 use Rattle.std.proofs.lemmas.Bool.Decides.{nat_tests}
 use Rattle.std.proofs.lemmas.List.{get_or_default}
 use Rattle.sn_base.specs.Image.{ImageData}
@@ -23,7 +24,8 @@ use Rattle.consistent_cuts.specs.Accesses.{entry_of, write_of, content_left, rec
 use Rattle.consistent_cuts.proofs.Told.{IsToldBy, told_by}
 use Rattle.consistent_cuts.proofs.Finds.{taken_within, wanted, kind_is, block_is}
 use Rattle.consistent_cuts.proofs.Retires.{interval_is, written, written_there, retires}
-use Rattle.consistent_cuts.proofs.Places.{same_interval, same_known, same_now, same_point, same_length, taken_after, drop_after, after, next_processor, at_each_processor}
+use Rattle.consistent_cuts.proofs.Places.{same_interval, same_known, same_now, same_point, same_length, taken_after, drop_after, after}
+use Rattle.consistent_cuts.proofs.Places.{next_processor, at_each_processor}
 
 -- a block's content, where the one is what the other is there
 settle : (is : Bool) (b k : ℕ) (v : Content) (g : ℕ → Content) (old : Content) → (is ≡ true → v ≡ g k) →
@@ -62,15 +64,22 @@ module _ (image : ImageData) (s : State) (r : ℕ → Records) (list : ℕ → L
   unfolding next
   next_is = after_bare image (processor_at s n).core e.did
 
-  held_is : (b : ℕ) → own image e b (is_reserved (processor_at s n).core.reservation b) ≡ is_reserved (next_processor image s n).core.reservation b
+  held_is : (b : ℕ) → own image e b (is_reserved (processor_at s n).core.reservation b)
+      ≡ is_reserved (next_processor image s n).core.reservation b
   unfolding next
-  held_is b = rw (kind_bare image (processor_at s n).core, block_bare image (processor_at s n).core) (sym (next_held image (processor_at s n).core e.did b))
+  held_is b =
+      rw (kind_bare image (processor_at s n).core, block_bare image (processor_at s n).core)
+      (sym (next_held image (processor_at s n).core e.did b))
 
   core_is : (m : ℕ) → (retired image before e).core m ≡ bare (processor_at (after image s n) m).core
-  core_is = at_each_processor image s n (λ m p. (retired image before e).core m ≡ bare p.core) there (grind (arith, nat_tests, next_is)) (λ m o. grind (arith, nat_tests))
+  core_is =
+      at_each_processor image s n (λ m p. (retired image before e).core m ≡ bare p.core) there (grind (arith, nat_tests, next_is))
+      (λ m o. grind (arith, nat_tests))
 
   reserved_is : (m b : ℕ) → (retired image before e).reserved m b ≡ is_reserved (processor_at (after image s n) m).core.reservation b
-  reserved_is m b = at_each_processor image s n (λ m p. (retired image before e).reserved m b ≡ is_reserved p.core.reservation b) there (grind (arith, nat_tests, held_is b)) (λ m o. grind (arith, nat_tests)) m
+  reserved_is m b =
+      at_each_processor image s n (λ m p. (retired image before e).reserved m b ≡ is_reserved p.core.reservation b) there
+      (grind (arith, nat_tests, held_is b)) (λ m o. grind (arith, nat_tests)) m
 
   pub given_is : (m : ℕ) → (processor_at s m).given ≡ (processor_at (after image s n) m).given
   given_is = at_each_processor image s n (λ m p. (processor_at s m).given ≡ p.given) there refl (λ m o. refl)
@@ -82,15 +91,22 @@ module _ (image : ImageData) (s : State) (r : ℕ → Records) (list : ℕ → L
 
   left_is : wants ≡ true → content_left image s n at ≡ content_after image e.found e.did (r at).value
   unfolding content_after
-  left_is w = ap (write_block (write_of image s n)) (written_there image s r n shape agrees may (written image s r n shape agrees may ∙ w)).read.content ∙ sym (written_bare image (processor_at s n).core e.did (r at).value)
+  left_is w =
+      ap (write_block (write_of image s n))
+      (written_there image s r n shape agrees may (written image s r n shape agrees may ∙ w)).read.content
+      ∙ sym (written_bare image (processor_at s n).core e.did (r at).value)
 
   value_is : (b : ℕ) → (retired image before e).value b ≡ (records_after image s r n b).value
-  value_is b = rw (kind_is image s n, block_is image s n) (settle wants b at (content_left image s n at) (λ o. content_after image e.found e.did (r o).value) (r b).value left_is) ∙ sym (told.value b)
+  value_is b =
+      rw (kind_is image s n, block_is image s n)
+      (settle wants b at (content_left image s n at) (λ o. content_after image e.found e.did (r o).value) (r b).value left_is)
+      ∙ sym (told.value b)
 
   below_is : (b j : ℕ) → (retired image before e).content b j ≡ (records_after image s r n b).below j
   below_is b j =
       rw (kind_is image s n, block_is image s n, interval_is s n may.node)
-      (settle_late wants (nat_lt (node_at s.fabric n).now j) b at (content_left image s n at) (λ o. content_after image e.found e.did (r o).value) ((r b).below j) left_is) ∙ sym (told.below b j)
+      (settle_late wants (nat_lt (node_at s.fabric n).now j) b at (content_left image s n at)
+      (λ o. content_after image e.found e.did (r o).value) ((r b).below j) left_is) ∙ sym (told.below b j)
 
   last_write_is : (b : ℕ) → (retired image before e).last_write b ≡ (records_after image s r n b).last_write
   last_write_is b = rw (kind_is image s n, block_is image s n, interval_is s n may.node) (sym (told.last_write b))
@@ -106,7 +122,8 @@ module _ (image : ImageData) (s : State) (r : ℕ → Records) (list : ℕ → L
   abbrev pub checkpoint_after : ℕ → ℕ → CoreState
   checkpoint_after = (outline_of (after image s n) (records_after image s r n) list_after).checkpoint
 
-  pub same_outline : IsSameOutline (record (retired image before e) { checkpoint = checkpoint_after }) (outline_of (after image s n) (records_after image s r n) list_after)
+  pub same_outline : IsSameOutline (record (retired image before e) { checkpoint = checkpoint_after })
+      (outline_of (after image s n) (records_after image s r n) list_after)
   same_outline = record {
     point = sym (same_point s.fabric n (write_of image s n));
     interval = λ m. sym (same_interval s.fabric n m (write_of image s n) may.node);
@@ -128,26 +145,34 @@ module _ (image : ImageData) (s : State) (r : ℕ → Records) (list : ℕ → L
   own_checkpoints : (j : ℕ) → (node_at s.fabric n).known ≤ j → j ≤ (node_at s.fabric n).now →
       checkpoint_of (next_processor image s n) (node_at s.fabric n).known j ≡ checkpoint_of (processor_at s n) (node_at s.fabric n).known j
   own_checkpoints j low high =
-      get_or_default (processor_at s n).checkpoints (j - (node_at s.fabric n).known) (next_processor image s n).core (processor_at s n).core (omega (arith, shape.checkpoints n may.node))
+      get_or_default (processor_at s n).checkpoints (j - (node_at s.fabric n).known) (next_processor image s n).core (processor_at s n).core
+      (omega (arith, shape.checkpoints n may.node))
 
   checkpoints_are : (m j : ℕ) → (node_at s.fabric m).known ≤ j → j ≤ interval_of s.fabric m → checkpoint_after m j ≡ before.checkpoint m j
   checkpoints_are m j low high =
       ap (λ k. checkpoint_of (processor_at (after image s n) m) k j) (same_known s.fabric n m (write_of image s n) may.node)
-      ∙ at_each_processor image s n (λ m p. (node_at s.fabric m).known ≤ j → j ≤ interval_of s.fabric m → checkpoint_of p (node_at s.fabric m).known j ≡ checkpoint_of (processor_at s m) (node_at s.fabric m).known j)
+      ∙ at_each_processor image s n
+      (λ m p. (node_at s.fabric m).known ≤ j → j ≤ interval_of s.fabric m →
+      checkpoint_of p (node_at s.fabric m).known j ≡ checkpoint_of (processor_at s m) (node_at s.fabric m).known j)
       there (λ low high. own_checkpoints j low (subst (λ i. j ≤ i) (interval_is s n may.node) high)) (λ m o low high. refl) m low high
 
   -- the sorted list is kept
   pub sorted_keeps : (F : Places) → Keeps image (length s.fabric.nodes) F before →
       Keeps image (length (after image s n).fabric.nodes) F (outline_of (after image s n) (records_after image s r n) list_after)
   sorted_keeps F keeps =
-      subst (λ N. Keeps image N F (outline_of (after image s n) (records_after image s r n) list_after)) (sym (same_length s.fabric n (write_of image s n)))
+      subst (λ N. Keeps image N F (outline_of (after image s n) (records_after image s r n) list_after))
+      (sym (same_length s.fabric n (write_of image s n)))
       (same_keeps image (length s.fabric.nodes) F _ (outline_of (after image s n) (records_after image s r n) list_after) same_outline
-      (exchanged_keeps image (length s.fabric.nodes) F (retired image before e) (retired_keeps image (length s.fabric.nodes) F before keeps e (retires image s r n shape agrees may list)) checkpoint_after checkpoints_are))
+      (exchanged_keeps image (length s.fabric.nodes) F (retired image before e)
+      (retired_keeps image (length s.fabric.nodes) F before keeps e
+      (retires image s r n shape agrees may list)) checkpoint_after checkpoints_are))
 
   -- and the rest with the records
 
-  reserved_agrees : (b m : ℕ) → b < block_count → m < length s.fabric.nodes → (records_after image s r n b).reserved m ≡ is_reserved (processor_at (after image s n) m).core.reservation b
-  reserved_agrees b m low l = told.reserved b m ∙ rw (agrees.reserved b m low l) (rw (← kind_is image s n, ← block_is image s n) (reserved_is m b))
+  reserved_agrees : (b m : ℕ) → b < block_count → m < length s.fabric.nodes →
+      (records_after image s r n b).reserved m ≡ is_reserved (processor_at (after image s n) m).core.reservation b
+  reserved_agrees b m low l =
+      told.reserved b m ∙ rw (agrees.reserved b m low l) (rw (← kind_is image s n, ← block_is image s n) (reserved_is m b))
 
   pub agrees_after : Agrees (after image s n) (records_after image s r n)
   agrees_after = record {
@@ -168,10 +193,13 @@ module _ (image : ImageData) (s : State) (r : ℕ → Records) (list : ℕ → L
 
   pub shape_after : IsRestShaped (after image s n)
   shape_after = record {
-    processors = length-set s.processors n (next_processor image s n) ∙ shape.processors ∙ sym (same_length s.fabric n (write_of image s n));
+    processors =
+        length-set s.processors n (next_processor image s n) ∙ shape.processors ∙ sym (same_length s.fabric n (write_of image s n));
     reported = shape.reported ∙ sym (same_length s.fabric n (write_of image s n));
     checkpoints = λ m l. rw (same_known s.fabric n m (write_of image s n) may.node, same_now s.fabric n m (write_of image s n) may.node)
-        (at_each_processor image s n (λ m p. m < length s.fabric.nodes → (node_at s.fabric m).known + length p.checkpoints ≡ (node_at s.fabric m).now + 1) there (shape.checkpoints n) (λ m o. shape.checkpoints m) m
+        (at_each_processor image s n
+        (λ m p. m < length s.fabric.nodes → (node_at s.fabric m).known + length p.checkpoints ≡ (node_at s.fabric m).now + 1) there
+        (shape.checkpoints n) (λ m o. shape.checkpoints m) m
         (rw (← same_length s.fabric n (write_of image s n)) l));
     taken = λ m l. taken_is m (rw (← same_length s.fabric n (write_of image s n)) l);
   }

@@ -36,36 +36,53 @@ module _ (half : FabricHalf) (image : ImageData) (config : Config) (s : State) (
     may = may_retire config s r n (half.tell s.fabric r joined.fabric) image can
 
     reached : s.fabric.point ≤ (node_at s.fabric n).now
-    reached = let h : s.fabric.point ≤ interval_of s.fabric n = joined.sorted.point_interval n in subst (λ k. s.fabric.point ≤ k) (interval_is s n can.node) h
+    reached =
+        let h : s.fabric.point ≤ interval_of s.fabric n = joined.sorted.point_interval n in
+        subst (λ k. s.fabric.point ≤ k) (interval_is s n can.node) h
 
-    pub retired_joins : IsJoined image (after image s n) (records_after image s r n) (list_after image s r list n joined.shape joined.agrees may) (trace ++ entry_at image s n ∷ [])
+    pub retired_joins : IsJoined image (after image s n) (records_after image s r n)
+        (list_after image s r list n joined.shape joined.agrees may) (trace ++ entry_at image s n ∷ [])
     retired_joins = record {
       fabric = fabric_keeps half config s r n joined.fabric can.node image joined.agrees can;
       shape = shape_after image s r list n joined.shape joined.agrees may;
       agrees = agrees_after image s r list n joined.shape joined.agrees may;
-      sorted = subst (λ N. sorted.Keeps image (length (after image s n).fabric.nodes) (start_places image N) (outline_of (after image s n) (records_after image s r n) (list_after image s r list n joined.shape joined.agrees may)))
+      sorted =
+          subst (λ N. sorted.Keeps image (length (after image s n).fabric.nodes) (start_places image N)
+          (outline_of (after image s n) (records_after image s r n) (list_after image s r list n joined.shape joined.agrees may)))
           (sym (same_length s.fabric n (write_of image s n)))
           (sorted_keeps image s r list n joined.shape joined.agrees may (start_places image (length s.fabric.nodes)) joined.sorted);
-      traced = traced_retired trace s (after image s n) (entry_at image s n) joined.traced reached (same_point s.fabric n (write_of image s n)) refl refl refl refl;
-      made = made_retired image list trace joined.made (entry_of image s n) (entry_at image s n) (same_record image s n) (same_out image s n);
+      traced =
+          traced_retired trace s (after image s n) (entry_at image s n) joined.traced reached
+          (same_point s.fabric n (write_of image s n)) refl refl refl refl;
+      made =
+          made_retired image list trace joined.made (entry_of image s n) (entry_at image s n) (same_record image s n) (same_out image s n);
     }
 
   -- an access of the fabric alone
-  access_joins : n < length s.fabric.nodes → (block : ℕ) (access : Need) → block < block_count → Joins image (record s { fabric = (accessed config s.fabric n block access).fabric }) trace
+  access_joins : n < length s.fabric.nodes → (block : ℕ) (access : Need) → block < block_count →
+      Joins image (record s { fabric = (accessed config s.fabric n block access).fabric }) trace
   unfolding moved_by
   access_joins l block access low = (
     r,
     list,
-    hearing_joins image s r list trace joined (accessed config s.fabric n block access).fabric None (same_accessed config s.fabric n block access).clocks
-        (subst (λ told. KeepsRecords (accessed config s.fabric n block access).fabric (λ b. heard_by told b (r b))) (same_accessed config s.fabric n block access).told
+    hearing_joins image s r list trace joined (accessed config s.fabric n block access).fabric None
+        (same_accessed config s.fabric n block access).clocks
+        (subst (λ told. KeepsRecords (accessed config s.fabric n block access).fabric (λ b. heard_by told b (r b)))
+        (same_accessed config s.fabric n block access).told
         (half.event config s.fabric r (Access n block access) joined.fabric (l, low))),
   )
 
 -- a step keeps what is joined, with the retirement that it may add
-pub stepped_joins : FabricHalf → (image : ImageData) (config : Config) (s : State) (n : ℕ) (trace : List Retired) → n < length s.fabric.nodes → Joins image s trace →
+pub stepped_joins : FabricHalf → (image : ImageData) (config : Config) (s : State) (n : ℕ) (trace : List Retired) →
+    n < length s.fabric.nodes → Joins image s trace →
     Joins image (stepped image config s n).state (traced image s (Step n) (stepped image config s n).answer trace)
 stepped_joins half image config s n trace l (r, list, joined) =
     stepped_cases image config s n l (λ x. Joins image x.state (traced image s (Step n) x.answer trace))
-    (λ can. (records_after image s r n, list_after image s r list n joined.shape joined.agrees (may half image config s n r list trace joined can), retired_joins half image config s n r list trace joined can))
-    (λ block access low leaves. subst (Joins image (record s { fabric = (accessed config s.fabric n block access).fabric })) (sym (leaves.1 trace)) (access_joins half image config s n r list trace joined l block access low))
+    (λ can. (
+      records_after image s r n,
+      list_after image s r list n joined.shape joined.agrees (may half image config s n r list trace joined can),
+      retired_joins half image config s n r list trace joined can,
+    ))
+    (λ block access low leaves. subst (Joins image (record s { fabric = (accessed config s.fabric n block access).fabric }))
+    (sym (leaves.1 trace)) (access_joins half image config s n r list trace joined l block access low))
     (λ answer leaves. subst (Joins image s) (sym (leaves.1 trace)) (r, list, joined))

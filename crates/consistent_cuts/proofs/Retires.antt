@@ -1,5 +1,6 @@
 -- A node's next instruction may retire in the sorted list, where its line serves it.
-use Rattle.std.proofs.Common.{◌≡◌, ◌≢◌, ℕ, ◌-◌, ◌*◌, ◌/◌, ◌%◌, ◌<◌, ◌≤◌, Bool, true, false, ◌||◌, List, length, refl, sym, ap, ◌∙◌, ◌⊎◌, inl, inr, arith}
+use Rattle.std.proofs.Common.{◌≡◌, ◌≢◌, ℕ, ◌-◌, ◌*◌, ◌/◌, ◌%◌, ◌<◌, ◌≤◌, Bool, true, false, ◌||◌, List, length, refl, sym, ap, ◌∙◌, ◌⊎◌}
+use Rattle.std.proofs.Common.{inl, inr, arith}
 use Rattle.std.proofs.lemmas.Bool.Decides.{nat_tests}
 use Rattle.std.proofs.lemmas.Bool.{cases_lt}
 use Rattle.std.proofs.lemmas.List.{get_or_past}
@@ -15,7 +16,8 @@ use Rattle.sn_consistency.specs.Entries.{Entry, Fits, wrote, touches}
 use Rattle.sn_consistency.specs.Kept.{Retires}
 use Rattle.consistent_cuts.specs.Outlined.{outline_of, interval_of, IsRestShaped, Agrees}
 use Rattle.consistent_cuts.specs.Accesses.{entry_of, IsRead, IsWritten, MayRetire}
-use Rattle.consistent_cuts.proofs.Finds.{unseen_by, done_sc_by, done_by, byte_by, takes_by, read_by, written_by, word_by, wanted, kind_is, block_is, place_is}
+use Rattle.consistent_cuts.proofs.Finds.{unseen_by, done_sc_by, done_by, byte_by, takes_by, read_by, written_by, word_by, wanted, kind_is}
+use Rattle.consistent_cuts.proofs.Finds.{block_is, place_is}
 
 -- a node's interval
 pub interval_is : (s : State) (n : ℕ) → n < length s.fabric.nodes → interval_of s.fabric n ≡ (node_at s.fabric n).now
@@ -58,7 +60,9 @@ module _ (image : ImageData) (s : State) (r : ℕ → Records) (n : ℕ) (shape 
   seen e =
       let q : reads (kind_of (wanted image s n)) ≡ true = sym (ap reads (kind_is image s n)) ∙ e in
       rw (block_is image s n, place_is image s n)
-      (word_by s r n (wanted image s n) q ∙ ap (λ v. block_word v ((address_of (wanted image s n) - ram_start) % 64 / 4 * 4)) (read_by s r n (wanted image s n) done may.served (grind arith)).content)
+      (word_by s r n (wanted image s n) q
+      ∙ ap (λ v. block_word v ((address_of (wanted image s n) - ram_start) % 64 / 4 * 4))
+      (read_by s r n (wanted image s n) done may.served (grind arith)).content)
 
   lost : wrote image (entry_of image s n) ≡ true → (m : ℕ) → m ≢ n → is_reserved (processor_at s m).core.reservation at ≡ false
   lost e m other = go (cases_lt m (length s.fabric.nodes))

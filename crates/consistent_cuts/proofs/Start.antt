@@ -1,5 +1,6 @@
 -- A program's start has what is joined.
-use Rattle.std.proofs.Common.{◌≡◌, ℕ, zero, suc, ◌+◌, ◌-◌, ◌*◌, ◌<◌, ◌≤◌, Bool, true, false, List, [], ◌∷◌, ◌++◌, length, take, drop, arith, refl, sym, ap, ◌∙◌, subst, nat_lt, ◌⊎◌, inl, inr}
+use Rattle.std.proofs.Common.{◌≡◌, ℕ, zero, suc, ◌+◌, ◌-◌, ◌*◌, ◌<◌, ◌≤◌, Bool, true, false, List, [], ◌∷◌, ◌++◌, length, take, drop, arith}
+use Rattle.std.proofs.Common.{refl, sym, ap, ◌∙◌, subst, nat_lt, ◌⊎◌, inl, inr}
 use Rattle.std.specs.Prelude.{get_or}
 use Rattle.std.proofs.lemmas.Bool.Decides.{nat_tests}
 use Rattle.std.proofs.lemmas.Bool.{cases_order}
@@ -32,7 +33,8 @@ use Rattle.consistent_cuts.proofs.Outlines.{IsSameKept, same_kept}
 -- the bytes of a block are a part of those of memory
 
 drop_bytes : (k m a : ℕ) (segments : List SegmentData) → drop k (bytes_from (k + m) segments a) ≡ bytes_from m segments (a + k)
-drop_bytes zero m a segments = let e : a ≡ a + 0 = omega arith in let f : 0 + m ≡ m = omega arith in ap (λ x. bytes_from x segments a) f ∙ ap (bytes_from m segments) e
+drop_bytes zero m a segments =
+    let e : a ≡ a + 0 = omega arith in let f : 0 + m ≡ m = omega arith in ap (λ x. bytes_from x segments a) f ∙ ap (bytes_from m segments) e
 drop_bytes (suc k) m a segments =
     let f : suc k + m ≡ suc (k + m) = omega arith in
     let e : a + 1 + k ≡ a + suc k = omega arith in
@@ -44,9 +46,11 @@ take_bytes (suc k) m a segments =
     let f : suc k + m ≡ suc (k + m) = omega arith in
     ap (λ x. take (suc k) (bytes_from x segments a)) f ∙ ap (λ xs. byte_at segments a ∷ xs) (take_bytes k m (a + 1) segments)
 
-part_of : (n k m a : ℕ) (segments : List SegmentData) → n ≡ k + (64 + m) → take 64 (drop k (bytes_from n segments a)) ≡ bytes_from 64 segments (a + k)
+part_of : (n k m a : ℕ) (segments : List SegmentData) → n ≡ k + (64 + m) →
+    take 64 (drop k (bytes_from n segments a)) ≡ bytes_from 64 segments (a + k)
 part_of n k m a segments e =
-    ap (λ x. take 64 (drop k (bytes_from x segments a))) e ∙ ap (take 64) (drop_bytes k (64 + m) a segments) ∙ take_bytes 64 m (a + k) segments
+    ap (λ x. take 64 (drop k (bytes_from x segments a))) e ∙ ap (take 64) (drop_bytes k (64 + m) a segments)
+    ∙ take_bytes 64 m (a + k) segments
 
 pub initial_is : (image : ImageData) (b : ℕ) → b < block_count → block_in (initial_memory image) b ≡ initial_block image b
 unfolding block_in initial_memory
@@ -73,18 +77,27 @@ module _ (entry : ℕ) where
   processor_of zero k l = absurd (omega (arith, l))
   processor_of (suc n) k l = go (cases_order k n) (λ h. processor_of n k h)
     where
-      go : ((k ≡ n) ⊎ ((k < n) ⊎ (n < k))) → (k < n → get_or (first_processors n entry) k (first_processor 0 0) ≡ first_processor k entry) → get_or (first_processors (suc n) entry) k (first_processor 0 0) ≡ first_processor k entry
-      go (inl i) earlier = last_of (first_processors n entry) (first_processor n entry) (first_processor 0 0) n k (count_processors n) i ∙ ap (λ x. first_processor x entry) (sym i)
-      go (inr (inl h)) earlier = get_or_append_left (first_processors n entry) (first_processor n entry ∷ []) (first_processor 0 0) k (let c = count_processors n in omega (arith, c, h)) ∙ earlier h
+      go : ((k ≡ n) ⊎ ((k < n) ⊎ (n < k))) → (k < n → get_or (first_processors n entry) k (first_processor 0 0) ≡ first_processor k entry) →
+          get_or (first_processors (suc n) entry) k (first_processor 0 0) ≡ first_processor k entry
+      go (inl i) earlier =
+          last_of (first_processors n entry) (first_processor n entry) (first_processor 0 0) n k (count_processors n) i
+          ∙ ap (λ x. first_processor x entry) (sym i)
+      go (inr (inl h)) earlier =
+          get_or_append_left (first_processors n entry) (first_processor n entry ∷ []) (first_processor 0 0) k
+          (let c = count_processors n in omega (arith, c, h)) ∙ earlier h
       go (inr (inr h)) earlier = absurd (omega (arith, h, l))
 
   core_of : (n k : ℕ) → k < n → get_or (first_cores n entry) k (start_of 0 0) ≡ start_of k entry
   core_of zero k l = absurd (omega (arith, l))
   core_of (suc n) k l = go (cases_order k n) (λ h. core_of n k h)
     where
-      go : ((k ≡ n) ⊎ ((k < n) ⊎ (n < k))) → (k < n → get_or (first_cores n entry) k (start_of 0 0) ≡ start_of k entry) → get_or (first_cores (suc n) entry) k (start_of 0 0) ≡ start_of k entry
-      go (inl i) earlier = last_of (first_cores n entry) (start_of n entry) (start_of 0 0) n k (count_cores n) i ∙ ap (λ x. start_of x entry) (sym i)
-      go (inr (inl h)) earlier = get_or_append_left (first_cores n entry) (start_of n entry ∷ []) (start_of 0 0) k (let c = count_cores n in omega (arith, c, h)) ∙ earlier h
+      go : ((k ≡ n) ⊎ ((k < n) ⊎ (n < k))) → (k < n → get_or (first_cores n entry) k (start_of 0 0) ≡ start_of k entry) →
+          get_or (first_cores (suc n) entry) k (start_of 0 0) ≡ start_of k entry
+      go (inl i) earlier =
+          last_of (first_cores n entry) (start_of n entry) (start_of 0 0) n k (count_cores n) i ∙ ap (λ x. start_of x entry) (sym i)
+      go (inr (inl h)) earlier =
+          get_or_append_left (first_cores n entry) (start_of n entry ∷ []) (start_of 0 0) k (let c = count_cores n in omega (arith, c, h))
+          ∙ earlier h
       go (inr (inr h)) earlier = absurd (omega (arith, h, l))
 
 module _ (half : FabricHalf) (image : ImageData) (nodes : ℕ) (some : 1 ≤ nodes) (few : nodes ≤ 16) where
@@ -108,18 +121,24 @@ module _ (half : FabricHalf) (image : ImageData) (nodes : ℕ) (some : 1 ≤ nod
       go false e = get_or-eq_default s.fabric.nodes first_node (let c = count in grind (arith, nat_tests))
 
   -- each processor is a first one, and so is each core of the flat machine
-  by_processor : (P : ℕ → Processor → CoreState → Type 0) → ((n : ℕ) → P n (first_processor n image.entry) (start_of n image.entry)) → ((n : ℕ) → P n (first_processor 0 0) (start_of 0 0)) →
+  by_processor : (P : ℕ → Processor → CoreState → Type 0) → ((n : ℕ) → P n (first_processor n image.entry) (start_of n image.entry)) →
+      ((n : ℕ) → P n (first_processor 0 0) (start_of 0 0)) →
       (n : ℕ) → P n (processor_at s n) (core_at (flat_start image nodes) n)
   by_processor P here there n = go (nat_lt n nodes) refl
     where
       go : (q : Bool) → nat_lt n nodes ≡ q → P n (processor_at s n) (core_at (flat_start image nodes) n)
       go true e =
           let l : n < nodes = grind (arith, nat_tests) in
-          subst (λ p. P n p (core_at (flat_start image nodes) n)) (sym (processor_of image.entry nodes n l)) (subst (P n (first_processor n image.entry)) (sym (core_of image.entry nodes n l)) (here n))
+          subst (λ p. P n p (core_at (flat_start image nodes) n)) (sym (processor_of image.entry nodes n l))
+          (subst (P n (first_processor n image.entry)) (sym (core_of image.entry nodes n l)) (here n))
       go false e =
           let h : nodes ≤ n = grind (arith, nat_tests) in
-          let a : processor_at s n ≡ first_processor 0 0 = get_or-eq_default s.processors (first_processor 0 0) (let c = count_processors image.entry nodes in omega (arith, c, h)) in
-          let d : core_at (flat_start image nodes) n ≡ start_of 0 0 = get_or-eq_default (first_cores nodes image.entry) (start_of 0 0) (let c = count_cores image.entry nodes in omega (arith, c, h)) in
+          let a : processor_at s n
+          ≡ first_processor 0 0 = get_or-eq_default s.processors (first_processor 0 0)
+          (let c = count_processors image.entry nodes in omega (arith, c, h)) in
+          let d : core_at (flat_start image nodes) n
+          ≡ start_of 0 0 = get_or-eq_default (first_cores nodes image.entry) (start_of 0 0)
+          (let c = count_cores image.entry nodes in omega (arith, c, h)) in
           subst (λ p. P n p (core_at (flat_start image nodes) n)) (sym a) (subst (P n (first_processor 0 0)) (sym d) (there n))
 
   one : (c : CoreState) (k : ℕ) → get_or (c ∷ []) k c ≡ c
@@ -147,7 +166,9 @@ module _ (half : FabricHalf) (image : ImageData) (nodes : ℕ) (some : 1 ≤ nod
   }
     where
       checkpoint_is : (n k : ℕ) → checkpoint_of (processor_at s n) (node_at s.fabric n).known k ≡ F.core n
-      checkpoint_is n k = by_processor (λ n p c. (i : ℕ) → get_or p.checkpoints (k - i) p.core ≡ bare c) (λ n i. one (start_of n image.entry) (k - i)) (λ n i. one (start_of 0 0) (k - i)) n (node_at s.fabric n).known
+      checkpoint_is n k =
+          by_processor (λ n p c. (i : ℕ) → get_or p.checkpoints (k - i) p.core ≡ bare c) (λ n i. one (start_of n image.entry) (k - i))
+          (λ n i. one (start_of 0 0) (k - i)) n (node_at s.fabric n).known
 
   kept : KeepsRecords s.fabric r
   kept = let k = half.start image nodes some few in
@@ -162,14 +183,18 @@ module _ (half : FabricHalf) (image : ImageData) (nodes : ℕ) (some : 1 ≤ nod
       shape = record {
         processors = count_processors image.entry nodes ∙ sym count;
         reported = length-replicate nodes 0 ∙ sym count;
-        checkpoints = λ n l. by_processor (λ n p c. (node_at s.fabric n).known + length p.checkpoints ≡ (node_at s.fabric n).now + 1) (λ n. counted n) (λ n. counted n) n;
+        checkpoints =
+            λ n l. by_processor (λ n p c. (node_at s.fabric n).known + length p.checkpoints ≡ (node_at s.fabric n).now + 1) (λ n. counted n)
+            (λ n. counted n) n;
         taken = λ n l. omega arith;
       };
       agrees = record {
         reserved = λ b n lb l. sym (free n b);
         reported = λ b n lb l. sym (get_or-replicate nodes n 0 0 (omega (arith, l, count)));
       };
-      sorted = recount image nodes (length s.fabric.nodes) (outline_of s r (λ x. [])) count (same_kept image nodes F (begun F) (outline_of s r (λ x. [])) same_start (begun_keeps image nodes F (λ n. refl)));
+      sorted =
+          recount image nodes (length s.fabric.nodes) (outline_of s r (λ x. [])) count
+          (same_kept image nodes F (begun F) (outline_of s r (λ x. [])) same_start (begun_keeps image nodes F (λ n. refl)));
       traced = record { pending = refl; committed = refl; held = refl; released = refl };
       made = record { did = λ x. refl; out = λ x. refl };
     },

@@ -1,5 +1,6 @@
 -- A clock edge and a byte of input keep what is joined.
-use Rattle.std.proofs.Common.{◌≡◌, ◌≢◌, ℕ, suc, ◌+◌, ◌-◌, ◌<◌, ◌≤◌, Bool, true, false, List, [], ◌∷◌, ◌++◌, length, drop, arith, refl, sym, ap, ◌∙◌, subst, nat_eq, get_or-set_same, get_or-set_other, length-set, length-append}
+use Rattle.std.proofs.Common.{◌≡◌, ◌≢◌, ℕ, suc, ◌+◌, ◌-◌, ◌<◌, ◌≤◌, Bool, true, false, List, [], ◌∷◌, ◌++◌, length, drop, arith, refl, sym}
+use Rattle.std.proofs.Common.{ap, ◌∙◌, subst, nat_eq, get_or-set_same, get_or-set_other, length-set, length-append}
 use Rattle.std.specs.Prelude.{get_or}
 use Rattle.std.proofs.lemmas.Bool.Decides.{nat_tests}
 use Rattle.std.proofs.lemmas.List.{get_or-append_right, get_or_append_left, drop-append-le}
@@ -38,7 +39,8 @@ module _ (image : ImageData) (s : State) (r : ℕ → Records) (list : ℕ → L
   abbrev edged : State
   edged = record (with_processor s e (with_checkpoint (processor_at s e))) { fabric = later }
 
-  abbrev each : (P : ℕ → Processor → Type 0) → P e (with_checkpoint (processor_at s e)) → ((m : ℕ) → m ≢ e → P m (processor_at s m)) → (m : ℕ) → P m (processor_at edged m)
+  abbrev each : (P : ℕ → Processor → Type 0) → P e (with_checkpoint (processor_at s e)) → ((m : ℕ) → m ≢ e → P m (processor_at s m)) →
+      (m : ℕ) → P m (processor_at edged m)
   each = at_each s e (with_checkpoint (processor_at s e)) there
 
   bare_each : (m : ℕ) → bare (processor_at s m).core ≡ bare (processor_at edged m).core
@@ -68,13 +70,16 @@ module _ (image : ImageData) (s : State) (r : ℕ → Records) (list : ℕ → L
       go : (q : Bool) → nat_eq m e ≡ q → interval_of later m ≡ (sorted.edged (outline_of s r list) e).interval m
       go true i =
           let d : m ≡ e = grind (arith, nat_tests) in
-          subst (λ x. interval_of later x ≡ (sorted.edged (outline_of s r list) e).interval x) (sym d) (let a = now_here in let b = count in let g = interval_here in grind (arith, nat_tests))
+          subst (λ x. interval_of later x ≡ (sorted.edged (outline_of s r list) e).interval x) (sym d)
+          (let a = now_here in let b = count in let g = interval_here in grind (arith, nat_tests))
       go false i =
           let d : m ≢ e = grind (arith, nat_tests) in
           let a = now_there m d in let b = count in grind (arith, nat_tests)
 
   reserved_each : (m b : ℕ) → (sorted.edged (outline_of s r list) e).reserved m b ≡ is_reserved (processor_at edged m).core.reservation b
-  reserved_each = each (λ m p. (b : ℕ) → (sorted.edged (outline_of s r list) e).reserved m b ≡ is_reserved p.core.reservation b) (λ b. grind (arith, nat_tests)) (λ m d b. grind (arith, nat_tests))
+  reserved_each =
+      each (λ m p. (b : ℕ) → (sorted.edged (outline_of s r list) e).reserved m b ≡ is_reserved p.core.reservation b)
+      (λ b. grind (arith, nat_tests)) (λ m d b. grind (arith, nat_tests))
 
   count_here : (node_at s.fabric e).known + length (processor_at s e).checkpoints ≡ (node_at s.fabric e).now + 1
   count_here = j.shape.checkpoints e l
@@ -83,36 +88,49 @@ module _ (image : ImageData) (s : State) (r : ℕ → Records) (list : ℕ → L
   taken_checkpoints = (processor_at s e).checkpoints ++ bare (processor_at s e).core ∷ []
 
   checkpoint_here : (k : ℕ) → (node_at s.fabric e).known ≤ k → k ≤ (node_at s.fabric e).now + 1 →
-      get_or taken_checkpoints (k - (node_at later e).known) (bare (processor_at s e).core) ≡ (sorted.edged (outline_of s r list) e).checkpoint e k
-  checkpoint_here k low up = ap (λ x. get_or taken_checkpoints (k - x) (bare (processor_at s e).core)) (known_each e) ∙ go (nat_eq k (suc (node_at s.fabric e).now)) refl
+      get_or taken_checkpoints (k - (node_at later e).known) (bare (processor_at s e).core)
+      ≡ (sorted.edged (outline_of s r list) e).checkpoint e k
+  checkpoint_here k low up =
+      ap (λ x. get_or taken_checkpoints (k - x) (bare (processor_at s e).core)) (known_each e)
+      ∙ go (nat_eq k (suc (node_at s.fabric e).now)) refl
     where
-      go : (q : Bool) → nat_eq k (suc (node_at s.fabric e).now) ≡ q → get_or taken_checkpoints (k - (node_at s.fabric e).known) (bare (processor_at s e).core) ≡ (sorted.edged (outline_of s r list) e).checkpoint e k
+      go : (q : Bool) → nat_eq k (suc (node_at s.fabric e).now) ≡ q →
+          get_or taken_checkpoints (k - (node_at s.fabric e).known) (bare (processor_at s e).core)
+          ≡ (sorted.edged (outline_of s r list) e).checkpoint e k
       go true i =
           let a = count_here in
           let d : length (processor_at s e).checkpoints ≤ k - (node_at s.fabric e).known = grind (arith, nat_tests) in
           let z : k - (node_at s.fabric e).known - length (processor_at s e).checkpoints ≡ 0 = grind (arith, nat_tests) in
-          let h = get_or-append_right (processor_at s e).checkpoints (bare (processor_at s e).core ∷ []) (length (processor_at s e).checkpoints) (k - (node_at s.fabric e).known) (bare (processor_at s e).core) refl d in
+          let h = get_or-append_right (processor_at s e).checkpoints (bare (processor_at s e).core ∷ [])
+          (length (processor_at s e).checkpoints) (k - (node_at s.fabric e).known) (bare (processor_at s e).core) refl d in
           let g = interval_here in
           h ∙ ap (λ x. get_or (bare (processor_at s e).core ∷ []) x (bare (processor_at s e).core)) z ∙ grind (arith, nat_tests)
       go false i =
           let a = count_here in
           let d : k - (node_at s.fabric e).known < length (processor_at s e).checkpoints = grind (arith, nat_tests) in
-          let h = get_or_append_left (processor_at s e).checkpoints (bare (processor_at s e).core ∷ []) (bare (processor_at s e).core) (k - (node_at s.fabric e).known) d in
-          let q = kept_checkpoint (processor_at s e).checkpoints (k - (node_at s.fabric e).known) (bare (processor_at s e).core) (processor_at s e).core d in
+          let h = get_or_append_left (processor_at s e).checkpoints (bare (processor_at s e).core ∷ []) (bare (processor_at s e).core)
+          (k - (node_at s.fabric e).known) d in
+          let q = kept_checkpoint (processor_at s e).checkpoints (k - (node_at s.fabric e).known) (bare (processor_at s e).core)
+          (processor_at s e).core d in
           let g = interval_here in
           h ∙ q ∙ grind (arith, nat_tests)
 
-  checkpoint_each : (m k : ℕ) → (node_at s.fabric m).known ≤ k → k ≤ interval_of later m → checkpoint_of (processor_at edged m) (node_at later m).known k ≡ (sorted.edged (outline_of s r list) e).checkpoint m k
-  checkpoint_each = each (λ m p. (k : ℕ) → (node_at s.fabric m).known ≤ k → k ≤ interval_of later m → checkpoint_of p (node_at later m).known k ≡ (sorted.edged (outline_of s r list) e).checkpoint m k)
+  checkpoint_each : (m k : ℕ) → (node_at s.fabric m).known ≤ k → k ≤ interval_of later m →
+      checkpoint_of (processor_at edged m) (node_at later m).known k ≡ (sorted.edged (outline_of s r list) e).checkpoint m k
+  checkpoint_each =
+      each (λ m p. (k : ℕ) → (node_at s.fabric m).known ≤ k → k ≤ interval_of later m →
+      checkpoint_of p (node_at later m).known k ≡ (sorted.edged (outline_of s r list) e).checkpoint m k)
       (λ k low up. checkpoint_here k low (let a = interval_each e in let b = interval_here in grind (arith, nat_tests)))
       (λ m d k low up. ap (λ x. checkpoint_of (processor_at s m) x k) (known_each m) ∙ grind (arith, nat_tests))
 
   counts_each : (m : ℕ) → m < N → (node_at later m).known + length (processor_at edged m).checkpoints ≡ (node_at later m).now + 1
   counts_each = each (λ m p. m < N → (node_at later m).known + length p.checkpoints ≡ (node_at later m).now + 1)
-      (λ ln. let a = count_here in let b = known_each e in let d = now_here in let g = length-append (processor_at s e).checkpoints (bare (processor_at s e).core ∷ []) in omega (arith, a, b, d, g))
+      (λ ln. let a = count_here in let b = known_each e in let d = now_here in
+      let g = length-append (processor_at s e).checkpoints (bare (processor_at s e).core ∷ []) in omega (arith, a, b, d, g))
       (λ m d ln. let a = j.shape.checkpoints m ln in let b = known_each m in let g = now_there m d in omega (arith, a, b, g))
 
-  unreserved_each : (b : ℕ) → b < block_count → (n : ℕ) → n < N → (unreserves (r b) e).reserved n ≡ is_reserved (processor_at edged n).core.reservation b
+  unreserved_each : (b : ℕ) → b < block_count → (n : ℕ) → n < N →
+      (unreserves (r b) e).reserved n ≡ is_reserved (processor_at edged n).core.reservation b
   unreserved_each b lb = each (λ n p. n < N → (unreserves (r b) e).reserved n ≡ is_reserved p.core.reservation b)
       (λ ln. grind (arith, nat_tests)) (λ m d ln. let a = j.agrees.reserved b m lb ln in grind (arith, nat_tests))
 
@@ -145,7 +163,8 @@ module _ (image : ImageData) (s : State) (r : ℕ → Records) (list : ℕ → L
     abbrev given : State
     given = with_processor s e with_byte
 
-    abbrev each_given : (P : ℕ → Processor → Type 0) → P e with_byte → ((m : ℕ) → m ≢ e → P m (processor_at s m)) → (m : ℕ) → P m (processor_at given m)
+    abbrev each_given : (P : ℕ → Processor → Type 0) → P e with_byte → ((m : ℕ) → m ≢ e → P m (processor_at s m)) → (m : ℕ) →
+        P m (processor_at given m)
     each_given = at_each s e with_byte there
 
     core_given : (m : ℕ) → (processor_at s m).core ≡ (processor_at given m).core
@@ -154,19 +173,27 @@ module _ (image : ImageData) (s : State) (r : ℕ → Records) (list : ℕ → L
     kept_given : (m : ℕ) → (processor_at given m).checkpoints ≡ (processor_at s m).checkpoints
     kept_given = each_given (λ m p. p.checkpoints ≡ (processor_at s m).checkpoints) refl (λ m d. refl)
 
-    checkpoint_given : (m k : ℕ) → checkpoint_of (processor_at given m) (node_at s.fabric m).known k ≡ checkpoint_of (processor_at s m) (node_at s.fabric m).known k
-    checkpoint_given = each_given (λ m p. (k : ℕ) → checkpoint_of p (node_at s.fabric m).known k ≡ checkpoint_of (processor_at s m) (node_at s.fabric m).known k) (λ k. refl) (λ m d k. refl)
+    checkpoint_given : (m k : ℕ) →
+        checkpoint_of (processor_at given m) (node_at s.fabric m).known k ≡ checkpoint_of (processor_at s m) (node_at s.fabric m).known k
+    checkpoint_given =
+        each_given (λ m p. (k : ℕ) →
+        checkpoint_of p (node_at s.fabric m).known k ≡ checkpoint_of (processor_at s m) (node_at s.fabric m).known k) (λ k. refl)
+        (λ m d k. refl)
 
     bytes_given : (m : ℕ) → (processor_at given m).given ≡ (sorted.given_to (outline_of s r list) e byte).given m
-    bytes_given = each_given (λ m p. p.given ≡ (sorted.given_to (outline_of s r list) e byte).given m) (grind (arith, nat_tests)) (λ m d. grind (arith, nat_tests))
+    bytes_given =
+        each_given (λ m p. p.given ≡ (sorted.given_to (outline_of s r list) e byte).given m) (grind (arith, nat_tests))
+        (λ m d. grind (arith, nat_tests))
 
     waiting_given : (m : ℕ) → drop (taken_by s m) (processor_at given m).given ≡ (sorted.given_to (outline_of s r list) e byte).waiting m
     waiting_given = each_given (λ m p. drop (taken_by s m) p.given ≡ (sorted.given_to (outline_of s r list) e byte).waiting m)
-        (drop-append-le (taken_by s e) (processor_at s e).given (byte ∷ []) (j.shape.taken e l) ∙ grind (arith, nat_tests)) (λ m d. grind (arith, nat_tests))
+        (drop-append-le (taken_by s e) (processor_at s e).given (byte ∷ []) (j.shape.taken e l) ∙ grind (arith, nat_tests))
+        (λ m d. grind (arith, nat_tests))
 
     more_given : (m : ℕ) → m < N → taken_by s m ≤ length (processor_at given m).given
     more_given = each_given (λ m p. m < N → taken_by s m ≤ length p.given)
-        (λ ln. let a = j.shape.taken e l in let g = length-append (processor_at s e).given (byte ∷ []) in omega (arith, a, g)) (λ m d ln. j.shape.taken m ln)
+        (λ ln. let a = j.shape.taken e l in let g = length-append (processor_at s e).given (byte ∷ []) in omega (arith, a, g))
+        (λ m d ln. j.shape.taken m ln)
 
     pub input_joins : IsJoined image given r list trace
     input_joins = record {
@@ -181,7 +208,9 @@ module _ (image : ImageData) (s : State) (r : ℕ → Records) (list : ℕ → L
         reserved = λ b n lb ln. j.agrees.reserved b n lb ln ∙ ap (λ x. is_reserved x.reservation b) (core_given n);
         reported = j.agrees.reported;
       };
-      sorted = input_keeps image N (start_places image N) s given r r list j.sorted (same_history r) e byte (same_clocks s.fabric) (λ n. ap bare (core_given n))
+      sorted =
+          input_keeps image N (start_places image N) s given r r list j.sorted (same_history r) e byte (same_clocks s.fabric)
+          (λ n. ap bare (core_given n))
           (λ n b. ap (λ x. is_reserved x.reservation b) (core_given n)) checkpoint_given bytes_given waiting_given;
       traced = traced_same trace s given j.traced refl refl refl refl refl;
       made = j.made;

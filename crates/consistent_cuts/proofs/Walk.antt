@@ -1,6 +1,7 @@
 -- A run event by event: what one event makes of a state and of the retirements, and the events after it from there. And
 -- what the long lists of a start say: no line is present, and no home has a transaction open.
-use Rattle.std.proofs.Common.{◌≡◌, ◌≢◌, ◌⊎◌, inl, inr, length, ℕ, zero, suc, ◌+◌, ◌<◌, ◌≤◌, Bool, true, false, if◌then◌else◌, List, [], ◌∷◌, Option, None, refl, ap, ◌∙◌, ⊎_elim, arith, nat_eq, ◌%◌, ◌&&◌}
+use Rattle.std.proofs.Common.{◌≡◌, ◌≢◌, ◌⊎◌, inl, inr, length, ℕ, zero, suc, ◌+◌, ◌<◌, ◌≤◌, Bool, true, false, if◌then◌else◌, List, [], ◌∷◌}
+use Rattle.std.proofs.Common.{Option, None, refl, ap, ◌∙◌, ⊎_elim, arith, nat_eq, ◌%◌, ◌&&◌}
 use Rattle.std.specs.Prelude.{slice_index_or, slice_set}
 use Rattle.std.proofs.lemmas.Bool.{cases_lt, cases_order}
 use Rattle.std.proofs.lemmas.List.{get_or_past, get_or-set_same, get_or-set_other}
@@ -48,7 +49,8 @@ module _ (image : ImageData) (config : Config) where
   leads {a = a} {b = b} {event = event} {answer = answer} {events = events} h k = record {
     state = ap (λ (s : State). state_after image config s events) h.state ∙ k.state;
     trace =
-        ap (λ (x : Answer). trace_after image config (step_of image config a.state event).state events (traced image a.state event x a.trace)) h.answers
+        ap (λ (x : Answer). trace_after image config (step_of image config a.state event).state events
+        (traced image a.state event x a.trace)) h.answers
         ∙ ap (λ (s : State). trace_after image config s events (traced image a.state event answer a.trace)) h.state
         ∙ ap (λ (es : List Entry). trace_after image config b.state events es) h.trace
         ∙ k.trace;
@@ -99,7 +101,8 @@ first_free image b = ⊎_elim
     (let e = length-first_homes image in omega (arith, e, l))))
     (cases_lt b block_count)
 
-pub free_but : (block : ℕ) (homes : List HomeEntry) (entry : HomeEntry) → IsFreeBut block homes → IsFreeBut block (slice_set homes block entry)
+pub free_but : (block : ℕ) (homes : List HomeEntry) (entry : HomeEntry) → IsFreeBut block homes →
+    IsFreeBut block (slice_set homes block entry)
 free_but block homes entry h b n = ap (λ (e : HomeEntry). e.transaction) (get_or-set_other homes block b entry no_entry n) ∙ h b n
 
 pub free_again : (block : ℕ) (homes : List HomeEntry) (entry : HomeEntry) →

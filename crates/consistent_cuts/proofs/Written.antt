@@ -43,7 +43,8 @@ abbrev pub bare : ℕ → Node
 bare now = node now empty_lines None []
 
 abbrev pub flight : ℕ → ℕ → ℕ → ℕ → ℕ → Body → ℕ → Flight
-flight id from to tag block body place = record { message = record { id = id; from = from; to = to; tag = tag; block = block; body = body }; place = place }
+flight id from to tag block body place =
+    record { message = record { id = id; from = from; to = to; tag = tag; block = block; body = body }; place = place }
 
 abbrev pub homes : List HomeEntry
 homes = first_homes storing
@@ -72,7 +73,8 @@ moment f processors reported pending committed trace = record {
 
 abbrev pub start : Moment
 start =
-    moment (fabric (bare 0 ∷ bare 0 ∷ []) homes [] 1 0) (processor (begun 0) (begun 0 ∷ []) ∷ processor (begun 1) (begun 1 ∷ []) ∷ []) (0 ∷ 0 ∷ []) [] [] []
+    moment (fabric (bare 0 ∷ bare 0 ∷ []) homes [] 1 0) (processor (begun 0) (begun 0 ∷ []) ∷ processor (begun 1) (begun 1 ∷ []) ∷ [])
+    (0 ∷ 0 ∷ []) [] [] []
 
 pub is_start : start.state ≡ first_state storing 2
 is_start = refl

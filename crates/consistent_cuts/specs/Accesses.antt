@@ -48,14 +48,16 @@ records_wanting (Load a) done r n now v = at_block (block_of a) (loads (r (block
 records_wanting (Store a) done r n now v = at_block (block_of a) (stores (r (block_of a)) n now (v (block_of a))) r
 records_wanting (Amo a) done r n now v = at_block (block_of a) (stores (r (block_of a)) n now (v (block_of a))) r
 records_wanting (Lr a) done r n now v = at_block (block_of a) (loads_reserved (r (block_of a)) n now) (unreserved_at r n)
-records_wanting (Sc a) true r n now v = at_block (block_of a) (stores_conditional (r (block_of a)) n now (v (block_of a))) (unreserved_at r n)
+records_wanting (Sc a) true r n now v =
+    at_block (block_of a) (stores_conditional (r (block_of a)) n now (v (block_of a))) (unreserved_at r n)
 records_wanting (Sc a) false r n now v = unreserved_at r n
 records_wanting Input done r n now v = r
 
 -- the records of each block after node n's next instruction retired
 abbrev pub records_after : ImageData → State → (ℕ → Records) → ℕ → ℕ → Records
 records_after image s r n =
-    records_wanting (want_of image (processor_at s n).core) (found_at image s n).sc_done r n (node_at s.fabric n).now (content_left image s n)
+    records_wanting (want_of image (processor_at s n).core) (found_at image s n).sc_done r n (node_at s.fabric n).now
+    (content_left image s n)
 
 -- a line of block b at node n that may be read: it has the newest content, and no write lies above the node's interval
 pub record IsRead (s : Fabric) (r : ℕ → Records) (n b : ℕ) : Type 0 where

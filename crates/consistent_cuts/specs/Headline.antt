@@ -24,7 +24,7 @@ use Rattle.sn_model.specs.RecoveryPoint.{IsCut, IsRestored}
 use Rattle.sn_model.specs.Step.{state_after}
 use Rattle.sn_model.specs.Trace.{Entry, entry_at, trace_after, committed_trace}
 use Rattle.sn_consistency.specs.Committed.{Begins}
-use Rattle.fabric_coherence.specs.Coherent.{IsFinished}
+use Rattle.fabric_coherence.specs.Coherent.{NothingUnfinished}
 use Rattle.consistent_cuts.specs.Lists.{retirement_of}
 use Rattle.consistent_cuts.specs.Runs.{AllFit}
 
@@ -54,7 +54,7 @@ pub record IsConsistent (image : ImageData) (nodes : ℕ) (s : State) (trace : L
   pub output : s.released ≡ out_of image nodes s.committed
   pub input : (n : ℕ) → n < nodes → Begins (in_of n s.committed) (processor_at s n).given
   -- nothing that was begun before the recovery point is unfinished
-  pub finished : IsFinished s.fabric s.fabric.point
+  pub finished : NothingUnfinished s.fabric s.fabric.point
   -- a core's reservation is on a block of which its cache has a copy
   pub reserved : (n block : ℕ) → n < nodes → block < block_count → is_reserved (processor_at s n).core.reservation block ≡ true →
       is_present (line_of (node_at s.fabric n).cache block).state ≡ true
@@ -76,7 +76,8 @@ pub record IsUntouched (s t : State) : Type 0 where
 -- why a core may have lost its reservation: a clock edge of its node, a recovery, loss of the copy, or a load-reserved or
 -- store-conditional of its own
 abbrev pub Reserving : ImageData → State → ℕ → Type 0
-Reserving image s n = (address : ℕ) × ((want_of image (processor_at s n).core ≡ Lr address) ⊎ (want_of image (processor_at s n).core ≡ Sc address))
+Reserving image s n =
+    (address : ℕ) × ((want_of image (processor_at s n).core ≡ Lr address) ⊎ (want_of image (processor_at s n).core ≡ Sc address))
 
 abbrev pub MayUnreserve : ImageData → Config → State → ℕ → ℕ → Event → Type 0
 MayUnreserve image config s n block (Step m) = (m ≡ n) × Reserving image s n
@@ -89,12 +90,13 @@ MayUnreserve image config s n block _ = ⊥
 -- what each event does to a machine after a run
 pub record IsStepOfRun (image : ImageData) (config : Config) (s : State) (event : Event) (next : Stepped) : Type 0 where
   -- a validation comes only where nothing before its checkpoint is unfinished, and commits just the interval before it
-  pub validated : (k : ℕ) → next.answer ≡ Validated k → (k ≡ s.fabric.point + 1) × IsFinished s.fabric k
+  pub validated : (k : ℕ) → next.answer ≡ Validated k → (k ≡ s.fabric.point + 1) × NothingUnfinished s.fabric k
   pub grows : (k : ℕ) → next.answer ≡ Validated k → LeavesBehind s next.state
   -- no other answer changes what is committed or released
   pub stays : ((k : ℕ) → next.answer ≢ Validated k) → (next.state.committed ≡ s.committed) × (next.state.released ≡ s.released)
   -- a recovery leaves just the cut: the last state of the committed trace
-  pub restored : (undo : Undo) → next.answer ≡ Recovered undo → IsRestored next.state (end_of image config.nodes s.committed) × IsUntouched s next.state
+  pub restored : (undo : Undo) → next.answer ≡ Recovered undo →
+      IsRestored next.state (end_of image config.nodes s.committed) × IsUntouched s next.state
   -- the bytes given to a node only grow
   pub given : (n : ℕ) → Begins (processor_at s n).given (processor_at next.state n).given
   -- an instruction that retires waits with its record; a store-conditional is done exactly where its core has its block reserved

@@ -43,10 +43,12 @@ start_places image nodes = places_of (flat_start image nodes)
 pub record IsRestShaped (s : State) : Type 0 where
   pub processors : length s.processors ≡ length s.fabric.nodes
   pub reported : length s.reported ≡ length s.fabric.nodes
-  pub checkpoints : (n : ℕ) → n < length s.fabric.nodes → (node_at s.fabric n).known + length (processor_at s n).checkpoints ≡ (node_at s.fabric n).now + 1
+  pub checkpoints : (n : ℕ) → n < length s.fabric.nodes →
+      (node_at s.fabric n).known + length (processor_at s n).checkpoints ≡ (node_at s.fabric n).now + 1
   pub taken : (n : ℕ) → n < length s.fabric.nodes → taken_by s n ≤ length (processor_at s n).given
 
 -- the records of each block say of the rest what it has: each core's reservation, and each node's reported number
 pub record Agrees (s : State) (r : ℕ → Records) : Type 0 where
-  pub reserved : (b n : ℕ) → b < block_count → n < length s.fabric.nodes → (r b).reserved n ≡ is_reserved (processor_at s n).core.reservation b
+  pub reserved : (b n : ℕ) → b < block_count → n < length s.fabric.nodes →
+      (r b).reserved n ≡ is_reserved (processor_at s n).core.reservation b
   pub reported : (b n : ℕ) → b < block_count → n < length s.fabric.nodes → (r b).reported n ≡ slice_index s.reported n

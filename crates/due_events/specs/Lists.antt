@@ -1,5 +1,6 @@
 -- What may be due at a node: a list of events, made of what the machine would answer now.
-use Rattle.std.specs.Prelude.{ℕ, ◌%◌, Bool, true, false, not, ◌&&◌, ◌||◌, nat_eq, nat_lt, nat_le, if◌then◌else◌, List, [], ◌∷◌, ◌++◌, map, filter_map, slice_index, Option, Some, None}
+use Rattle.std.specs.Prelude.{ℕ, ◌%◌, Bool, true, false, not, ◌&&◌, ◌||◌, nat_eq, nat_lt, nat_le, if◌then◌else◌, List, [], ◌∷◌, ◌++◌, map}
+use Rattle.std.specs.Prelude.{filter_map, slice_index, Option, Some, None}
 use Rattle.std.specs.List.{find, list_any, range_with_len}
 use Rattle.std.specs.Option.{option_map}
 use Rattle.sn_base.specs.Image.{ImageData}
@@ -73,7 +74,8 @@ least_to_leave image config s n = least_below block_count (leaves_for config s.f
 -- its eviction, where the node's instruction waits for a frame
 abbrev pub eviction : ImageData → Config → State → ℕ → Option Event
 eviction image config s n =
-    if needs_evict (foreseen image config s (Step n)) then option_map (λ (block : ℕ). Evict n block) (least_to_leave image config s n) else None
+    if needs_evict (foreseen image config s (Step n)) then option_map (λ (block : ℕ). Evict n block) (least_to_leave image config s n)
+    else None
 
 -- whether another node is ahead of node n
 abbrev pub is_behind : Fabric → ℕ → Bool
@@ -101,7 +103,8 @@ step image config s n = event_if (goes_on (foreseen image config s (Step n))) (S
 -- what node n may do itself
 abbrev pub own_places : Rules → ImageData → Config → State → Numbers → ℕ → List (Option Event)
 own_places rules image config s x n =
-    eviction image config s n ∷ edge rules image config s x n ∷ report image config s x n ∷ validation image config s n ∷ step image config s n ∷ []
+    eviction image config s n ∷ edge rules image config s x n ∷ report image config s x n ∷ validation image config s n
+    ∷ step image config s n ∷ []
 
 -- the places of node n's list in order, each with its event where there is one: the deliveries of messages, their hops, and what
 -- it may do itself

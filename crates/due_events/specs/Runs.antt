@@ -30,4 +30,5 @@ abbrev pub events_due : Rules → ImageData → Config → State → Numbers →
 events_due rules image config s x [] = []
 events_due rules image config s x (draw ∷ draws) =
     then_others (due_of rules image config s x draw.worker draw.pick)
-    (λ event. events_due rules image config (step_of image config s event).state (numbers_after x event (step_of image config s event).answer) draws)
+    (λ event. events_due rules image config (step_of image config s event).state
+    (numbers_after x event (step_of image config s event).answer) draws)

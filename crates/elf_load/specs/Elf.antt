@@ -1,5 +1,7 @@
 -- ELF files: the file header, the program headers and the segments that these load. Places are from the file's start.
-use Rattle.std.specs.Prelude.{ℕ, zero, suc, ◌+◌, ◌*◌, ◌%◌, Bool, true, false, not, ◌&&◌, ◌==◌, nat_eq, nat_le, nat_lt, min, max, if◌then◌else◌, List, [], ◌∷◌, ◌++◌, length, get_or, take, drop, map, filter, position, Option, Some, None, Result, Ok, Err}
+use Rattle.std.specs.Prelude.{ℕ, zero, suc, ◌+◌, ◌*◌, ◌%◌, Bool, true, false, not, ◌&&◌, ◌==◌, nat_eq, nat_le, nat_lt, min, max}
+use Rattle.std.specs.Prelude.{if◌then◌else◌, List, [], ◌∷◌, ◌++◌, length, get_or, take, drop, map, filter, position, Option, Some, None}
+use Rattle.std.specs.Prelude.{Result, Ok, Err}
 use Rattle.std.specs.Int.RustNames.{bit_and}
 use Rattle.byteorder.specs.Endian.{little_number}
 use Rattle.sn_base.specs.Blocks.{ram_start, ram_size}
@@ -7,7 +9,8 @@ use Rattle.sn_base.specs.Image.{SegmentData, ImageData, all_executable}
 use Rattle.elf_load.specs.declared.fault.Field.{Field}
 use Rattle.elf_load.specs.declared.fault.Field.TheVariants.{Magic, Class, Order, IdentVersion, FileKind, Machine, Version, PhEntSize}
 use Rattle.elf_load.specs.declared.fault.LoadCause.{LoadCause}
-use Rattle.elf_load.specs.declared.fault.LoadCause.TheVariants.{Truncated, WrongField, Compressed, TooManySegments, FileLargerThanMemory, Outside, Overlap, WritableCode, BadEntry}
+use Rattle.elf_load.specs.declared.fault.LoadCause.TheVariants.{Truncated, WrongField, Compressed, TooManySegments, FileLargerThanMemory}
+use Rattle.elf_load.specs.declared.fault.LoadCause.TheVariants.{Outside, Overlap, WritableCode, BadEntry}
 use Rattle.elf_load.specs.declared.program_header.ProgramHeader.{ProgramHeader}
 
 -- what a step of loading says: that it passes, or why it refuses

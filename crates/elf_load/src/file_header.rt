@@ -1,7 +1,7 @@
 //! The ELF file header (ELF specification, "ELF Header").
 ghost use Rattle.std.specs.Prelude.{◌≡◌, ◌+◌, ◌≤◌, ◌==◌, length, drop};
 ghost use Rattle.std.specs.Int.RustNames.{bit_and};
-ghost use Rattle.elf_load.specs.Elf.{byte_at, half_at, word_at, reaches, is_field, identity};
+ghost use Rattle.elf_load.specs.Elf.{half_at, word_at, reaches, is_field, identity};
 
 use crate::fault::{Field, LoadCause};
 use byteorder::{ByteOrder, LittleEndian};

@@ -1,5 +1,6 @@
 //! Hexadecimal images: a text whose lines are words of eight digits.
-ghost use Rattle.std.specs.Prelude.{◌≡◌, ℕ, ◌+◌, ◌<◌, ◌≤◌, ◌%◌, ◌^◌, List, [], ◌∷◌, length, vec_len, IfOk, IfErr, OnOk, IfSome, slice_index};
+ghost use Rattle.std.specs.Prelude.{◌≡◌, ℕ, ◌+◌, ◌<◌, ◌≤◌, ◌%◌, ◌^◌, List, [], ◌∷◌, length, vec_len, IfOk, IfErr, OnOk, IfSome};
+ghost use Rattle.std.specs.Prelude.{slice_index};
 ghost use Rattle.elf_load.specs.Hexadecimal.{digit_of, word_of, line_of, code_from, hexadecimal_image};
 ghost use Rattle.text_lines.specs.Lines.{lines_of};
 ghost use Rattle.elf_load.specs.Loading.{IsRefusedAs};
@@ -61,10 +62,12 @@ fn line_in(text: &[u8]) -> Line
 /// Adds the code of a line, whose number is counted from 1, to that of the lines before it.
 fn add_line(code: &mut Vec<u8>, number: u64, text: &[u8]) -> Result<(), LoadFault>
     requires { vec_len code.old % 4 ≡ 0 }
-    ensures ok { OnOk result ((lines : List (List ℕ)) → code_from number code.old.items (text.now ∷ lines) ≡ code_from (number + 1) code.new.items lines) }
+    ensures ok { OnOk result
+        ((lines : List (List ℕ)) → code_from number code.old.items (text.now ∷ lines) ≡ code_from (number + 1) code.new.items lines) }
     ensures whole { OnOk result (vec_len code.new % 4 ≡ 0) }
     ensures small { OnOk result (vec_len code.old ≤ 4194304 → vec_len code.new ≤ 4194304) }
-    ensures refused { IfErr result (λ fault. (lines : List (List ℕ)) → IsRefusedAs (code_from number code.old.items (text.now ∷ lines)) fault) }
+    ensures refused { IfErr result
+        (λ fault. (lines : List (List ℕ)) → IsRefusedAs (code_from number code.old.items (text.now ∷ lines)) fault) }
 {
     match line_in(text) {
         Line::Skipped => Ok(()),

@@ -1,6 +1,6 @@
 //! The call that reads a program.
 ghost use Rattle.std.specs.Prelude.{◌≡◌, ℕ, ◌<◌, ◌≤◌, ◌&&◌, length, IfOk, IfErr, Ok};
-ghost use Rattle.sn_base.specs.Image.{SegmentData, ImageData, is_executable};
+ghost use Rattle.sn_base.specs.Image.{is_executable};
 ghost use Rattle.elf_load.specs.Elf.{is_entry, elf_image};
 ghost use Rattle.elf_load.specs.Loading.{image_of, IsRefusedAs};
 

@@ -1,8 +1,10 @@
 //! ELF program headers and the segments that they load (ELF specification, "Program Header").
-ghost use Rattle.std.specs.Prelude.{◌≡◌, ℕ, ◌+◌, ◌*◌, ◌<◌, ◌≤◌, ◌==◌, ⊤, [], ◌∷◌, codes, length, vec_len, ◌&&◌, position, All, IfOk, IfErr, Result, Ok};
+ghost use Rattle.std.specs.Prelude.{◌≡◌, ℕ, ◌+◌, ◌*◌, ◌<◌, ◌≤◌, ◌==◌, ⊤, [], ◌∷◌, codes, length, vec_len, ◌&&◌, position, All, IfOk, IfErr};
+ghost use Rattle.std.specs.Prelude.{Result, Ok};
 ghost use Rattle.std.specs.Int.RustNames.{bit_and};
-ghost use Rattle.sn_base.specs.Image.{SegmentData, IsSegment, AreApart};
-ghost use Rattle.elf_load.specs.Elf.{header_at, first_headers, loads, is_executed, is_written, is_inside, shares, segment_of, segments_of, header_step, table_step};
+ghost use Rattle.sn_base.specs.Image.{IsSegment, AreApart};
+ghost use Rattle.elf_load.specs.Elf.{header_at, first_headers, loads, is_executed, is_written, is_inside, shares, segment_of, segments_of};
+ghost use Rattle.elf_load.specs.Elf.{header_step, table_step};
 ghost use Rattle.elf_load.specs.Loading.{IsRefusedAs};
 
 use crate::fault::{LoadCause, LoadFault};

@@ -1,6 +1,6 @@
 //! Images as ELF files: the file header, a program header for each segment, and then the segments' bytes.
 ghost use Rattle.std.specs.Prelude.{◌≡◌, ℕ, ◌+◌, ◌*◌, ◌<◌, ◌≤◌, ◌^◌, ◌++◌, Bool, List, length, vec_len, All, IfOk, OnOk};
-ghost use Rattle.sn_base.specs.Image.{SegmentData, IsSegment};
+ghost use Rattle.sn_base.specs.Image.{IsSegment};
 ghost use Rattle.elf_load.specs.Writing.{IsReadAs, halves, words, file_header, flags_of, header_bytes, table_from, content_of};
 
 use byteorder::{ByteOrder, LittleEndian};

@@ -1,5 +1,6 @@
 -- What is held at a cut had frames there, so it fits.
-use Rattle.std.proofs.Common.{◌≡◌, ◌∙◌, ⊎_elim, ℕ, suc, ◌+◌, ◌<◌, ◌≤◌, Bool, true, false, ◌||◌, List, [], ◌∷◌, length, refl, ap, sym, subst, arith, Option, Some, None}
+use Rattle.std.proofs.Common.{◌≡◌, ◌∙◌, ⊎_elim, ℕ, suc, ◌+◌, ◌<◌, ◌≤◌, Bool, true, false, ◌||◌, List, [], ◌∷◌, length, refl, ap, sym, subst}
+use Rattle.std.proofs.Common.{arith, Option, Some, None}
 use Rattle.std.specs.Prelude.{is_some}
 use Rattle.std.proofs.lemmas.Bool.{cases_lt}
 use Rattle.std.proofs.lemmas.Bool.Decides.{nat_tests}
@@ -62,7 +63,8 @@ owned_present state.Exclusive e = refl
 
 -- a frame as a block sees it, and as the cache has it
 
-framed_step : (state : LineState) (p m : Bool) (want : block.Want) → is_present state ≡ p → block.is_here want ≡ m → block.has_frame (line_seen state) want ≡ (p || m)
+framed_step : (state : LineState) (p m : Bool) (want : block.Want) → is_present state ≡ p → block.is_here want ≡ m →
+    block.has_frame (line_seen state) want ≡ (p || m)
 framed_step state.Absent p m want e h = grind arith
 framed_step state.Shared p m want e h = grind arith
 framed_step state.Owned p m want e h = grind arith
@@ -74,7 +76,9 @@ here_seen None b = refl
 here_seen (Some miss) b = grind (arith, nat_tests)
 
 pub framed_takes : (s : Fabric) (t : Beside) (n b : ℕ) → is_framed (block_seen s t b) n ≡ takes_frame (node_at s n).cache b
-framed_takes s t n b = framed_step (line_of (node_at s n).cache b).state (is_present (line_of (node_at s n).cache b).state) (misses_on (node_at s n).cache.miss b) (miss_seen b (node_at s n).cache.miss).want refl (here_seen (node_at s n).cache.miss b)
+framed_takes s t n b =
+    framed_step (line_of (node_at s n).cache b).state (is_present (line_of (node_at s n).cache b).state)
+    (misses_on (node_at s n).cache.miss b) (miss_seen b (node_at s n).cache.miss).want refl (here_seen (node_at s n).cache.miss b)
 
 -- the cache at a cut
 
@@ -85,36 +89,51 @@ as_long log k from (line ∷ lines) = ap suc (as_long log k (from + 1) lines)
 only_line : (p : Bool) → (p || false) ≡ p
 only_line p = grind arith
 
-line_at_cut : (node : Node) (b k : ℕ) → b < length node.cache.lines → is_present (line_of (cache_at node k) b).state ≡ is_some (held_by (old_at node.log false b k) (line_of node.cache b))
-line_at_cut node b k l = ap (λ (x : Line). is_present x.state) (restored_line_at k b node l) ∙ restored_present (held_by (old_at node.log false b k) (line_of node.cache b))
+line_at_cut : (node : Node) (b k : ℕ) → b < length node.cache.lines →
+    is_present (line_of (cache_at node k) b).state ≡ is_some (held_by (old_at node.log false b k) (line_of node.cache b))
+line_at_cut node b k l =
+    ap (λ (x : Line). is_present x.state) (restored_line_at k b node l)
+    ∙ restored_present (held_by (old_at node.log false b k) (line_of node.cache b))
 
-pub takes_held : (s : Fabric) (t : Beside) (n b k : ℕ) → IsKept s t → n < length s.nodes → b < block_count → takes_frame (cache_at (node_at s n) k) b ≡ is_some (holds_at s n b k)
-takes_held s t n b k kept l low = only_line (is_present (line_of (cache_at (node_at s n) k) b).state) ∙ line_at_cut (node_at s n) b k (subst (λ c. b < c) (sym (kept.shape.lines n l)) low)
+pub takes_held : (s : Fabric) (t : Beside) (n b k : ℕ) → IsKept s t → n < length s.nodes → b < block_count →
+    takes_frame (cache_at (node_at s n) k) b ≡ is_some (holds_at s n b k)
+takes_held s t n b k kept l low =
+    only_line (is_present (line_of (cache_at (node_at s n) k) b).state)
+    ∙ line_at_cut (node_at s n) b k (subst (λ c. b < c) (sym (kept.shape.lines n l)) low)
 
 takes_none : (node : Node) (b k : ℕ) → length node.cache.lines ≤ b → takes_frame (cache_at node k) b ≡ false
 takes_none node b k l = only_line (is_present (line_of (cache_at node k) b).state)
-    ∙ ap (λ (x : Line). is_present x.state) (get_or_past (restored_lines node.log k 0 node.cache.lines) b no_line (subst (λ c. c ≤ b) (sym (as_long node.log k 0 node.cache.lines)) l))
+    ∙ ap (λ (x : Line). is_present x.state)
+    (get_or_past (restored_lines node.log k 0 node.cache.lines) b no_line
+    (subst (λ c. c ≤ b) (sym (as_long node.log k 0 node.cache.lines)) l))
 
 module _ (config : Config) (s : Fabric) (t : Beside) (kept : IsKept s t) (bounded : IsBounded config s t) (n k : ℕ) (l : n < length s.nodes) (from : s.point ≤ k) where
   holds_of : (b : ℕ) → b < block_count → takes_frame (cache_at (node_at s n) k) b ≡ true → (block_seen s t b).holds n k ≡ true
-  holds_of b low e = sym (held_told (old_at (node_at s n).log false b k) (line_of (node_at s n).cache b)) ∙ (sym (takes_held s t n b k kept l low) ∙ e)
+  holds_of b low e =
+      sym (held_told (old_at (node_at s n).log false b k) (line_of (node_at s n).cache b)) ∙ (sym (takes_held s t n b k kept l low) ∙ e)
 
   -- only blocks of memory are held
-  in_memory : (d : Cache) → ((b : ℕ) → b < block_count → takes_frame (cache_at (node_at s n) k) b ≡ true → takes_frame d b ≡ true) → TakesFewer (cache_at (node_at s n) k) d
+  in_memory : (d : Cache) → ((b : ℕ) → b < block_count → takes_frame (cache_at (node_at s n) k) b ≡ true → takes_frame d b ≡ true) →
+      TakesFewer (cache_at (node_at s n) k) d
   in_memory d h b e = ⊎_elim
       (λ (low : b < block_count). h b low e)
-      (λ (past : block_count ≤ b). absurd (let f : takes_frame (cache_at (node_at s n) k) b ≡ false = takes_none (node_at s n) b k (subst (λ c. c ≤ b) (sym (kept.shape.lines n l)) past) in cc))
+      (λ (past : block_count ≤ b). absurd
+      (let f : takes_frame (cache_at (node_at s n) k) b
+      ≡ false = takes_none (node_at s n) b k (subst (λ c. c ≤ b) (sym (kept.shape.lines n l)) past) in cc))
       (cases_lt b block_count)
 
   -- up to now, what is held had a frame at that edge; above now, what is held is owned now
   up_to_now : k ≤ (node_at s n).now → Fits config (cache_at (node_at s n) k)
-  up_to_now reached = fewer_fits config (cache_at (node_at s n) k) edge.0 (in_memory edge.0 (λ b low e. edge.2 b low ((kept.blocks b low).frames.holds_framed n k l from reached (holds_of b low e)))) edge.1
+  up_to_now reached =
+      fewer_fits config (cache_at (node_at s n) k) edge.0
+      (in_memory edge.0 (λ b low e. edge.2 b low ((kept.blocks b low).frames.holds_framed n k l from reached (holds_of b low e)))) edge.1
     where
       edge : EdgeFits config t n k
       edge = bounded.edges n k l
 
   above_now : (node_at s n).now < k → Fits config (cache_at (node_at s n) k)
-  above_now later = fewer_fits config (cache_at (node_at s n) k) (node_at s n).cache (in_memory (node_at s n).cache still) (bounded.frames n l)
+  above_now later =
+      fewer_fits config (cache_at (node_at s n) k) (node_at s n).cache (in_memory (node_at s n).cache still) (bounded.frames n l)
     where
       late : (last now : ℕ) → last ≤ now + 1 → now < k → last ≤ k
       late last now h g = omega arith
@@ -122,9 +141,13 @@ module _ (config : Config) (s : Fabric) (t : Beside) (kept : IsKept s t) (bounde
       still : (b : ℕ) → b < block_count → takes_frame (cache_at (node_at s n) k) b ≡ true → takes_frame (node_at s n).cache b ≡ true
       still b low e =
           let logs = (kept.blocks b low).logs in
-          let owns : block.is_owned (line_seen (line_of (node_at s n).cache b).state) ≡ true = sym (logs.holds_now n k (late ((block_seen s t b).last n) (node_at s n).now (logs.own n) later)) ∙ holds_of b low e in
+          let owns : block.is_owned (line_seen (line_of (node_at s n).cache b).state)
+          ≡ true = sym (logs.holds_now n k (late ((block_seen s t b).last n) (node_at s n).now (logs.own n) later))
+          ∙ holds_of b low e in
           let p : is_present (line_of (node_at s n).cache b).state ≡ true = owned_present (line_of (node_at s n).cache b).state owns in
           rw p refl
 
   pub cut_fits : Fits config (cache_at (node_at s n) k)
-  cut_fits = ⊎_elim (λ (later : (node_at s n).now < k). above_now later) (λ (reached : k ≤ (node_at s n).now). up_to_now reached) (cases_lt (node_at s n).now k)
+  cut_fits =
+      ⊎_elim (λ (later : (node_at s n).now < k). above_now later) (λ (reached : k ≤ (node_at s n).now). up_to_now reached)
+      (cases_lt (node_at s n).now k)

@@ -5,7 +5,8 @@ use Rattle.sn_base.specs.declared.config.Config.{Config}
 use Rattle.sn_base.specs.declared.event.Answer.TheVariants.{LogFull, NetFull, HomeBusy, Delivered, NoMessage, NotArrived, Held}
 use Rattle.sn_base.specs.declared.log.LogEntry.{LogEntry}
 use Rattle.sn_msg.specs.declared.Body.{Body}
-use Rattle.sn_msg.specs.declared.Body.TheVariants.{GetS, GetM, FwdGetS, FwdGetM, Inv, DataS, DataM, DataE, UpgOk, InvAck, Unblock, PutReq, PutGo, PutData, PutDone, Ready, Advance}
+use Rattle.sn_msg.specs.declared.Body.TheVariants.{GetS, GetM, FwdGetS, FwdGetM, Inv, DataS, DataM, DataE, UpgOk, InvAck, Unblock, PutReq}
+use Rattle.sn_msg.specs.declared.Body.TheVariants.{PutGo, PutData, PutDone, Ready, Advance}
 use Rattle.sn_model.specs.declared.cache.Need.TheVariants as need
 use Rattle.sn_model.specs.declared.net.Told.TheVariants as told
 use Rattle.sn_model.specs.CacheRows.{Logged, CacheReply}
@@ -13,7 +14,8 @@ use Rattle.sn_model.specs.HomeRows.{HomeReply, put_data, unblock}
 use Rattle.sn_model.specs.Homes.{Transaction}
 use Rattle.sn_model.specs.Fabric.{Fabric, Flight, node_at, home_of, home_node, with_node, with_net, refused}
 use Rattle.sn_model.specs.Net.{net_limit, flight_of, without_flight, is_there}
-use Rattle.sn_model.specs.NetEvents.{AtCache, AtHome, logged_at, kept_at, unless_busy, outcome_of, node_after, home_after, learned, copy_lost, delivers, delivers_flight}
+use Rattle.sn_model.specs.NetEvents.{AtCache, AtHome, logged_at, kept_at, unless_busy, outcome_of, node_after, home_after, learned}
+use Rattle.sn_model.specs.NetEvents.{copy_lost, delivers, delivers_flight}
 use Rattle.mosi_cache.specs.Rows.{MeetsRow}
 use Rattle.fabric_coherence.specs.View.{Beside}
 use Rattle.fabric_coherence.specs.Steps.{IsInFlight, after_cache, after_home}
@@ -24,7 +26,9 @@ use Rattle.fabric_coherence.proofs.RowsMet.{meets_cache}
 use Rattle.fabric_bounds.specs.Counts.{most_sent}
 use Rattle.fabric_bounds.proofs.Lists.{shorter, taken_out}
 use Rattle.fabric_bounds.proofs.Steps.{IsStep, fewer_fits, node_stays, one_steps, quiet_step, sending_step, same_step, by_test}
-use Rattle.fabric_bounds.proofs.Rows.{IsSmall, awaited_takes, forward_read_small, forward_write_small, invalidate_small, put_go_small, put_done_small, data_shared_small, data_modified_small, data_exclusive_small, upgrade_granted_small, acknowledge_small}
+use Rattle.fabric_bounds.proofs.Rows.{IsSmall, awaited_takes, forward_read_small, forward_write_small, invalidate_small, put_go_small}
+use Rattle.fabric_bounds.proofs.Rows.{put_done_small, data_shared_small, data_modified_small, data_exclusive_small, upgrade_granted_small}
+use Rattle.fabric_bounds.proofs.Rows.{acknowledge_small}
 use Rattle.fabric_bounds.proofs.Replies.{get_shared_few, get_modified_few, put_request_few, unblock_few}
 
 pub not_over : (limit k : ℕ) → nat_lt limit k ≡ false → k ≤ limit
@@ -37,9 +41,11 @@ one_is_few : (k : ℕ) → k ≤ 1 → k ≤ most_sent
 one_is_few k l = omega arith
 
 -- the condition of a row of the cache
-pub meets_row : (s : Fabric) (t : Beside) (id : ℕ) (f : Flight) → IsKept s t → flight_of s.net.flights id ≡ Some f → (x : Body) → f.message.body ≡ x → comes_to_cache x ≡ true → MeetsRow (logged_at s f.message.to) f.message.block x
+pub meets_row : (s : Fabric) (t : Beside) (id : ℕ) (f : Flight) → IsKept s t → flight_of s.net.flights id ≡ Some f → (x : Body) →
+    f.message.body ≡ x → comes_to_cache x ≡ true → MeetsRow (logged_at s f.message.to) f.message.block x
 meets_row s t id f kept found x is c =
-    subst (MeetsRow (logged_at s f.message.to) f.message.block) is (meets_cache s t f.message (in_flight s id f kept.shape found) kept (subst (λ y. comes_to_cache y ≡ true) (sym is) c)).0
+    subst (MeetsRow (logged_at s f.message.to) f.message.block) is
+    (meets_cache s t f.message (in_flight s id f kept.shape found) kept (subst (λ y. comes_to_cache y ≡ true) (sym is) c)).0
 
 module _ (config : Config) (s : Fabric) (t : Beside) (id : ℕ) (f : Flight) (kept : IsKept s t) (found : flight_of s.net.flights id ≡ Some f) where
   flight : IsInFlight s f.message
@@ -59,25 +65,41 @@ module _ (config : Config) (s : Fabric) (t : Beside) (id : ℕ) (f : Flight) (ke
 
   -- a row that is done, at a cache and at a home
   module _ (reply : CacheReply) (small : IsSmall reply (node_at s f.message.to).cache) where
-    cache_done : length reply.after.log ≤ config.log → nat_lt (net_limit + 1) (length s.net.flights + length reply.sends) ≡ false → IsStep config s (after_cache s f.message reply)
-    cache_done fits room = sending_step config s (with_net (with_node s f.message.to (node_after (node_at s f.message.to) reply)) (without_flight s.net f.message.id)) f.message.to f.message.block reply.sends Delivered (copy_lost f.message.to reply)
-        (one_steps config s f.message.to (node_after (node_at s f.message.to) reply) flight.to (record { log = λ h. fits; frames = fewer_fits config reply.after.cache (node_at s f.message.to).cache small.fewer; now = omega arith }))
-        (λ h. has_room (length (without_flight s.net f.message.id).flights) (length s.net.flights) (length reply.sends) room one_less) refl (one_is_few (length reply.sends) small.sends) (omega arith)
+    cache_done : length reply.after.log ≤ config.log → nat_lt (net_limit + 1) (length s.net.flights + length reply.sends) ≡ false →
+        IsStep config s (after_cache s f.message reply)
+    cache_done fits room =
+        sending_step config s (with_net (with_node s f.message.to (node_after (node_at s f.message.to) reply))
+        (without_flight s.net f.message.id)) f.message.to f.message.block reply.sends Delivered (copy_lost f.message.to reply)
+        (one_steps config s f.message.to (node_after (node_at s f.message.to) reply) flight.to
+        (record {
+          log = λ h. fits;
+          frames = fewer_fits config reply.after.cache (node_at s f.message.to).cache small.fewer;
+          now = omega arith;
+        }))
+        (λ h. has_room (length (without_flight s.net f.message.id).flights) (length s.net.flights) (length reply.sends) room one_less) refl
+        (one_is_few (length reply.sends) small.sends) (omega arith)
 
     cache_step : IsStep config s (delivers config s f.message (AtCache reply))
     cache_step = by_test config s (nat_lt config.log (length reply.after.log)) (refused s LogFull) _ (λ e. same_step config s LogFull)
-        (λ fits. by_test config s (nat_lt (net_limit + 1) (length s.net.flights + length reply.sends)) (refused s NetFull) (after_cache s f.message reply) (λ e. same_step config s NetFull)
+        (λ fits. by_test config s (nat_lt (net_limit + 1) (length s.net.flights + length reply.sends)) (refused s NetFull)
+        (after_cache s f.message reply) (λ e. same_step config s NetFull)
         (λ room. cache_done (not_over config.log (length reply.after.log) fits) room))
 
   module _ (reply : HomeReply) (few : length reply.sends ≤ most_sent) where
-    home_done : length reply.after.log ≤ config.log → nat_lt (net_limit + 1) (length s.net.flights + length reply.sends) ≡ false → IsStep config s (after_home s f.message reply)
-    home_done fits room = sending_step config s (with_net (home_after s f.message.to f.message.block reply) (without_flight s.net f.message.id)) f.message.to f.message.block reply.sends Delivered None
-        (one_steps config s f.message.to (record (node_at s f.message.to) { log = reply.after.log }) flight.to (record { log = λ h. fits; frames = λ h. h; now = omega arith }))
-        (λ h. has_room (length (without_flight s.net f.message.id).flights) (length s.net.flights) (length reply.sends) room one_less) refl few (omega arith)
+    home_done : length reply.after.log ≤ config.log → nat_lt (net_limit + 1) (length s.net.flights + length reply.sends) ≡ false →
+        IsStep config s (after_home s f.message reply)
+    home_done fits room =
+        sending_step config s (with_net (home_after s f.message.to f.message.block reply)
+        (without_flight s.net f.message.id)) f.message.to f.message.block reply.sends Delivered None
+        (one_steps config s f.message.to (record (node_at s f.message.to) { log = reply.after.log }) flight.to
+        (record { log = λ h. fits; frames = λ h. h; now = omega arith }))
+        (λ h. has_room (length (without_flight s.net f.message.id).flights) (length s.net.flights)
+        (length reply.sends) room one_less) refl few (omega arith)
 
     home_step : IsStep config s (delivers config s f.message (AtHome reply))
     home_step = by_test config s (nat_lt config.log (length reply.after.log)) (refused s LogFull) _ (λ e. same_step config s LogFull)
-        (λ fits. by_test config s (nat_lt (net_limit + 1) (length s.net.flights + length reply.sends)) (refused s NetFull) (after_home s f.message reply) (λ e. same_step config s NetFull)
+        (λ fits. by_test config s (nat_lt (net_limit + 1) (length s.net.flights + length reply.sends)) (refused s NetFull)
+        (after_home s f.message reply) (λ e. same_step config s NetFull)
         (λ room. home_done (not_over config.log (length reply.after.log) fits) room))
 
     request_step : (open_one : Option Transaction) → IsStep config s (delivers config s f.message (unless_busy open_one reply))
@@ -86,28 +108,52 @@ module _ (config : Config) (s : Fabric) (t : Beside) (id : ℕ) (f : Flight) (ke
 
   -- Ready and Advance
   ready_step : (k : ℕ) → IsStep config s (delivers config s f.message (outcome_of s f.message (Ready k)))
-  ready_step k = quiet_step config s (with_net s (without_flight s.net f.message.id)) Delivered (Some (told.Ready f.message.from k)) (λ n l. node_stays config (node_at s n)) (omega (arith, one_less)) refl (omega arith)
+  ready_step k =
+      quiet_step config s (with_net s (without_flight s.net f.message.id)) Delivered (Some (told.Ready f.message.from k))
+      (λ n l. node_stays config (node_at s n)) (omega (arith, one_less)) refl (omega arith)
 
   advance_step : (k : ℕ) → IsStep config s (delivers config s f.message (outcome_of s f.message (Advance k)))
-  advance_step k = quiet_step config s (with_net (with_node s f.message.to (learned (node_at s f.message.to) k)) (without_flight s.net f.message.id)) Delivered (Some (told.Advance f.message.to k))
-      (one_steps config s f.message.to (learned (node_at s f.message.to) k) flight.to (record { log = λ h. omega (arith, shorter (λ (e : LogEntry). nat_le k e.interval) (node_at s f.message.to).log); frames = λ h. h; now = omega arith }))
+  advance_step k =
+      quiet_step config s (with_net (with_node s f.message.to (learned (node_at s f.message.to) k))
+      (without_flight s.net f.message.id)) Delivered (Some (told.Advance f.message.to k))
+      (one_steps config s f.message.to (learned (node_at s f.message.to) k) flight.to
+      (record {
+        log = λ h. omega (arith, shorter (λ (e : LogEntry). nat_le k e.interval) (node_at s f.message.to).log);
+        frames = λ h. h;
+        now = omega arith;
+      }))
       (omega (arith, one_less)) refl (omega arith)
 
   sixteen : length (home_of s f.message.block).sharers ≡ 16
   sixteen = kept.shape.sharers f.message.block flight.block
 
   body_step : (x : Body) → f.message.body ≡ x → IsStep config s (delivers config s f.message (outcome_of s f.message x))
-  body_step GetS is = request_step _ (get_shared_few (kept_at s f.message.to f.message.block) sixteen f.message.from f.message.block (node_at s f.message.to).now (home_of s f.message.block).holder) (home_of s f.message.block).transaction
-  body_step GetM is = request_step _ (get_modified_few (kept_at s f.message.to f.message.block) sixteen f.message.from f.message.block (node_at s f.message.to).now (home_of s f.message.block).holder) (home_of s f.message.block).transaction
-  body_step PutReq is = request_step _ (put_request_few (kept_at s f.message.to f.message.block) (node_at s f.message.to).now f.message.from) (home_of s f.message.block).transaction
-  body_step (Unblock fixed) is = home_step (unblock (kept_at s f.message.to f.message.block) f.message.block fixed (home_of s f.message.block).transaction) (unblock_few (kept_at s f.message.to f.message.block) f.message.block fixed (home_of s f.message.block).transaction)
-  body_step (PutData content) is = home_step (put_data (kept_at s f.message.to f.message.block) f.message.block f.message.tag f.message.from content) (omega arith)
+  body_step GetS is =
+      request_step _ (get_shared_few (kept_at s f.message.to f.message.block) sixteen f.message.from f.message.block
+      (node_at s f.message.to).now (home_of s f.message.block).holder) (home_of s f.message.block).transaction
+  body_step GetM is =
+      request_step _ (get_modified_few (kept_at s f.message.to f.message.block) sixteen f.message.from f.message.block
+      (node_at s f.message.to).now (home_of s f.message.block).holder) (home_of s f.message.block).transaction
+  body_step PutReq is =
+      request_step _ (put_request_few (kept_at s f.message.to f.message.block) (node_at s f.message.to).now f.message.from)
+      (home_of s f.message.block).transaction
+  body_step (Unblock fixed) is =
+      home_step (unblock (kept_at s f.message.to f.message.block) f.message.block fixed (home_of s f.message.block).transaction)
+      (unblock_few (kept_at s f.message.to f.message.block) f.message.block fixed (home_of s f.message.block).transaction)
+  body_step (PutData content) is =
+      home_step (put_data (kept_at s f.message.to f.message.block) f.message.block f.message.tag f.message.from content) (omega arith)
   body_step (FwdGetS r) is = cache_step _ (forward_read_small at f.message.block r (meets (FwdGetS r) is refl))
   body_step (FwdGetM r due) is = cache_step _ (forward_write_small at f.message.block (node_at s f.message.to).now r due)
   body_step (Inv r) is = cache_step _ (invalidate_small at f.message.block r)
-  body_step (DataS content) is = cache_step _ (data_shared_small at (home_node s f.message.block) f.message.block f.message.tag content (awaited_takes at.cache f.message.block need.Read (meets (DataS content) is refl).0))
-  body_step (DataM content due) is = cache_step _ (data_modified_small at (home_node s f.message.block) f.message.block f.message.tag content due (awaited_takes at.cache f.message.block need.Write (meets (DataM content due) is refl).0))
-  body_step (DataE content) is = cache_step _ (data_exclusive_small at (home_node s f.message.block) f.message.block f.message.tag content (awaited_takes at.cache f.message.block need.Read (meets (DataE content) is refl).0))
+  body_step (DataS content) is =
+      cache_step _ (data_shared_small at (home_node s f.message.block) f.message.block f.message.tag content
+      (awaited_takes at.cache f.message.block need.Read (meets (DataS content) is refl).0))
+  body_step (DataM content due) is =
+      cache_step _ (data_modified_small at (home_node s f.message.block) f.message.block f.message.tag content due
+      (awaited_takes at.cache f.message.block need.Write (meets (DataM content due) is refl).0))
+  body_step (DataE content) is =
+      cache_step _ (data_exclusive_small at (home_node s f.message.block) f.message.block f.message.tag content
+      (awaited_takes at.cache f.message.block need.Read (meets (DataE content) is refl).0))
   body_step (UpgOk due) is = cache_step _ (upgrade_granted_small at (home_node s f.message.block) f.message.tag due)
   body_step InvAck is = cache_step _ (acknowledge_small at (home_node s f.message.block))
   body_step PutGo is = cache_step _ (put_go_small at (home_node s f.message.block) f.message.block (node_at s f.message.to).now)
@@ -117,8 +163,11 @@ module _ (config : Config) (s : Fabric) (t : Beside) (id : ℕ) (f : Flight) (ke
 
   flight_step : IsStep config s (delivers_flight config s (Some f))
   flight_step = by_test config s (not (is_there f)) (refused s NotArrived) _ (λ e. same_step config s NotArrived)
-      (λ e. by_test config s (nat_lt (node_at s f.message.to).now f.message.tag) (refused s Held) (delivers config s f.message (outcome_of s f.message f.message.body)) (λ e. same_step config s Held) (λ e. body_step f.message.body refl))
+      (λ e. by_test config s (nat_lt (node_at s f.message.to).now f.message.tag) (refused s Held)
+      (delivers config s f.message (outcome_of s f.message f.message.body)) (λ e. same_step config s Held)
+      (λ e. body_step f.message.body refl))
 
-pub delivery_step : (config : Config) (s : Fabric) (t : Beside) (id : ℕ) (found : Option Flight) → IsKept s t → flight_of s.net.flights id ≡ found → IsStep config s (delivers_flight config s found)
+pub delivery_step : (config : Config) (s : Fabric) (t : Beside) (id : ℕ) (found : Option Flight) → IsKept s t →
+    flight_of s.net.flights id ≡ found → IsStep config s (delivers_flight config s found)
 delivery_step config s t id None kept e = same_step config s NoMessage
 delivery_step config s t id (Some f) kept e = flight_step config s t id f kept e

@@ -1,7 +1,8 @@
 -- A message that brings a line finds the frame of its block.
 use Rattle.std.proofs.Common.{◌≡◌, ℕ, true, true≢false, refl, sym, Some}
 use Rattle.sn_msg.specs.declared.Body.{Body}
-use Rattle.sn_msg.specs.declared.Body.TheVariants.{GetS, GetM, FwdGetS, FwdGetM, Inv, DataS, DataM, DataE, UpgOk, InvAck, Unblock, PutReq, PutGo, PutData, PutDone, Ready, Advance}
+use Rattle.sn_msg.specs.declared.Body.TheVariants.{GetS, GetM, FwdGetS, FwdGetM, Inv, DataS, DataM, DataE, UpgOk, InvAck, Unblock, PutReq}
+use Rattle.sn_msg.specs.declared.Body.TheVariants.{PutGo, PutData, PutDone, Ready, Advance}
 use Rattle.sn_model.specs.declared.cache.Need.TheVariants as need
 use Rattle.sn_model.specs.Caches.{takes_frame}
 use Rattle.sn_model.specs.Fabric.{Fabric, Flight, node_at}
@@ -13,10 +14,14 @@ use Rattle.fabric_bounds.proofs.Rows.{awaited_takes}
 use Rattle.fabric_bounds.proofs.Deliveries.{meets_row}
 
 module _ (s : Fabric) (t : Beside) (id : ℕ) (f : Flight) (kept : IsKept s t) (found : flight_of s.net.flights id ≡ Some f) where
-  pub answer_takes : (x : Body) → f.message.body ≡ x → brings_line x ≡ true → takes_frame (node_at s f.message.to).cache f.message.block ≡ true
-  answer_takes (DataS content) is b = awaited_takes (node_at s f.message.to).cache f.message.block need.Read (meets_row s t id f kept found (DataS content) is refl).0
-  answer_takes (DataM content due) is b = awaited_takes (node_at s f.message.to).cache f.message.block need.Write (meets_row s t id f kept found (DataM content due) is refl).0
-  answer_takes (DataE content) is b = awaited_takes (node_at s f.message.to).cache f.message.block need.Read (meets_row s t id f kept found (DataE content) is refl).0
+  pub answer_takes : (x : Body) → f.message.body ≡ x → brings_line x ≡ true →
+      takes_frame (node_at s f.message.to).cache f.message.block ≡ true
+  answer_takes (DataS content) is b =
+      awaited_takes (node_at s f.message.to).cache f.message.block need.Read (meets_row s t id f kept found (DataS content) is refl).0
+  answer_takes (DataM content due) is b =
+      awaited_takes (node_at s f.message.to).cache f.message.block need.Write (meets_row s t id f kept found (DataM content due) is refl).0
+  answer_takes (DataE content) is b =
+      awaited_takes (node_at s f.message.to).cache f.message.block need.Read (meets_row s t id f kept found (DataE content) is refl).0
   answer_takes GetS is b = absurd (true≢false (sym b))
   answer_takes GetM is b = absurd (true≢false (sym b))
   answer_takes (FwdGetS r) is b = absurd (true≢false (sym b))

@@ -1,5 +1,6 @@
 -- How far each event takes the numbers.
-use Rattle.std.proofs.Common.{◌≡◌, ◌∙◌, ℕ, suc, ◌+◌, ◌*◌, ◌<◌, ◌≤◌, false, List, [], ◌∷◌, length, refl, sym, subst, arith, nat_lt, Option, Some, None}
+use Rattle.std.proofs.Common.{◌≡◌, ◌∙◌, ℕ, suc, ◌+◌, ◌*◌, ◌<◌, ◌≤◌, false, List, [], ◌∷◌, length, refl, sym, subst, arith, nat_lt, Option}
+use Rattle.std.proofs.Common.{Some, None}
 use Rattle.std.proofs.lemmas.Bool.Decides.{nat_tests}
 use Rattle.sn_base.specs.Image.{ImageData}
 use Rattle.sn_base.specs.declared.block.Write.{Write as Written}
@@ -7,7 +8,8 @@ use Rattle.sn_base.specs.declared.config.Config.{Config}
 use Rattle.rv_core.specs.Core.{block_of}
 use Rattle.sn_model.specs.Access.{prepared}
 use Rattle.sn_model.specs.Fabric.{Fabric, Node, Moved, node_at, first_node, first_fabric}
-use Rattle.sn_model.specs.FabricEvents.{FabricEvent, Access, Write, Evict, Edge, Hop, Deliver, Lose, Kill, Report, Advance, Recover, moved_by}
+use Rattle.sn_model.specs.FabricEvents.{FabricEvent, Access, Write, Evict, Edge, Hop, Deliver, Lose, Kill, Report, Advance, Recover}
+use Rattle.sn_model.specs.FabricEvents.{moved_by}
 use Rattle.sn_model.specs.PointEvents.{recovered, recovers, restored, living_switches}
 use Rattle.route_plan.specs.Routes.{first_cut_off}
 use Rattle.fabric_coherence.specs.View.{Beside}
@@ -41,7 +43,8 @@ roomy config s n w = record config { log = length (prepared (node_at s n) (block
 not_less : (k : ℕ) → nat_lt k k ≡ false
 not_less k = grind (arith, nat_tests)
 
-write_rises : (config : Config) (s : Fabric) (t : Beside) (n : ℕ) (w : Written) → IsKept s t → MayBe s (Write n w) → Rises s (moved_by config s (Write n w))
+write_rises : (config : Config) (s : Fabric) (t : Beside) (n : ℕ) (w : Written) → IsKept s t → MayBe s (Write n w) →
+    Rises s (moved_by config s (Write n w))
 unfolding moved_by roomy
 write_rises config s t n w kept may = rises (roomy config s n w) s (moved_by config s (Write n w))
     (event_step (roomy config s n w) s t (Write n w) kept may (not_less (length (prepared (node_at s n) (block_of w.address)).log)) tt)
@@ -63,7 +66,8 @@ unfolding restored
 restored_next s k = refl
 
 recovers_rises : (s : Fabric) (cut : Option (ℕ × ℕ)) → Rises s (recovers s s.point cut)
-recovers_rises s (Some pair) = record { sends = record { few = omega arith; numbers = none_more s.net.next_id }; nows = λ n l e h g. omega arith; point = omega arith }
+recovers_rises s (Some pair) =
+    record { sends = record { few = omega arith; numbers = none_more s.net.next_id }; nows = λ n l e h g. omega arith; point = omega arith }
 recovers_rises s None = record {
   sends = record { few = omega arith; numbers = restored_next s s.point ∙ none_more s.net.next_id };
   nows = λ n l e h g. omega (arith, restored_now s n l);
@@ -74,7 +78,8 @@ recover_rises : (config : Config) (s : Fabric) (k : ℕ) → k ≡ s.point → R
 unfolding moved_by
 recover_rises config s k e = subst (λ j. Rises s (recovered s j)) (sym e) (recovers_rises s (first_cut_off (living_switches s)))
 
-event_rises : (config : Config) (s : Fabric) (t : Beside) (event : FabricEvent) → IsKept s t → MayBe s event → Rises s (moved_by config s event)
+event_rises : (config : Config) (s : Fabric) (t : Beside) (event : FabricEvent) → IsKept s t → MayBe s event →
+    Rises s (moved_by config s event)
 event_rises config s t (Write n w) kept may = write_rises config s t n w kept may
 event_rises config s t (Recover k) kept may = recover_rises config s k may
 event_rises config s t (Access n block need) kept may = rises config s _ (event_step config s t (Access n block need) kept may tt tt)
@@ -87,7 +92,8 @@ event_rises config s t (Kill switch) kept may = rises config s _ (event_step con
 event_rises config s t (Report n) kept may = rises config s _ (event_step config s t (Report n) kept may tt tt)
 event_rises config s t (Advance k) kept may = rises config s _ (event_step config s t (Advance k) kept may tt tt)
 
-pub event_sends : (config : Config) (s : Fabric) (t : Beside) (event : FabricEvent) → IsKept s t → MayBe s event → SendsFew s (moved_by config s event)
+pub event_sends : (config : Config) (s : Fabric) (t : Beside) (event : FabricEvent) → IsKept s t → MayBe s event →
+    SendsFew s (moved_by config s event)
 event_sends config s t event kept may = (event_rises config s t event kept may).sends
 
 -- so a run takes them no further than its length says
@@ -109,17 +115,21 @@ one_more e s x count step counts = record {
     next_number : (old new sent : ℕ) → old ≤ most_sent * e + 1 → sent ≤ most_sent → new ≡ old + sent → new ≤ most_sent * (e + 1) + 1
     next_number old new sent h f g = omega arith
 
-run_counts : (config : Config) (e : ℕ) (s : Fabric) (events : List FabricEvent) → Keeps s → CountsTo e s → IsRun config s events → CountsTo (e + length events) (fabric_after config s events)
+run_counts : (config : Config) (e : ℕ) (s : Fabric) (events : List FabricEvent) → Keeps s → CountsTo e s → IsRun config s events →
+    CountsTo (e + length events) (fabric_after config s events)
 run_counts config e s [] keeps counts run = subst (λ k. CountsTo k s) (none_more e) counts
-run_counts config e s (event ∷ events) keeps counts run = subst (λ k. CountsTo k (fabric_after config (moved_by config s event).fabric events)) (then_one e (length events))
+run_counts config e s (event ∷ events) keeps counts run =
+    subst (λ k. CountsTo k (fabric_after config (moved_by config s event).fabric events)) (then_one e (length events))
     (run_counts config (e + 1) (moved_by config s event).fabric events (each_keeps config s event keeps run.0)
     (one_more e s (moved_by config s event) (nodes_same config s event) (event_rises config s keeps.0 event keeps.1 run.0) counts) run.1)
   where
     then_one : (a b : ℕ) → a + 1 + b ≡ a + suc b
     then_one a b = omega arith
 
-pub counts_from_the_start : (config : Config) (s : Fabric) (events : List FabricEvent) → Keeps s → CountsTo 0 s → IsRun config s events → CountsTo (length events) (fabric_after config s events)
-counts_from_the_start config s events keeps counts run = subst (λ k. CountsTo k (fabric_after config s events)) (none_before (length events)) (run_counts config 0 s events keeps counts run)
+pub counts_from_the_start : (config : Config) (s : Fabric) (events : List FabricEvent) → Keeps s → CountsTo 0 s → IsRun config s events →
+    CountsTo (length events) (fabric_after config s events)
+counts_from_the_start config s events keeps counts run =
+    subst (λ k. CountsTo k (fabric_after config s events)) (none_before (length events)) (run_counts config 0 s events keeps counts run)
   where
     none_before : (k : ℕ) → 0 + k ≡ k
     none_before k = omega arith

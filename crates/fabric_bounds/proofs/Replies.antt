@@ -1,7 +1,9 @@
 -- The rows of a home send seventeen messages at most: an Inv to each sharer, and one more.
-use Rattle.std.proofs.Common.{◌≡◌, ℕ, suc, ◌+◌, ◌≤◌, Bool, true, false, List, [], ◌∷◌, length, length-set, arith, if◌then◌else◌, nat_eq, Option, Some, None}
+use Rattle.std.proofs.Common.{◌≡◌, ℕ, suc, ◌+◌, ◌≤◌, Bool, true, false, List, [], ◌∷◌, length, length-set, arith, if◌then◌else◌, nat_eq}
+use Rattle.std.proofs.Common.{Option, Some, None}
 use Rattle.sn_model.specs.Homes.{Holder, Itself, OfCache, Transaction, is_owner}
-use Rattle.sn_model.specs.HomeRows.{LoggedEntry, others, count_others, invalidations, read_at_home, move_ownership, upgrade, unblock, put_begins, put_is_stale, grant_exclusive}
+use Rattle.sn_model.specs.HomeRows.{LoggedEntry, others, count_others, invalidations, read_at_home, move_ownership, upgrade, unblock}
+use Rattle.sn_model.specs.HomeRows.{put_begins, put_is_stale, grant_exclusive}
 use Rattle.sn_model.specs.NetEvents.{get_shared, get_modified, put_request}
 use Rattle.fabric_bounds.specs.Counts.{most_sent}
 
@@ -37,6 +39,7 @@ put_request_few at now r = own (is_owner at.entry.holder r)
     own true = omega arith
     own false = omega arith
 
-pub unblock_few : (at : LoggedEntry) (block fixed : ℕ) (open_one : Option Transaction) → length (unblock at block fixed open_one).sends ≤ most_sent
+pub unblock_few : (at : LoggedEntry) (block fixed : ℕ) (open_one : Option Transaction) →
+    length (unblock at block fixed open_one).sends ≤ most_sent
 unblock_few at block fixed None = omega arith
 unblock_few at block fixed (Some transaction) = omega arith

@@ -1,12 +1,16 @@
 -- The rows of a cache: none takes a frame that wasn't taken, and each sends one message at most.
-use Rattle.std.proofs.Common.{◌≡◌, ℕ, ◌≤◌, Bool, true, false, ◌||◌, List, [], length, refl, arith, nat_eq, if◌then◌else◌, Option, Some, None}
+use Rattle.std.proofs.Common.{◌≡◌, ℕ, ◌≤◌, Bool, true, false, ◌||◌, List, [], length, refl, arith, nat_eq, if◌then◌else◌, Option, Some}
+use Rattle.std.proofs.Common.{None}
 use Rattle.std.proofs.lemmas.Bool.Decides.{nat_tests}
 use Rattle.std.specs.Prelude.{slice_set}
 use Rattle.sn_model.specs.declared.cache.LineState.{LineState}
 use Rattle.sn_model.specs.declared.cache.LineState.TheVariants.{Absent, Shared, Owned, Modified, Exclusive}
 use Rattle.sn_model.specs.declared.cache.Need.{Need}
-use Rattle.sn_model.specs.Caches.{Cache, Line, Miss, no_line, line_of, with_line, is_present, is_owned, is_writable_state, misses_on, takes_frame}
-use Rattle.sn_model.specs.CacheRows.{Logged, CacheReply, AwaitsAnswer, content_of, line_when_done, completed, settled, settled_by, fixed_at, acknowledged, taken_over, forward_read, forward_write, invalidate, data_shared, data_modified, data_exclusive, upgrade_granted, acknowledge, put_go, put_done}
+use Rattle.sn_model.specs.Caches.{Cache, Line, Miss, no_line, line_of, with_line, is_present, is_owned, is_writable_state, misses_on}
+use Rattle.sn_model.specs.Caches.{takes_frame}
+use Rattle.sn_model.specs.CacheRows.{Logged, CacheReply, AwaitsAnswer, content_of, line_when_done, completed, completed_or_waiting}
+use Rattle.sn_model.specs.CacheRows.{completed_or_waiting_by, fixed_at, acknowledged, taken_over, forward_read, forward_write, invalidate}
+use Rattle.sn_model.specs.CacheRows.{data_shared, data_modified, data_exclusive, upgrade_granted, acknowledge, put_go, put_done}
 use Rattle.mosi_cache.proofs.Taken.{TakesFewer, fewer-set}
 
 -- a row takes no new frame, and sends one message at most
@@ -41,8 +45,11 @@ pub or_left : (p m : Bool) → p ≡ true → (p || m) ≡ true
 or_left p m e = grind arith
 
 -- a change of one line
-pub line_fewer : (c : Cache) (x : ℕ) (line : Line) → (is_present line.state ≡ true → takes_frame c x ≡ true) → TakesFewer (record c { lines = slice_set c.lines x line }) c
-line_fewer c x line h = fewer-set (record c { lines = slice_set c.lines x line }) c x line refl (λ b e. or_right (is_present (line_of c b).state) (misses_on c.miss b) e) h
+pub line_fewer : (c : Cache) (x : ℕ) (line : Line) → (is_present line.state ≡ true → takes_frame c x ≡ true) →
+    TakesFewer (record c { lines = slice_set c.lines x line }) c
+line_fewer c x line h =
+    fewer-set (record c { lines = slice_set c.lines x line }) c x line refl
+    (λ b e. or_right (is_present (line_of c b).state) (misses_on c.miss b) e) h
 
 -- the block of a miss takes a frame
 pub awaited_takes : (c : Cache) (x : ℕ) (for_need : Need) → AwaitsAnswer c.miss x for_need → takes_frame c x ≡ true
@@ -69,21 +76,25 @@ module _ (at : Logged) (d : Cache) (fewer : TakesFewer at.cache d) (home : ℕ) 
   own_block p x = grind (arith, nat_tests)
 
   completes : (miss : Miss) (fixed : ℕ) → IsOn (Some miss) → TakesFewer (completed at home miss fixed).after.cache d
-  completes miss fixed on b e = waits miss on b (fewer-set (completed at home miss fixed).after.cache (record at.cache { miss = Some miss }) miss.block
+  completes miss fixed on b e =
+      waits miss on b (fewer-set (completed at home miss fixed).after.cache (record at.cache { miss = Some miss }) miss.block
       (record { state = line_when_done (line_of at.cache miss.block).state miss.need; content = content_of at miss.block }) refl
       (λ o h. absurd (cc)) (λ h. own_block (is_present (line_of at.cache miss.block).state) miss.block) b e)
 
-  settled_by_small : (miss : Miss) (fixed : Option ℕ) → IsOn (Some miss) → IsSmall (settled_by at home miss fixed) d
-  settled_by_small miss None on = record { fewer = waits miss on; sends = omega arith }
-  settled_by_small miss (Some fixed) on = all_in (nat_eq miss.acks miss.due)
+  completed_or_waiting_by_small : (miss : Miss) (fixed : Option ℕ) → IsOn (Some miss) →
+      IsSmall (completed_or_waiting_by at home miss fixed) d
+  completed_or_waiting_by_small miss None on = record { fewer = waits miss on; sends = omega arith }
+  completed_or_waiting_by_small miss (Some fixed) on = all_in (nat_eq miss.acks miss.due)
     where
-      all_in : (c : Bool) → IsSmall (if c then completed at home miss fixed else record { after = record at { cache = record at.cache { miss = Some miss } }; sends = []; lost = None }) d
+      all_in : (c : Bool) → IsSmall
+          (if c then completed at home miss fixed
+          else record { after = record at { cache = record at.cache { miss = Some miss } }; sends = []; lost = None }) d
       all_in true = record { fewer = completes miss fixed on; sends = omega arith }
       all_in false = record { fewer = waits miss on; sends = omega arith }
 
-  pub settled_small : (o : Option Miss) → IsOn o → IsSmall (settled at home o) d
-  settled_small None on = record { fewer = fewer; sends = omega arith }
-  settled_small (Some miss) on = settled_by_small miss miss.fixed on
+  pub completed_or_waiting_small : (o : Option Miss) → IsOn o → IsSmall (completed_or_waiting at home o) d
+  completed_or_waiting_small None on = record { fewer = fewer; sends = omega arith }
+  completed_or_waiting_small (Some miss) on = completed_or_waiting_by_small miss miss.fixed on
 
 -- what becomes of the open miss is on the same block
 fixed_on : (o : Option Miss) (tag due b : ℕ) → misses_on (fixed_at o tag due) b ≡ true → misses_on o b ≡ true
@@ -108,7 +119,12 @@ module _ (at : Logged) where
   gone_fewer block = line_fewer at.cache block no_line (λ e. absurd (cc))
 
   pub forward_read_small : (block r : ℕ) → is_owned (line_of at.cache block).state ≡ true → IsSmall (forward_read at block r) at.cache
-  forward_read_small block r owned = record { fewer = line_fewer at.cache block (record { state = Owned; content = content_of at block }) (λ e. owned_takes at.cache block owned); sends = omega arith }
+  forward_read_small block r owned =
+      record {
+        fewer = line_fewer at.cache block (record { state = Owned; content = content_of at block })
+            (λ e. owned_takes at.cache block owned);
+        sends = omega arith;
+      }
 
   pub forward_write_small : (block now r due : ℕ) → IsSmall (forward_write at block now r due) at.cache
   forward_write_small block now r due = record { fewer = gone_fewer block; sends = omega arith }
@@ -123,21 +139,35 @@ module _ (at : Logged) where
   put_done_small = record { fewer = stays; sends = omega arith }
 
   -- an answer brings a line of a block that takes a frame
-  arrives : (block : ℕ) (state : LineState) (content : List ℕ) → takes_frame at.cache block ≡ true → TakesFewer (with_new block state content) at.cache
+  arrives : (block : ℕ) (state : LineState) (content : List ℕ) → takes_frame at.cache block ≡ true →
+      TakesFewer (with_new block state content) at.cache
   arrives block state content takes = line_fewer at.cache block (record { state = state; content = content }) (λ e. takes)
 
   module _ (home block tag : ℕ) where
-    pub data_shared_small : (content : List ℕ) → takes_frame at.cache block ≡ true → IsSmall (data_shared at home block tag content) at.cache
-    data_shared_small content takes = settled_small (record at { cache = with_new block Shared content }) at.cache (arrives block Shared content takes) home (fixed_at at.cache.miss tag 0) (λ b e. missed_takes b (fixed_on at.cache.miss tag 0 b e))
+    pub data_shared_small : (content : List ℕ) → takes_frame at.cache block ≡ true →
+        IsSmall (data_shared at home block tag content) at.cache
+    data_shared_small content takes =
+        completed_or_waiting_small (record at { cache = with_new block Shared content }) at.cache (arrives block Shared content takes) home
+        (fixed_at at.cache.miss tag 0) (λ b e. missed_takes b (fixed_on at.cache.miss tag 0 b e))
 
-    pub data_modified_small : (content : List ℕ) (due : ℕ) → takes_frame at.cache block ≡ true → IsSmall (data_modified at home block tag content due) at.cache
-    data_modified_small content due takes = settled_small (taken_over at block tag Modified content) at.cache (arrives block Modified content takes) home (fixed_at at.cache.miss tag due) (λ b e. missed_takes b (fixed_on at.cache.miss tag due b e))
+    pub data_modified_small : (content : List ℕ) (due : ℕ) → takes_frame at.cache block ≡ true →
+        IsSmall (data_modified at home block tag content due) at.cache
+    data_modified_small content due takes =
+        completed_or_waiting_small (taken_over at block tag Modified content) at.cache (arrives block Modified content takes) home
+        (fixed_at at.cache.miss tag due) (λ b e. missed_takes b (fixed_on at.cache.miss tag due b e))
 
-    pub data_exclusive_small : (content : List ℕ) → takes_frame at.cache block ≡ true → IsSmall (data_exclusive at home block tag content) at.cache
-    data_exclusive_small content takes = settled_small (taken_over at block tag Exclusive content) at.cache (arrives block Exclusive content takes) home (fixed_at at.cache.miss tag 0) (λ b e. missed_takes b (fixed_on at.cache.miss tag 0 b e))
+    pub data_exclusive_small : (content : List ℕ) → takes_frame at.cache block ≡ true →
+        IsSmall (data_exclusive at home block tag content) at.cache
+    data_exclusive_small content takes =
+        completed_or_waiting_small (taken_over at block tag Exclusive content) at.cache (arrives block Exclusive content takes) home
+        (fixed_at at.cache.miss tag 0) (λ b e. missed_takes b (fixed_on at.cache.miss tag 0 b e))
 
   pub upgrade_granted_small : (home tag due : ℕ) → IsSmall (upgrade_granted at home tag due) at.cache
-  upgrade_granted_small home tag due = settled_small at at.cache stays home (fixed_at at.cache.miss tag due) (λ b e. missed_takes b (fixed_on at.cache.miss tag due b e))
+  upgrade_granted_small home tag due =
+      completed_or_waiting_small at at.cache stays home (fixed_at at.cache.miss tag due)
+      (λ b e. missed_takes b (fixed_on at.cache.miss tag due b e))
 
   pub acknowledge_small : (home : ℕ) → IsSmall (acknowledge at home) at.cache
-  acknowledge_small home = settled_small at at.cache stays home (acknowledged at.cache.miss) (λ b e. missed_takes b (acknowledged_on at.cache.miss b e))
+  acknowledge_small home =
+      completed_or_waiting_small at at.cache stays home (acknowledged at.cache.miss)
+      (λ b e. missed_takes b (acknowledged_on at.cache.miss b e))

@@ -1,5 +1,6 @@
 -- What an event but a recovery makes of each node, of the network and of the numbers.
-use Rattle.std.proofs.Common.{◌≡◌, ◌∙◌, ℕ, ◌+◌, ◌<◌, ◌≤◌, Bool, true, false, cond, List, length, refl, sym, subst, arith, ◌==◌, if◌then◌else◌, Option, None}
+use Rattle.std.proofs.Common.{◌≡◌, ◌∙◌, ℕ, ◌+◌, ◌<◌, ◌≤◌, Bool, true, false, cond, List, length, refl, sym, subst, arith, ◌==◌}
+use Rattle.std.proofs.Common.{if◌then◌else◌, Option, None}
 use Rattle.std.proofs.lemmas.Bool.Decides.{nat_tests}
 use Rattle.std.specs.Prelude.{slice_index_or, slice_set}
 use Rattle.sn_base.specs.declared.config.Config.{Config}
@@ -36,16 +37,20 @@ equal : (m n : ℕ) → (m == n) ≡ true → n ≡ m
 equal m n e = grind (arith, nat_tests)
 
 -- one node changes
-pub one_steps : (config : Config) (s : Fabric) (n : ℕ) (v : Node) → n < length s.nodes → NodeSteps config (node_at s n) v → (m : ℕ) → m < length s.nodes → NodeSteps config (node_at s m) (slice_index_or (slice_set s.nodes n v) m first_node)
-one_steps config s n v l h m k = subst (λ x. NodeSteps config (node_at s m) x) (sym (read_set s.nodes n m v first_node l)) (either (m == n) refl)
+pub one_steps : (config : Config) (s : Fabric) (n : ℕ) (v : Node) → n < length s.nodes → NodeSteps config (node_at s n) v → (m : ℕ) →
+    m < length s.nodes → NodeSteps config (node_at s m) (slice_index_or (slice_set s.nodes n v) m first_node)
+one_steps config s n v l h m k =
+    subst (λ x. NodeSteps config (node_at s m) x) (sym (read_set s.nodes n m v first_node l)) (either (m == n) refl)
   where
     either : (c : Bool) → (m == n) ≡ c → NodeSteps config (node_at s m) (cond c v (node_at s m))
     either true e = subst (λ i. NodeSteps config (node_at s i) v) (equal m n e) h
     either false e = node_stays config (node_at s m)
 
 -- an event that sends nothing
-pub quiet_step : (config : Config) (s after : Fabric) (answer : Answer) (told : Option Told) → ((n : ℕ) → n < length s.nodes → NodeSteps config (node_at s n) (node_at after n)) →
-    length after.net.flights ≤ length s.net.flights → after.net.next_id ≡ s.net.next_id → after.point ≤ s.point + 1 → IsStep config s (record (answered after answer) { told = told })
+pub quiet_step : (config : Config) (s after : Fabric) (answer : Answer) (told : Option Told) →
+    ((n : ℕ) → n < length s.nodes → NodeSteps config (node_at s n) (node_at after n)) →
+    length after.net.flights ≤ length s.net.flights → after.net.next_id ≡ s.net.next_id → after.point ≤ s.point + 1 →
+    IsStep config s (record (answered after answer) { told = told })
 quiet_step config s after answer told nodes fewer next point = record {
   nodes = nodes;
   net = λ h. omega arith;
@@ -57,15 +62,23 @@ quiet_step config s after answer told nodes fewer next point = record {
     none k = omega arith
 
 -- an event that sends these messages
-pub sending_step : (config : Config) (s after : Fabric) (from block : ℕ) (outs : List Out) (answer : Answer) (told : Option Told) → ((n : ℕ) → n < length s.nodes → NodeSteps config (node_at s n) (node_at after n)) →
-    (length s.net.flights ≤ net_limit → length after.net.flights + length outs ≤ net_limit) → after.net.next_id ≡ s.net.next_id → length outs ≤ most_sent → after.point ≤ s.point + 1 →
+pub sending_step : (config : Config) (s after : Fabric) (from block : ℕ) (outs : List Out) (answer : Answer) (told : Option Told) →
+    ((n : ℕ) → n < length s.nodes → NodeSteps config (node_at s n) (node_at after n)) →
+    (length s.net.flights ≤ net_limit → length after.net.flights + length outs ≤ net_limit) → after.net.next_id ≡ s.net.next_id →
+    length outs ≤ most_sent → after.point ≤ s.point + 1 →
     IsStep config s (record (sending after from block outs answer) { told = told })
 sending_step config s after from block outs answer told nodes room next few point = record {
   nodes = nodes;
   net = λ h. omega (arith, room h, flights-posted outs (routes_of after) after.net from (node_at after from).now block);
   sends = record {
     few = omega (arith, length-sent outs (routes_of after) after.net from (node_at after from).now block);
-    numbers = omega (arith, next, next-posted outs (routes_of after) after.net from (node_at after from).now block, length-sent outs (routes_of after) after.net from (node_at after from).now block);
+    numbers =
+        omega (
+          arith,
+          next,
+          next-posted outs (routes_of after) after.net from (node_at after from).now block,
+          length-sent outs (routes_of after) after.net from (node_at after from).now block,
+        );
   };
   point = point;
 }
@@ -75,6 +88,7 @@ pub same_step : (config : Config) (s : Fabric) (answer : Answer) → IsStep conf
 same_step config s answer = quiet_step config s s answer None (λ n l. node_stays config (node_at s n)) (omega arith) refl (omega arith)
 
 -- a test of the fabric
-pub by_test : (config : Config) (s : Fabric) (test : Bool) (a b : Moved) → (test ≡ true → IsStep config s a) → (test ≡ false → IsStep config s b) → IsStep config s (if test then a else b)
+pub by_test : (config : Config) (s : Fabric) (test : Bool) (a b : Moved) → (test ≡ true → IsStep config s a) →
+    (test ≡ false → IsStep config s b) → IsStep config s (if test then a else b)
 by_test config s true a b first second = first refl
 by_test config s false a b first second = second refl

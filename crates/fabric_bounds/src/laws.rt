@@ -35,7 +35,8 @@ pub fn every_run_is_bounded()
 /// Where they are kept, no log has more entries than it may, no more messages are in flight than may be, and in no set of a
 /// cache more blocks take a frame than it has ways.
 pub fn what_is_bounded()
-    ensures logs { (config : Config) (s : Fabric) (n : ℕ) → KeepsBounds config s → n < length s.nodes → length (node_at s n).log ≤ config.log }
+    ensures logs { (config : Config) (s : Fabric) (n : ℕ) → KeepsBounds config s → n < length s.nodes →
+        length (node_at s n).log ≤ config.log }
     ensures net { (config : Config) (s : Fabric) → KeepsBounds config s → length s.net.flights ≤ net_limit }
     ensures frames { (config : Config) (s : Fabric) (n : ℕ) → KeepsBounds config s → n < length s.nodes
         → Fits config (node_at s n).cache }

@@ -36,12 +36,16 @@ pub record IsApart (s : Fabric) (t : Beside) (m : Message) (after : Logged) (o :
 
 module _ (s : Fabric) (t : Beside) (m : Message) (shape : IsShaped s) (flight : IsInFlight s m) (o : ℕ) (apart : o ≢ m.block) where
   -- a line of another block is written
-  pub line_unwritten : (lines : List Line) (line : Line) → length lines ≡ block_count → slice_index_or (slice_set lines m.block line) o no_line ≡ slice_index_or lines o no_line
-  line_unwritten lines line e = read_set lines m.block o line no_line (subst (λ n. m.block < n) (sym e) flight.block) ∙ set_there (λ k. slice_index_or lines k no_line) m.block line o apart
+  pub line_unwritten : (lines : List Line) (line : Line) → length lines ≡ block_count →
+      slice_index_or (slice_set lines m.block line) o no_line ≡ slice_index_or lines o no_line
+  line_unwritten lines line e =
+      read_set lines m.block o line no_line (subst (λ n. m.block < n) (sym e) flight.block)
+      ∙ set_there (λ k. slice_index_or lines k no_line) m.block line o apart
 
   module _ (row : block.Block) (w : Waiting) where
     apart_seen : (reply : CacheReply) (count : ℕ) → IsApart s t m reply.after o w →
-        ((i : ℕ) → (block_seen (after_cache s m reply).fabric t o).net i ≡ block.set (block_seen s t o).net m.id block.gone i) → (after_cache s m reply).fabric.net.next_id ≡ s.net.next_id + count →
+        ((i : ℕ) → (block_seen (after_cache s m reply).fabric t o).net i ≡ block.set (block_seen s t o).net m.id block.gone i) →
+        (after_cache s m reply).fabric.net.next_id ≡ s.net.next_id + count →
         IsElsewhere s t m reply row o (waiting_with (elsewhere (block_seen s t o) m.id count) w)
     apart_seen reply count h net next = record {
       point = r.point;
@@ -62,8 +66,12 @@ module _ (s : Fabric) (t : Beside) (m : Message) (shape : IsShaped s) (flight : 
       begun = refl;
       net = net;
       next = next;
-      holds = λ n j. r.holds n j ∙ set_kept (λ k. (block_seen s t o).holds k j) m.to _ n (h.cache_side.owned ((is_owned (line_of (node_at s m.to).cache o).state)) j);
-      held = λ n j. r.held n j ∙ set_kept (λ k. (block_seen s t o).held k j) m.to _ n (h.cache_side.content (content_held (line_of (node_at s m.to).cache o)) j);
+      holds =
+          λ n j. r.holds n j ∙ set_kept (λ k. (block_seen s t o).holds k j) m.to _ n
+          (h.cache_side.owned ((is_owned (line_of (node_at s m.to).cache o).state)) j);
+      held =
+          λ n j. r.held n j ∙ set_kept (λ k. (block_seen s t o).held k j) m.to _ n
+          (h.cache_side.content (content_held (line_of (node_at s m.to).cache o)) j);
       last = λ n. r.last n ∙ set_kept (block_seen s t o).last m.to _ n h.cache_side.newest;
       named_home = r.named_home;
       named = r.named;
@@ -82,10 +90,14 @@ module _ (s : Fabric) (t : Beside) (m : Message) (shape : IsShaped s) (flight : 
       abbrev one : Out → CacheReply
       one out = record { after = after; sends = out ∷ []; lost = lost }
 
-      pub one_elsewhere : (out : Out) → is_for_all out.body ≡ false → IsElsewhere s t m (one out) row o (waiting_with (elsewhere (block_seen s t o) m.id 1) w)
+      pub one_elsewhere : (out : Out) → is_for_all out.body ≡ false →
+          IsElsewhere s t m (one out) row o (waiting_with (elsewhere (block_seen s t o) m.id 1) w)
       one_elsewhere out e = apart_seen (one out) 1 h
-          (λ i. answered_elsewhere (routes_of (with_node s m.to (node_after (node_at s m.to) (one out)))) s.net m.id m.to (node_at (with_node s m.to (node_after (node_at s m.to) (one out))) m.to).now m.block out o i shape.below e apart)
+          (λ i. answered_elsewhere (routes_of (with_node s m.to (node_after (node_at s m.to) (one out)))) s.net m.id m.to
+          (node_at (with_node s m.to (node_after (node_at s m.to) (one out))) m.to).now m.block out o i shape.below e apart)
           refl
 
-      pub none_elsewhere : IsElsewhere s t m (record { after = after; sends = []; lost = lost }) row o (waiting_with (elsewhere (block_seen s t o) m.id 0) w)
-      none_elsewhere = apart_seen (record { after = after; sends = []; lost = lost }) 0 h (λ i. seen-without s.net.flights m.id o i) (omega arith)
+      pub none_elsewhere : IsElsewhere s t m (record { after = after; sends = []; lost = lost }) row o
+          (waiting_with (elsewhere (block_seen s t o) m.id 0) w)
+      none_elsewhere =
+          apart_seen (record { after = after; sends = []; lost = lost }) 0 h (λ i. seen-without s.net.flights m.id o i) (omega arith)

@@ -13,7 +13,8 @@ use Rattle.sn_model.specs.declared.cache.Need.TheVariants.{Read, Write}
 use Rattle.sn_model.specs.Caches.{Miss, Put, line_of, is_owned, puts_on}
 use Rattle.sn_model.specs.Fabric.{Fabric, node_at}
 use Rattle.sn_model.specs.NetEvents.{logged_at}
-use Rattle.sn_model.specs.CacheRows.{AwaitsAnswer, is_absent_or_shared, MayForward, MayTakeCopy, MayTakeOwnership, MayUpgrade, MayCount, MayGiveBack, MayClosePut}
+use Rattle.sn_model.specs.CacheRows.{AwaitsAnswer, is_absent_or_shared, MayForward, MayTakeCopy, MayTakeOwnership, MayUpgrade, MayCount}
+use Rattle.sn_model.specs.CacheRows.{MayGiveBack, MayClosePut}
 use Rattle.sn_coherence.specs.Block as block
 use Rattle.sn_coherence.specs.Kept.{Stages}
 use Rattle.sn_coherence.specs.Consequences.{MeetsRows, MeetsNotes}
@@ -52,7 +53,8 @@ low_is Exclusive (inl e) = absurd (cc)
 low_is Exclusive (inr e) = absurd (cc)
 
 -- the miss
-on_block : (miss : Miss) (b : ℕ) (c : Bool) → nat_eq miss.block b ≡ c → block.is_here (if c then miss_here miss else block.new_miss block.Elsewhere miss.issued).want ≡ true → miss.block ≡ b
+on_block : (miss : Miss) (b : ℕ) (c : Bool) → nat_eq miss.block b ≡ c →
+    block.is_here (if c then miss_here miss else block.new_miss block.Elsewhere miss.issued).want ≡ true → miss.block ≡ b
 on_block miss b true e h = grind (arith, nat_tests)
 on_block miss b false e h = absurd (cc)
 
@@ -73,14 +75,22 @@ here_is miss b e = grind (arith, nat_tests)
 
 awaits_read : (o : Option Miss) (b : ℕ) → (miss_seen b o).want ≡ block.Reads → (miss_seen b o).is_fixed ≡ false → AwaitsAnswer o b Read
 awaits_read None b w f = absurd (cc)
-awaits_read (Some miss) b w f = (on, reads_is miss.need (ap (λ x. x.want) (sym (here_is miss b on)) ∙ w), unfixed_is miss.fixed (ap (λ x. x.is_fixed) (sym (here_is miss b on)) ∙ f))
+awaits_read (Some miss) b w f = (
+  on,
+  reads_is miss.need (ap (λ x. x.want) (sym (here_is miss b on)) ∙ w),
+  unfixed_is miss.fixed (ap (λ x. x.is_fixed) (sym (here_is miss b on)) ∙ f),
+)
   where
     on : miss.block ≡ b
     on = on_block miss b (nat_eq miss.block b) refl (ap block.is_here w)
 
 awaits_write : (o : Option Miss) (b : ℕ) → (miss_seen b o).want ≡ block.Writes → (miss_seen b o).is_fixed ≡ false → AwaitsAnswer o b Write
 awaits_write None b w f = absurd (cc)
-awaits_write (Some miss) b w f = (on, writes_is miss.need (ap (λ x. x.want) (sym (here_is miss b on)) ∙ w), unfixed_is miss.fixed (ap (λ x. x.is_fixed) (sym (here_is miss b on)) ∙ f))
+awaits_write (Some miss) b w f = (
+  on,
+  writes_is miss.need (ap (λ x. x.want) (sym (here_is miss b on)) ∙ w),
+  unfixed_is miss.fixed (ap (λ x. x.is_fixed) (sym (here_is miss b on)) ∙ f),
+)
   where
     on : miss.block ≡ b
     on = on_block miss b (nat_eq miss.block b) refl (ap block.is_here w)
@@ -102,7 +112,8 @@ puts_here None b e = absurd (cc)
 puts_here (Some put) b e = puts_step (nat_eq put.block b) e
 
 -- r's line inside a Take, Move or Upgrade
-inside_owned : (b : block.Block) (kind : block.Kind) → Stages b → b.kind ≡ kind → block.takes kind ≡ true → b.stage ≡ block.Inside → block.is_owned (b.line b.requester) ≡ true
+inside_owned : (b : block.Block) (kind : block.Kind) → Stages b → b.kind ≡ kind → block.takes kind ≡ true → b.stage ≡ block.Inside →
+    block.is_owned (b.line b.requester) ≡ true
 inside_owned b block.Idle st k ta i = absurd (cc)
 inside_owned b block.Read st k ta i = absurd (cc)
 inside_owned b block.Put st k ta i = absurd (cc)
@@ -121,39 +132,57 @@ module _ (s : Fabric) (t : Beside) (m : Message) (flight : IsInFlight s m) where
   module _ (rows : MeetsRows here) where
     pub meets_forward_read : (r : ℕ) → m.body ≡ FwdGetS r → MayForward (logged_at s m.to) m.block
     meets_forward_read r e = owned_seen (line_of (node_at s m.to).cache m.block).state
-        ∙ subst (λ x. block.is_owned (here.line x.to) ≡ true) (as_body (FwdGetS r) e) (rows.forward_read m.id (ap (λ x. x.body) (as_body (FwdGetS r) e)))
+        ∙ subst (λ x. block.is_owned (here.line x.to) ≡ true) (as_body (FwdGetS r) e)
+        (rows.forward_read m.id (ap (λ x. x.body) (as_body (FwdGetS r) e)))
 
     pub meets_forward_write : (r a : ℕ) → m.body ≡ FwdGetM r a → MayForward (logged_at s m.to) m.block
     meets_forward_write r a e = owned_seen (line_of (node_at s m.to).cache m.block).state
-        ∙ subst (λ x. block.is_owned (here.line x.to) ≡ true) (as_body (FwdGetM r a) e) (rows.forward_write m.id (ap (λ x. x.body) (as_body (FwdGetM r a) e)))
+        ∙ subst (λ x. block.is_owned (here.line x.to) ≡ true) (as_body (FwdGetM r a) e)
+        (rows.forward_write m.id (ap (λ x. x.body) (as_body (FwdGetM r a) e)))
 
     pub meets_invalidate : (r : ℕ) → m.body ≡ Inv r → is_owned (line_of (node_at s m.to).cache m.block).state ≡ false
     meets_invalidate r e = owned_seen (line_of (node_at s m.to).cache m.block).state
-        ∙ subst (λ x. block.is_owned (here.line x.to) ≡ false) (as_body (Inv r) e) (rows.invalidate m.id (ap (λ x. x.body) (as_body (Inv r) e)))
+        ∙ subst (λ x. block.is_owned (here.line x.to) ≡ false) (as_body (Inv r) e)
+        (rows.invalidate m.id (ap (λ x. x.body) (as_body (Inv r) e)))
 
-    pub meets_data_shared : (content : List ℕ) → m.body ≡ DataS content → MayTakeCopy (logged_at s m.to) m.block × ((here.miss m.to).acks ≡ 0)
-    meets_data_shared content e = ((awaits_read (node_at s m.to).cache.miss m.block h.0 h.1, absent_is (line_of (node_at s m.to).cache m.block).state h.3), h.2)
+    pub meets_data_shared : (content : List ℕ) → m.body ≡ DataS content →
+        MayTakeCopy (logged_at s m.to) m.block × ((here.miss m.to).acks ≡ 0)
+    meets_data_shared content e =
+        ((awaits_read (node_at s m.to).cache.miss m.block h.0 h.1, absent_is (line_of (node_at s m.to).cache m.block).state h.3), h.2)
       where
-        h : ((here.miss m.to).want ≡ block.Reads) × ((here.miss m.to).is_fixed ≡ false) × ((here.miss m.to).acks ≡ 0) × (here.line m.to ≡ block.NoLine)
-        h = subst (λ x. ((here.miss x.to).want ≡ block.Reads) × ((here.miss x.to).is_fixed ≡ false) × ((here.miss x.to).acks ≡ 0) × (here.line x.to ≡ block.NoLine))
+        h : ((here.miss m.to).want ≡ block.Reads) × ((here.miss m.to).is_fixed ≡ false) × ((here.miss m.to).acks ≡ 0)
+            × (here.line m.to ≡ block.NoLine)
+        h =
+            subst (λ x. ((here.miss x.to).want ≡ block.Reads) × ((here.miss x.to).is_fixed ≡ false) × ((here.miss x.to).acks ≡ 0)
+            × (here.line x.to ≡ block.NoLine))
             (as_body (DataS content) e) (rows.data_shared m.id (ap (λ x. x.body) (as_body (DataS content) e)))
 
-    pub meets_data_exclusive : (content : List ℕ) → m.body ≡ DataE content → MayTakeCopy (logged_at s m.to) m.block × ((here.miss m.to).acks ≡ 0)
-    meets_data_exclusive content e = ((awaits_read (node_at s m.to).cache.miss m.block h.0 h.1, absent_is (line_of (node_at s m.to).cache m.block).state h.3), h.2)
+    pub meets_data_exclusive : (content : List ℕ) → m.body ≡ DataE content →
+        MayTakeCopy (logged_at s m.to) m.block × ((here.miss m.to).acks ≡ 0)
+    meets_data_exclusive content e =
+        ((awaits_read (node_at s m.to).cache.miss m.block h.0 h.1, absent_is (line_of (node_at s m.to).cache m.block).state h.3), h.2)
       where
-        h : ((here.miss m.to).want ≡ block.Reads) × ((here.miss m.to).is_fixed ≡ false) × ((here.miss m.to).acks ≡ 0) × (here.line m.to ≡ block.NoLine)
-        h = subst (λ x. ((here.miss x.to).want ≡ block.Reads) × ((here.miss x.to).is_fixed ≡ false) × ((here.miss x.to).acks ≡ 0) × (here.line x.to ≡ block.NoLine))
+        h : ((here.miss m.to).want ≡ block.Reads) × ((here.miss m.to).is_fixed ≡ false) × ((here.miss m.to).acks ≡ 0)
+            × (here.line m.to ≡ block.NoLine)
+        h =
+            subst (λ x. ((here.miss x.to).want ≡ block.Reads) × ((here.miss x.to).is_fixed ≡ false) × ((here.miss x.to).acks ≡ 0)
+            × (here.line x.to ≡ block.NoLine))
             (as_body (DataE content) e) (rows.data_exclusive m.id (ap (λ x. x.body) (as_body (DataE content) e)))
 
     pub meets_data_modified : (content : List ℕ) (a : ℕ) → m.body ≡ DataM content a → MayTakeOwnership (logged_at s m.to) m.block
-    meets_data_modified content a e = (awaits_write (node_at s m.to).cache.miss m.block h.0 h.1, low_is (line_of (node_at s m.to).cache m.block).state h.2)
+    meets_data_modified content a e =
+        (awaits_write (node_at s m.to).cache.miss m.block h.0 h.1, low_is (line_of (node_at s m.to).cache m.block).state h.2)
       where
-        h : ((here.miss m.to).want ≡ block.Writes) × ((here.miss m.to).is_fixed ≡ false) × ((here.line m.to ≡ block.NoLine) ⊎ (here.line m.to ≡ block.Shared))
-        h = subst (λ x. ((here.miss x.to).want ≡ block.Writes) × ((here.miss x.to).is_fixed ≡ false) × ((here.line x.to ≡ block.NoLine) ⊎ (here.line x.to ≡ block.Shared)))
+        h : ((here.miss m.to).want ≡ block.Writes) × ((here.miss m.to).is_fixed ≡ false)
+            × ((here.line m.to ≡ block.NoLine) ⊎ (here.line m.to ≡ block.Shared))
+        h =
+            subst (λ x. ((here.miss x.to).want ≡ block.Writes) × ((here.miss x.to).is_fixed ≡ false)
+            × ((here.line x.to ≡ block.NoLine) ⊎ (here.line x.to ≡ block.Shared)))
             (as_body (DataM content a) e) (rows.data_modified m.id (ap (λ x. x.body) (as_body (DataM content a) e)))
 
     pub meets_upgrade_granted : (a : ℕ) → m.body ≡ UpgOk a → MayUpgrade (logged_at s m.to) m.block
-    meets_upgrade_granted a e = (awaits_write (node_at s m.to).cache.miss m.block h.0 h.1, owned_is (line_of (node_at s m.to).cache m.block).state h.2)
+    meets_upgrade_granted a e =
+        (awaits_write (node_at s m.to).cache.miss m.block h.0 h.1, owned_is (line_of (node_at s m.to).cache m.block).state h.2)
       where
         h : ((here.miss m.to).want ≡ block.Writes) × ((here.miss m.to).is_fixed ≡ false) × (here.line m.to ≡ block.Owned)
         h = subst (λ x. ((here.miss x.to).want ≡ block.Writes) × ((here.miss x.to).is_fixed ≡ false) × (here.line x.to ≡ block.Owned))
@@ -163,13 +192,17 @@ module _ (s : Fabric) (t : Beside) (m : Message) (flight : IsInFlight s m) where
     meets_acknowledge e = may_count (node_at s m.to).cache.miss m.block h.0 h.1
       where
         h : (block.is_here (here.miss m.to).want ≡ true) × ((here.miss m.to).acks < 15)
-        h = subst (λ x. (block.is_here (here.miss x.to).want ≡ true) × ((here.miss x.to).acks < 15)) (as_body InvAck e) (rows.acknowledge m.id (ap (λ x. x.body) (as_body InvAck e)))
+        h =
+            subst (λ x. (block.is_here (here.miss x.to).want ≡ true) × ((here.miss x.to).acks < 15)) (as_body InvAck e)
+            (rows.acknowledge m.id (ap (λ x. x.body) (as_body InvAck e)))
 
     pub meets_put_go : m.body ≡ PutGo → MayGiveBack (logged_at s m.to) m.block
     meets_put_go e = (owned_seen (line_of (node_at s m.to).cache m.block).state ∙ h.0, puts_here (node_at s m.to).cache.put m.block h.1)
       where
         h : (block.is_owned (here.line m.to) ≡ true) × (here.putting m.to ≡ block.Here)
-        h = subst (λ x. (block.is_owned (here.line x.to) ≡ true) × (here.putting x.to ≡ block.Here)) (as_body PutGo e) (rows.put_go m.id (ap (λ x. x.body) (as_body PutGo e)))
+        h =
+            subst (λ x. (block.is_owned (here.line x.to) ≡ true) × (here.putting x.to ≡ block.Here)) (as_body PutGo e)
+            (rows.put_go m.id (ap (λ x. x.body) (as_body PutGo e)))
 
     pub meets_put_done : m.body ≡ PutDone → MayClosePut (logged_at s m.to) m.block
     meets_put_done e = puts_here (node_at s m.to).cache.put m.block
@@ -178,18 +211,27 @@ module _ (s : Fabric) (t : Beside) (m : Message) (flight : IsInFlight s m) where
   -- a miss that is fixed has its line
   pub fixed_owns : Stages here → (here.miss m.to).is_fixed ≡ true → is_owned (line_of (node_at s m.to).cache m.block).state ≡ true
   fixed_owns stages e = owned_seen (line_of (node_at s m.to).cache m.block).state
-      ∙ subst (λ n. block.is_owned (here.line n) ≡ true) (stages.fixed m.to e).2 (inside_owned here here.kind stages refl (stages.fixed m.to e).0 (stages.fixed m.to e).1)
+      ∙ subst (λ n. block.is_owned (here.line n) ≡ true) (stages.fixed m.to e).2
+      (inside_owned here here.kind stages refl (stages.fixed m.to e).0 (stages.fixed m.to e).1)
 
   -- the notes
   module _ (notes : MeetsNotes here) where
     pub notes_forward_write : (r a : ℕ) → m.body ≡ FwdGetM r a → logged_to (node_at s m.to).log false m.block ≤ (node_at s m.to).now + 1
-    notes_forward_write r a e = subst (λ x. here.last x.to ≤ here.now x.to + 1) (as_body (FwdGetM r a) e) (notes.forward_write m.id (ap (λ x. x.body) (as_body (FwdGetM r a) e)))
+    notes_forward_write r a e =
+        subst (λ x. here.last x.to ≤ here.now x.to + 1) (as_body (FwdGetM r a) e)
+        (notes.forward_write m.id (ap (λ x. x.body) (as_body (FwdGetM r a) e)))
 
     pub notes_put_go : m.body ≡ PutGo → logged_to (node_at s m.to).log false m.block ≤ (node_at s m.to).now + 1
-    notes_put_go e = subst (λ x. here.last x.to ≤ here.now x.to + 1) (as_body PutGo e) (notes.put_go m.id (ap (λ x. x.body) (as_body PutGo e)))
+    notes_put_go e =
+        subst (λ x. here.last x.to ≤ here.now x.to + 1) (as_body PutGo e) (notes.put_go m.id (ap (λ x. x.body) (as_body PutGo e)))
 
-    pub notes_data_modified : (content : List ℕ) (a : ℕ) → m.body ≡ DataM content a → logged_to (node_at s m.to).log false m.block ≤ m.tag + 1
-    notes_data_modified content a e = subst (λ x. here.last x.to ≤ x.tag + 1) (as_body (DataM content a) e) (notes.data_modified m.id (ap (λ x. x.body) (as_body (DataM content a) e)))
+    pub notes_data_modified : (content : List ℕ) (a : ℕ) → m.body ≡ DataM content a →
+        logged_to (node_at s m.to).log false m.block ≤ m.tag + 1
+    notes_data_modified content a e =
+        subst (λ x. here.last x.to ≤ x.tag + 1) (as_body (DataM content a) e)
+        (notes.data_modified m.id (ap (λ x. x.body) (as_body (DataM content a) e)))
 
     pub notes_data_exclusive : (content : List ℕ) → m.body ≡ DataE content → logged_to (node_at s m.to).log false m.block ≤ m.tag + 1
-    notes_data_exclusive content e = subst (λ x. here.last x.to ≤ x.tag + 1) (as_body (DataE content) e) (notes.data_exclusive m.id (ap (λ x. x.body) (as_body (DataE content) e)))
+    notes_data_exclusive content e =
+        subst (λ x. here.last x.to ≤ x.tag + 1) (as_body (DataE content) e)
+        (notes.data_exclusive m.id (ap (λ x. x.body) (as_body (DataE content) e)))

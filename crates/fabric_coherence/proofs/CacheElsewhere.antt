@@ -1,5 +1,6 @@
 -- Each row of a cache is, for every other block, a loss and a new number, and the end of a miss or a put.
-use Rattle.std.proofs.Common.{◌≡◌, ◌≢◌, ◌∙◌, ℕ, ◌+◌, ◌≤◌, Bool, true, false, ◌&&◌, length, refl, sym, ap, subst, ◌==◌, Option, Some, None, length-set, arith}
+use Rattle.std.proofs.Common.{◌≡◌, ◌≢◌, ◌∙◌, ℕ, ◌+◌, ◌≤◌, Bool, true, false, ◌&&◌, length, refl, sym, ap, subst, ◌==◌, Option, Some, None}
+use Rattle.std.proofs.Common.{length-set, arith}
 use Rattle.std.proofs.lemmas.Bool.Decides.{nat_tests}
 use Rattle.std.specs.Prelude.{if◌then◌else◌, List, slice_set, slice_index_or, nat_eq, is_some}
 use Rattle.sn_msg.specs.declared.Message.{Message}
@@ -12,29 +13,40 @@ use Rattle.sn_model.specs.declared.cache.Need.TheVariants.{Read, Write}
 use Rattle.sn_model.specs.Caches.{Line, Miss, Put, line_of, is_present, with_line, block_count, no_line, puts_on}
 use Rattle.sn_model.specs.Fabric.{Fabric, node_at, home_node}
 use Rattle.sn_model.specs.NetEvents.{logged_at}
-use Rattle.sn_model.specs.CacheRows.{Logged, send, completed, waiting, settled, settled_by, fixed_at, acknowledged, with_miss, taken_over, line_when_done, AwaitsAnswer, forward_read, forward_write, invalidate, put_go, put_done, data_shared, data_modified, data_exclusive, upgrade_granted, acknowledge, MayTakeCopy, MayTakeOwnership, MayUpgrade, MayCount}
+use Rattle.sn_model.specs.CacheRows.{Logged, send, completed, waiting, completed_or_waiting, completed_or_waiting_by, fixed_at}
+use Rattle.sn_model.specs.CacheRows.{acknowledged, with_miss, taken_over, line_when_done, AwaitsAnswer, forward_read, forward_write}
+use Rattle.sn_model.specs.CacheRows.{invalidate, put_go, put_done, data_shared, data_modified, data_exclusive, upgrade_granted, acknowledge}
+use Rattle.sn_model.specs.CacheRows.{MayTakeCopy, MayTakeOwnership, MayUpgrade, MayCount}
 use Rattle.sn_coherence.specs.Block as block
 use Rattle.sn_coherence.specs.OtherEvents.{end_miss_elsewhere, end_put_elsewhere}
 use Rattle.fabric_coherence.specs.View.{Beside, block_seen, miss_seen, miss_here, put_seen, put_issued}
 use Rattle.fabric_coherence.specs.Steps.{elsewhere, IsShaped, IsInFlight}
-use Rattle.fabric_coherence.specs.CacheSeen.{KeepsHomeSide, KeepsCacheSide, IsElsewhere, settled_elsewhere}
-use Rattle.fabric_coherence.proofs.CacheSeen.{set_kept, home_side_same, home_side_noted_owned, home_side_noted_not, cache_side_same, cache_side_noted_owned, cache_side_noted_not, eq_other}
+use Rattle.fabric_coherence.specs.CacheSeen.{KeepsHomeSide, KeepsCacheSide, IsElsewhere, completed_or_waiting_elsewhere}
+use Rattle.fabric_coherence.proofs.CacheSeen.{set_kept, home_side_same, home_side_noted_owned, home_side_noted_not, cache_side_same}
+use Rattle.fabric_coherence.proofs.CacheSeen.{cache_side_noted_owned, cache_side_noted_not, eq_other}
 use Rattle.fabric_coherence.proofs.CacheApart.{Waiting, line_unwritten, one_elsewhere, none_elsewhere}
 use Rattle.fabric_coherence.proofs.CacheSends.{miss_is}
 use Rattle.fabric_coherence.proofs.CacheMisses.{awaited, counted, eq_same}
 
 -- a miss on another block
-pub miss_apart : (o : Option Miss) (miss : Miss) (b other : ℕ) → o ≡ Some miss → miss.block ≡ b → other ≢ b → miss_seen other o ≡ block.new_miss block.Elsewhere miss.issued
-miss_apart o miss b other e on d = ap (miss_seen other) e ∙ ap (λ c. if c then miss_here miss else block.new_miss block.Elsewhere miss.issued) (ap (λ x. nat_eq x other) on ∙ eq_other b other d)
+pub miss_apart : (o : Option Miss) (miss : Miss) (b other : ℕ) → o ≡ Some miss → miss.block ≡ b → other ≢ b →
+    miss_seen other o ≡ block.new_miss block.Elsewhere miss.issued
+miss_apart o miss b other e on d =
+    ap (miss_seen other) e ∙ ap (λ c. if c then miss_here miss else block.new_miss block.Elsewhere miss.issued)
+    (ap (λ x. nat_eq x other) on ∙ eq_other b other d)
 
 -- it can end there, and so can a put
-pub awaits_elsewhere : (o : Option Miss) (b other : ℕ) (need : Need) → AwaitsAnswer o b need → other ≢ b → (miss_seen other o).want ≡ block.Elsewhere
-awaits_elsewhere o b other need may d = awaited o b need ((miss_seen other o).want ≡ block.Elsewhere) may (λ miss e on n. ap (λ x. x.want) (miss_apart o miss b other e on d))
+pub awaits_elsewhere : (o : Option Miss) (b other : ℕ) (need : Need) → AwaitsAnswer o b need → other ≢ b →
+    (miss_seen other o).want ≡ block.Elsewhere
+awaits_elsewhere o b other need may d =
+    awaited o b need ((miss_seen other o).want ≡ block.Elsewhere) may (λ miss e on n. ap (λ x. x.want) (miss_apart o miss b other e on d))
 
 pub counts_elsewhere : (o : Option Miss) (b other : ℕ) → MayCount o b → other ≢ b → (miss_seen other o).want ≡ block.Elsewhere
-counts_elsewhere o b other may d = counted o b ((miss_seen other o).want ≡ block.Elsewhere) may (λ miss e on. ap (λ x. x.want) (miss_apart o miss b other e on d))
+counts_elsewhere o b other may d =
+    counted o b ((miss_seen other o).want ≡ block.Elsewhere) may (λ miss e on. ap (λ x. x.want) (miss_apart o miss b other e on d))
 
-put_apart : (p b other : ℕ) → nat_eq p b ≡ true → other ≢ b → (if nat_eq p other then block.Here else block.PutElsewhere) ≡ block.PutElsewhere
+put_apart : (p b other : ℕ) → nat_eq p b ≡ true → other ≢ b →
+    (if nat_eq p other then block.Here else block.PutElsewhere) ≡ block.PutElsewhere
 put_apart p b other e d = grind (arith, nat_tests)
 
 pub puts_elsewhere : (o : Option Put) (b other : ℕ) → puts_on o b ≡ true → other ≢ b → put_seen other o ≡ block.PutElsewhere
@@ -84,55 +96,99 @@ module _ (s : Fabric) (t : Beside) (m : Message) (shape : IsShaped s) (flight : 
   cache_same : KeepsCacheSide (node_at s m.to).log (node_at s m.to).log o
   cache_same = cache_side_same (node_at s m.to).log o
 
-  pub forward_read-elsewhere : (r : ℕ) → IsElsewhere s t m (forward_read (logged_at s m.to) m.block r) row o (elsewhere (block_seen s t o) m.id 1)
+  pub forward_read-elsewhere : (r : ℕ) →
+      IsElsewhere s t m (forward_read (logged_at s m.to) m.block r) row o (elsewhere (block_seen s t o) m.id 1)
   forward_read-elsewhere r = one_elsewhere s t m shape flight o apart row as_before (forward_read at m.block r).after None
-      (record { line = unwritten _; home_side = home_same; cache_side = cache_same; miss = same_miss; putting = same_putting; put_issued = same_put_issued })
+      (record {
+        line = unwritten _;
+        home_side = home_same;
+        cache_side = cache_same;
+        miss = same_miss;
+        putting = same_putting;
+        put_issued = same_put_issued;
+      })
       (send r (DataS (line_of at.cache m.block).content)) refl
 
   pub forward_write-elsewhere : (r a : ℕ) → logged_to (node_at s m.to).log false m.block ≤ (node_at s m.to).now + 1 →
       IsElsewhere s t m (forward_write (logged_at s m.to) m.block (node_at s m.to).now r a) row o (elsewhere (block_seen s t o) m.id 1)
-  forward_write-elsewhere r a low = one_elsewhere s t m shape flight o apart row as_before (forward_write at m.block (node_at s m.to).now r a).after (Some m.block)
+  forward_write-elsewhere r a low =
+      one_elsewhere s t m shape flight o apart row as_before (forward_write at m.block (node_at s m.to).now r a).after (Some m.block)
       (record {
         line = unwritten no_line;
         home_side = home_side_noted_owned (node_at s m.to).log (node_at s m.to).now m.block (line_of at.cache m.block).content o low;
-        cache_side = cache_side_noted_owned (node_at s m.to).log (node_at s m.to).now m.block (line_of at.cache m.block).content o low apart;
+        cache_side =
+            cache_side_noted_owned (node_at s m.to).log (node_at s m.to).now m.block (line_of at.cache m.block).content o low apart;
         miss = same_miss;
         putting = same_putting;
         put_issued = same_put_issued;
       })
       (send r (DataM (line_of at.cache m.block).content a)) refl
 
-  pub invalidate-elsewhere : (r : ℕ) → IsElsewhere s t m (invalidate (logged_at s m.to) m.block r) row o (elsewhere (block_seen s t o) m.id 1)
-  invalidate-elsewhere r = one_elsewhere s t m shape flight o apart row as_before (invalidate at m.block r).after (if is_present (line_of at.cache m.block).state then Some m.block else None)
-      (record { line = unwritten no_line; home_side = home_same; cache_side = cache_same; miss = same_miss; putting = same_putting; put_issued = same_put_issued })
+  pub invalidate-elsewhere : (r : ℕ) →
+      IsElsewhere s t m (invalidate (logged_at s m.to) m.block r) row o (elsewhere (block_seen s t o) m.id 1)
+  invalidate-elsewhere r =
+      one_elsewhere s t m shape flight o apart row as_before (invalidate at m.block r).after
+      (if is_present (line_of at.cache m.block).state then Some m.block else None)
+      (record {
+        line = unwritten no_line;
+        home_side = home_same;
+        cache_side = cache_same;
+        miss = same_miss;
+        putting = same_putting;
+        put_issued = same_put_issued;
+      })
       (send r InvAck) refl
 
   pub put_go-elsewhere : logged_to (node_at s m.to).log false m.block ≤ (node_at s m.to).now + 1 →
-      IsElsewhere s t m (put_go (logged_at s m.to) (home_node s m.block) m.block (node_at s m.to).now) row o (end_put_elsewhere (elsewhere (block_seen s t o) m.id 1) m.to)
-  put_go-elsewhere low = one_elsewhere s t m shape flight o apart row without_put (put_go at home m.block (node_at s m.to).now).after (Some m.block)
+      IsElsewhere s t m (put_go (logged_at s m.to) (home_node s m.block) m.block (node_at s m.to).now) row o
+      (end_put_elsewhere (elsewhere (block_seen s t o) m.id 1) m.to)
+  put_go-elsewhere low =
+      one_elsewhere s t m shape flight o apart row without_put (put_go at home m.block (node_at s m.to).now).after (Some m.block)
       (record {
         line = unwritten no_line;
         home_side = home_side_noted_owned (node_at s m.to).log (node_at s m.to).now m.block (line_of at.cache m.block).content o low;
-        cache_side = cache_side_noted_owned (node_at s m.to).log (node_at s m.to).now m.block (line_of at.cache m.block).content o low apart;
+        cache_side =
+            cache_side_noted_owned (node_at s m.to).log (node_at s m.to).now m.block (line_of at.cache m.block).content o low apart;
         miss = same_miss;
         putting = λ n. refl;
         put_issued = λ n. refl;
       })
       (send home (PutData (line_of at.cache m.block).content)) refl
 
-  pub put_done-elsewhere : IsElsewhere s t m (put_done (logged_at s m.to)) row o (end_put_elsewhere (elsewhere (block_seen s t o) m.id 0) m.to)
+  pub put_done-elsewhere : IsElsewhere s t m (put_done (logged_at s m.to)) row o
+      (end_put_elsewhere (elsewhere (block_seen s t o) m.id 0) m.to)
   put_done-elsewhere = none_elsewhere s t m shape flight o apart row without_put (put_done at).after None
-      (record { line = refl; home_side = home_same; cache_side = cache_same; miss = same_miss; putting = λ n. refl; put_issued = λ n. refl })
+      (record {
+        line = refl;
+        home_side = home_same;
+        cache_side = cache_same;
+        miss = same_miss;
+        putting = λ n. refl;
+        put_issued = λ n. refl;
+      })
 
   -- a miss of this block that is complete, and one that waits
   module _ (miss : Miss) (open_is : (node_at s m.to).cache.miss ≡ Some miss) (on : miss.block ≡ m.block)
-      (before : Logged) (long : length before.cache.lines ≡ block_count) (line : line_of before.cache o ≡ line_of (node_at s m.to).cache o) (put : before.cache.put ≡ (node_at s m.to).cache.put)
+      (before : Logged) (long : length before.cache.lines ≡ block_count) (line : line_of before.cache o ≡ line_of (node_at s m.to).cache o)
+      (put : before.cache.put ≡ (node_at s m.to).cache.put)
       (home_side : KeepsHomeSide (node_at s m.to).log before.log o) (cache_side : KeepsCacheSide (node_at s m.to).log before.log o) where
-    complete_elsewhere : (done : Miss) (fixed : ℕ) → done.block ≡ m.block → IsElsewhere s t m (completed before home done fixed) row o (end_miss_elsewhere (elsewhere there m.id 1) m.to)
-    complete_elsewhere done fixed same = one_elsewhere s t m shape flight o apart row without_miss (completed before home done fixed).after None
+    complete_elsewhere : (done : Miss) (fixed : ℕ) → done.block ≡ m.block →
+        IsElsewhere s t m (completed before home done fixed) row o (end_miss_elsewhere (elsewhere there m.id 1) m.to)
+    complete_elsewhere done fixed same =
+        one_elsewhere s t m shape flight o apart row without_miss (completed before home done fixed).after None
         (record {
-          line = ap (λ (b : ℕ). slice_index_or (slice_set before.cache.lines b (record { state = line_when_done (line_of before.cache b).state done.need; content = (line_of before.cache b).content })) o no_line) same
-              ∙ line_unwritten s t m shape flight o apart before.cache.lines (record { state = line_when_done (line_of before.cache m.block).state done.need; content = (line_of before.cache m.block).content }) long
+          line =
+              ap (λ (b : ℕ). slice_index_or
+              (slice_set before.cache.lines b
+              (record {
+                state = line_when_done (line_of before.cache b).state done.need;
+                content = (line_of before.cache b).content;
+              })) o no_line) same
+              ∙ line_unwritten s t m shape flight o apart before.cache.lines
+              (record {
+                state = line_when_done (line_of before.cache m.block).state done.need;
+                content = (line_of before.cache m.block).content;
+              }) long
               ∙ line;
           home_side = home_side;
           cache_side = cache_side;
@@ -142,27 +198,31 @@ module _ (s : Fabric) (t : Beside) (m : Message) (shape : IsShaped s) (flight : 
         })
         (send home (Unblock fixed)) refl
 
-    waiting_elsewhere : (later : Miss) → later.block ≡ m.block → later.issued ≡ miss.issued → IsElsewhere s t m (waiting before later) row o (elsewhere there m.id 0)
+    waiting_elsewhere : (later : Miss) → later.block ≡ m.block → later.issued ≡ miss.issued →
+        IsElsewhere s t m (waiting before later) row o (elsewhere there m.id 0)
     waiting_elsewhere later same issued = none_elsewhere s t m shape flight o apart row as_before (with_miss before (Some later)) None
         (record {
           line = line;
           home_side = home_side;
           cache_side = cache_side;
           miss = λ n. set_kept there.miss m.to (miss_seen o (Some later)) n
-              (miss_apart (Some later) later m.block o refl same apart ∙ ap (block.new_miss block.Elsewhere) issued ∙ sym (miss_apart (node_at s m.to).cache.miss miss m.block o open_is on apart));
+              (miss_apart (Some later) later m.block o refl same apart ∙ ap (block.new_miss block.Elsewhere) issued
+              ∙ sym (miss_apart (node_at s m.to).cache.miss miss m.block o open_is on apart));
           putting = λ n. ap (λ p. block.set there.putting m.to (put_seen o p) n) put ∙ same_putting n;
           put_issued = λ n. ap (λ p. block.set there.put_issued m.to (put_issued p) n) put ∙ same_put_issued n;
         })
 
-    settled_case : (all : Bool) (now : Miss) (fixed : ℕ) → now.block ≡ m.block → now.issued ≡ miss.issued →
-        IsElsewhere s t m (if all then completed before home now fixed else waiting before now) row o (settled_elsewhere there m.id m.to all)
-    settled_case true now fixed same issued = complete_elsewhere now fixed same
-    settled_case false now fixed same issued = waiting_elsewhere now same issued
+    completed_or_waiting_case : (all : Bool) (now : Miss) (fixed : ℕ) → now.block ≡ m.block → now.issued ≡ miss.issued →
+        IsElsewhere s t m (if all then completed before home now fixed else waiting before now) row o
+        (completed_or_waiting_elsewhere there m.id m.to all)
+    completed_or_waiting_case true now fixed same issued = complete_elsewhere now fixed same
+    completed_or_waiting_case false now fixed same issued = waiting_elsewhere now same issued
 
     fixed_case : (fixed : Option ℕ) (now : Miss) → now.block ≡ m.block → now.issued ≡ miss.issued →
-        IsElsewhere s t m (settled_by before home now fixed) row o (settled_elsewhere there m.id m.to (is_some fixed && nat_eq now.acks now.due))
+        IsElsewhere s t m (completed_or_waiting_by before home now fixed) row o
+        (completed_or_waiting_elsewhere there m.id m.to (is_some fixed && nat_eq now.acks now.due))
     fixed_case None now same issued = waiting_elsewhere now same issued
-    fixed_case (Some fixed) now same issued = settled_case (nat_eq now.acks now.due) now fixed same issued
+    fixed_case (Some fixed) now same issued = completed_or_waiting_case (nat_eq now.acks now.due) now fixed same issued
 
     -- whether all acknowledgements are in, as the block of the row sees it
     abbrev here : block.Miss
@@ -171,55 +231,90 @@ module _ (s : Fabric) (t : Beside) (m : Message) (shape : IsShaped s) (flight : 
     seen_miss : here ≡ miss_here miss
     seen_miss = miss_is s t m shape flight (node_at s m.to).cache.miss miss open_is on
 
-    answered_miss : (tag a : ℕ) → IsElsewhere s t m (settled before home (fixed_at (node_at s m.to).cache.miss tag a)) row o (settled_elsewhere there m.id m.to (here.acks == a))
-    answered_miss tag a = subst (λ x. IsElsewhere s t m (settled before home (fixed_at x tag a)) row o (settled_elsewhere there m.id m.to (here.acks == a))) (sym open_is)
-        (subst (λ x. IsElsewhere s t m (settled before home (fixed_at (Some miss) tag a)) row o (settled_elsewhere there m.id m.to x)) (sym (eq_same miss.acks a) ∙ ap (λ x. x.acks == a) (sym seen_miss))
+    answered_miss : (tag a : ℕ) →
+        IsElsewhere s t m (completed_or_waiting before home (fixed_at (node_at s m.to).cache.miss tag a)) row o
+        (completed_or_waiting_elsewhere there m.id m.to (here.acks == a))
+    answered_miss tag a =
+        subst (λ x. IsElsewhere s t m (completed_or_waiting before home (fixed_at x tag a)) row o
+        (completed_or_waiting_elsewhere there m.id m.to (here.acks == a))) (sym open_is)
+        (subst (λ x. IsElsewhere s t m (completed_or_waiting before home (fixed_at (Some miss) tag a)) row o
+        (completed_or_waiting_elsewhere there m.id m.to x)) (sym (eq_same miss.acks a) ∙ ap (λ x. x.acks == a) (sym seen_miss))
         (fixed_case (Some tag) (record miss { fixed = Some tag; due = a }) on refl))
 
-    counted_miss : IsElsewhere s t m (settled before home (acknowledged (node_at s m.to).cache.miss)) row o (settled_elsewhere there m.id m.to (here.is_fixed && (here.acks + 1 == here.due)))
-    counted_miss = subst (λ x. IsElsewhere s t m (settled before home (acknowledged x)) row o (settled_elsewhere there m.id m.to (here.is_fixed && (here.acks + 1 == here.due)))) (sym open_is)
-        (subst (λ x. IsElsewhere s t m (settled before home (acknowledged (Some miss))) row o (settled_elsewhere there m.id m.to x))
-        (ap (λ x. is_some miss.fixed && x) (sym (eq_same (miss.acks + 1) miss.due)) ∙ ap (λ x. x.is_fixed && (x.acks + 1 == x.due)) (sym seen_miss))
+    counted_miss : IsElsewhere s t m (completed_or_waiting before home (acknowledged (node_at s m.to).cache.miss)) row o
+        (completed_or_waiting_elsewhere there m.id m.to (here.is_fixed && (here.acks + 1 == here.due)))
+    counted_miss =
+        subst (λ x. IsElsewhere s t m (completed_or_waiting before home (acknowledged x)) row o
+        (completed_or_waiting_elsewhere there m.id m.to (here.is_fixed && (here.acks + 1 == here.due)))) (sym open_is)
+        (subst (λ x. IsElsewhere s t m (completed_or_waiting before home (acknowledged (Some miss))) row o
+        (completed_or_waiting_elsewhere there m.id m.to x))
+        (ap (λ x. is_some miss.fixed && x) (sym (eq_same (miss.acks + 1) miss.due))
+        ∙ ap (λ x. x.is_fixed && (x.acks + 1 == x.due)) (sym seen_miss))
         (fixed_case miss.fixed (record miss { acks = miss.acks + 1 }) on refl))
 
   -- the rows that answer a miss
   abbrev miss_here_now : block.Miss
   miss_here_now = (block_seen s t m.block).miss m.to
 
-  taken_elsewhere : (state : LineState) (content : List ℕ) (a : ℕ) (need : Need) → AwaitsAnswer (node_at s m.to).cache.miss m.block need → logged_to (node_at s m.to).log false m.block ≤ m.tag + 1 →
-      IsElsewhere s t m (settled (taken_over at m.block m.tag state content) home (fixed_at (node_at s m.to).cache.miss m.tag a)) row o (settled_elsewhere there m.id m.to (miss_here_now.acks == a))
+  taken_elsewhere : (state : LineState) (content : List ℕ) (a : ℕ) (need : Need) → AwaitsAnswer (node_at s m.to).cache.miss m.block need →
+      logged_to (node_at s m.to).log false m.block ≤ m.tag + 1 →
+      IsElsewhere s t m (completed_or_waiting (taken_over at m.block m.tag state content) home
+      (fixed_at (node_at s m.to).cache.miss m.tag a)) row o (completed_or_waiting_elsewhere there m.id m.to (miss_here_now.acks == a))
   taken_elsewhere state content a need may low = awaited (node_at s m.to).cache.miss m.block need
-      (IsElsewhere s t m (settled (taken_over at m.block m.tag state content) home (fixed_at (node_at s m.to).cache.miss m.tag a)) row o (settled_elsewhere there m.id m.to (miss_here_now.acks == a))) may
-      (λ miss open_is on n. answered_miss miss open_is on (taken_over at m.block m.tag state content) (as_long (record { state = state; content = content })) (unwritten (record { state = state; content = content })) refl
-      (home_side_noted_not (node_at s m.to).log m.tag m.block o low) (cache_side_noted_not (node_at s m.to).log m.tag m.block o low apart) m.tag a)
+      (IsElsewhere s t m (completed_or_waiting (taken_over at m.block m.tag state content) home
+      (fixed_at (node_at s m.to).cache.miss m.tag a)) row o (completed_or_waiting_elsewhere there m.id m.to (miss_here_now.acks == a))) may
+      (λ miss open_is on n. answered_miss miss open_is on (taken_over at m.block m.tag state content)
+      (as_long (record { state = state; content = content })) (unwritten (record { state = state; content = content })) refl
+      (home_side_noted_not (node_at s m.to).log m.tag m.block o low)
+      (cache_side_noted_not (node_at s m.to).log m.tag m.block o low apart) m.tag a)
 
   -- all acknowledgements are in where none is due and none came
   none_due : (P : Bool → Type 0) → miss_here_now.acks ≡ 0 → P (miss_here_now.acks == 0) → P true
   none_due P e p = subst P (ap (λ x. x == 0) e) p
 
   pub data_shared-elsewhere : (content : List ℕ) → MayTakeCopy (logged_at s m.to) m.block → ((block_seen s t m.block).miss m.to).acks ≡ 0 →
-      IsElsewhere s t m (data_shared (logged_at s m.to) (home_node s m.block) m.block m.tag content) row o (end_miss_elsewhere (elsewhere (block_seen s t o) m.id 1) m.to)
-  data_shared-elsewhere content may acks = none_due (λ x. IsElsewhere s t m (data_shared at home m.block m.tag content) row o (settled_elsewhere there m.id m.to x)) acks
-      (awaited (node_at s m.to).cache.miss m.block Read (IsElsewhere s t m (data_shared at home m.block m.tag content) row o (settled_elsewhere there m.id m.to (miss_here_now.acks == 0))) may.0
-      (λ miss open_is on n. answered_miss miss open_is on (record at { cache = with_line at.cache m.block Shared content }) (as_long (record { state = Shared; content = content })) (unwritten (record { state = Shared; content = content })) refl home_same cache_same m.tag 0))
+      IsElsewhere s t m (data_shared (logged_at s m.to) (home_node s m.block) m.block m.tag content) row o
+      (end_miss_elsewhere (elsewhere (block_seen s t o) m.id 1) m.to)
+  data_shared-elsewhere content may acks =
+      none_due (λ x. IsElsewhere s t m (data_shared at home m.block m.tag content) row o
+      (completed_or_waiting_elsewhere there m.id m.to x)) acks
+      (awaited (node_at s m.to).cache.miss m.block Read
+      (IsElsewhere s t m (data_shared at home m.block m.tag content) row o
+      (completed_or_waiting_elsewhere there m.id m.to (miss_here_now.acks == 0))) may.0
+      (λ miss open_is on n. answered_miss miss open_is on (record at { cache = with_line at.cache m.block Shared content })
+      (as_long (record { state = Shared; content = content }))
+      (unwritten (record { state = Shared; content = content })) refl home_same cache_same m.tag 0))
 
-  pub data_exclusive-elsewhere : (content : List ℕ) → MayTakeCopy (logged_at s m.to) m.block → ((block_seen s t m.block).miss m.to).acks ≡ 0 → logged_to (node_at s m.to).log false m.block ≤ m.tag + 1 →
-      IsElsewhere s t m (data_exclusive (logged_at s m.to) (home_node s m.block) m.block m.tag content) row o (end_miss_elsewhere (elsewhere (block_seen s t o) m.id 1) m.to)
-  data_exclusive-elsewhere content may acks low = none_due (λ x. IsElsewhere s t m (data_exclusive at home m.block m.tag content) row o (settled_elsewhere there m.id m.to x)) acks
+  pub data_exclusive-elsewhere : (content : List ℕ) → MayTakeCopy (logged_at s m.to) m.block →
+      ((block_seen s t m.block).miss m.to).acks ≡ 0 → logged_to (node_at s m.to).log false m.block ≤ m.tag + 1 →
+      IsElsewhere s t m (data_exclusive (logged_at s m.to) (home_node s m.block) m.block m.tag content) row o
+      (end_miss_elsewhere (elsewhere (block_seen s t o) m.id 1) m.to)
+  data_exclusive-elsewhere content may acks low =
+      none_due (λ x. IsElsewhere s t m (data_exclusive at home m.block m.tag content) row o
+      (completed_or_waiting_elsewhere there m.id m.to x)) acks
       (taken_elsewhere Exclusive content 0 Read may.0 low)
 
-  pub data_modified-elsewhere : (content : List ℕ) (a : ℕ) → MayTakeOwnership (logged_at s m.to) m.block → logged_to (node_at s m.to).log false m.block ≤ m.tag + 1 →
-      IsElsewhere s t m (data_modified (logged_at s m.to) (home_node s m.block) m.block m.tag content a) row o (settled_elsewhere (block_seen s t o) m.id m.to (((block_seen s t m.block).miss m.to).acks == a))
+  pub data_modified-elsewhere : (content : List ℕ) (a : ℕ) → MayTakeOwnership (logged_at s m.to) m.block →
+      logged_to (node_at s m.to).log false m.block ≤ m.tag + 1 →
+      IsElsewhere s t m (data_modified (logged_at s m.to) (home_node s m.block) m.block m.tag content a) row o
+      (completed_or_waiting_elsewhere (block_seen s t o) m.id m.to (((block_seen s t m.block).miss m.to).acks == a))
   data_modified-elsewhere content a may low = taken_elsewhere Modified content a Write may.0 low
 
   pub upgrade_granted-elsewhere : (a : ℕ) → MayUpgrade (logged_at s m.to) m.block →
-      IsElsewhere s t m (upgrade_granted (logged_at s m.to) (home_node s m.block) m.tag a) row o (settled_elsewhere (block_seen s t o) m.id m.to (((block_seen s t m.block).miss m.to).acks == a))
-  upgrade_granted-elsewhere a may = awaited (node_at s m.to).cache.miss m.block Write (IsElsewhere s t m (upgrade_granted at home m.tag a) row o (settled_elsewhere there m.id m.to (miss_here_now.acks == a))) may.0
+      IsElsewhere s t m (upgrade_granted (logged_at s m.to) (home_node s m.block) m.tag a) row o
+      (completed_or_waiting_elsewhere (block_seen s t o) m.id m.to (((block_seen s t m.block).miss m.to).acks == a))
+  upgrade_granted-elsewhere a may =
+      awaited (node_at s m.to).cache.miss m.block Write
+      (IsElsewhere s t m (upgrade_granted at home m.tag a) row o
+      (completed_or_waiting_elsewhere there m.id m.to (miss_here_now.acks == a))) may.0
       (λ miss open_is on n. answered_miss miss open_is on at (shape.lines m.to flight.to) refl refl home_same cache_same m.tag a)
 
   pub acknowledge-elsewhere : MayCount (node_at s m.to).cache.miss m.block →
       IsElsewhere s t m (acknowledge (logged_at s m.to) (home_node s m.block)) row o
-      (settled_elsewhere (block_seen s t o) m.id m.to (((block_seen s t m.block).miss m.to).is_fixed && (((block_seen s t m.block).miss m.to).acks + 1 == ((block_seen s t m.block).miss m.to).due)))
+      (completed_or_waiting_elsewhere (block_seen s t o) m.id m.to
+      (((block_seen s t m.block).miss m.to).is_fixed
+      && (((block_seen s t m.block).miss m.to).acks + 1 == ((block_seen s t m.block).miss m.to).due)))
   acknowledge-elsewhere may = counted (node_at s m.to).cache.miss m.block
-      (IsElsewhere s t m (acknowledge at home) row o (settled_elsewhere there m.id m.to (miss_here_now.is_fixed && (miss_here_now.acks + 1 == miss_here_now.due)))) may
+      (IsElsewhere s t m (acknowledge at home) row o
+      (completed_or_waiting_elsewhere there m.id m.to (miss_here_now.is_fixed && (miss_here_now.acks + 1 == miss_here_now.due)))) may
       (λ miss open_is on. counted_miss miss open_is on at (shape.lines m.to flight.to) refl refl home_same cache_same)

@@ -1,5 +1,6 @@
 -- The fabric after a row of a cache, as a block sees it.
-use Rattle.std.proofs.Common.{◌≡◌, ◌≢◌, ◌∙◌, ℕ, ◌+◌, ◌%◌, ◌<◌, ◌≤◌, Bool, true, false, not, ◌&&◌, ◌||◌, cond, List, [], ◌∷◌, length, refl, ap, inl, inr, arith, ◌==◌, length-set}
+use Rattle.std.proofs.Common.{◌≡◌, ◌≢◌, ◌∙◌, ℕ, ◌+◌, ◌%◌, ◌<◌, ◌≤◌, Bool, true, false, not, ◌&&◌, ◌||◌, cond, List, [], ◌∷◌, length, refl}
+use Rattle.std.proofs.Common.{ap, inl, inr, arith, ◌==◌, length-set}
 use Rattle.std.proofs.lemmas.Bool.Decides.{nat_tests}
 use Rattle.std.specs.Prelude.{slice_index_or, slice_set, nat_eq, if◌then◌else◌}
 use Rattle.sn_msg.specs.declared.Message.{Message}
@@ -16,7 +17,8 @@ use Rattle.sn_coherence.specs.Block.{Block, Message as Seen, gone, set, set_row}
 use Rattle.sn_coherence.specs.Same.{IsSame}
 use Rattle.sn_coherence.specs.Log.{was_owned, old_content, was_home, old_cache, told_at}
 use Rattle.sn_coherence.proofs.Log.{note_law}
-use Rattle.fabric_coherence.specs.View.{Beside, block_seen, line_seen, content_held, miss_seen, put_seen, put_issued, net_seen, is_for_all, message_seen, is_itself, owner_of, content_of}
+use Rattle.fabric_coherence.specs.View.{Beside, block_seen, line_seen, content_held, miss_seen, put_seen, put_issued, net_seen, is_for_all}
+use Rattle.fabric_coherence.specs.View.{message_seen, is_itself, owner_of, content_of}
 use Rattle.fabric_coherence.specs.Steps.{after_cache, beside_with, losing, Below}
 use Rattle.fabric_coherence.specs.CacheSeen.{cache_seen, KeepsHomeSide, KeepsCacheSide, with_row, IsRow}
 use Rattle.fabric_coherence.proofs.Base.{read_set, seen-answered}
@@ -121,10 +123,12 @@ module _ (s : Fabric) (t : Beside) (m : Message) (reply : CacheReply) (o : ℕ) 
   as_many : length nodes_after ≡ length s.nodes
   as_many = length-set s.nodes m.to after
 
-  kept_at_home : {A : Type 0} (f : Node → A) → f after ≡ f (node_at s m.to) → f (slice_index_or nodes_after (o % length nodes_after) first_node) ≡ f (node_at s (o % length s.nodes))
+  kept_at_home : {A : Type 0} (f : Node → A) → f after ≡ f (node_at s m.to) →
+      f (slice_index_or nodes_after (o % length nodes_after) first_node) ≡ f (node_at s (o % length s.nodes))
   kept_at_home f e = ap (λ k. f (slice_index_or nodes_after (o % k) first_node)) as_many ∙ kept f (o % length s.nodes) e
 
-  pub row_seen : line_of reply.after.cache o ≡ line → KeepsHomeSide (node_at s m.to).log reply.after.log o → IsSame (block_seen (after_cache s m reply).fabric t o) (cache_seen s t m reply line o)
+  pub row_seen : line_of reply.after.cache o ≡ line → KeepsHomeSide (node_at s m.to).log reply.after.log o →
+      IsSame (block_seen (after_cache s m reply).fabric t o) (cache_seen s t m reply line o)
   row_seen e k = record {
     point = refl;
     home = ap (λ n. o % n) as_many;
@@ -144,12 +148,22 @@ module _ (s : Fabric) (t : Beside) (m : Message) (reply : CacheReply) (o : ℕ) 
     begun = refl;
     net = λ i. refl;
     next = refl;
-    holds = λ n j. through (λ x. told_at was_owned x.log false o (is_owned (line_of x.cache o).state) j) n ∙ ap (λ l. set_row (block_seen s t o).holds m.to (told_at was_owned reply.after.log false o (is_owned l.state)) n j) e;
-    held = λ n j. through (λ x. told_at old_content x.log false o (content_held (line_of x.cache o)) j) n ∙ ap (λ l. set_row (block_seen s t o).held m.to (told_at old_content reply.after.log false o (content_held l)) n j) e;
+    holds =
+        λ n j. through (λ x. told_at was_owned x.log false o (is_owned (line_of x.cache o).state) j) n
+        ∙ ap (λ l. set_row (block_seen s t o).holds m.to (told_at was_owned reply.after.log false o (is_owned l.state)) n j) e;
+    held =
+        λ n j. through (λ x. told_at old_content x.log false o (content_held (line_of x.cache o)) j) n
+        ∙ ap (λ l. set_row (block_seen s t o).held m.to (told_at old_content reply.after.log false o (content_held l)) n j) e;
     last = through (λ x. logged_to x.log false o);
-    named_home = λ j. kept_at_home (λ x. told_at was_home x.log true o (is_itself (home_of s o).holder) j) (k.home (is_itself (home_of s o).holder) j);
-    named = λ j. kept_at_home (λ x. told_at old_cache x.log true o (owner_of (home_of s o).holder) j) (k.cache (owner_of (home_of s o).holder) j);
-    home_held = λ j. kept_at_home (λ x. told_at old_content x.log true o (content_of (home_of s o).holder) j) (k.content (content_of (home_of s o).holder) j);
+    named_home =
+        λ j. kept_at_home (λ x. told_at was_home x.log true o (is_itself (home_of s o).holder) j)
+        (k.home (is_itself (home_of s o).holder) j);
+    named =
+        λ j. kept_at_home (λ x. told_at old_cache x.log true o (owner_of (home_of s o).holder) j)
+        (k.cache (owner_of (home_of s o).holder) j);
+    home_held =
+        λ j. kept_at_home (λ x. told_at old_content x.log true o (content_of (home_of s o).holder) j)
+        (k.content (content_of (home_of s o).holder) j);
     home_last = kept_at_home (λ x. logged_to x.log true o) k.newest;
     stage = refl;
     at = refl;
@@ -158,7 +172,8 @@ module _ (s : Fabric) (t : Beside) (m : Message) (reply : CacheReply) (o : ℕ) 
   }
 
   -- a row that is seen like this is the row of its own block
-  pub own_row : (row : Block) → line_of reply.after.cache o ≡ line → KeepsHomeSide (node_at s m.to).log reply.after.log o → IsRow (cache_seen s t m reply line o) row →
+  pub own_row : (row : Block) → line_of reply.after.cache o ≡ line → KeepsHomeSide (node_at s m.to).log reply.after.log o →
+      IsRow (cache_seen s t m reply line o) row →
       IsSame (block_seen (after_cache s m reply).fabric (beside_with t o row) o) (with_row (block_seen s t o) row)
   own_row row e k h = record {
     point = r.point;
@@ -207,7 +222,8 @@ home_side_same log o = record { home = λ was j. refl; cache = λ was j. refl; c
 true_not_false : true ≢ false
 true_not_false e = grind arith
 
-pub home_side_noted_owned : (log : List LogEntry) (i b : ℕ) (old : List ℕ) (o : ℕ) → logged_to log false b ≤ i + 1 → KeepsHomeSide log (noted log i b (Owned old)) o
+pub home_side_noted_owned : (log : List LogEntry) (i b : ℕ) (old : List ℕ) (o : ℕ) → logged_to log false b ≤ i + 1 →
+    KeepsHomeSide log (noted log i b (Owned old)) o
 home_side_noted_owned log i b old o l = record {
   home = λ was j. (note_law Bool was_home log i b (Owned old) false false l refl).others true o j was (inl true_not_false);
   cache = λ was j. (note_law ℕ old_cache log i b (Owned old) 0 0 l refl).others true o j was (inl true_not_false);
@@ -227,14 +243,16 @@ pub cache_side_same : (log : List LogEntry) (o : ℕ) → KeepsCacheSide log log
 cache_side_same log o = record { owned = λ was j. refl; content = λ was j. refl; newest = refl }
 
 -- a note of a block is none of another
-pub cache_side_noted_owned : (log : List LogEntry) (i b : ℕ) (old : List ℕ) (o : ℕ) → logged_to log false b ≤ i + 1 → o ≢ b → KeepsCacheSide log (noted log i b (Owned old)) o
+pub cache_side_noted_owned : (log : List LogEntry) (i b : ℕ) (old : List ℕ) (o : ℕ) → logged_to log false b ≤ i + 1 → o ≢ b →
+    KeepsCacheSide log (noted log i b (Owned old)) o
 cache_side_noted_owned log i b old o l d = record {
   owned = λ was j. (note_law Bool was_owned log i b (Owned old) true true l refl).others false o j was (inr d);
   content = λ was j. (note_law (List ℕ) old_content log i b (Owned old) old old l refl).others false o j was (inr d);
   newest = (note_law Bool was_owned log i b (Owned old) true true l refl).others_newest false o (inr d);
 }
 
-pub cache_side_noted_not : (log : List LogEntry) (i b o : ℕ) → logged_to log false b ≤ i + 1 → o ≢ b → KeepsCacheSide log (noted log i b NotOwned) o
+pub cache_side_noted_not : (log : List LogEntry) (i b o : ℕ) → logged_to log false b ≤ i + 1 → o ≢ b →
+    KeepsCacheSide log (noted log i b NotOwned) o
 cache_side_noted_not log i b o l d = record {
   owned = λ was j. (note_law Bool was_owned log i b NotOwned false false l refl).others false o j was (inr d);
   content = λ was j. (note_law (List ℕ) old_content log i b NotOwned [] [] l refl).others false o j was (inr d);
@@ -251,12 +269,15 @@ seen-fresh [] b n l = refl
 seen-fresh (f ∷ fs) b n l = fresh_step f fs b n l.0 (seen-fresh fs b n l.1)
 
 -- a block loses the one message that a row sent, or it doesn't
-pub losing_one : (a block : Block) (lost : Bool) (id : ℕ) → IsSame a (record block { net = λ i. cond (lost && (i == id)) gone (block.net i) }) → IsSame a (losing block (if lost then id ∷ [] else []))
+pub losing_one : (a block : Block) (lost : Bool) (id : ℕ) →
+    IsSame a (record block { net = λ i. cond (lost && (i == id)) gone (block.net i) }) →
+    IsSame a (losing block (if lost then id ∷ [] else []))
 losing_one a block true id h = h
 losing_one a block false id h = h
 
 answered : (lost : Bool) (i id next : ℕ) (m : Seen) (net : ℕ → Seen) → net next ≡ gone →
-    cond ((i == next) && (true && not lost)) m (cond (i == id) gone (net i)) ≡ cond (lost && (i == next)) gone (set (set net id gone) next m i)
+    cond ((i == next) && (true && not lost)) m (cond (i == id) gone (net i))
+    ≡ cond (lost && (i == next)) gone (set (set net id gone) next m i)
 answered lost i id next m net e = grind (arith, nat_tests)
 
 pub eq_self : (b : ℕ) → nat_eq b b ≡ true
@@ -273,9 +294,11 @@ pub answered_here : (routes : Switches) (net : Net) (id from tag block : ℕ) (o
     (set (set (net_seen block net.flights) id gone) net.next_id (message_seen (message_of net from tag block out) out.body) i)
 answered_here routes net id from tag block out i l =
     seen-answered routes net id from tag block out block i l
-    ∙ (λ p. cond ((i == net.next_id) && (seen_own (is_for_all out.body) block p && not (is_lost routes net (message_of net from tag block out))))
+    ∙ (λ p. cond ((i == net.next_id)
+    && (seen_own (is_for_all out.body) block p && not (is_lost routes net (message_of net from tag block out))))
     (message_seen (message_of net from tag block out) out.body) (cond (i == id) gone (net_seen block net.flights i)))
-    ∙ answered (is_lost routes net (message_of net from tag block out)) i id net.next_id (message_seen (message_of net from tag block out) out.body) (net_seen block net.flights) (seen-fresh net.flights block net.next_id l)
+    ∙ answered (is_lost routes net (message_of net from tag block out)) i id net.next_id
+    (message_seen (message_of net from tag block out) out.body) (net_seen block net.flights) (seen-fresh net.flights block net.next_id l)
 
 pub eq_other : (b o : ℕ) → o ≢ b → nat_eq b o ≡ false
 eq_other b o d = grind (arith, nat_tests)
@@ -288,10 +311,13 @@ never true m n d = refl
 never false m n d = refl
 
 -- another block sees only that the message is no longer there
-pub answered_elsewhere : (routes : Switches) (net : Net) (id from tag block : ℕ) (out : Out) (o i : ℕ) → Below net.flights net.next_id → is_for_all out.body ≡ false → o ≢ block →
+pub answered_elsewhere : (routes : Switches) (net : Net) (id from tag block : ℕ) (out : Out) (o i : ℕ) → Below net.flights net.next_id →
+    is_for_all out.body ≡ false → o ≢ block →
     net_seen o (posted routes (without_flight net id) from tag block (out ∷ [])).flights i ≡ set (net_seen o net.flights) id gone i
 answered_elsewhere routes net id from tag block out o i l e d =
     seen-answered routes net id from tag block out o i l
-    ∙ (λ p. cond ((i == net.next_id) && (unseen (is_for_all out.body) block o e d p && not (is_lost routes net (message_of net from tag block out))))
+    ∙ (λ p. cond ((i == net.next_id)
+    && (unseen (is_for_all out.body) block o e d p && not (is_lost routes net (message_of net from tag block out))))
     (message_seen (message_of net from tag block out) out.body) (cond (i == id) gone (net_seen o net.flights i)))
-    ∙ never (i == net.next_id) (message_seen (message_of net from tag block out) out.body) (cond (i == id) gone (net_seen o net.flights i)) (not (is_lost routes net (message_of net from tag block out)))
+    ∙ never (i == net.next_id) (message_seen (message_of net from tag block out) out.body) (cond (i == id) gone (net_seen o net.flights i))
+    (not (is_lost routes net (message_of net from tag block out)))

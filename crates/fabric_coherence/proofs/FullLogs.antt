@@ -4,13 +4,15 @@ use Rattle.sn_base.specs.declared.config.Config.{Config}
 use Rattle.sn_base.specs.declared.event.Answer.TheVariants.{LogFull, NetFull, Delivered}
 use Rattle.sn_msg.specs.declared.Message.{Message}
 use Rattle.sn_msg.specs.declared.Body.{Body}
-use Rattle.sn_msg.specs.declared.Body.TheVariants.{GetS, GetM, FwdGetS, FwdGetM, Inv, DataS, DataM, DataE, UpgOk, InvAck, Unblock, PutReq, PutGo, PutData, PutDone}
+use Rattle.sn_msg.specs.declared.Body.TheVariants.{GetS, GetM, FwdGetS, FwdGetM, Inv, DataS, DataM, DataE, UpgOk, InvAck, Unblock, PutReq}
+use Rattle.sn_msg.specs.declared.Body.TheVariants.{PutGo, PutData, PutDone}
 use Rattle.sn_model.specs.Homes.{Transaction}
 use Rattle.sn_model.specs.HomeRows.{HomeReply}
 use Rattle.sn_model.specs.CacheRows.{CacheReply}
 use Rattle.sn_model.specs.Fabric.{Fabric, Moved, node_at, home_of, home_node, refused}
 use Rattle.sn_model.specs.Net.{net_limit}
-use Rattle.sn_model.specs.NetEvents.{AtCache, AtHome, logged_at, kept_at, get_shared, get_modified, put_request, unless_busy, outcome_of, delivers}
+use Rattle.sn_model.specs.NetEvents.{AtCache, AtHome, logged_at, kept_at, get_shared, get_modified, put_request, unless_busy, outcome_of}
+use Rattle.sn_model.specs.NetEvents.{delivers}
 use Rattle.mosi_cache.specs.Rows.{row_by, is_over}
 use Rattle.mosi_cache.specs.Machine.{log_at}
 use Rattle.home_directory.specs.Receipt.{LacksRoom, Does, judged, outcome_at}
@@ -27,12 +29,14 @@ full s false false done d = (λ e. absurd (cc), λ e. absurd (cc))
 module _ (config : Config) (s : Fabric) (m : Message) where
   at_cache : (reply : CacheReply) → ((delivers config s m (AtCache reply)).answer ≡ LogFull → is_over (log_at config s m.to) reply ≡ true)
       × (is_over (log_at config s m.to) reply ≡ true → (delivers config s m (AtCache reply)).answer ≡ LogFull)
-  at_cache reply = full s (nat_lt config.log (length reply.after.log)) (nat_lt (net_limit + 1) (length s.net.flights + length reply.sends)) _ refl
+  at_cache reply =
+      full s (nat_lt config.log (length reply.after.log)) (nat_lt (net_limit + 1) (length s.net.flights + length reply.sends)) _ refl
 
   abbrev row : Body → CacheReply
   row x = row_by (logged_at s m.to) (home_node s m.block) m.block (node_at s m.to).now m.tag x
 
-  cache_by : (x : Body) → comes_to_cache x ≡ true → ((delivers config s m (outcome_of s m x)).answer ≡ LogFull → is_over (log_at config s m.to) (row x) ≡ true)
+  cache_by : (x : Body) → comes_to_cache x ≡ true →
+      ((delivers config s m (outcome_of s m x)).answer ≡ LogFull → is_over (log_at config s m.to) (row x) ≡ true)
       × (is_over (log_at config s m.to) (row x) ≡ true → (delivers config s m (outcome_of s m x)).answer ≡ LogFull)
   cache_by (FwdGetS r) e = at_cache (row (FwdGetS r))
   cache_by (FwdGetM r due) e = at_cache (row (FwdGetM r due))
@@ -50,26 +54,37 @@ module _ (config : Config) (s : Fabric) (m : Message) where
   cache_full e = cache_by m.body e
 
   by_verdict : (over crowded : Bool) (reply : HomeReply) (done : Moved) → done.answer ≡ Delivered →
-      ((if over then refused s LogFull else if crowded then refused s NetFull else done).answer ≡ LogFull → (if over then LacksRoom else Does reply) ≡ LacksRoom)
-      × ((if over then LacksRoom else Does reply) ≡ LacksRoom → (if over then refused s LogFull else if crowded then refused s NetFull else done).answer ≡ LogFull)
+      ((if over then refused s LogFull else if crowded then refused s NetFull else done).answer ≡ LogFull →
+      (if over then LacksRoom else Does reply) ≡ LacksRoom)
+      × ((if over then LacksRoom else Does reply) ≡ LacksRoom →
+      (if over then refused s LogFull else if crowded then refused s NetFull else done).answer ≡ LogFull)
   by_verdict true crowded reply done d = (λ e. refl, λ e. refl)
   by_verdict false true reply done d = (λ e. absurd (cc), λ e. absurd (cc))
   by_verdict false false reply done d = (λ e. absurd (cc), λ e. absurd (cc))
 
   at_home : (reply : HomeReply) → ((delivers config s m (AtHome reply)).answer ≡ LogFull → judged config.log (AtHome reply) ≡ LacksRoom)
       × (judged config.log (AtHome reply) ≡ LacksRoom → (delivers config s m (AtHome reply)).answer ≡ LogFull)
-  at_home reply = by_verdict (nat_lt config.log (length reply.after.log)) (nat_lt (net_limit + 1) (length s.net.flights + length reply.sends)) reply _ refl
+  at_home reply =
+      by_verdict (nat_lt config.log (length reply.after.log))
+      (nat_lt (net_limit + 1) (length s.net.flights + length reply.sends)) reply _ refl
 
-  request : (open_one : Option Transaction) (reply : HomeReply) → ((delivers config s m (unless_busy open_one reply)).answer ≡ LogFull → judged config.log (unless_busy open_one reply) ≡ LacksRoom)
+  request : (open_one : Option Transaction) (reply : HomeReply) →
+      ((delivers config s m (unless_busy open_one reply)).answer ≡ LogFull → judged config.log (unless_busy open_one reply) ≡ LacksRoom)
       × (judged config.log (unless_busy open_one reply) ≡ LacksRoom → (delivers config s m (unless_busy open_one reply)).answer ≡ LogFull)
   request None reply = at_home reply
   request (Some transaction) reply = (λ e. absurd (cc), λ e. absurd (cc))
 
   home_by : (x : Body) → comes_to_home x ≡ true →
-      ((delivers config s m (outcome_of s m x)).answer ≡ LogFull → judged config.log (outcome_at (kept_at s m.to m.block) (node_at s m.to).now m x) ≡ LacksRoom)
-      × (judged config.log (outcome_at (kept_at s m.to m.block) (node_at s m.to).now m x) ≡ LacksRoom → (delivers config s m (outcome_of s m x)).answer ≡ LogFull)
-  home_by GetS e = request (home_of s m.block).transaction (get_shared (kept_at s m.to m.block) m.block (node_at s m.to).now m.from (home_of s m.block).holder)
-  home_by GetM e = request (home_of s m.block).transaction (get_modified (kept_at s m.to m.block) m.block (node_at s m.to).now m.from (home_of s m.block).holder)
+      ((delivers config s m (outcome_of s m x)).answer ≡ LogFull →
+      judged config.log (outcome_at (kept_at s m.to m.block) (node_at s m.to).now m x) ≡ LacksRoom)
+      × (judged config.log (outcome_at (kept_at s m.to m.block) (node_at s m.to).now m x) ≡ LacksRoom →
+      (delivers config s m (outcome_of s m x)).answer ≡ LogFull)
+  home_by GetS e =
+      request (home_of s m.block).transaction
+      (get_shared (kept_at s m.to m.block) m.block (node_at s m.to).now m.from (home_of s m.block).holder)
+  home_by GetM e =
+      request (home_of s m.block).transaction
+      (get_modified (kept_at s m.to m.block) m.block (node_at s m.to).now m.from (home_of s m.block).holder)
   home_by PutReq e = request (home_of s m.block).transaction (put_request (kept_at s m.to m.block) (node_at s m.to).now m.from)
   home_by (Unblock fixed) e = at_home _
   home_by (PutData content) e = at_home _

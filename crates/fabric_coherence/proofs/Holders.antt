@@ -1,5 +1,6 @@
 -- What the sentences of a block say of its holders, in the words of the fabric's definitions.
-use Rattle.std.proofs.Common.{true≢false, ◌≡◌, ◌≢◌, ◌∙◌, ℕ, ◌<◌, ◌≤◌, true, false, List, length, refl, sym, subst, ap, arith, Option, Some, None}
+use Rattle.std.proofs.Common.{true≢false, ◌≡◌, ◌≢◌, ◌∙◌, ℕ, ◌<◌, ◌≤◌, true, false, List, length, refl, sym, subst, ap, arith, Option, Some}
+use Rattle.std.proofs.Common.{None}
 use Rattle.std.proofs.lemmas.Bool.Decides.{nat_tests}
 use Rattle.std.specs.Prelude.{is_some}
 use Rattle.std.specs.Option.{option_map}
@@ -19,7 +20,7 @@ use Rattle.sn_coherence.specs.Log.{was_owned, was_home, old_cache, told}
 use Rattle.sn_coherence.proofs.WhatFollows.{kept_one_holder}
 use Rattle.fabric_coherence.specs.View.{Beside, block_seen, line_seen, miss_seen, is_itself, owner_of, kind_open, begun_of}
 use Rattle.fabric_coherence.specs.Coherent.{IsKept}
-use Rattle.sn_model.specs.RecoveryPoint.{IsHeld}
+use Rattle.sn_model.specs.RecoveryPoint.{HasOneHolderWith}
 use Rattle.fabric_coherence.specs.Holders.{HasOneWriter, HasHolder, IsCoherent}
 use Rattle.fabric_coherence.proofs.Recovery.{entry_sided, IsSided}
 use Rattle.fabric_coherence.proofs.HomeRows.{of-cache}
@@ -46,7 +47,8 @@ held_told : (o : Option LogEntry) (line : Line) → is_some (held_by (old_of o) 
 held_told None line = owned_told line line.state
 held_told (Some e) line = old_held e.old line
 
-old_named : (old : Old) (holder : Holder) → is_home_side old ≡ true → (is_itself (named_by (Some old) holder) ≡ was_home old) × (owner_of (named_by (Some old) holder) ≡ old_cache old)
+old_named : (old : Old) (holder : Holder) → is_home_side old ≡ true →
+    (is_itself (named_by (Some old) holder) ≡ was_home old) × (owner_of (named_by (Some old) holder) ≡ old_cache old)
 old_named NotOwned holder side = absurd (grind (arith, side))
 old_named (Owned content) holder side = absurd (grind (arith, side))
 old_named (WasHome content) holder side = (refl, refl)
@@ -55,7 +57,9 @@ old_named (WasCache node) holder side = (refl, refl)
 sided : (old : Old) → is_of_side true old ≡ true → is_home_side old ≡ true
 sided old h = grind (arith, h)
 
-named_told : (o : Option LogEntry) (holder : Holder) → IsSided true o → (is_itself (named_by (old_of o) holder) ≡ told was_home (old_of o) (is_itself holder)) × (owner_of (named_by (old_of o) holder) ≡ told old_cache (old_of o) (owner_of holder))
+named_told : (o : Option LogEntry) (holder : Holder) → IsSided true o →
+    (is_itself (named_by (old_of o) holder) ≡ told was_home (old_of o) (is_itself holder))
+    × (owner_of (named_by (old_of o) holder) ≡ told old_cache (old_of o) (owner_of holder))
 named_told None holder side = (refl, refl)
 named_told (Some e) holder side = old_named e.old holder (sided e.old side)
 
@@ -77,7 +81,7 @@ module _ (s : Fabric) (b k : ℕ) (one : HasOneHolder s b k) where
   not_held : (x : Holder) → names_at s b k ≡ x → (n : ℕ) → n < length s.nodes → (x ≡ OfCache n → ⊥) → holds_at s n b k ≡ None
   not_held x e n l other = none_held (holds_at s n b k) (λ h. other (sym e ∙ one.named n l h))
 
-  held_as : (x : Holder) → names_at s b k ≡ x → (content : List ℕ) × IsHeld s b k content x
+  held_as : (x : Holder) → names_at s b k ≡ x → (content : List ℕ) × HasOneHolderWith s b k content x
   held_as (Itself named) e = (named, (refl, λ n l. not_held (Itself named) e n l (λ q. cc)))
   held_as (OfCache owner) e =
       let h = one.holds owner e in
@@ -92,10 +96,14 @@ module _ (s : Fabric) (t : Beside) (b : ℕ) where
   holds_is n k = held_told (entry_at (node_at s n).log false b k) (line_of (node_at s n).cache b)
 
   pub names_home : (k : ℕ) → is_itself (names_at s b k) ≡ (block_seen s t b).named_home k
-  names_home k = (named_told (entry_at (node_at s (home_node s b)).log true b k) (home_of s b).holder (entry_sided (node_at s (home_node s b)).log true b k)).0
+  names_home k =
+      (named_told (entry_at (node_at s (home_node s b)).log true b k) (home_of s b).holder
+      (entry_sided (node_at s (home_node s b)).log true b k)).0
 
   names_owner : (k : ℕ) → owner_of (names_at s b k) ≡ (block_seen s t b).named k
-  names_owner k = (named_told (entry_at (node_at s (home_node s b)).log true b k) (home_of s b).holder (entry_sided (node_at s (home_node s b)).log true b k)).1
+  names_owner k =
+      (named_told (entry_at (node_at s (home_node s b)).log true b k) (home_of s b).holder
+      (entry_sided (node_at s (home_node s b)).log true b k)).1
 
   -- nothing was begun below k
   begun_by : (x : Option Transaction) (k : ℕ) → transaction_before x k ≡ false → kind_open x ≢ block.Idle → k ≤ begun_of x
@@ -105,16 +113,20 @@ module _ (s : Fabric) (t : Beside) (b : ℕ) where
   names_cache : (n k : ℕ) → (block_seen s t b).named_home k ≡ false → (block_seen s t b).named k ≡ n → names_at s b k ≡ OfCache n
   names_cache n k h e = of-cache (names_at s b k) (names_home k ∙ h) ∙ ap OfCache (names_owner k ∙ e)
 
-  pub holder_of : AllSentences (length s.nodes) (block_seen s t b) → (k : ℕ) → s.point ≤ k → transaction_before (home_of s b).transaction k ≡ false → HasOneHolder s b k
-  holder_of kept k low begun = let one = kept_one_holder (length s.nodes) (block_seen s t b) kept k low (begun_by (home_of s b).transaction k begun) in record {
-    named = λ n l h. let e = one.named n (sym (holds_is n k) ∙ h) in names_cache n k e.0 e.1;
-    holds = λ n e. cached one n (ap is_itself e) (ap owner_of e);
-  }
+  pub holder_of : AllSentences (length s.nodes) (block_seen s t b) → (k : ℕ) → s.point ≤ k →
+      transaction_before (home_of s b).transaction k ≡ false → HasOneHolder s b k
+  holder_of kept k low begun =
+      let one = kept_one_holder (length s.nodes) (block_seen s t b) kept k low (begun_by (home_of s b).transaction k begun) in record {
+        named = λ n l h. let e = one.named n (sym (holds_is n k) ∙ h) in names_cache n k e.0 e.1;
+        holds = λ n e. cached one n (ap is_itself e) (ap owner_of e);
+      }
     where
-      cached : BlockHolder (length s.nodes) (block_seen s t b) k → (n : ℕ) → is_itself (names_at s b k) ≡ false → owner_of (names_at s b k) ≡ n → (n < length s.nodes) × (is_some (holds_at s n b k) ≡ true)
+      cached : BlockHolder (length s.nodes) (block_seen s t b) k → (n : ℕ) → is_itself (names_at s b k) ≡ false →
+          owner_of (names_at s b k) ≡ n → (n < length s.nodes) × (is_some (holds_at s n b k) ≡ true)
       cached one n h e =
           let held = one.holds (sym (names_home k) ∙ h) in
-          subst (λ m. (m < length s.nodes) × (is_some (holds_at s m b k) ≡ true)) (sym (names_owner k) ∙ e) (held.0, holds_is ((block_seen s t b).named k) k ∙ held.1)
+          subst (λ m. (m < length s.nodes) × (is_some (holds_at s m b k) ≡ true)) (sym (names_owner k) ∙ e)
+          (held.0, holds_is ((block_seen s t b).named k) k ∙ held.1)
 
   pub writable_seen : (x : LineState) → is_writable_state x ≡ true → block.is_writable (line_seen x) ≡ true
   writable_seen x h = grind (arith, h)
@@ -129,7 +141,12 @@ module _ (s : Fabric) (t : Beside) (b : ℕ) where
   pub writer_of : AllSentences (length s.nodes) (block_seen s t b) → HasOneWriter s b
   writer_of kept n m l q apart writes none =
       absent_seen (line_of (node_at s m).cache b).state
-      (kept.sharing.writer_alone n m (writable_seen (line_of (node_at s n).cache b).state writes) (misses_seen (node_at s n).cache.miss none) apart)
+      (kept.sharing.writer_alone n m (writable_seen (line_of (node_at s n).cache b).state writes)
+      (misses_seen (node_at s n).cache.miss none) apart)
 
 pub coherent : (s : Fabric) (t : Beside) → IsKept s t → (b : ℕ) → b < block_count → IsCoherent s b
-coherent s t kept b l = record { writer = writer_of s t b (kept.blocks b l); holder = λ k low begun. one_held s b k (holder_of s t b (kept.blocks b l) k low begun) }
+coherent s t kept b l =
+    record {
+      writer = writer_of s t b (kept.blocks b l);
+      holder = λ k low begun. one_held s b k (holder_of s t b (kept.blocks b l) k low begun);
+    }

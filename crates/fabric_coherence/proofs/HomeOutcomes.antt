@@ -1,12 +1,14 @@
 -- A message that is served at its home is an event of its block that the coherence theorem allows there; all that its row
 -- asks for follows from what the theorem keeps.
-use Rattle.std.proofs.Common.{◌≡◌, ◌≢◌, ◌⊎◌, inl, inr, ◌∙◌, ℕ, ◌+◌, ◌≤◌, Bool, true, false, List, length, refl, sym, ap, subst, arith, if◌then◌else◌, nat_eq}
+use Rattle.std.proofs.Common.{◌≡◌, ◌≢◌, ◌⊎◌, inl, inr, ◌∙◌, ℕ, ◌+◌, ◌≤◌, Bool, true, false, List, length, refl, sym, ap, subst, arith}
+use Rattle.std.proofs.Common.{if◌then◌else◌, nat_eq}
 use Rattle.std.proofs.lemmas.Bool.Decides.{nat_tests}
 use Rattle.std.specs.Prelude.{Option, Some, None}
 use Rattle.log_buffer.specs.Log.{logged_to}
 use Rattle.sn_msg.specs.declared.Message.{Message}
 use Rattle.sn_msg.specs.declared.Body.{Body}
-use Rattle.sn_msg.specs.declared.Body.TheVariants.{GetS, GetM, FwdGetS, FwdGetM, Inv, DataS, DataM, DataE, UpgOk, InvAck, Unblock, PutReq, PutGo, PutData, PutDone, Ready, Advance}
+use Rattle.sn_msg.specs.declared.Body.TheVariants.{GetS, GetM, FwdGetS, FwdGetM, Inv, DataS, DataM, DataE, UpgOk, InvAck, Unblock, PutReq}
+use Rattle.sn_msg.specs.declared.Body.TheVariants.{PutGo, PutData, PutDone, Ready, Advance}
 use Rattle.sn_model.specs.declared.home.Kind.TheVariants as kind
 use Rattle.sn_model.specs.Homes.{Holder, Itself, OfCache, Transaction, is_owner}
 use Rattle.sn_model.specs.HomeRows as row
@@ -14,15 +16,20 @@ use Rattle.sn_model.specs.Fabric.{Fabric, node_at, home_of, home_node}
 use Rattle.sn_model.specs.NetEvents.{Busy, AtHome, unless_busy, kept_at, get_shared, get_modified, put_request, outcome_of}
 use Rattle.sn_coherence.specs.Block as block
 use Rattle.sn_coherence.specs.Consequences.{MeetsRows, MeetsNotes}
-use Rattle.sn_coherence.specs.Events.{Event, GrantExclusive, ReadAtHome, Upgrades, MovesOwnership, PutBegins, PutIsStale, PutDataComes, Unblocks, Allows, Arrives, Lists, other_sharers, after}
+use Rattle.sn_coherence.specs.Events.{Event, GrantExclusive, ReadAtHome, Upgrades, MovesOwnership, PutBegins, PutIsStale, PutDataComes}
+use Rattle.sn_coherence.specs.Events.{Unblocks, Allows, Arrives, Lists, other_sharers, after}
 use Rattle.sn_coherence.specs.Kept.{AllSentences}
 use Rattle.sn_coherence.proofs.WhatFollows.{kept_meets_rows, kept_meets_notes}
 use Rattle.fabric_coherence.specs.View.{Beside, block_seen, net_seen, message_seen, is_itself, owner_of, kind_seen, kind_open, requester_of}
 use Rattle.fabric_coherence.specs.Steps.{IsShaped, IsInFlight}
 use Rattle.fabric_coherence.specs.HomeSeen.{IsHomeRow, IsHomeElsewhere, other_targets}
 use Rattle.fabric_coherence.specs.HomeEvents.{other_count, read_event, write_event, home_event}
-use Rattle.fabric_coherence.proofs.HomeRows.{of-cache, read_at_home-seen, read_at_owner-seen, take-seen, move_ownership-seen, upgrade-seen, unblock-seen, put_begins-seen, put_is_stale-seen, put_data-seen, grant_exclusive-seen, other_sharers-listed}
-use Rattle.fabric_coherence.proofs.HomeElsewhere.{read_at_home-elsewhere, read_at_owner-elsewhere, take-elsewhere, move_ownership-elsewhere, upgrade-elsewhere, unblock-elsewhere, put_begins-elsewhere, put_is_stale-elsewhere, put_data-elsewhere, grant_exclusive-elsewhere}
+use Rattle.fabric_coherence.proofs.HomeRows.{of-cache, read_at_home-seen, read_at_owner-seen, take-seen, move_ownership-seen, upgrade-seen}
+use Rattle.fabric_coherence.proofs.HomeRows.{unblock-seen, put_begins-seen, put_is_stale-seen, put_data-seen, grant_exclusive-seen}
+use Rattle.fabric_coherence.proofs.HomeRows.{other_sharers-listed}
+use Rattle.fabric_coherence.proofs.HomeElsewhere.{read_at_home-elsewhere, read_at_owner-elsewhere, take-elsewhere, move_ownership-elsewhere}
+use Rattle.fabric_coherence.proofs.HomeElsewhere.{upgrade-elsewhere, unblock-elsewhere, put_begins-elsewhere, put_is_stale-elsewhere}
+use Rattle.fabric_coherence.proofs.HomeElsewhere.{put_data-elsewhere, grant_exclusive-elsewhere}
 
 reply_is : (a b : row.HomeReply) → AtHome a ≡ AtHome b → a ≡ b
 reply_is a b h = cc
@@ -39,24 +46,31 @@ module _ (s : Fabric) (t : Beside) (m : Message) (shape : IsShaped s) (flight : 
   seen_as x is = flight.seen ∙ (λ p. message_seen m (is p))
 
   -- it comes to the home
-  comes_home : (x : Body) → m.body ≡ x → block.is_to_home (message_seen m x).body ≡ true → (message_seen m x).to ≡ m.to → m.to ≡ home_node s m.block
-  comes_home x is h to = sym to ∙ (subst (λ y. block.is_to_home y.body ≡ true → y.to ≡ home_node s m.block) (seen_as x is) (rows.home m.id)) h
+  comes_home : (x : Body) → m.body ≡ x → block.is_to_home (message_seen m x).body ≡ true → (message_seen m x).to ≡ m.to →
+      m.to ≡ home_node s m.block
+  comes_home x is h to =
+      sym to ∙ (subst (λ y. block.is_to_home y.body ≡ true → y.to ≡ home_node s m.block) (seen_as x is) (rows.home m.id)) h
 
   -- it has arrived, and finds no transaction
-  arrives : (x : Body) (y : block.Body) → m.body ≡ x → (message_seen m x).body ≡ y → (message_seen m x).to ≡ m.to → (message_seen m x).tag ≡ m.tag → Arrives (block_seen s t m.block) m.id y
+  arrives : (x : Body) (y : block.Body) → m.body ≡ x → (message_seen m x).body ≡ y → (message_seen m x).to ≡ m.to →
+      (message_seen m x).tag ≡ m.tag → Arrives (block_seen s t m.block) m.id y
   arrives x y is e to tag = (
     (λ p. (seen_as x is p).body) ∙ e,
-    subst (λ z. z.tag ≤ (node_at s z.to).now) (sym (seen_as x is)) (subst (λ n. (message_seen m x).tag ≤ (node_at s n).now) (sym to) (subst (λ n. n ≤ (node_at s m.to).now) (sym tag) reached)),
+    subst (λ z. z.tag ≤ (node_at s z.to).now) (sym (seen_as x is))
+        (subst (λ n. (message_seen m x).tag ≤ (node_at s n).now) (sym to) (subst (λ n. n ≤ (node_at s m.to).now) (sym tag) reached)),
   )
 
   late_now : m.to ≡ home_node s m.block → logged_to (node_at s m.to).log true m.block ≤ (node_at s m.to).now + 1
   late_now home = subst (λ n. logged_to (node_at s n).log true m.block ≤ (node_at s n).now + 1) (sym home) notes.take
 
-  late_tag : (content : List ℕ) → m.body ≡ PutData content → m.to ≡ home_node s m.block → logged_to (node_at s m.to).log true m.block ≤ m.tag + 1
+  late_tag : (content : List ℕ) → m.body ≡ PutData content → m.to ≡ home_node s m.block →
+      logged_to (node_at s m.to).log true m.block ≤ m.tag + 1
   late_tag content is home = subst (λ n. logged_to (node_at s n).log true m.block ≤ m.tag + 1) (sym home)
-      (subst (λ y. logged_to (node_at s (home_node s m.block)).log true m.block ≤ y.tag + 1) (seen_as (PutData content) is) (notes.put_data m.id (λ p. (seen_as (PutData content) is p).body)))
+      (subst (λ y. logged_to (node_at s (home_node s m.block)).log true m.block ≤ y.tag + 1) (seen_as (PutData content) is)
+      (notes.put_data m.id (λ p. (seen_as (PutData content) is p).body)))
 
-  late_fixed : (fixed : ℕ) (transaction : Transaction) → m.body ≡ Unblock fixed → m.to ≡ home_node s m.block → (home_of s m.block).transaction ≡ Some transaction → transaction.kind ≡ kind.Move →
+  late_fixed : (fixed : ℕ) (transaction : Transaction) → m.body ≡ Unblock fixed → m.to ≡ home_node s m.block →
+      (home_of s m.block).transaction ≡ Some transaction → transaction.kind ≡ kind.Move →
       logged_to (node_at s m.to).log true m.block ≤ fixed + 1
   late_fixed fixed transaction is home e h = subst (λ n. logged_to (node_at s n).log true m.block ≤ fixed + 1) (sym home)
       (subst (λ y. logged_to (node_at s (home_node s m.block)).log true m.block ≤ y.number + 1) (seen_as (Unblock fixed) is)
@@ -64,29 +78,45 @@ module _ (s : Fabric) (t : Beside) (m : Message) (shape : IsShaped s) (flight : 
 
   -- an event that is the row, and is allowed
   abbrev Does : row.HomeReply → Event → Type 0
-  Does reply event = IsHomeRow s t m reply (after (length s.nodes) (block_seen s t m.block) event) × Allows (length s.nodes) (block_seen s t m.block) event
+  Does reply event =
+      IsHomeRow s t m reply (after (length s.nodes) (block_seen s t m.block) event) × Allows (length s.nodes) (block_seen s t m.block) event
 
   listed_for : (x : Body) → m.body ≡ x → (message_seen m x).from ≡ m.from → m.to ≡ home_node s m.block →
-      Lists (length s.nodes) (other_sharers (block_seen s t m.block) m.id) (other_targets (home_of s m.block).sharers m.from) (other_count s m)
+      Lists (length s.nodes) (other_sharers (block_seen s t m.block) m.id) (other_targets (home_of s m.block).sharers m.from)
+      (other_count s m)
   listed_for x is e home = other_sharers-listed s t m shape flight home x is e kept.nodes.sharer_low
 
   -- GetS
-  read_chosen : (c : Bool) (content : List ℕ) → nat_eq (other_count s m) 0 ≡ c → m.body ≡ GetS → m.to ≡ home_node s m.block → (home_of s m.block).transaction ≡ None → (home_of s m.block).holder ≡ Itself content →
-      IsHomeRow s t m (if c then row.grant_exclusive (kept_at s m.to m.block) m.block (node_at s m.to).now m.from content else row.read_at_home (kept_at s m.to m.block) (node_at s m.to).now m.from content) (after (length s.nodes) (block_seen s t m.block) (if c then GrantExclusive m.id else ReadAtHome m.id))
+  read_chosen : (c : Bool) (content : List ℕ) → nat_eq (other_count s m) 0 ≡ c → m.body ≡ GetS → m.to ≡ home_node s m.block →
+      (home_of s m.block).transaction ≡ None → (home_of s m.block).holder ≡ Itself content →
+      IsHomeRow s t m (if c then row.grant_exclusive (kept_at s m.to m.block) m.block (node_at s m.to).now m.from content
+      else row.read_at_home (kept_at s m.to m.block) (node_at s m.to).now m.from content)
+      (after (length s.nodes) (block_seen s t m.block) (if c then GrantExclusive m.id else ReadAtHome m.id))
       × Allows (length s.nodes) (block_seen s t m.block) (if c then GrantExclusive m.id else ReadAtHome m.id)
   read_chosen true content count is home idle holder = (
     grant_exclusive-seen s t m shape flight home content is holder (late_now home),
-    ((arrives GetS block.GetS is refl refl refl, λ p. kind_open (idle p)), λ p. is_itself (holder p), (listed_for GetS is refl home).all ∙ grind (arith, nat_tests)),
+    (
+      (arrives GetS block.GetS is refl refl refl, λ p. kind_open (idle p)),
+      λ p. is_itself (holder p),
+      (listed_for GetS is refl home).all
+          ∙ grind (arith, nat_tests),
+    ),
   )
   read_chosen false content count is home idle holder = (
     read_at_home-seen s t m shape flight home content is holder,
-    ((arrives GetS block.GetS is refl refl refl, λ p. kind_open (idle p)), λ p. is_itself (holder p), λ h. some (sym (listed_for GetS is refl home).all ∙ h)),
+    (
+      (arrives GetS block.GetS is refl refl refl, λ p. kind_open (idle p)),
+      λ p. is_itself (holder p),
+      λ h. some (sym (listed_for GetS is refl home).all ∙ h),
+    ),
   )
     where
       some : other_count s m ≡ 0 → ⊥
       some h = grind (arith, nat_tests)
 
-  read_by : (holder : Holder) → m.body ≡ GetS → m.to ≡ home_node s m.block → (home_of s m.block).transaction ≡ None → (home_of s m.block).holder ≡ holder → Does (get_shared (kept_at s m.to m.block) m.block (node_at s m.to).now m.from holder) (read_event s m holder)
+  read_by : (holder : Holder) → m.body ≡ GetS → m.to ≡ home_node s m.block → (home_of s m.block).transaction ≡ None →
+      (home_of s m.block).holder ≡ holder →
+      Does (get_shared (kept_at s m.to m.block) m.block (node_at s m.to).now m.from holder) (read_event s m holder)
   read_by (Itself content) is home idle e = read_chosen (nat_eq (other_count s m) 0) content refl is home idle e
   read_by (OfCache owner) is home idle e = (
     read_at_owner-seen s t m shape flight home owner is e,
@@ -94,26 +124,41 @@ module _ (s : Fabric) (t : Beside) (m : Message) (shape : IsShaped s) (flight : 
   )
 
   -- GetM
-  write_chosen : (c : Bool) (owner : ℕ) → nat_eq owner m.from ≡ c → m.body ≡ GetM → m.to ≡ home_node s m.block → (home_of s m.block).transaction ≡ None → (home_of s m.block).holder ≡ OfCache owner →
-      IsHomeRow s t m (if c then row.upgrade (kept_at s m.to m.block) (node_at s m.to).now m.from else row.move_ownership (kept_at s m.to m.block) (node_at s m.to).now m.from owner) (after (length s.nodes) (block_seen s t m.block)
-      (if c then Upgrades m.id (other_targets (home_of s m.block).sharers m.from) (other_count s m) else MovesOwnership m.id (other_targets (home_of s m.block).sharers m.from) (other_count s m)))
-      × Allows (length s.nodes) (block_seen s t m.block) (if c then Upgrades m.id (other_targets (home_of s m.block).sharers m.from) (other_count s m) else MovesOwnership m.id (other_targets (home_of s m.block).sharers m.from) (other_count s m))
+  write_chosen : (c : Bool) (owner : ℕ) → nat_eq owner m.from ≡ c → m.body ≡ GetM → m.to ≡ home_node s m.block →
+      (home_of s m.block).transaction ≡ None → (home_of s m.block).holder ≡ OfCache owner →
+      IsHomeRow s t m (if c then row.upgrade (kept_at s m.to m.block) (node_at s m.to).now m.from
+      else row.move_ownership (kept_at s m.to m.block) (node_at s m.to).now m.from owner) (after (length s.nodes) (block_seen s t m.block)
+      (if c then Upgrades m.id (other_targets (home_of s m.block).sharers m.from) (other_count s m)
+      else MovesOwnership m.id (other_targets (home_of s m.block).sharers m.from) (other_count s m)))
+      × Allows (length s.nodes) (block_seen s t m.block)
+      (if c then Upgrades m.id (other_targets (home_of s m.block).sharers m.from) (other_count s m)
+      else MovesOwnership m.id (other_targets (home_of s m.block).sharers m.from) (other_count s m))
   write_chosen true owner own is home idle holder = (
     upgrade-seen s t m shape flight home is,
-    ((arrives GetM block.GetM is refl refl refl, λ p. kind_open (idle p)), (λ p. is_itself (holder p), (λ p. owner_of (holder p)) ∙ (same ∙ sym (λ p. (seen_as GetM is p).from))), listed_for GetM is refl home),
+    (
+      (arrives GetM block.GetM is refl refl refl, λ p. kind_open (idle p)),
+      (λ p. is_itself (holder p), (λ p. owner_of (holder p)) ∙ (same ∙ sym (λ p. (seen_as GetM is p).from))),
+      listed_for GetM is refl home,
+    ),
   )
     where
       same : owner ≡ m.from
       same = grind (arith, nat_tests)
   write_chosen false owner own is home idle holder = (
     move_ownership-seen s t m shape flight home owner is holder,
-    ((arrives GetM block.GetM is refl refl refl, λ p. kind_open (idle p)), (λ p. is_itself (holder p), λ h. other (sym (λ p. owner_of (holder p)) ∙ (h ∙ (λ p. (seen_as GetM is p).from)))), listed_for GetM is refl home),
+    (
+      (arrives GetM block.GetM is refl refl refl, λ p. kind_open (idle p)),
+      (λ p. is_itself (holder p), λ h. other (sym (λ p. owner_of (holder p)) ∙ (h ∙ (λ p. (seen_as GetM is p).from)))),
+      listed_for GetM is refl home,
+    ),
   )
     where
       other : owner ≡ m.from → ⊥
       other h = grind (arith, nat_tests)
 
-  write_by : (holder : Holder) → m.body ≡ GetM → m.to ≡ home_node s m.block → (home_of s m.block).transaction ≡ None → (home_of s m.block).holder ≡ holder → Does (get_modified (kept_at s m.to m.block) m.block (node_at s m.to).now m.from holder) (write_event s m holder)
+  write_by : (holder : Holder) → m.body ≡ GetM → m.to ≡ home_node s m.block → (home_of s m.block).transaction ≡ None →
+      (home_of s m.block).holder ≡ holder →
+      Does (get_modified (kept_at s m.to m.block) m.block (node_at s m.to).now m.from holder) (write_event s m holder)
   write_by (Itself content) is home idle e = (
     take-seen s t m shape flight home content is e (late_now home),
     ((arrives GetM block.GetM is refl refl refl, λ p. kind_open (idle p)), λ p. is_itself (e p), listed_for GetM is refl home),
@@ -121,12 +166,18 @@ module _ (s : Fabric) (t : Beside) (m : Message) (shape : IsShaped s) (flight : 
   write_by (OfCache owner) is home idle e = write_chosen (nat_eq owner m.from) owner refl is home idle e
 
   -- PutReq
-  put_chosen : (c : Bool) → is_owner (home_of s m.block).holder m.from ≡ c → m.body ≡ PutReq → m.to ≡ home_node s m.block → (home_of s m.block).transaction ≡ None →
-      IsHomeRow s t m (if c then row.put_begins (kept_at s m.to m.block) (node_at s m.to).now m.from else row.put_is_stale (kept_at s m.to m.block) m.from) (after (length s.nodes) (block_seen s t m.block) (if c then PutBegins m.id else PutIsStale m.id))
+  put_chosen : (c : Bool) → is_owner (home_of s m.block).holder m.from ≡ c → m.body ≡ PutReq → m.to ≡ home_node s m.block →
+      (home_of s m.block).transaction ≡ None →
+      IsHomeRow s t m (if c then row.put_begins (kept_at s m.to m.block) (node_at s m.to).now m.from
+      else row.put_is_stale (kept_at s m.to m.block) m.from)
+      (after (length s.nodes) (block_seen s t m.block) (if c then PutBegins m.id else PutIsStale m.id))
       × Allows (length s.nodes) (block_seen s t m.block) (if c then PutBegins m.id else PutIsStale m.id)
   put_chosen true own is home idle = (
     put_begins-seen s t m shape flight home is,
-    ((arrives PutReq block.PutReq is refl refl refl, λ p. kind_open (idle p)), ((owned (home_of s m.block).holder own).0, (owned (home_of s m.block).holder own).1 ∙ sym (λ p. (seen_as PutReq is p).from))),
+    (
+      (arrives PutReq block.PutReq is refl refl refl, λ p. kind_open (idle p)),
+      ((owned (home_of s m.block).holder own).0, (owned (home_of s m.block).holder own).1 ∙ sym (λ p. (seen_as PutReq is p).from)),
+    ),
   )
     where
       owned : (h : Holder) → is_owner h m.from ≡ true → (is_itself h ≡ false) × (owner_of h ≡ m.from)
@@ -145,26 +196,37 @@ module _ (s : Fabric) (t : Beside) (m : Message) (shape : IsShaped s) (flight : 
           other h = grind (arith, nat_tests)
 
   -- PutData
-  put_ends : (content : List ℕ) → m.body ≡ PutData content → m.to ≡ home_node s m.block → Does (row.put_data (kept_at s m.to m.block) m.block m.tag m.from content) (PutDataComes m.id)
-  put_ends content is home = (put_data-seen s t m shape flight home content is names (late_tag content is home), arrives (PutData content) block.PutData is refl refl refl)
+  put_ends : (content : List ℕ) → m.body ≡ PutData content → m.to ≡ home_node s m.block →
+      Does (row.put_data (kept_at s m.to m.block) m.block m.tag m.from content) (PutDataComes m.id)
+  put_ends content is home = (
+    put_data-seen s t m shape flight home content is names (late_tag content is home),
+    arrives (PutData content) block.PutData is refl refl refl,
+  )
     where
       body : (net_seen m.block s.net.flights m.id).body ≡ block.PutData
       body = λ p. (seen_as (PutData content) is p).body
 
       names : (home_of s m.block).holder ≡ OfCache m.from
       names = of-cache (home_of s m.block).holder (kept.owners.put_owner (rows.put_data m.id body).0).1
-          ∙ ap OfCache ((kept.owners.put_owner (rows.put_data m.id body).0).0 ∙ ((rows.put_data m.id body).1 ∙ (λ p. (seen_as (PutData content) is p).from)))
+          ∙ ap OfCache ((kept.owners.put_owner (rows.put_data m.id body).0).0
+          ∙ ((rows.put_data m.id body).1 ∙ (λ p. (seen_as (PutData content) is p).from)))
 
   -- Unblock
   never_idle : (fixed : ℕ) → m.body ≡ Unblock fixed → (home_of s m.block).transaction ≡ None → ⊥
-  never_idle fixed is e = none (ap block.gets (sym (λ p. kind_open (e p))) ∙ (rows.unblock m.id (λ p. (seen_as (Unblock fixed) is p).body)).0)
+  never_idle fixed is e =
+      none (ap block.gets (sym (λ p. kind_open (e p))) ∙ (rows.unblock m.id (λ p. (seen_as (Unblock fixed) is p).body)).0)
     where
       none : false ≡ true → ⊥
       none h = grind (arith, h)
 
-  unblocks_with : (fixed : ℕ) (open_one : Option Transaction) → m.body ≡ Unblock fixed → m.to ≡ home_node s m.block → (home_of s m.block).transaction ≡ open_one → Does (row.unblock (kept_at s m.to m.block) m.block fixed (home_of s m.block).transaction) (Unblocks m.id)
+  unblocks_with : (fixed : ℕ) (open_one : Option Transaction) → m.body ≡ Unblock fixed → m.to ≡ home_node s m.block →
+      (home_of s m.block).transaction ≡ open_one →
+      Does (row.unblock (kept_at s m.to m.block) m.block fixed (home_of s m.block).transaction) (Unblocks m.id)
   unblocks_with fixed None is home e = absurd (never_idle fixed is e)
-  unblocks_with fixed (Some transaction) is home e = (unblock-seen s t m shape flight home fixed transaction is e from names (late_fixed fixed transaction is home e), arrives (Unblock fixed) block.Unblock is refl refl refl)
+  unblocks_with fixed (Some transaction) is home e = (
+    unblock-seen s t m shape flight home fixed transaction is e from names (late_fixed fixed transaction is home e),
+    arrives (Unblock fixed) block.Unblock is refl refl refl,
+  )
     where
       body : (net_seen m.block s.net.flights m.id).body ≡ block.Unblock
       body = λ p. (seen_as (Unblock fixed) is p).body
@@ -179,7 +241,8 @@ module _ (s : Fabric) (t : Beside) (m : Message) (shape : IsShaped s) (flight : 
       names h = (kept.owners.move_owner (moves h)).1
 
   -- a request that isn't kept waiting
-  served : (a b : row.HomeReply) (event : Event) (open_one : Option Transaction) → (home_of s m.block).transaction ≡ open_one → unless_busy open_one a ≡ AtHome b → ((home_of s m.block).transaction ≡ None → Does a event) → Does b event
+  served : (a b : row.HomeReply) (event : Event) (open_one : Option Transaction) → (home_of s m.block).transaction ≡ open_one →
+      unless_busy open_one a ≡ AtHome b → ((home_of s m.block).transaction ≡ None → Does a event) → Does b event
   served a b event None e h does = subst (λ x. Does x event) (reply_is a b h) (does e)
   served a b event (Some transaction) e h does = absurd (busy h)
     where
@@ -188,11 +251,25 @@ module _ (s : Fabric) (t : Beside) (m : Message) (shape : IsShaped s) (flight : 
 
   -- whatever a message comes to at its home is its event
   pub home-outcome : (x : Body) (reply : row.HomeReply) → m.body ≡ x → outcome_of s m x ≡ AtHome reply → Does reply (home_event s m x)
-  home-outcome GetS reply is e = served (get_shared (kept_at s m.to m.block) m.block (node_at s m.to).now m.from (home_of s m.block).holder) reply (home_event s m GetS) (home_of s m.block).transaction refl e (λ idle. read_by (home_of s m.block).holder is (comes_home GetS is refl refl) idle refl)
-  home-outcome GetM reply is e = served (get_modified (kept_at s m.to m.block) m.block (node_at s m.to).now m.from (home_of s m.block).holder) reply (home_event s m GetM) (home_of s m.block).transaction refl e (λ idle. write_by (home_of s m.block).holder is (comes_home GetM is refl refl) idle refl)
-  home-outcome PutReq reply is e = served (put_request (kept_at s m.to m.block) (node_at s m.to).now m.from) reply (home_event s m PutReq) (home_of s m.block).transaction refl e (λ idle. put_chosen (is_owner (home_of s m.block).holder m.from) refl is (comes_home PutReq is refl refl) idle)
-  home-outcome (Unblock fixed) reply is e = subst (λ y. Does y (Unblocks m.id)) (reply_is (row.unblock (kept_at s m.to m.block) m.block fixed (home_of s m.block).transaction) reply e) (unblocks_with fixed (home_of s m.block).transaction is (comes_home (Unblock fixed) is refl refl) refl)
-  home-outcome (PutData content) reply is e = subst (λ y. Does y (PutDataComes m.id)) (reply_is (row.put_data (kept_at s m.to m.block) m.block m.tag m.from content) reply e) (put_ends content is (comes_home (PutData content) is refl refl))
+  home-outcome GetS reply is e =
+      served (get_shared (kept_at s m.to m.block) m.block (node_at s m.to).now m.from (home_of s m.block).holder) reply
+      (home_event s m GetS) (home_of s m.block).transaction refl e
+      (λ idle. read_by (home_of s m.block).holder is (comes_home GetS is refl refl) idle refl)
+  home-outcome GetM reply is e =
+      served (get_modified (kept_at s m.to m.block) m.block (node_at s m.to).now m.from (home_of s m.block).holder) reply
+      (home_event s m GetM) (home_of s m.block).transaction refl e
+      (λ idle. write_by (home_of s m.block).holder is (comes_home GetM is refl refl) idle refl)
+  home-outcome PutReq reply is e =
+      served (put_request (kept_at s m.to m.block) (node_at s m.to).now m.from) reply (home_event s m PutReq)
+      (home_of s m.block).transaction refl e
+      (λ idle. put_chosen (is_owner (home_of s m.block).holder m.from) refl is (comes_home PutReq is refl refl) idle)
+  home-outcome (Unblock fixed) reply is e =
+      subst (λ y. Does y (Unblocks m.id))
+      (reply_is (row.unblock (kept_at s m.to m.block) m.block fixed (home_of s m.block).transaction) reply e)
+      (unblocks_with fixed (home_of s m.block).transaction is (comes_home (Unblock fixed) is refl refl) refl)
+  home-outcome (PutData content) reply is e =
+      subst (λ y. Does y (PutDataComes m.id)) (reply_is (row.put_data (kept_at s m.to m.block) m.block m.tag m.from content) reply e)
+      (put_ends content is (comes_home (PutData content) is refl refl))
   home-outcome (FwdGetS r) reply is e = absurd (cc)
   home-outcome (FwdGetM r due) reply is e = absurd (cc)
   home-outcome (Inv r) reply is e = absurd (cc)
@@ -211,40 +288,61 @@ module _ (s : Fabric) (t : Beside) (m : Message) (shape : IsShaped s) (flight : 
     abbrev Passes : row.HomeReply → Type 0
     Passes reply = IsHomeElsewhere s t m reply e o
 
-    read_passes : (c : Bool) (content : List ℕ) → m.to ≡ home_node s m.block → Passes (if c then row.grant_exclusive (kept_at s m.to m.block) m.block (node_at s m.to).now m.from content else row.read_at_home (kept_at s m.to m.block) (node_at s m.to).now m.from content)
+    read_passes : (c : Bool) (content : List ℕ) → m.to ≡ home_node s m.block →
+        Passes (if c then row.grant_exclusive (kept_at s m.to m.block) m.block (node_at s m.to).now m.from content
+        else row.read_at_home (kept_at s m.to m.block) (node_at s m.to).now m.from content)
     read_passes true content home = grant_exclusive-elsewhere s t m shape flight e o other content (late_now home)
     read_passes false content home = read_at_home-elsewhere s t m shape flight e o other content
 
-    read_past : (holder : Holder) → m.to ≡ home_node s m.block → Passes (get_shared (kept_at s m.to m.block) m.block (node_at s m.to).now m.from holder)
+    read_past : (holder : Holder) → m.to ≡ home_node s m.block →
+        Passes (get_shared (kept_at s m.to m.block) m.block (node_at s m.to).now m.from holder)
     read_past (Itself content) home = read_passes (nat_eq (other_count s m) 0) content home
     read_past (OfCache owner) home = read_at_owner-elsewhere s t m shape flight e o other owner
 
-    write_passes : (c : Bool) (owner : ℕ) → Passes (if c then row.upgrade (kept_at s m.to m.block) (node_at s m.to).now m.from else row.move_ownership (kept_at s m.to m.block) (node_at s m.to).now m.from owner)
+    write_passes : (c : Bool) (owner : ℕ) →
+        Passes (if c then row.upgrade (kept_at s m.to m.block) (node_at s m.to).now m.from
+        else row.move_ownership (kept_at s m.to m.block) (node_at s m.to).now m.from owner)
     write_passes true owner = upgrade-elsewhere s t m shape flight e o other
     write_passes false owner = move_ownership-elsewhere s t m shape flight e o other owner
 
-    write_past : (holder : Holder) → m.to ≡ home_node s m.block → Passes (get_modified (kept_at s m.to m.block) m.block (node_at s m.to).now m.from holder)
+    write_past : (holder : Holder) → m.to ≡ home_node s m.block →
+        Passes (get_modified (kept_at s m.to m.block) m.block (node_at s m.to).now m.from holder)
     write_past (Itself content) home = take-elsewhere s t m shape flight e o other content (late_now home)
     write_past (OfCache owner) home = write_passes (nat_eq owner m.from) owner
 
-    put_passes : (c : Bool) → Passes (if c then row.put_begins (kept_at s m.to m.block) (node_at s m.to).now m.from else row.put_is_stale (kept_at s m.to m.block) m.from)
+    put_passes : (c : Bool) →
+        Passes (if c then row.put_begins (kept_at s m.to m.block) (node_at s m.to).now m.from
+        else row.put_is_stale (kept_at s m.to m.block) m.from)
     put_passes true = put_begins-elsewhere s t m shape flight e o other
     put_passes false = put_is_stale-elsewhere s t m shape flight e o other
 
-    unblock_past : (fixed : ℕ) (open_one : Option Transaction) → m.body ≡ Unblock fixed → m.to ≡ home_node s m.block → (home_of s m.block).transaction ≡ open_one → Passes (row.unblock (kept_at s m.to m.block) m.block fixed (home_of s m.block).transaction)
+    unblock_past : (fixed : ℕ) (open_one : Option Transaction) → m.body ≡ Unblock fixed → m.to ≡ home_node s m.block →
+        (home_of s m.block).transaction ≡ open_one →
+        Passes (row.unblock (kept_at s m.to m.block) m.block fixed (home_of s m.block).transaction)
     unblock_past fixed None is home h = absurd (never_idle fixed is h)
-    unblock_past fixed (Some transaction) is home h = unblock-elsewhere s t m shape flight e o other fixed transaction h (late_fixed fixed transaction is home h)
+    unblock_past fixed (Some transaction) is home h =
+        unblock-elsewhere s t m shape flight e o other fixed transaction h (late_fixed fixed transaction is home h)
 
     served_past : (a b : row.HomeReply) (open_one : Option Transaction) → unless_busy open_one a ≡ AtHome b → Passes a → Passes b
     served_past a b None h passes = subst Passes (reply_is a b h) passes
     served_past a b (Some transaction) h passes = absurd (cc)
 
     pub home-elsewhere : (x : Body) (reply : row.HomeReply) → m.body ≡ x → outcome_of s m x ≡ AtHome reply → Passes reply
-    home-elsewhere GetS reply is h = served_past (get_shared (kept_at s m.to m.block) m.block (node_at s m.to).now m.from (home_of s m.block).holder) reply (home_of s m.block).transaction h (read_past (home_of s m.block).holder (comes_home GetS is refl refl))
-    home-elsewhere GetM reply is h = served_past (get_modified (kept_at s m.to m.block) m.block (node_at s m.to).now m.from (home_of s m.block).holder) reply (home_of s m.block).transaction h (write_past (home_of s m.block).holder (comes_home GetM is refl refl))
-    home-elsewhere PutReq reply is h = served_past (put_request (kept_at s m.to m.block) (node_at s m.to).now m.from) reply (home_of s m.block).transaction h (put_passes (is_owner (home_of s m.block).holder m.from))
-    home-elsewhere (Unblock fixed) reply is h = subst Passes (reply_is (row.unblock (kept_at s m.to m.block) m.block fixed (home_of s m.block).transaction) reply h) (unblock_past fixed (home_of s m.block).transaction is (comes_home (Unblock fixed) is refl refl) refl)
-    home-elsewhere (PutData content) reply is h = subst Passes (reply_is (row.put_data (kept_at s m.to m.block) m.block m.tag m.from content) reply h) (put_data-elsewhere s t m shape flight e o other content (late_tag content is (comes_home (PutData content) is refl refl)))
+    home-elsewhere GetS reply is h =
+        served_past (get_shared (kept_at s m.to m.block) m.block (node_at s m.to).now m.from (home_of s m.block).holder) reply
+        (home_of s m.block).transaction h (read_past (home_of s m.block).holder (comes_home GetS is refl refl))
+    home-elsewhere GetM reply is h =
+        served_past (get_modified (kept_at s m.to m.block) m.block (node_at s m.to).now m.from (home_of s m.block).holder) reply
+        (home_of s m.block).transaction h (write_past (home_of s m.block).holder (comes_home GetM is refl refl))
+    home-elsewhere PutReq reply is h =
+        served_past (put_request (kept_at s m.to m.block) (node_at s m.to).now m.from) reply (home_of s m.block).transaction h
+        (put_passes (is_owner (home_of s m.block).holder m.from))
+    home-elsewhere (Unblock fixed) reply is h =
+        subst Passes (reply_is (row.unblock (kept_at s m.to m.block) m.block fixed (home_of s m.block).transaction) reply h)
+        (unblock_past fixed (home_of s m.block).transaction is (comes_home (Unblock fixed) is refl refl) refl)
+    home-elsewhere (PutData content) reply is h =
+        subst Passes (reply_is (row.put_data (kept_at s m.to m.block) m.block m.tag m.from content) reply h)
+        (put_data-elsewhere s t m shape flight e o other content (late_tag content is (comes_home (PutData content) is refl refl)))
     home-elsewhere (FwdGetS r) reply is h = absurd (cc)
     home-elsewhere (FwdGetM r due) reply is h = absurd (cc)
     home-elsewhere (Inv r) reply is h = absurd (cc)

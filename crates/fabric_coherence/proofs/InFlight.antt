@@ -1,5 +1,6 @@
 -- A message that is found by its number is in flight.
-use Rattle.std.proofs.Common.{◌≡◌, ◌∙◌, ℕ, ◌<◌, Bool, true, false, ◌||◌, List, [], ◌∷◌, length, refl, ap, subst, arith, if◌then◌else◌, nat_eq, Some}
+use Rattle.std.proofs.Common.{◌≡◌, ◌∙◌, ℕ, ◌<◌, Bool, true, false, ◌||◌, List, [], ◌∷◌, length, refl, ap, subst, arith, if◌then◌else◌}
+use Rattle.std.proofs.Common.{nat_eq, Some}
 use Rattle.std.specs.Prelude.{unwrap_or}
 use Rattle.std.proofs.lemmas.Bool.Decides.{nat_tests}
 use Rattle.sn_model.specs.Caches.{block_count}
@@ -9,11 +10,14 @@ use Rattle.fabric_coherence.specs.View.{net_seen, is_seen, is_for_all, message_s
 use Rattle.fabric_coherence.specs.Steps.{Below, Within, named, IsShaped, IsInFlight}
 
 -- what is found is seen under its number, by each block that sees it
-found_step : (g f : Flight) (fs : List Flight) (id b : ℕ) → (if nat_eq g.message.id id then Some g else flight_of fs id) ≡ Some f → is_seen b f.message ≡ true →
-    (flight_of fs id ≡ Some f → net_seen b fs id ≡ message_seen f.message f.message.body) → net_seen b (g ∷ fs) id ≡ message_seen f.message f.message.body
+found_step : (g f : Flight) (fs : List Flight) (id b : ℕ) → (if nat_eq g.message.id id then Some g else flight_of fs id) ≡ Some f →
+    is_seen b f.message ≡ true →
+    (flight_of fs id ≡ Some f → net_seen b fs id ≡ message_seen f.message f.message.body) →
+    net_seen b (g ∷ fs) id ≡ message_seen f.message f.message.body
 found_step g f fs id b e s h = grind (arith, nat_tests)
 
-pub found-seen : (fs : List Flight) (id : ℕ) (f : Flight) (b : ℕ) → flight_of fs id ≡ Some f → is_seen b f.message ≡ true → net_seen b fs id ≡ message_seen f.message f.message.body
+pub found-seen : (fs : List Flight) (id : ℕ) (f : Flight) (b : ℕ) → flight_of fs id ≡ Some f → is_seen b f.message ≡ true →
+    net_seen b fs id ≡ message_seen f.message f.message.body
 found-seen [] id f b e s = absurd (grind arith)
 found-seen (g ∷ fs) id f b e s = found_step g f fs id b e s (λ q. found-seen fs id f b q s)
 
@@ -25,8 +29,10 @@ pub record IsFound (f : Flight) (id next nodes : ℕ) : Type 0 where
   pub block : f.message.block < block_count
   pub names : named f.message.body < nodes
 
-is_found_step : (g f : Flight) (fs : List Flight) (id next nodes : ℕ) → (if nat_eq g.message.id id then Some g else flight_of fs id) ≡ Some f → g.message.id < next →
-    (g.message.from < nodes) × (g.message.to < nodes) × (g.message.block < block_count) × (named g.message.body < nodes) → (flight_of fs id ≡ Some f → IsFound f id next nodes) → IsFound f id next nodes
+is_found_step : (g f : Flight) (fs : List Flight) (id next nodes : ℕ) →
+    (if nat_eq g.message.id id then Some g else flight_of fs id) ≡ Some f → g.message.id < next →
+    (g.message.from < nodes) × (g.message.to < nodes) × (g.message.block < block_count) × (named g.message.body < nodes) →
+    (flight_of fs id ≡ Some f → IsFound f id next nodes) → IsFound f id next nodes
 is_found_step g f fs id next nodes e l w h = either (nat_eq g.message.id id) refl e
   where
     first : nat_eq g.message.id id ≡ true → IsFound g id next nodes
@@ -36,7 +42,8 @@ is_found_step g f fs id next nodes e l w h = either (nat_eq g.message.id id) ref
     either true q x = subst (λ y. IsFound y id next nodes) (ap (λ o. unwrap_or o g) x) (first q)
     either false q x = h x
 
-pub is_found : (fs : List Flight) (id : ℕ) (f : Flight) (next nodes : ℕ) → flight_of fs id ≡ Some f → Below fs next → Within fs nodes → IsFound f id next nodes
+pub is_found : (fs : List Flight) (id : ℕ) (f : Flight) (next nodes : ℕ) → flight_of fs id ≡ Some f → Below fs next → Within fs nodes →
+    IsFound f id next nodes
 is_found [] id f next nodes e l w = absurd (grind arith)
 is_found (g ∷ fs) id f next nodes e l w = is_found_step g f fs id next nodes e l.0 w.0 (λ q. is_found fs id f next nodes q l.1 w.1)
 
@@ -46,7 +53,9 @@ seen_own all block = grind (arith, nat_tests)
 
 pub in_flight : (s : Fabric) (id : ℕ) (f : Flight) → IsShaped s → flight_of s.net.flights id ≡ Some f → IsInFlight s f.message
 in_flight s id f h e = let i = is_found s.net.flights id f s.net.next_id (length s.nodes) e h.below h.within in record {
-  seen = ap (net_seen f.message.block s.net.flights) i.number ∙ found-seen s.net.flights id f f.message.block e (seen_own (is_for_all f.message.body) f.message.block);
+  seen =
+      ap (net_seen f.message.block s.net.flights) i.number
+      ∙ found-seen s.net.flights id f f.message.block e (seen_own (is_for_all f.message.body) f.message.block);
   known = i.known;
   from = i.from;
   to = i.to;
@@ -57,7 +66,9 @@ in_flight s id f h e = let i = is_found s.net.flights id f s.net.next_id (length
 for_all : (all same : Bool) → all ≡ true → (all || same) ≡ true
 for_all all same e = grind arith
 
-pub found-for_all : (s : Fabric) (id : ℕ) (f : Flight) (b : ℕ) → IsShaped s → flight_of s.net.flights id ≡ Some f → is_for_all f.message.body ≡ true → net_seen b s.net.flights f.message.id ≡ message_seen f.message f.message.body
+pub found-for_all : (s : Fabric) (id : ℕ) (f : Flight) (b : ℕ) → IsShaped s → flight_of s.net.flights id ≡ Some f →
+    is_for_all f.message.body ≡ true → net_seen b s.net.flights f.message.id ≡ message_seen f.message f.message.body
 found-for_all s id f b h e all =
     let i = is_found s.net.flights id f s.net.next_id (length s.nodes) e h.below h.within in
-    ap (net_seen b s.net.flights) i.number ∙ found-seen s.net.flights id f b e (for_all (is_for_all f.message.body) (nat_eq f.message.block b) all)
+    ap (net_seen b s.net.flights) i.number
+    ∙ found-seen s.net.flights id f b e (for_all (is_for_all f.message.body) (nat_eq f.message.block b) all)

@@ -1,6 +1,7 @@
 -- What every part of the proof that events keep the sentences needs: the losses, what a block sees of an event of another one,
 -- and how the fabric goes on where each of its blocks does.
-use Rattle.std.proofs.Common.{◌≡◌, ◌≢◌, inl, ℕ, ◌<◌, Bool, true, false, List, [], ◌∷◌, length, refl, sym, subst, arith, nat_eq, if◌then◌else◌, Some}
+use Rattle.std.proofs.Common.{◌≡◌, ◌≢◌, inl, ℕ, ◌<◌, Bool, true, false, List, [], ◌∷◌, length, refl, sym, subst, arith, nat_eq}
+use Rattle.std.proofs.Common.{if◌then◌else◌, Some}
 use Rattle.std.specs.Prelude.{⊤}
 use Rattle.std.proofs.lemmas.Bool.Decides.{nat_tests}
 use Rattle.sn_base.specs.declared.event.Answer.{Answer}
@@ -8,7 +9,9 @@ use Rattle.sn_model.specs.Caches.{block_count}
 use Rattle.sn_model.specs.Fabric.{Fabric, Moved, refused}
 use Rattle.sn_coherence.specs.Block.{Block, NoLine, Nothing, Elsewhere, NoPut, PutElsewhere}
 use Rattle.sn_coherence.specs.OtherEvents.{lose, begin_miss_elsewhere, end_miss_elsewhere, begin_put_elsewhere, end_put_elsewhere}
-use Rattle.sn_coherence.specs.Events.{Event, ForwardWrite, Invalidate, PutGoes, DeliverReady, Lose, NumbersElsewhere, BeginMissElsewhere, EndMissElsewhere, BeginPutElsewhere, EndPutElsewhere, Load, LoadReserved, Store, StoreConditionalDone, StoreConditionalUndone, EvictShared, Edge, Validate, Recover, Allows, after}
+use Rattle.sn_coherence.specs.Events.{Event, ForwardWrite, Invalidate, PutGoes, DeliverReady, Lose, NumbersElsewhere, BeginMissElsewhere}
+use Rattle.sn_coherence.specs.Events.{EndMissElsewhere, BeginPutElsewhere, EndPutElsewhere, Load, LoadReserved, Store, StoreConditionalDone}
+use Rattle.sn_coherence.specs.Events.{StoreConditionalUndone, EvictShared, Edge, Validate, Recover, Allows, after}
 use Rattle.sn_coherence.specs.Kept.{AllSentences}
 use Rattle.sn_coherence.specs.KeptRecords.{KeptRecords}
 use Rattle.sn_coherence.specs.Records.{Records, recorded, MayHappen, unreserves}
@@ -24,7 +27,8 @@ use Rattle.fabric_coherence.specs.CacheEvents.{told_of}
 use Rattle.fabric_coherence.specs.Leads.{Leads, KeepsFrames, Goes, Moves}
 
 -- an event that is allowed leads to the block after it
-pub event_leads : (N : ℕ) (b : Block) (e : Event) → Allows N b e → ((r : Records) → MayHappen N b r e) → Leads N b (λ r. recorded N b r e) (after N b e)
+pub event_leads : (N : ℕ) (b : Block) (e : Event) → Allows N b e → ((r : Records) → MayHappen N b r e) →
+    Leads N b (λ r. recorded N b r e) (after N b e)
 event_leads N b e a m = record { kept = λ k. event_kept N b e k a; records = λ r k v. event_recorded N b r e k v (m r) }
 
 -- an event that leaves the records as they are
@@ -44,7 +48,8 @@ IsQuiet Validate = ⊥
 IsQuiet Recover = ⊥
 IsQuiet _ = ⊤
 
-quiet_records : (N : ℕ) (b : Block) (r : Records) (e : Event) → IsQuiet e → KeptRecords (after N b e) (recorded N b r e) → KeptRecords (after N b e) r
+quiet_records : (N : ℕ) (b : Block) (r : Records) (e : Event) → IsQuiet e → KeptRecords (after N b e) (recorded N b r e) →
+    KeptRecords (after N b e) r
 quiet_records N b r (ForwardWrite i) q v = absurd q
 quiet_records N b r (Invalidate i) q v = absurd q
 quiet_records N b r (PutGoes i) q v = absurd q
@@ -66,7 +71,11 @@ quiet_happens N b r Validate q a = absurd q
 quiet_happens N b r _ q a = a
 
 pub quiet_leads : (N : ℕ) (b : Block) (e : Event) → Allows N b e → IsQuiet e → Leads N b (λ r. r) (after N b e)
-quiet_leads N b e a q = record { kept = λ k. event_kept N b e k a; records = λ r k v. quiet_records N b r e q (event_recorded N b r e k v (quiet_happens N b r e q a)) }
+quiet_leads N b e a q =
+    record {
+      kept = λ k. event_kept N b e k a;
+      records = λ r k v. quiet_records N b r e q (event_recorded N b r e k v (quiet_happens N b r e q a));
+    }
 
 -- nothing, and one after the other
 pub stays : (N : ℕ) (b : Block) → Leads N b (λ r. r) b
@@ -82,7 +91,8 @@ leads_as N b c f g e x = record { kept = x.kept; records = λ r k v. subst (Kept
 -- a loss is an event that may always happen
 pub losing_leads : (N : ℕ) (b : Block) (ids : List ℕ) → Leads N b (λ r. r) (losing b ids)
 losing_leads N b [] = stays N b
-losing_leads N b (i ∷ ids) = leads_then N b (lose b i) (losing (lose b i) ids) (λ r. r) (λ r. r) (quiet_leads N b (Lose i) tt tt) (losing_leads N (lose b i) ids)
+losing_leads N b (i ∷ ids) =
+    leads_then N b (lose b i) (losing (lose b i) ids) (λ r. r) (λ r. r) (quiet_leads N b (Lose i) tt tt) (losing_leads N (lose b i) ids)
 
 -- an event of a block, and then the losses
 pub then_losing : (N : ℕ) (b c : Block) (f : Records → Records) (ids : List ℕ) → Leads N b f c → Leads N b f (losing c ids)
@@ -98,16 +108,19 @@ then_quiet N b c e x a q = leads_then N b c (after N c e) (λ r. r) (λ r. r) x 
 pub elsewhere_leads : (N : ℕ) (b : Block) (i count : ℕ) → Leads N b (λ r. r) (elsewhere b i count)
 elsewhere_leads N b i count = then_quiet N b (lose b i) (NumbersElsewhere count) (quiet_leads N b (Lose i) tt tt) tt tt
 
-pub begin_miss_elsewhere_leads : (N : ℕ) (b : Block) (n : ℕ) → n < N → (b.miss n).want ≡ Nothing → Leads N b (λ r. r) (begin_miss_elsewhere b n)
+pub begin_miss_elsewhere_leads : (N : ℕ) (b : Block) (n : ℕ) → n < N → (b.miss n).want ≡ Nothing →
+    Leads N b (λ r. r) (begin_miss_elsewhere b n)
 begin_miss_elsewhere_leads N b n l e = quiet_leads N b (BeginMissElsewhere n) (l, e) tt
 
-pub end_miss_elsewhere_leads : (N : ℕ) (b c : Block) (n : ℕ) → Leads N b (λ r. r) c → (c.miss n).want ≡ Elsewhere → Leads N b (λ r. r) (end_miss_elsewhere c n)
+pub end_miss_elsewhere_leads : (N : ℕ) (b c : Block) (n : ℕ) → Leads N b (λ r. r) c → (c.miss n).want ≡ Elsewhere →
+    Leads N b (λ r. r) (end_miss_elsewhere c n)
 end_miss_elsewhere_leads N b c n x e = then_quiet N b c (EndMissElsewhere n) x e tt
 
 pub begin_put_elsewhere_leads : (N : ℕ) (b : Block) (n : ℕ) → n < N → b.putting n ≡ NoPut → Leads N b (λ r. r) (begin_put_elsewhere b n)
 begin_put_elsewhere_leads N b n l e = quiet_leads N b (BeginPutElsewhere n) (l, e) tt
 
-pub end_put_elsewhere_leads : (N : ℕ) (b c : Block) (n : ℕ) → Leads N b (λ r. r) c → c.putting n ≡ PutElsewhere → Leads N b (λ r. r) (end_put_elsewhere c n)
+pub end_put_elsewhere_leads : (N : ℕ) (b c : Block) (n : ℕ) → Leads N b (λ r. r) c → c.putting n ≡ PutElsewhere →
+    Leads N b (λ r. r) (end_put_elsewhere c n)
 end_put_elsewhere_leads N b c n x e = then_quiet N b c (EndPutElsewhere n) x e tt
 
 -- where the line is not there, there is no reservation to lose
@@ -119,7 +132,8 @@ no_reservation b r n v e = of (r.reserved n) refl
     of true q = absurd (v.contents.reserved_line n q e)
 
 pub absent_leads : (N : ℕ) (b c : Block) (n : ℕ) → b.line n ≡ NoLine → Leads N b (λ r. unreserves r n) c → Leads N b (λ r. r) c
-absent_leads N b c n e x = record { kept = x.kept; records = λ r k v. subst (KeptRecords c) (as_it_was r (no_reservation b r n v e)) (x.records r k v) }
+absent_leads N b c n e x =
+    record { kept = x.kept; records = λ r k v. subst (KeptRecords c) (as_it_was r (no_reservation b r n v e)) (x.records r k v) }
   where
     same : (r : Records) → r.reserved n ≡ false → (m : ℕ) → (unreserves r n).reserved m ≡ r.reserved m
     same r q m = grind (arith, nat_tests)
@@ -158,7 +172,8 @@ frames_stay s t n j = inl (λ b. refl)
 
 -- the fabric goes on, where each block does
 module _ (s : Fabric) (t : Beside) (f : ℕ → Records → Records) (after : Fabric) (u : Beside) (count : length after.nodes ≡ length s.nodes) (frames : KeepsFrames s t u) (shape : IsShaped after) where
-  pub goes_each : (each : ℕ → Block) → ((o : ℕ) → o < block_count → IsSame (block_seen after u o) (each o)) → ((o : ℕ) → o < block_count → Leads (length s.nodes) (block_seen s t o) (f o) (each o)) → Goes s t f after u
+  pub goes_each : (each : ℕ → Block) → ((o : ℕ) → o < block_count → IsSame (block_seen after u o) (each o)) →
+      ((o : ℕ) → o < block_count → Leads (length s.nodes) (block_seen s t o) (f o) (each o)) → Goes s t f after u
   goes_each each sees leads = record {
     shape = shape;
     count = count;
@@ -169,8 +184,10 @@ module _ (s : Fabric) (t : Beside) (f : ℕ → Records → Records) (after : Fa
   -- its own block, and the others
   pub goes_own : (b : ℕ) (own : Block) (others : ℕ → Block) →
       IsSame (block_seen after u b) own → Leads (length s.nodes) (block_seen s t b) (f b) own →
-      ((o : ℕ) → o < block_count → o ≢ b → IsSame (block_seen after u o) (others o)) → ((o : ℕ) → o < block_count → o ≢ b → Leads (length s.nodes) (block_seen s t o) (f o) (others o)) → Goes s t f after u
-  goes_own b own others sees leads sees_others leads_others = record { shape = shape; count = count; frames = frames; blocks = λ o l. either o l (nat_eq o b) refl }
+      ((o : ℕ) → o < block_count → o ≢ b → IsSame (block_seen after u o) (others o)) →
+      ((o : ℕ) → o < block_count → o ≢ b → Leads (length s.nodes) (block_seen s t o) (f o) (others o)) → Goes s t f after u
+  goes_own b own others sees leads sees_others leads_others =
+      record { shape = shape; count = count; frames = frames; blocks = λ o l. either o l (nat_eq o b) refl }
     where
       equal : (o : ℕ) → nat_eq o b ≡ true → o ≡ b
       equal o e = grind (arith, nat_tests)
@@ -178,23 +195,37 @@ module _ (s : Fabric) (t : Beside) (f : ℕ → Records → Records) (after : Fa
       unequal : (o : ℕ) → nat_eq o b ≡ false → o ≢ b
       unequal o e = grind (arith, nat_tests)
 
-      either : (o : ℕ) → o < block_count → (c : Bool) → nat_eq o b ≡ c → Leads (length s.nodes) (block_seen s t o) (f o) (block_seen after u o)
-      either o l true e = subst (λ x. Leads (length s.nodes) (block_seen s t x) (f x) (block_seen after u x)) (sym (equal o e)) (leads_seen (length s.nodes) (block_seen s t b) own (block_seen after u b) (f b) sees leads)
-      either o l false e = leads_seen (length s.nodes) (block_seen s t o) (others o) (block_seen after u o) (f o) (sees_others o l (unequal o e)) (leads_others o l (unequal o e))
+      either : (o : ℕ) → o < block_count → (c : Bool) → nat_eq o b ≡ c →
+          Leads (length s.nodes) (block_seen s t o) (f o) (block_seen after u o)
+      either o l true e =
+          subst (λ x. Leads (length s.nodes) (block_seen s t x) (f x) (block_seen after u x)) (sym (equal o e))
+          (leads_seen (length s.nodes) (block_seen s t b) own (block_seen after u b) (f b) sees leads)
+      either o l false e =
+          leads_seen (length s.nodes) (block_seen s t o) (others o) (block_seen after u o) (f o) (sees_others o l (unequal o e))
+          (leads_others o l (unequal o e))
 
 -- an event that changes nothing, and tells nothing
 pub as_it_is : (s : Fabric) (t : Beside) (answer : Answer) → IsShaped s → Moves s t (refused s answer)
-as_it_is s t answer shape = (t, record { shape = shape; count = refl; frames = frames_stay s t; blocks = λ o l. stays (length s.nodes) (block_seen s t o) })
+as_it_is s t answer shape =
+    (t, record { shape = shape; count = refl; frames = frames_stay s t; blocks = λ o l. stays (length s.nodes) (block_seen s t o) })
 
 -- a test of the fabric
-pub by_test : (s : Fabric) (t : Beside) (test : Bool) (a b : Moved) → (test ≡ true → Moves s t a) → (test ≡ false → Moves s t b) → Moves s t (if test then a else b)
+pub by_test : (s : Fabric) (t : Beside) (test : Bool) (a b : Moved) → (test ≡ true → Moves s t a) → (test ≡ false → Moves s t b) →
+    Moves s t (if test then a else b)
 by_test s t true a b first second = first refl
 by_test s t false a b first second = second refl
 
 -- what is kept, where the fabric goes on
-pub kept_on : (s : Fabric) (t : Beside) (f : ℕ → Records → Records) (after : Fabric) (u : Beside) → IsKept s t → Goes s t f after u → IsKept after u
-kept_on s t f after u k g = record { shape = g.shape; blocks = λ o l. subst (λ N. AllSentences N (block_seen after u o)) (sym g.count) ((g.blocks o l).kept (k.blocks o l)) }
+pub kept_on : (s : Fabric) (t : Beside) (f : ℕ → Records → Records) (after : Fabric) (u : Beside) → IsKept s t → Goes s t f after u →
+    IsKept after u
+kept_on s t f after u k g =
+    record {
+      shape = g.shape;
+      blocks = λ o l. subst (λ N. AllSentences N (block_seen after u o)) (sym g.count) ((g.blocks o l).kept (k.blocks o l));
+    }
 
-pub recorded_on : (s : Fabric) (t : Beside) (f : ℕ → Records → Records) (after : Fabric) (u : Beside) (r : ℕ → Records) → IsKept s t → Goes s t f after u →
-    ((o : ℕ) → o < block_count → KeptRecords (block_seen s t o) (r o)) → (o : ℕ) → o < block_count → KeptRecords (block_seen after u o) (f o (r o))
+pub recorded_on : (s : Fabric) (t : Beside) (f : ℕ → Records → Records) (after : Fabric) (u : Beside) (r : ℕ → Records) → IsKept s t →
+    Goes s t f after u →
+    ((o : ℕ) → o < block_count → KeptRecords (block_seen s t o) (r o)) → (o : ℕ) → o < block_count →
+    KeptRecords (block_seen after u o) (f o (r o))
 recorded_on s t f after u r k g v o l = (g.blocks o l).records (r o) (k.blocks o l) (v o l)

@@ -1,5 +1,6 @@
 -- Every event of the fabric leads every block on, and so keeps its sentences; so does every run.
-use Rattle.std.proofs.Common.{◌≡◌, sym, subst, ℕ, ◌+◌, ◌≤◌, Bool, true, false, not, List, [], ◌∷◌, length, refl, arith, nat_lt, Option, Some, None, if◌then◌else◌}
+use Rattle.std.proofs.Common.{◌≡◌, sym, subst, ℕ, ◌+◌, ◌≤◌, Bool, true, false, not, List, [], ◌∷◌, length, refl, arith, nat_lt, Option}
+use Rattle.std.proofs.Common.{Some, None, if◌then◌else◌}
 use Rattle.std.specs.Prelude.{⊤}
 use Rattle.std.proofs.lemmas.Bool.Decides.{nat_tests}
 use Rattle.sn_base.specs.declared.config.Config.{Config}
@@ -11,19 +12,21 @@ use Rattle.sn_model.specs.Fabric.{refused, Fabric, Flight, node_at}
 use Rattle.sn_model.specs.Net.{flight_of, is_there, is_full, sending}
 use Rattle.sn_model.specs.NetEvents.{delivers, delivers_flight, outcome_of}
 use Rattle.sn_model.specs.PointEvents.{advanced, advances}
-use Rattle.sn_model.specs.FabricEvents.{FabricEvent, Access, Write, Evict, Edge, Hop, Deliver, Lose, Kill, Report, Advance, Recover, moved_by}
+use Rattle.sn_model.specs.FabricEvents.{FabricEvent, Access, Write, Evict, Edge, Hop, Deliver, Lose, Kill, Report, Advance, Recover}
+use Rattle.sn_model.specs.FabricEvents.{moved_by}
 use Rattle.sn_coherence.specs.Block.{is_to_home}
 use Rattle.sn_coherence.specs.Records.{Records}
 use Rattle.fabric_coherence.specs.View.{Beside, message_seen}
 use Rattle.fabric_coherence.specs.Steps.{IsInFlight}
-use Rattle.fabric_coherence.specs.Coherent.{IsKept, Keeps, IsFinished}
+use Rattle.fabric_coherence.specs.Coherent.{IsKept, Keeps, NothingUnfinished}
 use Rattle.fabric_coherence.specs.Events.{MayBe}
 use Rattle.fabric_coherence.specs.Recorded.{KeepsRecords, MayBeRecorded, noted_by, recorded_by}
 use Rattle.fabric_coherence.specs.Leads.{KeepsFrames, Goes, Moves}
 use Rattle.fabric_coherence.specs.Runs.{IsRun, fabric_after}
 use Rattle.fabric_coherence.specs.CacheEvents.{comes_to_cache}
 use Rattle.fabric_coherence.proofs.KeptCommon.{frames_stay, as_it_is, by_test, kept_on, recorded_on}
-use Rattle.fabric_coherence.proofs.KeptNet.{lost_moves, hopped_moves, killed_moves, rises_goes, ready_delivered_moves, advance_delivered_moves}
+use Rattle.fabric_coherence.proofs.KeptNet.{lost_moves, hopped_moves, killed_moves, rises_goes, ready_delivered_moves}
+use Rattle.fabric_coherence.proofs.KeptNet.{advance_delivered_moves}
 use Rattle.fabric_coherence.proofs.KeptHome.{home_delivery_moves}
 use Rattle.fabric_coherence.proofs.KeptCache.{cache_delivery_moves}
 use Rattle.fabric_coherence.proofs.KeptAccess.{accessed-moves}
@@ -45,10 +48,14 @@ module _ (config : Config) (s : Fabric) (t : Beside) (id : ℕ) (f : Flight) (ke
   abbrev TakenMoves : Body → Type 0
   TakenMoves x = Moves s t (delivers config s f.message (outcome_of s f.message x))
 
-  at_cache : (x : Body) → f.message.body ≡ x → comes_to_cache x ≡ true → nat_lt (node_at s f.message.to).now f.message.tag ≡ false → TakenMoves x
-  at_cache x is to h = cache_delivery_moves s t f.message kept flight (reached h) config (is_found s.net.flights id f s.net.next_id (length s.nodes) found kept.shape.below kept.shape.within).names x is to
+  at_cache : (x : Body) → f.message.body ≡ x → comes_to_cache x ≡ true → nat_lt (node_at s f.message.to).now f.message.tag ≡ false →
+      TakenMoves x
+  at_cache x is to h =
+      cache_delivery_moves s t f.message kept flight (reached h) config
+      (is_found s.net.flights id f s.net.next_id (length s.nodes) found kept.shape.below kept.shape.within).names x is to
 
-  at_home : (x : Body) → f.message.body ≡ x → is_to_home (message_seen f.message x).body ≡ true → nat_lt (node_at s f.message.to).now f.message.tag ≡ false → TakenMoves x
+  at_home : (x : Body) → f.message.body ≡ x → is_to_home (message_seen f.message x).body ≡ true →
+      nat_lt (node_at s f.message.to).now f.message.tag ≡ false → TakenMoves x
   at_home x is to h = home_delivery_moves s t f.message kept flight (reached h) config x is to
 
   taken_moves : (x : Body) → f.message.body ≡ x → nat_lt (node_at s f.message.to).now f.message.tag ≡ false → TakenMoves x
@@ -71,21 +78,26 @@ module _ (config : Config) (s : Fabric) (t : Beside) (id : ℕ) (f : Flight) (ke
   taken_moves (body.Advance k) is h = subst TakenMoves is (advance_delivered_moves s t kept config id f k found h is)
 
   arrived_moves : (there held : Bool) → nat_lt (node_at s f.message.to).now f.message.tag ≡ held →
-      Moves s t (if not there then refused s NotArrived else if held then refused s Held else delivers config s f.message (outcome_of s f.message f.message.body))
+      Moves s t (if not there then refused s NotArrived else if held then refused s Held
+      else delivers config s f.message (outcome_of s f.message f.message.body))
   arrived_moves false held h = as_it_is s t NotArrived kept.shape
   arrived_moves true true h = as_it_is s t Held kept.shape
   arrived_moves true false h = taken_moves f.message.body refl h
 
-delivery_moves : (config : Config) (s : Fabric) (t : Beside) (id : ℕ) (found : Option Flight) → IsKept s t → flight_of s.net.flights id ≡ found → Moves s t (delivers_flight config s found)
+delivery_moves : (config : Config) (s : Fabric) (t : Beside) (id : ℕ) (found : Option Flight) → IsKept s t →
+    flight_of s.net.flights id ≡ found → Moves s t (delivers_flight config s found)
 delivery_moves config s t id None kept e = as_it_is s t NoMessage kept.shape
-delivery_moves config s t id (Some f) kept e = arrived_moves config s t id f kept e (is_there f) (nat_lt (node_at s f.message.to).now f.message.tag) refl
+delivery_moves config s t id (Some f) kept e =
+    arrived_moves config s t id f kept e (is_there f) (nat_lt (node_at s f.message.to).now f.message.tag) refl
 
 -- the recovery point rises
-advanced_moves : (s : Fabric) (t : Beside) (k : ℕ) → IsKept s t → k ≡ s.point + 1 → IsFinished s k → Moves s t (advanced s k)
-advanced_moves s t k kept e f = subst (λ j. IsFinished s j → Moves s t (advanced s j)) (sym e) next f
+advanced_moves : (s : Fabric) (t : Beside) (k : ℕ) → IsKept s t → k ≡ s.point + 1 → NothingUnfinished s k → Moves s t (advanced s k)
+advanced_moves s t k kept e f = subst (λ j. NothingUnfinished s j → Moves s t (advanced s j)) (sym e) next f
   where
-    next : IsFinished s (s.point + 1) → Moves s t (advanced s (s.point + 1))
-    next f = by_test s t (is_full s (length s.nodes)) (refused s NetFull) (sending (record s { point = s.point + 1 }) 0 0 (advances (s.point + 1) 0 s.nodes) (Validated (s.point + 1)))
+    next : NothingUnfinished s (s.point + 1) → Moves s t (advanced s (s.point + 1))
+    next f =
+        by_test s t (is_full s (length s.nodes)) (refused s NetFull)
+        (sending (record s { point = s.point + 1 }) 0 0 (advances (s.point + 1) 0 s.nodes) (Validated (s.point + 1)))
         (λ q. as_it_is s t NetFull kept.shape) (λ q. (t, rises_goes s t kept (rises_leads s t kept f)))
 
 -- every event but a write, of which the records are more than of an event
@@ -109,10 +121,14 @@ event_goes config s t (Advance j) k m w = advanced_moves s t j k m.0 m.1
 event_goes config s t (Recover j) k m w = recovered_goes s t k j m
 
 -- so every event keeps the sentences
-event_keeps : (config : Config) (s : Fabric) (t : Beside) (event : FabricEvent) → IsKept s t → MayBe s event → IsNoWrite event → Keeps (moved_by config s event).fabric
-event_keeps config s t event k m w = let g = event_goes config s t event k m w in (g.0, kept_on s t (noted_by s event (moved_by config s event)) (moved_by config s event).fabric g.0 k g.1)
+event_keeps : (config : Config) (s : Fabric) (t : Beside) (event : FabricEvent) → IsKept s t → MayBe s event → IsNoWrite event →
+    Keeps (moved_by config s event).fabric
+event_keeps config s t event k m w =
+    let g = event_goes config s t event k m w in
+    (g.0, kept_on s t (noted_by s event (moved_by config s event)) (moved_by config s event).fabric g.0 k g.1)
 
-write_keeps : (config : Config) (s : Fabric) (t : Beside) (n : ℕ) (w : Written) → IsKept s t → MayBe s (Write n w) → Keeps (moved_by config s (Write n w)).fabric
+write_keeps : (config : Config) (s : Fabric) (t : Beside) (n : ℕ) (w : Written) → IsKept s t → MayBe s (Write n w) →
+    Keeps (moved_by config s (Write n w)).fabric
 unfolding moved_by
 write_keeps config s t n w k m = (t, stored_kept s t k n w m)
 
@@ -133,14 +149,19 @@ each_keeps config s (Recover j) k m = event_keeps config s k.0 (Recover j) k.1 m
 abbrev FramesKept : Config → Fabric → Beside → FabricEvent → Type 0
 FramesKept config s t event = (u : Beside) × IsKept (moved_by config s event).fabric u × KeepsFrames s t u
 
-no_write_frames : (config : Config) (s : Fabric) (t : Beside) (event : FabricEvent) → IsKept s t → MayBe s event → IsNoWrite event → FramesKept config s t event
-no_write_frames config s t event k m w = let g = event_goes config s t event k m w in (g.0, kept_on s t (noted_by s event (moved_by config s event)) (moved_by config s event).fabric g.0 k g.1, g.1.frames)
+no_write_frames : (config : Config) (s : Fabric) (t : Beside) (event : FabricEvent) → IsKept s t → MayBe s event → IsNoWrite event →
+    FramesKept config s t event
+no_write_frames config s t event k m w =
+    let g = event_goes config s t event k m w in
+    (g.0, kept_on s t (noted_by s event (moved_by config s event)) (moved_by config s event).fabric g.0 k g.1, g.1.frames)
 
-write_frames : (config : Config) (s : Fabric) (t : Beside) (n : ℕ) (w : Written) → IsKept s t → MayBe s (Write n w) → FramesKept config s t (Write n w)
+write_frames : (config : Config) (s : Fabric) (t : Beside) (n : ℕ) (w : Written) → IsKept s t → MayBe s (Write n w) →
+    FramesKept config s t (Write n w)
 unfolding moved_by
 write_frames config s t n w k m = (t, stored_kept s t k n w m, frames_stay s t)
 
-pub each_keeps_frames : (config : Config) (s : Fabric) (t : Beside) (event : FabricEvent) → IsKept s t → MayBe s event → FramesKept config s t event
+pub each_keeps_frames : (config : Config) (s : Fabric) (t : Beside) (event : FabricEvent) → IsKept s t → MayBe s event →
+    FramesKept config s t event
 each_keeps_frames config s t (Write n w) k m = write_frames config s t n w k m
 each_keeps_frames config s t (Access n b need) k m = no_write_frames config s t (Access n b need) k m tt
 each_keeps_frames config s t (Evict n b) k m = no_write_frames config s t (Evict n b) k m tt
@@ -154,7 +175,8 @@ each_keeps_frames config s t (Advance j) k m = no_write_frames config s t (Advan
 each_keeps_frames config s t (Recover j) k m = no_write_frames config s t (Recover j) k m tt
 
 -- and those on the records
-pub each_keeps_records : (config : Config) (s : Fabric) (r : ℕ → Records) (event : FabricEvent) → KeepsRecords s r → MayBeRecorded s r event →
+pub each_keeps_records : (config : Config) (s : Fabric) (r : ℕ → Records) (event : FabricEvent) → KeepsRecords s r →
+    MayBeRecorded s r event →
     KeepsRecords (moved_by config s event).fabric (recorded_by s r event (moved_by config s event))
 each_keeps_records config s r event k m = (
   goes.0,
@@ -172,12 +194,13 @@ each_keeps_records config s r event k m = (
     may (Lose id) m = (m, tt)
     may (Kill switch) m = (m, tt)
     may (Report n) m = (m, tt)
-    may (Advance j) m = ((m.0, subst (IsFinished s) (sym m.0) (reported_finished s k.0 k.1 r k.2 m.1)), tt)
+    may (Advance j) m = ((m.0, subst (NothingUnfinished s) (sym m.0) (reported_finished s k.0 k.1 r k.2 m.1)), tt)
     may (Recover j) m = (m, tt)
 
     goes : (u : Beside) × Goes s k.0 (noted_by s event (moved_by config s event)) (moved_by config s event).fabric u
     goes = event_goes config s k.0 event k.1 (may event m).0 (may event m).1
 
-pub run_keeps : (config : Config) (s : Fabric) (events : List FabricEvent) → Keeps s → IsRun config s events → Keeps (fabric_after config s events)
+pub run_keeps : (config : Config) (s : Fabric) (events : List FabricEvent) → Keeps s → IsRun config s events →
+    Keeps (fabric_after config s events)
 run_keeps config s [] k r = k
 run_keeps config s (event ∷ events) k r = run_keeps config (moved_by config s event).fabric events (each_keeps config s event k r.0) r.1

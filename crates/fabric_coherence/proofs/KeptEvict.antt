@@ -21,7 +21,8 @@ use Rattle.fabric_coherence.specs.CacheEvents.{told_of}
 use Rattle.fabric_coherence.specs.Leads.{Moves}
 use Rattle.fabric_coherence.proofs.NetShape.{with_node-shaped}
 use Rattle.fabric_coherence.proofs.NodeOther.{put-seen, other_put-seen, drop-seen, other_drop-seen}
-use Rattle.fabric_coherence.proofs.KeptCommon.{frames_stay, event_leads, quiet_losing, then_losing, then_quiet, begin_put_elsewhere_leads, stays, leads_as, told_here, told_there, goes_own, as_it_is, by_test}
+use Rattle.fabric_coherence.proofs.KeptCommon.{frames_stay, event_leads, quiet_losing, then_losing, then_quiet, begin_put_elsewhere_leads}
+use Rattle.fabric_coherence.proofs.KeptCommon.{stays, leads_as, told_here, told_there, goes_own, as_it_is, by_test}
 use Rattle.fabric_coherence.proofs.KeptNode.{sent-shaped, miss_apart, no_put_seen, owned_seen}
 
 module _ (s : Fabric) (t : Beside) (n b : ℕ) (kept : IsKept s t) (l : n < length s.nodes) (low : b < block_count) (apart : misses_on (node_at s n).cache.miss b ≡ false) where
@@ -33,13 +34,20 @@ module _ (s : Fabric) (t : Beside) (n b : ℕ) (kept : IsKept s t) (l : n < leng
   put_moves none owned = (
     t,
     goes_own s t (λ o r. r) put_begun.fabric t (length-set s.nodes n _) (frames_stay s t)
-        (sent-shaped s n kept.shape l (with_put (node_at s n) b) b (send (home_node s b) PutReq) PutBegun (kept.shape.lines n l) low (kept.blocks b low).nodes.home_low kept.shape.some)
-        b (losing (begin_put (block_seen s t b) n) (lost_at_once put_begun.sent)) (λ o. losing (numbers_elsewhere (begin_put_elsewhere (block_seen s t o) n) 1) (lost_at_once put_begun.sent))
+        (sent-shaped s n kept.shape l (with_put (node_at s n) b) b (send (home_node s b) PutReq) PutBegun (kept.shape.lines n l) low
+        (kept.blocks b low).nodes.home_low kept.shape.some)
+        b (losing (begin_put (block_seen s t b) n) (lost_at_once put_begun.sent))
+        (λ o. losing (numbers_elsewhere (begin_put_elsewhere (block_seen s t o) n) 1) (lost_at_once put_begun.sent))
         (put-seen s t n b kept.shape l)
-        (quiet_losing (length s.nodes) (block_seen s t b) (BeginPut n) (lost_at_once put_begun.sent)
-        (l, miss_apart b (node_at s n).cache.miss apart, no_put_seen b (node_at s n).cache.put none, owned_seen (line_of (node_at s n).cache b).state owned) tt)
+        (quiet_losing (length s.nodes) (block_seen s t b) (BeginPut n) (lost_at_once put_begun.sent) (
+          l,
+          miss_apart b (node_at s n).cache.miss apart,
+          no_put_seen b (node_at s n).cache.put none,
+          owned_seen (line_of (node_at s n).cache b).state owned,
+        ) tt)
         (λ o m other. other_put-seen s t n o b kept.shape l other)
-        (λ o m other. then_losing (length s.nodes) (block_seen s t o) (numbers_elsewhere (begin_put_elsewhere (block_seen s t o) n) 1) (λ r. r) (lost_at_once put_begun.sent)
+        (λ o m other. then_losing (length s.nodes) (block_seen s t o) (numbers_elsewhere (begin_put_elsewhere (block_seen s t o) n) 1)
+        (λ r. r) (lost_at_once put_begun.sent)
         (then_quiet (length s.nodes) (block_seen s t o) (begin_put_elsewhere (block_seen s t o) n) (NumbersElsewhere 1)
         (begin_put_elsewhere_leads (length s.nodes) (block_seen s t o) n l (no_put_seen o (node_at s n).cache.put none)) tt tt)),
   )
@@ -53,13 +61,16 @@ module _ (s : Fabric) (t : Beside) (n b : ℕ) (kept : IsKept s t) (l : n < leng
   drop_moves shared = (
     t,
     goes_own s t (heard_by (told_of n (Some b))) (with_node s n (without_copy (node_at s n) b)) t (length-set s.nodes n _) (frames_stay s t)
-        (with_node-shaped s n (without_copy (node_at s n) b) kept.shape l (length-set (node_at s n).cache.lines b no_line ∙ kept.shape.lines n l))
+        (with_node-shaped s n (without_copy (node_at s n) b) kept.shape l
+        (length-set (node_at s n).cache.lines b no_line ∙ kept.shape.lines n l))
         b (evict_shared (block_seen s t b) n) (λ o. block_seen s t o)
         (drop-seen s t n b l shared)
-        (leads_as (length s.nodes) (block_seen s t b) (evict_shared (block_seen s t b) n) (λ r. unreserves r n) (heard_by (told_of n (Some b)) b) (told_here n b)
+        (leads_as (length s.nodes) (block_seen s t b) (evict_shared (block_seen s t b) n) (λ r. unreserves r n)
+        (heard_by (told_of n (Some b)) b) (told_here n b)
         (event_leads (length s.nodes) (block_seen s t b) (EvictShared n) may (λ r. may)))
         (λ o m other. other_drop-seen s t n o b l other)
-        (λ o m other. leads_as (length s.nodes) (block_seen s t o) (block_seen s t o) (λ r. r) (heard_by (told_of n (Some b)) o) (told_there n b o other) (stays (length s.nodes) (block_seen s t o))),
+        (λ o m other. leads_as (length s.nodes) (block_seen s t o) (block_seen s t o) (λ r. r) (heard_by (told_of n (Some b)) o)
+        (told_there n b o other) (stays (length s.nodes) (block_seen s t o))),
   )
     where
       may : Allows (length s.nodes) (block_seen s t b) (EvictShared n)
@@ -74,5 +85,6 @@ module _ (s : Fabric) (t : Beside) (n b : ℕ) (kept : IsKept s t) (l : n < leng
 
 pub evicted-moves : (s : Fabric) (t : Beside) (n b : ℕ) → IsKept s t → n < length s.nodes → b < block_count → Moves s t (evicted s n b)
 evicted-moves s t n b kept l low =
-    by_test s t (misses_on (node_at s n).cache.miss b) (refused s MissOpen) (evicts s n b (line_of (node_at s n).cache b).state) (λ e. as_it_is s t MissOpen kept.shape)
+    by_test s t (misses_on (node_at s n).cache.miss b) (refused s MissOpen) (evicts s n b (line_of (node_at s n).cache b).state)
+    (λ e. as_it_is s t MissOpen kept.shape)
     (λ apart. evicts_moves s t n b kept l low apart (line_of (node_at s n).cache b).state refl)

@@ -1,11 +1,13 @@
 -- A delivery whose message comes to a home leads every block on.
-use Rattle.std.proofs.Common.{true≢false, ◌≡◌, ◌∙◌, ℕ, ◌+◌, ◌<◌, ◌≤◌, Bool, true, false, List, length, refl, sym, subst, arith, if◌then◌else◌, nat_eq, length-set}
+use Rattle.std.proofs.Common.{true≢false, ◌≡◌, ◌∙◌, ℕ, ◌+◌, ◌<◌, ◌≤◌, Bool, true, false, List, length, refl, sym, subst, arith}
+use Rattle.std.proofs.Common.{if◌then◌else◌, nat_eq, length-set}
 use Rattle.std.specs.Prelude.{Option, Some, None, nat_lt, slice_index_or, slice_set}
 use Rattle.sn_base.specs.declared.config.Config.{Config}
 use Rattle.sn_base.specs.declared.event.Answer.TheVariants.{LogFull, NetFull, HomeBusy}
 use Rattle.sn_msg.specs.declared.Message.{Message}
 use Rattle.sn_msg.specs.declared.Body.{Body}
-use Rattle.sn_msg.specs.declared.Body.TheVariants.{GetS, GetM, FwdGetS, FwdGetM, Inv, DataS, DataM, DataE, UpgOk, InvAck, Unblock, PutReq, PutGo, PutData, PutDone, Ready, Advance}
+use Rattle.sn_msg.specs.declared.Body.TheVariants.{GetS, GetM, FwdGetS, FwdGetM, Inv, DataS, DataM, DataE, UpgOk, InvAck, Unblock, PutReq}
+use Rattle.sn_msg.specs.declared.Body.TheVariants.{PutGo, PutData, PutDone, Ready, Advance}
 use Rattle.sn_model.specs.declared.home.Kind.{Kind}
 use Rattle.sn_model.specs.declared.home.Kind.TheVariants as kind
 use Rattle.sn_model.specs.Homes.{Holder, Itself, OfCache, Transaction, is_owner}
@@ -26,7 +28,7 @@ use Rattle.fabric_coherence.proofs.Base.{read_set}
 use Rattle.fabric_coherence.proofs.NetShape.{invalidations-within, after_home-shaped}
 use Rattle.fabric_coherence.proofs.HomeOutcomes.{home-outcome, home-elsewhere}
 use Rattle.sn_coherence.specs.Events.{GrantExclusive, ReadAtHome, Upgrades, MovesOwnership, PutBegins, PutIsStale}
-use Rattle.fabric_coherence.specs.HomeEvents.{read_event, write_event, put_event, other_count}
+use Rattle.fabric_coherence.specs.HomeEvents.{read_event, write_event, put_event}
 use Rattle.fabric_coherence.specs.HomeSeen.{other_targets}
 use Rattle.fabric_coherence.specs.Leads.{Moves}
 use Rattle.fabric_coherence.proofs.KeptCommon.{IsQuiet, frames_stay, quiet_losing, elsewhere_leads, goes_own, as_it_is}
@@ -44,7 +46,9 @@ module _ (s : Fabric) (t : Beside) (m : Message) (shape : IsShaped s) (flight : 
 
   -- no number at or above the number of nodes is a sharer
   above_all : (k : ℕ) → length s.nodes ≤ k → slice_index_or (row.others (home_of s m.block).sharers m.from) k false ≡ false
-  above_all k l = read_set (home_of s m.block).sharers m.from k false false (omega (arith, sharers, flight.from, shape.few)) ∙ unmarked (nat_eq k m.from) (slice_index_or (home_of s m.block).sharers k false) refl
+  above_all k l =
+      read_set (home_of s m.block).sharers m.from k false false (omega (arith, sharers, flight.from, shape.few))
+      ∙ unmarked (nat_eq k m.from) (slice_index_or (home_of s m.block).sharers k false) refl
     where
       unmarked : (c d : Bool) → slice_index_or (home_of s m.block).sharers k false ≡ d → (if c then false else d) ≡ false
       unmarked true d h = refl
@@ -52,7 +56,9 @@ module _ (s : Fabric) (t : Beside) (m : Message) (shape : IsShaped s) (flight : 
       unmarked false false h = refl
 
   asks_others : OutsWithin (row.invalidations 0 (row.others (home_of s m.block).sharers m.from) m.from) (length s.nodes)
-  asks_others = invalidations-within 0 (row.others (home_of s m.block).sharers m.from) m.from (length s.nodes) flight.from (λ k l. above_all k (omega arith))
+  asks_others =
+      invalidations-within 0 (row.others (home_of s m.block).sharers m.from) m.from (length s.nodes) flight.from
+      (λ k l. above_all k (omega arith))
 
   owner_low : (owner : ℕ) → (home_of s m.block).holder ≡ OfCache owner → owner < length s.nodes
   owner_low owner e = subst (λ n. n < length s.nodes) (λ p. owner_of (e p)) (kept.nodes.owner_low (λ p. is_itself (e p)))
@@ -60,27 +66,36 @@ module _ (s : Fabric) (t : Beside) (m : Message) (shape : IsShaped s) (flight : 
   joined : length (slice_set (home_of s m.block).sharers m.from true) ≡ 16
   joined = length-set (home_of s m.block).sharers m.from true ∙ sharers
 
-  read_fits_by : (c : Bool) (content : List ℕ) → Fits (if c then row.grant_exclusive (kept_at s m.to m.block) m.block (node_at s m.to).now m.from content else row.read_at_home (kept_at s m.to m.block) (node_at s m.to).now m.from content)
+  read_fits_by : (c : Bool) (content : List ℕ) →
+      Fits (if c then row.grant_exclusive (kept_at s m.to m.block) m.block (node_at s m.to).now m.from content
+      else row.read_at_home (kept_at s m.to m.block) (node_at s m.to).now m.from content)
   read_fits_by true content = (refl, ((flight.from, shape.some), tt))
   read_fits_by false content = (joined, ((flight.from, shape.some), tt))
 
-  read_fits : (holder : Holder) → (home_of s m.block).holder ≡ holder → Fits (get_shared (kept_at s m.to m.block) m.block (node_at s m.to).now m.from holder)
+  read_fits : (holder : Holder) → (home_of s m.block).holder ≡ holder →
+      Fits (get_shared (kept_at s m.to m.block) m.block (node_at s m.to).now m.from holder)
   read_fits (Itself content) e = read_fits_by (nat_eq (other_count s m) 0) content
   read_fits (OfCache owner) e = (joined, ((owner_low owner e, flight.from), tt))
 
-  write_fits_by : (c : Bool) (owner : ℕ) → (home_of s m.block).holder ≡ OfCache owner → Fits (if c then row.upgrade (kept_at s m.to m.block) (node_at s m.to).now m.from else row.move_ownership (kept_at s m.to m.block) (node_at s m.to).now m.from owner)
+  write_fits_by : (c : Bool) (owner : ℕ) → (home_of s m.block).holder ≡ OfCache owner →
+      Fits (if c then row.upgrade (kept_at s m.to m.block) (node_at s m.to).now m.from
+      else row.move_ownership (kept_at s m.to m.block) (node_at s m.to).now m.from owner)
   write_fits_by true owner e = (refl, ((flight.from, shape.some), asks_others))
   write_fits_by false owner e = (refl, ((owner_low owner e, flight.from), asks_others))
 
-  write_fits : (holder : Holder) → (home_of s m.block).holder ≡ holder → Fits (get_modified (kept_at s m.to m.block) m.block (node_at s m.to).now m.from holder)
+  write_fits : (holder : Holder) → (home_of s m.block).holder ≡ holder →
+      Fits (get_modified (kept_at s m.to m.block) m.block (node_at s m.to).now m.from holder)
   write_fits (Itself content) e = (refl, ((flight.from, shape.some), asks_others))
   write_fits (OfCache owner) e = write_fits_by (nat_eq owner m.from) owner e
 
-  put_fits : (c : Bool) → Fits (if c then row.put_begins (kept_at s m.to m.block) (node_at s m.to).now m.from else row.put_is_stale (kept_at s m.to m.block) m.from)
+  put_fits : (c : Bool) →
+      Fits (if c then row.put_begins (kept_at s m.to m.block) (node_at s m.to).now m.from
+      else row.put_is_stale (kept_at s m.to m.block) m.from)
   put_fits true = (sharers, ((flight.from, shape.some), tt))
   put_fits false = (sharers, ((flight.from, shape.some), tt))
 
-  unblock_fits_by : (fixed : ℕ) (k : Kind) (r begun : ℕ) → Fits (row.unblock (kept_at s m.to m.block) m.block fixed (Some (record { kind = k; requester = r; begun = begun })))
+  unblock_fits_by : (fixed : ℕ) (k : Kind) (r begun : ℕ) →
+      Fits (row.unblock (kept_at s m.to m.block) m.block fixed (Some (record { kind = k; requester = r; begun = begun })))
   unblock_fits_by fixed kind.Read r begun = (sharers, tt)
   unblock_fits_by fixed kind.Take r begun = (sharers, tt)
   unblock_fits_by fixed kind.Move r begun = (sharers, tt)
@@ -96,11 +111,20 @@ module _ (s : Fabric) (t : Beside) (m : Message) (shape : IsShaped s) (flight : 
   served_fits a b (Some transaction) h fits = absurd (cc)
 
   pub home-fits : (x : Body) (reply : row.HomeReply) → outcome_of s m x ≡ AtHome reply → Fits reply
-  home-fits GetS reply h = served_fits (get_shared (kept_at s m.to m.block) m.block (node_at s m.to).now m.from (home_of s m.block).holder) reply (home_of s m.block).transaction h (read_fits (home_of s m.block).holder refl)
-  home-fits GetM reply h = served_fits (get_modified (kept_at s m.to m.block) m.block (node_at s m.to).now m.from (home_of s m.block).holder) reply (home_of s m.block).transaction h (write_fits (home_of s m.block).holder refl)
-  home-fits PutReq reply h = served_fits (put_request (kept_at s m.to m.block) (node_at s m.to).now m.from) reply (home_of s m.block).transaction h (put_fits (is_owner (home_of s m.block).holder m.from))
-  home-fits (Unblock fixed) reply h = subst Fits (reply_is (row.unblock (kept_at s m.to m.block) m.block fixed (home_of s m.block).transaction) reply h) (unblock_fits fixed (home_of s m.block).transaction)
-  home-fits (PutData content) reply h = subst Fits (reply_is (row.put_data (kept_at s m.to m.block) m.block m.tag m.from content) reply h) (sharers, tt)
+  home-fits GetS reply h =
+      served_fits (get_shared (kept_at s m.to m.block) m.block (node_at s m.to).now m.from (home_of s m.block).holder) reply
+      (home_of s m.block).transaction h (read_fits (home_of s m.block).holder refl)
+  home-fits GetM reply h =
+      served_fits (get_modified (kept_at s m.to m.block) m.block (node_at s m.to).now m.from (home_of s m.block).holder) reply
+      (home_of s m.block).transaction h (write_fits (home_of s m.block).holder refl)
+  home-fits PutReq reply h =
+      served_fits (put_request (kept_at s m.to m.block) (node_at s m.to).now m.from) reply (home_of s m.block).transaction h
+      (put_fits (is_owner (home_of s m.block).holder m.from))
+  home-fits (Unblock fixed) reply h =
+      subst Fits (reply_is (row.unblock (kept_at s m.to m.block) m.block fixed (home_of s m.block).transaction) reply h)
+      (unblock_fits fixed (home_of s m.block).transaction)
+  home-fits (PutData content) reply h =
+      subst Fits (reply_is (row.put_data (kept_at s m.to m.block) m.block m.tag m.from content) reply h) (sharers, tt)
   home-fits (FwdGetS r) reply h = absurd (cc)
   home-fits (FwdGetM r due) reply h = absurd (cc)
   home-fits (Inv r) reply h = absurd (cc)
@@ -127,7 +151,9 @@ write-quiet : (s : Fabric) (m : Message) (holder : Holder) → IsQuiet (write_ev
 write-quiet s m (Itself content) = tt
 write-quiet s m (OfCache owner) = either (nat_eq owner m.from)
   where
-    either : (c : Bool) → IsQuiet (if c then Upgrades m.id (other_targets (home_of s m.block).sharers m.from) (other_count s m) else MovesOwnership m.id (other_targets (home_of s m.block).sharers m.from) (other_count s m))
+    either : (c : Bool) → IsQuiet
+        (if c then Upgrades m.id (other_targets (home_of s m.block).sharers m.from) (other_count s m)
+        else MovesOwnership m.id (other_targets (home_of s m.block).sharers m.from) (other_count s m))
     either true = tt
     either false = tt
 
@@ -166,9 +192,11 @@ module _ (s : Fabric) (t : Beside) (m : Message) (kept : IsKept s t) (flight : I
   row_moves : (x : Body) (reply : row.HomeReply) → m.body ≡ x → outcome_of s m x ≡ AtHome reply → Moves s t (after_home s m reply)
   row_moves x reply is h = (
     beside_with t m.block own,
-    goes_own s t (λ o r. r) (after_home s m reply).fabric (beside_with t m.block own) (length-set s.nodes m.to (record (node_at s m.to) { log = reply.after.log })) (frames_stay s t) shaped m.block (losing own lost) others
+    goes_own s t (λ o r. r) (after_home s m reply).fabric (beside_with t m.block own)
+        (length-set s.nodes m.to (record (node_at s m.to) { log = reply.after.log })) (frames_stay s t) shaped m.block (losing own lost) others
         does.0 (quiet_losing (length s.nodes) (block_seen s t m.block) (home_event s m x) lost does.1 (home-quiet s m x))
-        (λ o l other. home-elsewhere s t m kept.shape flight of_block reached own o other x reply is h) (λ o l other. elsewhere_leads (length s.nodes) (block_seen s t o) m.id (length reply.sends)),
+        (λ o l other. home-elsewhere s t m kept.shape flight of_block reached own o other x reply is h)
+        (λ o l other. elsewhere_leads (length s.nodes) (block_seen s t o) m.id (length reply.sends)),
   )
     where
       own : block.Block
@@ -181,33 +209,48 @@ module _ (s : Fabric) (t : Beside) (m : Message) (kept : IsKept s t) (flight : I
       others o = elsewhere (block_seen s t o) m.id (length reply.sends)
 
       shaped : IsShaped (after_home s m reply).fabric
-      shaped = let fits = home-fits s t m kept.shape flight of_block x reply h in after_home-shaped s m kept.shape flight.to flight.block reply fits.0 fits.1
+      shaped =
+          let fits = home-fits s t m kept.shape flight of_block x reply h in
+          after_home-shaped s m kept.shape flight.to flight.block reply fits.0 fits.1
 
       does : IsHomeRow s t m reply own × Allows (length s.nodes) (block_seen s t m.block) (home_event s m x)
       does = home-outcome s t m kept.shape flight of_block reached x reply is h
 
   -- nothing, where the log or the net lacks the room
-  room_moves : (full_log full_net : Bool) (done : Moved) → Moves s t done → Moves s t (if full_log then refused s LogFull else if full_net then refused s NetFull else done)
+  room_moves : (full_log full_net : Bool) (done : Moved) → Moves s t done →
+      Moves s t (if full_log then refused s LogFull else if full_net then refused s NetFull else done)
   room_moves true full_net done k = as_it_is s t LogFull kept.shape
   room_moves false true done k = as_it_is s t NetFull kept.shape
   room_moves false false done k = k
 
   module _ (config : Config) where
-    reply_moves : (x : Body) (reply : row.HomeReply) → m.body ≡ x → outcome_of s m x ≡ AtHome reply → Moves s t (delivers config s m (AtHome reply))
-    reply_moves x reply is h = room_moves (nat_lt config.log (length reply.after.log)) (nat_lt (net_limit + 1) (length s.net.flights + length reply.sends)) (after_home s m reply) (row_moves x reply is h)
+    reply_moves : (x : Body) (reply : row.HomeReply) → m.body ≡ x → outcome_of s m x ≡ AtHome reply →
+        Moves s t (delivers config s m (AtHome reply))
+    reply_moves x reply is h =
+        room_moves (nat_lt config.log (length reply.after.log)) (nat_lt (net_limit + 1) (length s.net.flights + length reply.sends))
+        (after_home s m reply) (row_moves x reply is h)
 
     -- a request, which waits where a transaction is open
-    request_moves : (x : Body) (reply : row.HomeReply) (open_one : Option Transaction) → m.body ≡ x → outcome_of s m x ≡ unless_busy open_one reply → Moves s t (delivers config s m (unless_busy open_one reply))
+    request_moves : (x : Body) (reply : row.HomeReply) (open_one : Option Transaction) → m.body ≡ x →
+        outcome_of s m x ≡ unless_busy open_one reply → Moves s t (delivers config s m (unless_busy open_one reply))
     request_moves x reply None is h = reply_moves x reply is h
     request_moves x reply (Some transaction) is h = as_it_is s t HomeBusy kept.shape
 
     -- a delivery to the home
-    pub home_delivery_moves : (x : Body) → m.body ≡ x → block.is_to_home (message_seen m x).body ≡ true → Moves s t (delivers config s m (outcome_of s m x))
-    home_delivery_moves GetS is home = request_moves GetS (get_shared (kept_at s m.to m.block) m.block (node_at s m.to).now m.from (home_of s m.block).holder) (home_of s m.block).transaction is refl
-    home_delivery_moves GetM is home = request_moves GetM (get_modified (kept_at s m.to m.block) m.block (node_at s m.to).now m.from (home_of s m.block).holder) (home_of s m.block).transaction is refl
-    home_delivery_moves PutReq is home = request_moves PutReq (put_request (kept_at s m.to m.block) (node_at s m.to).now m.from) (home_of s m.block).transaction is refl
-    home_delivery_moves (Unblock fixed) is home = reply_moves (Unblock fixed) (row.unblock (kept_at s m.to m.block) m.block fixed (home_of s m.block).transaction) is refl
-    home_delivery_moves (PutData content) is home = reply_moves (PutData content) (row.put_data (kept_at s m.to m.block) m.block m.tag m.from content) is refl
+    pub home_delivery_moves : (x : Body) → m.body ≡ x → block.is_to_home (message_seen m x).body ≡ true →
+        Moves s t (delivers config s m (outcome_of s m x))
+    home_delivery_moves GetS is home =
+        request_moves GetS (get_shared (kept_at s m.to m.block) m.block (node_at s m.to).now m.from (home_of s m.block).holder)
+        (home_of s m.block).transaction is refl
+    home_delivery_moves GetM is home =
+        request_moves GetM (get_modified (kept_at s m.to m.block) m.block (node_at s m.to).now m.from (home_of s m.block).holder)
+        (home_of s m.block).transaction is refl
+    home_delivery_moves PutReq is home =
+        request_moves PutReq (put_request (kept_at s m.to m.block) (node_at s m.to).now m.from) (home_of s m.block).transaction is refl
+    home_delivery_moves (Unblock fixed) is home =
+        reply_moves (Unblock fixed) (row.unblock (kept_at s m.to m.block) m.block fixed (home_of s m.block).transaction) is refl
+    home_delivery_moves (PutData content) is home =
+        reply_moves (PutData content) (row.put_data (kept_at s m.to m.block) m.block m.tag m.from content) is refl
     home_delivery_moves (FwdGetS r) is home = absurd (true≢false (sym home))
     home_delivery_moves (FwdGetM r due) is home = absurd (true≢false (sym home))
     home_delivery_moves (Inv r) is home = absurd (true≢false (sym home))

@@ -17,10 +17,13 @@ use Rattle.fabric_coherence.proofs.NetShape.{with_node-shaped, with_net-shaped, 
 
 module _ (s : Fabric) (n : ℕ) (h : IsShaped s) (l : n < length s.nodes) where
   -- a node is replaced by one of as many lines, and it sends a message
-  pub sent-shaped : (v : Node) (b : ℕ) (out : Out) (answer : Answer) → length v.cache.lines ≡ block_count → b < block_count → out.to < length s.nodes → named out.body < length s.nodes →
+  pub sent-shaped : (v : Node) (b : ℕ) (out : Out) (answer : Answer) → length v.cache.lines ≡ block_count → b < block_count →
+      out.to < length s.nodes → named out.body < length s.nodes →
       IsShaped (sending (with_node s n v) n b (out ∷ []) answer).fabric
-  sent-shaped v b out answer lines low to names = with_net-shaped after (posted (routes_of after) s.net n (node_at after n).now b (out ∷ [])) (with_node-shaped s n v h l lines)
-      (posted-shaped (routes_of after) s.net n (node_at after n).now b (out ∷ []) (length after.nodes) (rw count l) low (rw count ((to, names), tt)) (rw count (net-shaped s h)))
+  sent-shaped v b out answer lines low to names =
+      with_net-shaped after (posted (routes_of after) s.net n (node_at after n).now b (out ∷ [])) (with_node-shaped s n v h l lines)
+      (posted-shaped (routes_of after) s.net n (node_at after n).now b (out ∷ []) (length after.nodes) (rw count l) low
+      (rw count ((to, names), tt)) (rw count (net-shaped s h)))
     where
       after : Fabric
       after = with_node s n v

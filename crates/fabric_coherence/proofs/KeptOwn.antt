@@ -1,5 +1,6 @@
 -- A clock edge and a recovery lead every block on.
-use Rattle.std.proofs.Common.{◌≡◌, ◌⊎◌, inl, inr, ⊎_elim, ◌∙◌, ℕ, suc, ◌+◌, ◌-◌, ◌<◌, ◌≤◌, Bool, true, false, List, [], ◌∷◌, length, refl, ap, sym, subst, arith, if◌then◌else◌, nat_eq, map, length-set, Option, Some, None}
+use Rattle.std.proofs.Common.{◌≡◌, ◌⊎◌, inl, inr, ⊎_elim, ◌∙◌, ℕ, suc, ◌+◌, ◌-◌, ◌<◌, ◌≤◌, Bool, true, false, List, [], ◌∷◌, length, refl}
+use Rattle.std.proofs.Common.{ap, sym, subst, arith, if◌then◌else◌, nat_eq, map, length-set, Option, Some, None}
 use Rattle.std.proofs.lemmas.Bool.{cases_eq}
 use Rattle.std.proofs.lemmas.Bool.Decides.{nat_tests}
 use Rattle.sn_coherence.specs.Block.{set, set_row}
@@ -53,22 +54,28 @@ module _ (s : Fabric) (t : Beside) (kept : IsKept s t) (n : ℕ) (l : n < length
   edge_frames : KeepsFrames s t (beside_edged s t n)
   edge_frames m j = edge_row t.framed (λ b x. is_framed (block_seen s t b) x) n ((node_at s n).now + 1) m j
 
-  edge_goes : nat_eq ((node_at s n).now - (node_at s n).known) checkpoint_limit ≡ false → Goes s t (λ b r. unreserves r n) (with_node s n (after_edge (node_at s n))) (beside_edged s t n)
-  edge_goes e = goes_each s t (λ b r. unreserves r n) (with_node s n (after_edge (node_at s n))) (beside_edged s t n) (length-set s.nodes n (after_edge (node_at s n))) edge_frames
+  edge_goes : nat_eq ((node_at s n).now - (node_at s n).known) checkpoint_limit ≡ false →
+      Goes s t (λ b r. unreserves r n) (with_node s n (after_edge (node_at s n))) (beside_edged s t n)
+  edge_goes e =
+      goes_each s t (λ b r. unreserves r n) (with_node s n (after_edge (node_at s n))) (beside_edged s t n)
+      (length-set s.nodes n (after_edge (node_at s n))) edge_frames
       (with_node-shaped s n (after_edge (node_at s n)) kept.shape l (kept.shape.lines n l))
-      (λ b. edge (block_seen s t b) n) (λ b w. edge-seen s t n b l) (λ b w. event_leads (length s.nodes) (block_seen s t b) (Edge n) (allowed b w) (λ r. allowed b w))
+      (λ b. edge (block_seen s t b) n) (λ b w. edge-seen s t n b l)
+      (λ b w. event_leads (length s.nodes) (block_seen s t b) (Edge n) (allowed b w) (λ r. allowed b w))
     where
       allowed : (b : ℕ) → b < block_count → Allows (length s.nodes) (block_seen s t b) (Edge n)
       allowed b w = (l, has_room (node_at s n).now (node_at s n).known e ((kept.blocks b w).clocks.now_known n l))
 
   abbrev edged_by : Bool → Moved
-  edged_by full = if full then refused s CheckpointsFull else answered (with_node s n (after_edge (node_at s n))) (Edged ((node_at s n).now + 1))
+  edged_by full =
+      if full then refused s CheckpointsFull else answered (with_node s n (after_edge (node_at s n))) (Edged ((node_at s n).now + 1))
 
   -- a clock edge
   pub edged_goes : (u : Beside) × Goes s t (noted_by s (event.Edge n) (edged s n)) (edged s n).fabric u
   edged_goes = either (nat_eq ((node_at s n).now - (node_at s n).known) checkpoint_limit) refl
     where
-      either : (full : Bool) → nat_eq ((node_at s n).now - (node_at s n).known) checkpoint_limit ≡ full → (u : Beside) × Goes s t (noted_by s (event.Edge n) (edged_by full)) (edged_by full).fabric u
+      either : (full : Bool) → nat_eq ((node_at s n).now - (node_at s n).known) checkpoint_limit ≡ full →
+          (u : Beside) × Goes s t (noted_by s (event.Edge n) (edged_by full)) (edged_by full).fabric u
       either true e = as_it_is s t CheckpointsFull kept.shape
       either false e = (beside_edged s t n, edge_goes e)
 
@@ -99,7 +106,9 @@ module _ (s : Fabric) (shape : IsShaped s) where
 
   sharers_restored : (b : ℕ) → b < block_count → length (home_of (restored s s.point) b).sharers ≡ 16
   unfolding restored
-  sharers_restored b l = ap (λ (e : HomeEntry). length e.sharers) (restored_home_at s s.point b (subst (λ k. b < k) (sym shape.homes) l)) ∙ length-replicate 16 false
+  sharers_restored b l =
+      ap (λ (e : HomeEntry). length e.sharers) (restored_home_at s s.point b (subst (λ k. b < k) (sym shape.homes) l))
+      ∙ length-replicate 16 false
 
   net_restored : IsNetShaped (restored s s.point).net (length (restored s s.point).nodes)
   unfolding restored
@@ -119,14 +128,20 @@ module _ (s : Fabric) (shape : IsShaped s) where
 
 module _ (s : Fabric) (t : Beside) (kept : IsKept s t) where
   restored_goes : Goes s t (λ b r. rolls_back r (length s.nodes) s.point) (restored s s.point) (beside_restored t)
-  restored_goes = goes_each s t (λ b r. rolls_back r (length s.nodes) s.point) (restored s s.point) (beside_restored t) (length-restored_nodes s kept.shape) (frames_stay s t) (recovery-shaped s kept.shape)
+  restored_goes =
+      goes_each s t (λ b r. rolls_back r (length s.nodes) s.point) (restored s s.point) (beside_restored t)
+      (length-restored_nodes s kept.shape) (frames_stay s t) (recovery-shaped s kept.shape)
       (λ b. recover (length s.nodes) (block_seen s t b)) (λ b w. recovery-seen s t b kept.shape w)
       (λ b w. event_leads (length s.nodes) (block_seen s t b) Recover tt (λ r. tt))
 
-  recovers_goes : (cut : Option (ℕ × ℕ)) → (u : Beside) × Goes s t (noted_by s (event.Recover s.point) (recovers s s.point cut)) (recovers s s.point cut).fabric u
+  recovers_goes : (cut : Option (ℕ × ℕ)) →
+      (u : Beside) × Goes s t (noted_by s (event.Recover s.point) (recovers s s.point cut)) (recovers s s.point cut).fabric u
   recovers_goes (Some pair) = as_it_is s t (CutOff pair.0 pair.1) kept.shape
   recovers_goes None = (beside_restored t, restored_goes)
 
   -- a recovery
-  pub recovered_goes : (k : ℕ) → k ≡ s.point → (u : Beside) × Goes s t (noted_by s (event.Recover k) (recovered s k)) (recovered s k).fabric u
-  recovered_goes k e = subst (λ j. (u : Beside) × Goes s t (noted_by s (event.Recover j) (recovered s j)) (recovered s j).fabric u) (sym e) (recovers_goes (first_cut_off (living_switches s)))
+  pub recovered_goes : (k : ℕ) → k ≡ s.point →
+      (u : Beside) × Goes s t (noted_by s (event.Recover k) (recovered s k)) (recovered s k).fabric u
+  recovered_goes k e =
+      subst (λ j. (u : Beside) × Goes s t (noted_by s (event.Recover j) (recovered s j)) (recovered s j).fabric u) (sym e)
+      (recovers_goes (first_cut_off (living_switches s)))

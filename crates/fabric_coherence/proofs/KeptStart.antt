@@ -1,5 +1,6 @@
 -- At the start the fabric has its shape, and each block has all its sentences.
-use Rattle.std.proofs.Common.{◌≡◌, ◌⊎◌, inl, inr, ◌∙◌, ℕ, zero, suc, ◌+◌, ◌%◌, ◌<◌, ◌≤◌, true, false, [], ◌∷◌, ◌++◌, length, refl, ap, sym, subst, arith, length-append}
+use Rattle.std.proofs.Common.{◌≡◌, ◌⊎◌, inl, inr, ◌∙◌, ℕ, zero, suc, ◌+◌, ◌%◌, ◌<◌, ◌≤◌, true, false, [], ◌∷◌, ◌++◌, length, refl, ap, sym}
+use Rattle.std.proofs.Common.{subst, arith, length-append}
 use Rattle.std.specs.Prelude.{slice_index_or, replicate}
 use Rattle.std.proofs.lemmas.Bool.{cases_lt}
 use Rattle.std.proofs.lemmas.List.{get_or_append_left, get_or_push, length-replicate}
@@ -7,7 +8,8 @@ use Rattle.log_buffer.specs.Log.{logged_to}
 use Rattle.sn_base.specs.Image.{ImageData}
 use Rattle.sn_model.specs.Caches.{Line, line_of, no_line, empty_lines, is_owned, block_count}
 use Rattle.sn_model.specs.Homes.{HomeEntry}
-use Rattle.sn_model.specs.Fabric.{Fabric, Node, node_at, home_of, home_node, first_node, initial_block, first_home, first_homes, homes_below, no_entry, first_fabric}
+use Rattle.sn_model.specs.Fabric.{Fabric, Node, node_at, home_of, home_node, first_node, initial_block, first_home, first_homes}
+use Rattle.sn_model.specs.Fabric.{homes_below, no_entry, first_fabric}
 use Rattle.sn_coherence.specs.OtherEvents.{start}
 use Rattle.sn_coherence.specs.Same.{IsSame}
 use Rattle.sn_coherence.specs.Block as block
@@ -17,7 +19,8 @@ use Rattle.sn_coherence.proofs.EndsRecords.{start_recorded}
 use Rattle.sn_coherence.proofs.Same.{same_kept, same_kept_records}
 use Rattle.sn_coherence.specs.KeptRecords.{KeptRecords}
 use Rattle.sn_coherence.specs.Records.{no_records}
-use Rattle.fabric_coherence.specs.View.{block_seen, line_seen, content_held, miss_seen, put_seen, put_issued, is_itself, owner_of, content_of, kind_open, requester_of, begun_of}
+use Rattle.fabric_coherence.specs.View.{block_seen, line_seen, content_held, miss_seen, put_seen, put_issued, is_itself, owner_of}
+use Rattle.fabric_coherence.specs.View.{content_of, kind_open, requester_of, begun_of}
 use Rattle.fabric_coherence.specs.Steps.{IsShaped}
 use Rattle.fabric_coherence.specs.Coherent.{IsKept}
 use Rattle.fabric_coherence.specs.Start.{first_beside}
@@ -30,12 +33,18 @@ first_at P nodes m h = subst P (sym (replicated nodes m first_node)) h
 -- each home at the start
 length-homes_below : (k : ℕ) (image : ImageData) → length (homes_below k image) ≡ k
 length-homes_below zero image = refl
-length-homes_below (suc k) image = length-append (homes_below k image) (first_home image k ∷ []) ∙ (ap (λ n. n + 1) (length-homes_below k image) ∙ omega arith)
+length-homes_below (suc k) image =
+    length-append (homes_below k image) (first_home image k ∷ []) ∙ (ap (λ n. n + 1) (length-homes_below k image) ∙ omega arith)
 
-home_pushed : (k : ℕ) (image : ImageData) (b : ℕ) → b < k + 1 → (b < k → slice_index_or (homes_below k image) b no_entry ≡ first_home image b) → (b < k) ⊎ (k ≤ b) →
+home_pushed : (k : ℕ) (image : ImageData) (b : ℕ) → b < k + 1 →
+    (b < k → slice_index_or (homes_below k image) b no_entry ≡ first_home image b) → (b < k) ⊎ (k ≤ b) →
     slice_index_or (homes_below k image ++ first_home image k ∷ []) b no_entry ≡ first_home image b
-home_pushed k image b l h (inl q) = get_or_append_left (homes_below k image) (first_home image k ∷ []) no_entry b (subst (λ n. b < n) (sym (length-homes_below k image)) q) ∙ h q
-home_pushed k image b l h (inr q) = let e : k ≡ b = omega arith in get_or_push (homes_below k image) (first_home image k) no_entry b (length-homes_below k image ∙ e) ∙ ap (first_home image) e
+home_pushed k image b l h (inl q) =
+    get_or_append_left (homes_below k image) (first_home image k ∷ []) no_entry b (subst (λ n. b < n) (sym (length-homes_below k image)) q)
+    ∙ h q
+home_pushed k image b l h (inr q) =
+    let e : k ≡ b = omega arith in
+    get_or_push (homes_below k image) (first_home image k) no_entry b (length-homes_below k image ∙ e) ∙ ap (first_home image) e
 
 home_at : (k : ℕ) (image : ImageData) (b : ℕ) → b < k → slice_index_or (homes_below k image) b no_entry ≡ first_home image b
 home_at zero image b l = absurd (omega arith)
@@ -96,12 +105,21 @@ module _ (image : ImageData) (nodes : ℕ) (some : 1 ≤ nodes) (few : nodes ≤
       begun = ap (λ (e : HomeEntry). begun_of e.transaction) entry_is;
       net = λ i. refl;
       next = refl;
-      holds = λ m j. each (λ x. told_at was_owned x.log false b (is_owned (line_of x.cache b).state) j ≡ false) m (ap (λ (x : Line). is_owned x.state) (no_line_at b));
-      held = λ m j. each (λ x. told_at old_content x.log false b (content_held (line_of x.cache b)) j ≡ []) m (ap content_held (no_line_at b));
+      holds =
+          λ m j. each (λ x. told_at was_owned x.log false b (is_owned (line_of x.cache b).state) j ≡ false) m
+          (ap (λ (x : Line). is_owned x.state) (no_line_at b));
+      held =
+          λ m j. each (λ x. told_at old_content x.log false b (content_held (line_of x.cache b)) j ≡ []) m (ap content_held (no_line_at b));
       last = λ m. ap (λ l. logged_to l false b) (unlogged m);
-      named_home = λ j. ap (λ l. told_at was_home l true b (is_itself (home_of s b).holder) j) (unlogged (home_node s b)) ∙ ap (λ (e : HomeEntry). is_itself e.holder) entry_is;
-      named = λ j. ap (λ l. told_at old_cache l true b (owner_of (home_of s b).holder) j) (unlogged (home_node s b)) ∙ ap (λ (e : HomeEntry). owner_of e.holder) entry_is;
-      home_held = λ j. ap (λ l. told_at old_content l true b (content_of (home_of s b).holder) j) (unlogged (home_node s b)) ∙ ap (λ (e : HomeEntry). content_of e.holder) entry_is;
+      named_home =
+          λ j. ap (λ l. told_at was_home l true b (is_itself (home_of s b).holder) j) (unlogged (home_node s b))
+          ∙ ap (λ (e : HomeEntry). is_itself e.holder) entry_is;
+      named =
+          λ j. ap (λ l. told_at old_cache l true b (owner_of (home_of s b).holder) j) (unlogged (home_node s b))
+          ∙ ap (λ (e : HomeEntry). owner_of e.holder) entry_is;
+      home_held =
+          λ j. ap (λ l. told_at old_content l true b (content_of (home_of s b).holder) j) (unlogged (home_node s b))
+          ∙ ap (λ (e : HomeEntry). content_of e.holder) entry_is;
       home_last = ap (λ l. logged_to l true b) (unlogged (home_node s b));
       stage = refl;
       at = refl;
@@ -125,9 +143,13 @@ module _ (image : ImageData) (nodes : ℕ) (some : 1 ≤ nodes) (few : nodes ≤
   pub start-kept : IsKept s first_beside
   start-kept = record {
     shape = start-shaped;
-    blocks = λ b l. same_kept (length s.nodes) _ (start (home_node s b) (initial_block image b)) (start-seen b l) (start_kept (length s.nodes) (home_node s b) (initial_block image b) (low b (length s.nodes) start-shaped.some));
+    blocks =
+        λ b l. same_kept (length s.nodes) _ (start (home_node s b) (initial_block image b)) (start-seen b l)
+        (start_kept (length s.nodes) (home_node s b) (initial_block image b) (low b (length s.nodes) start-shaped.some));
   }
 
   -- and nothing is recorded
   pub start-recorded : (b : ℕ) → b < block_count → KeptRecords (block_seen s first_beside b) (no_records (initial_block image b))
-  start-recorded b l = same_kept_records (block_seen s first_beside b) (start (home_node s b) (initial_block image b)) (no_records (initial_block image b)) (start-seen b l) (start_recorded (home_node s b) (initial_block image b))
+  start-recorded b l =
+      same_kept_records (block_seen s first_beside b) (start (home_node s b) (initial_block image b)) (no_records (initial_block image b))
+      (start-seen b l) (start_recorded (home_node s b) (initial_block image b))

@@ -15,12 +15,14 @@ use Rattle.sn_coherence.specs.Same.{IsSame}
 use Rattle.fabric_coherence.specs.View.{Beside, block_seen}
 use Rattle.fabric_coherence.specs.Steps.{IsShaped, losing, lost_at_once}
 use Rattle.fabric_coherence.specs.NodeSeen.{changed, carried_by, beside_edged}
-use Rattle.fabric_coherence.proofs.NodeSeen.{same_then, node_changed, log_same, lost_same, own_post, other_post, sends, routes_with, sent_same, own_block, other_block}
+use Rattle.fabric_coherence.proofs.NodeSeen.{same_then, node_changed, log_same, lost_same, own_post, other_post, sends, routes_with}
+use Rattle.fabric_coherence.proofs.NodeSeen.{sent_same, own_block, other_block}
 
 -- a clock edge
 
 pub edge-seen : (s : Fabric) (t : Beside) (n b : ℕ) → n < length s.nodes →
-    IsSame (block_seen (answered (with_node s n (after_edge (node_at s n))) (Edged ((node_at s n).now + 1))).fabric (beside_edged s t n) b) (edge (block_seen s t b) n)
+    IsSame (block_seen (answered (with_node s n (after_edge (node_at s n))) (Edged ((node_at s n).now + 1))).fabric (beside_edged s t n) b)
+    (edge (block_seen s t b) n)
 edge-seen s t n b l = same_then _ (carried_by (changed (block_seen s (beside_edged s t n) b) b n (after_edge (node_at s n))) b s.net) _
     (node_changed s (beside_edged s t n) n b (after_edge (node_at s n)) s.net l (log_same b (after_edge (node_at s n)) (node_at s n) refl))
     (grind (arith, nat_tests))
@@ -28,29 +30,56 @@ edge-seen s t n b l = same_then _ (carried_by (changed (block_seen s (beside_edg
 -- a report
 
 pub report-seen : (s : Fabric) (t : Beside) (n b k : ℕ) → IsShaped s →
-    IsSame (block_seen (sending s n 0 (send 0 (Ready k) ∷ []) (Reported k)).fabric t b) (losing (report (block_seen s t b) n k) (lost_at_once (sending s n 0 (send 0 (Ready k) ∷ []) (Reported k)).sent))
-report-seen s t n b k shape = lost_same _ (report (block_seen s t b) n k) (is_lost (routes_of s) s.net (sends s n 0 (send 0 (Ready k)))) s.net.next_id
+    IsSame (block_seen (sending s n 0 (send 0 (Ready k) ∷ []) (Reported k)).fabric t b)
+    (losing (report (block_seen s t b) n k) (lost_at_once (sending s n 0 (send 0 (Ready k) ∷ []) (Reported k)).sent))
+report-seen s t n b k shape =
+    lost_same _ (report (block_seen s t b) n k) (is_lost (routes_of s) s.net (sends s n 0 (send 0 (Ready k)))) s.net.next_id
     (grind (arith, nat_tests, own_post (routes_of s) s.net (sends s n 0 (send 0 (Ready k))) b, shape.below))
 
 -- a put begins
 
 pub put-seen : (s : Fabric) (t : Beside) (n b : ℕ) → IsShaped s → n < length s.nodes →
     IsSame (block_seen (sending (with_node s n (with_put (node_at s n) b)) n b (send (home_node s b) PutReq ∷ []) PutBegun).fabric t b)
-    (losing (begin_put (block_seen s t b) n) (lost_at_once (sending (with_node s n (with_put (node_at s n) b)) n b (send (home_node s b) PutReq ∷ []) PutBegun).sent))
-put-seen s t n b shape l = sent_same s t n b b (with_put (node_at s n) b) (send (home_node s b) PutReq) PutBegun l (log_same b (with_put (node_at s n) b) (node_at s n) refl) refl (begin_put (block_seen s t b) n)
-    (grind (arith, nat_tests, own_post (routes_with s n (with_put (node_at s n) b)) s.net (sends s n b (send (home_node s b) PutReq)) b, own_block b, shape.below))
+    (losing (begin_put (block_seen s t b) n)
+    (lost_at_once (sending (with_node s n (with_put (node_at s n) b)) n b (send (home_node s b) PutReq ∷ []) PutBegun).sent))
+put-seen s t n b shape l =
+    sent_same s t n b b (with_put (node_at s n) b) (send (home_node s b) PutReq) PutBegun l
+    (log_same b (with_put (node_at s n) b) (node_at s n) refl) refl (begin_put (block_seen s t b) n)
+    (grind (
+      arith,
+      nat_tests,
+      own_post (routes_with s n (with_put (node_at s n) b)) s.net (sends s n b (send (home_node s b) PutReq)) b,
+      own_block b,
+      shape.below,
+    ))
 
 pub other_put-seen : (s : Fabric) (t : Beside) (n b about : ℕ) → IsShaped s → n < length s.nodes → b ≢ about →
-    IsSame (block_seen (sending (with_node s n (with_put (node_at s n) about)) n about (send (home_node s about) PutReq ∷ []) PutBegun).fabric t b)
-    (losing (numbers_elsewhere (begin_put_elsewhere (block_seen s t b) n) 1) (lost_at_once (sending (with_node s n (with_put (node_at s n) about)) n about (send (home_node s about) PutReq ∷ []) PutBegun).sent))
+    IsSame (block_seen (sending (with_node s n (with_put (node_at s n) about)) n about
+    (send (home_node s about) PutReq ∷ []) PutBegun).fabric t b)
+    (losing (numbers_elsewhere (begin_put_elsewhere (block_seen s t b) n) 1)
+    (lost_at_once (sending (with_node s n (with_put (node_at s n) about)) n about (send (home_node s about) PutReq ∷ []) PutBegun).sent))
 other_put-seen s t n b about shape l apart =
-    sent_same s t n b about (with_put (node_at s n) about) (send (home_node s about) PutReq) PutBegun l (log_same b (with_put (node_at s n) about) (node_at s n) refl) refl (numbers_elsewhere (begin_put_elsewhere (block_seen s t b) n) 1)
-    (grind (arith, nat_tests, other_post (routes_with s n (with_put (node_at s n) about)) s.net (sends s n about (send (home_node s about) PutReq)) b, other_block about b apart, shape.below))
+    sent_same s t n b about (with_put (node_at s n) about) (send (home_node s about) PutReq) PutBegun l
+    (log_same b (with_put (node_at s n) about) (node_at s n) refl) refl (numbers_elsewhere (begin_put_elsewhere (block_seen s t b) n) 1)
+    (grind (
+      arith,
+      nat_tests,
+      other_post (routes_with s n (with_put (node_at s n) about)) s.net (sends s n about (send (home_node s about) PutReq)) b,
+      other_block about b apart,
+      shape.below,
+    ))
 
 -- a Shared line is dropped
 
 pub line_dropped : (cache : Cache) (b : ℕ) → line_of (without_line cache b) b ≡ no_line
-line_dropped cache b = grind (arith, nat_tests, get_or-set_same cache.lines b no_line no_line, set_past cache.lines b no_line, get_or_past cache.lines b no_line)
+line_dropped cache b =
+    grind (
+      arith,
+      nat_tests,
+      get_or-set_same cache.lines b no_line no_line,
+      set_past cache.lines b no_line,
+      get_or_past cache.lines b no_line,
+    )
 
 pub line_other : (cache : Cache) (b o : ℕ) → o ≢ b → line_of (without_line cache b) o ≡ line_of cache o
 line_other cache b o n = grind (arith, get_or-set_other)
@@ -63,6 +92,7 @@ drop-seen s t n b l shared = same_then _ (carried_by (changed (block_seen s t b)
 
 pub other_drop-seen : (s : Fabric) (t : Beside) (n b about : ℕ) → n < length s.nodes → b ≢ about →
     IsSame (block_seen (answered (with_node s n (without_copy (node_at s n) about)) Evicted).fabric t b) (block_seen s t b)
-other_drop-seen s t n b about l apart = same_then _ (carried_by (changed (block_seen s t b) b n (without_copy (node_at s n) about)) b s.net) _
+other_drop-seen s t n b about l apart =
+    same_then _ (carried_by (changed (block_seen s t b) b n (without_copy (node_at s n) about)) b s.net) _
     (node_changed s t n b (without_copy (node_at s n) about) s.net l (log_same b (without_copy (node_at s n) about) (node_at s n) refl))
     (grind (arith, nat_tests, line_other (node_at s n).cache about b apart))

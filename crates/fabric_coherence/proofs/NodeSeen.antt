@@ -1,5 +1,6 @@
 -- What a block sees where one node is replaced by another, and perhaps one message is sent.
-use Rattle.std.proofs.Common.{subst, ◌≡◌, ◌≢◌, ◌∙◌, ℕ, ◌%◌, ◌<◌, ◌≤◌, Bool, true, false, not, ◌&&◌, cond, List, [], ◌∷◌, length, refl, ap, sym, arith, ◌==◌, length-set, if◌then◌else◌, nat_eq}
+use Rattle.std.proofs.Common.{subst, ◌≡◌, ◌≢◌, ◌∙◌, ℕ, ◌%◌, ◌<◌, ◌≤◌, Bool, true, false, not, ◌&&◌, cond, List, [], ◌∷◌, length, refl, ap}
+use Rattle.std.proofs.Common.{sym, arith, ◌==◌, length-set, if◌then◌else◌, nat_eq}
 use Rattle.std.proofs.lemmas.Bool.Decides.{nat_tests}
 use Rattle.route_plan.specs.Distances.{Switches}
 use Rattle.log_buffer.specs.Log.{logged_to}
@@ -12,7 +13,8 @@ use Rattle.sn_base.specs.declared.event.Answer.{Answer}
 use Rattle.sn_coherence.specs.Block.{Block, Message, gone, set}
 use Rattle.sn_coherence.specs.Same.{IsSame}
 use Rattle.sn_coherence.specs.Log.{was_owned, old_content, was_home, old_cache, told_at}
-use Rattle.fabric_coherence.specs.View.{Beside, block_seen, net_seen, is_seen, message_seen, line_seen, content_held, miss_seen, put_seen, put_issued}
+use Rattle.fabric_coherence.specs.View.{Beside, block_seen, net_seen, is_seen, message_seen, line_seen, content_held, miss_seen, put_seen}
+use Rattle.fabric_coherence.specs.View.{put_issued}
 use Rattle.fabric_coherence.specs.Steps.{Below, losing, lost_at_once}
 use Rattle.fabric_coherence.specs.NodeSeen.{changed, carried_by, IsSameAtHome}
 use Rattle.fabric_coherence.proofs.Base.{read_set, seen-post}
@@ -64,7 +66,8 @@ set_self f n m v e = grind (arith, nat_tests)
 pub set_with : {A : Type 0} (f : ℕ → A) (n m : ℕ) (v w : A) → v ≡ w → set f n v m ≡ set f n w m
 set_with f n m v w e = ap (λ x. set f n x m) e
 
-pub replaced_at : {B : Type 0} (f : Node → B) (s : Fabric) (n m : ℕ) (v : Node) → n < length s.nodes → f (node_at (with_node s n v) m) ≡ cond (m == n) (f v) (f (node_at s m))
+pub replaced_at : {B : Type 0} (f : Node → B) (s : Fabric) (n m : ℕ) (v : Node) → n < length s.nodes →
+    f (node_at (with_node s n v) m) ≡ cond (m == n) (f v) (f (node_at s m))
 replaced_at f s n m v l = ap f (read_set s.nodes n m v first_node l) ∙ chosen f (m == n) v (node_at s m)
 
 pub home_still : (s : Fabric) (n b : ℕ) (v : Node) → home_node (with_node s n v) b ≡ home_node s b
@@ -72,7 +75,9 @@ home_still s n b v = ap (λ k. b % k) (length-set s.nodes n v)
 
 pub same_at_home : {B : Type 0} (f : Node → B) (s : Fabric) (n b : ℕ) (v : Node) → n < length s.nodes → f v ≡ f (node_at s n) →
     f (node_at (with_node s n v) (home_node (with_node s n v) b)) ≡ f (node_at s (home_node s b))
-same_at_home f s n b v l e = ap (λ h. f (node_at (with_node s n v) h)) (home_still s n b v) ∙ (replaced_at f s n (home_node s b) v l ∙ set_self (λ m. f (node_at s m)) n (home_node s b) (f v) e)
+same_at_home f s n b v l e =
+    ap (λ h. f (node_at (with_node s n v) h)) (home_still s n b v)
+    ∙ (replaced_at f s n (home_node s b) v l ∙ set_self (λ m. f (node_at s m)) n (home_node s b) (f v) e)
 
 pub node_changed : (s : Fabric) (t : Beside) (n b : ℕ) (v : Node) (net : Net) → n < length s.nodes → IsSameAtHome b v (node_at s n) →
     IsSame (block_seen (record (with_node s n v) { net = net }) t b) (carried_by (changed (block_seen s t b) b n v) b net)
@@ -98,9 +103,13 @@ node_changed s t n b v net l h = record {
   holds = λ m j. replaced_at (λ x. told_at was_owned x.log false b (is_owned (line_of x.cache b).state) j) s n m v l;
   held = λ m j. replaced_at (λ x. told_at old_content x.log false b (content_held (line_of x.cache b)) j) s n m v l;
   last = λ m. replaced_at (λ x. logged_to x.log false b) s n m v l;
-  named_home = λ j. same_at_home (λ x. told_at was_home x.log true b (block_seen s t b).at_home j) s n b v l (h.named_home (block_seen s t b).at_home j);
+  named_home =
+      λ j. same_at_home (λ x. told_at was_home x.log true b (block_seen s t b).at_home j) s n b v l
+      (h.named_home (block_seen s t b).at_home j);
   named = λ j. same_at_home (λ x. told_at old_cache x.log true b (block_seen s t b).owner j) s n b v l (h.named (block_seen s t b).owner j);
-  home_held = λ j. same_at_home (λ x. told_at old_content x.log true b (block_seen s t b).home_content j) s n b v l (h.held (block_seen s t b).home_content j);
+  home_held =
+      λ j. same_at_home (λ x. told_at old_content x.log true b (block_seen s t b).home_content j) s n b v l
+      (h.held (block_seen s t b).home_content j);
   home_last = same_at_home (λ x. logged_to x.log true b) s n b v l h.newest;
   stage = refl;
   at = refl;
@@ -119,7 +128,8 @@ log_same b x y e = record {
 
 -- one message is sent
 
-fresh_step : (f : Flight) (fs : List Flight) (b i next : ℕ) → f.message.id < next → next ≤ i → net_seen b fs i ≡ gone → net_seen b (f ∷ fs) i ≡ gone
+fresh_step : (f : Flight) (fs : List Flight) (b i next : ℕ) → f.message.id < next → next ≤ i → net_seen b fs i ≡ gone →
+    net_seen b (f ∷ fs) i ≡ gone
 fresh_step f fs b i next l k h = grind (arith, nat_tests)
 
 pub seen-fresh : (fs : List Flight) (b i next : ℕ) → Below fs next → next ≤ i → net_seen b fs i ≡ gone
@@ -139,23 +149,32 @@ other_net x m next i seen lost s h = grind (arith, nat_tests)
 abbrev pub without_lost : Block → Bool → ℕ → Block
 without_lost block lost id = record block { net = λ i. cond (lost && (i == id)) gone (block.net i) }
 
-pub lost_same : (a block : Block) (lost : Bool) (id : ℕ) → IsSame a (without_lost block lost id) → IsSame a (losing block (if lost then id ∷ [] else []))
+pub lost_same : (a block : Block) (lost : Bool) (id : ℕ) → IsSame a (without_lost block lost id) →
+    IsSame a (losing block (if lost then id ∷ [] else []))
 lost_same a block true id h = h
 lost_same a block false id h = h
 
-pub own_post : (routes : Switches) (net : Net) (m : Sent) (b i : ℕ) → m.id ≡ net.next_id → Below net.flights net.next_id → is_seen b m ≡ true →
-    net_seen b (post routes net m).flights i ≡ cond (is_lost routes net m && (i == net.next_id)) gone (set (net_seen b net.flights) net.next_id (message_seen m m.body) i)
+pub own_post : (routes : Switches) (net : Net) (m : Sent) (b i : ℕ) → m.id ≡ net.next_id → Below net.flights net.next_id →
+    is_seen b m ≡ true →
+    net_seen b (post routes net m).flights i
+    ≡ cond (is_lost routes net m && (i == net.next_id)) gone (set (net_seen b net.flights) net.next_id (message_seen m m.body) i)
 own_post routes net m b i e l s =
-    seen-post routes net m b i e l ∙ own_net (net_seen b net.flights) (message_seen m m.body) net.next_id i (is_seen b m) (is_lost routes net m) s (seen-fresh net.flights b i net.next_id l)
+    seen-post routes net m b i e l
+    ∙ own_net (net_seen b net.flights) (message_seen m m.body) net.next_id i (is_seen b m) (is_lost routes net m) s
+    (seen-fresh net.flights b i net.next_id l)
 
-pub other_post : (routes : Switches) (net : Net) (m : Sent) (b i : ℕ) → m.id ≡ net.next_id → Below net.flights net.next_id → is_seen b m ≡ false →
+pub other_post : (routes : Switches) (net : Net) (m : Sent) (b i : ℕ) → m.id ≡ net.next_id → Below net.flights net.next_id →
+    is_seen b m ≡ false →
     net_seen b (post routes net m).flights i ≡ cond (is_lost routes net m && (i == net.next_id)) gone (net_seen b net.flights i)
 other_post routes net m b i e l s =
-    seen-post routes net m b i e l ∙ other_net (net_seen b net.flights) (message_seen m m.body) net.next_id i (is_seen b m) (is_lost routes net m) s (seen-fresh net.flights b i net.next_id l)
+    seen-post routes net m b i e l
+    ∙ other_net (net_seen b net.flights) (message_seen m m.body) net.next_id i (is_seen b m) (is_lost routes net m) s
+    (seen-fresh net.flights b i net.next_id l)
 
 -- one node is replaced, and it sends one message
 
-pub tag_is : (s : Fabric) (n : ℕ) (v : Node) → n < length s.nodes → v.now ≡ (node_at s n).now → (node_at (with_node s n v) n).now ≡ (node_at s n).now
+pub tag_is : (s : Fabric) (n : ℕ) (v : Node) → n < length s.nodes → v.now ≡ (node_at s n).now →
+    (node_at (with_node s n v) n).now ≡ (node_at s n).now
 tag_is s n v l e = replaced_at (λ x. x.now) s n n v l ∙ set_self (λ m. (node_at s m).now) n n v.now e
 
 abbrev pub sends : Fabric → ℕ → ℕ → Out → Sent
@@ -165,9 +184,14 @@ abbrev pub routes_with : Fabric → ℕ → Node → Switches
 routes_with s n v = routes_of (with_node s n v)
 
 module _ (s : Fabric) (t : Beside) (n b about : ℕ) (v : Node) (out : Out) (answer : Answer) (l : n < length s.nodes) (home : IsSameAtHome b v (node_at s n)) (now : v.now ≡ (node_at s n).now) where
-  pub sent_same : (c : Block) → IsSame (carried_by (changed (block_seen s t b) b n v) b (post (routes_with s n v) s.net (sends s n about out))) (without_lost c (is_lost (routes_with s n v) s.net (sends s n about out)) s.net.next_id) →
-      IsSame (block_seen (sending (with_node s n v) n about (out ∷ []) answer).fabric t b) (losing c (lost_at_once (sending (with_node s n v) n about (out ∷ []) answer).sent))
-  sent_same c h = subst (λ tag. IsSame (block_seen (record (with_node s n v) { net = posted (routes_with s n v) s.net n tag about (out ∷ []) }) t b) (losing c (lost_at_once (sent_by (routes_with s n v) s.net n tag about (out ∷ [])))))
+  pub sent_same : (c : Block) →
+      IsSame (carried_by (changed (block_seen s t b) b n v) b (post (routes_with s n v) s.net (sends s n about out)))
+      (without_lost c (is_lost (routes_with s n v) s.net (sends s n about out)) s.net.next_id) →
+      IsSame (block_seen (sending (with_node s n v) n about (out ∷ []) answer).fabric t b)
+      (losing c (lost_at_once (sending (with_node s n v) n about (out ∷ []) answer).sent))
+  sent_same c h =
+      subst (λ tag. IsSame (block_seen (record (with_node s n v) { net = posted (routes_with s n v) s.net n tag about (out ∷ []) }) t b)
+      (losing c (lost_at_once (sent_by (routes_with s n v) s.net n tag about (out ∷ [])))))
       (sym (tag_is s n v l now))
       (lost_same _ c (is_lost (routes_with s n v) s.net (sends s n about out)) s.net.next_id
       (same_then _ (carried_by (changed (block_seen s t b) b n v) b (post (routes_with s n v) s.net (sends s n about out))) _

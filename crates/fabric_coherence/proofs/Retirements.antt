@@ -1,5 +1,6 @@
 -- An access that its line serves: a load, an LR, a store, an SC that is done and one that isn't, as events of every block.
-use Rattle.std.proofs.Common.{◌≡◌, ◌≢◌, ◌∙◌, ℕ, ◌+◌, ◌<◌, ◌≤◌, Bool, true, false, List, length, refl, sym, subst, arith, nat_eq, length-set, if◌then◌else◌}
+use Rattle.std.proofs.Common.{◌≡◌, ◌≢◌, ◌∙◌, ℕ, ◌+◌, ◌<◌, ◌≤◌, Bool, true, false, List, length, refl, sym, subst, arith, nat_eq, length-set}
+use Rattle.std.proofs.Common.{if◌then◌else◌}
 use Rattle.std.proofs.lemmas.Bool.Decides.{nat_tests}
 use Rattle.sn_base.specs.declared.block.Write.{Write}
 use Rattle.log_buffer.specs.Log.{logged_to}
@@ -41,8 +42,11 @@ each_block P b here there o l = either (nat_eq o b) refl
     either false e = there o l (unequal e)
 
 -- the same beside records
-at_each : (P : ℕ → Records → Type 0) (b : ℕ) (x : Records) (r : ℕ → Records) → P b x → ((o : ℕ) → o < block_count → o ≢ b → P o (r o)) → (o : ℕ) → o < block_count → P o (at_block b x r o)
-at_each P b x r here there = each_block (λ o. P o (at_block b x r o)) b (here_at (nat_eq b b) same) (λ o l other. there_at o (nat_eq o b) (apart o other) (there o l other))
+at_each : (P : ℕ → Records → Type 0) (b : ℕ) (x : Records) (r : ℕ → Records) → P b x → ((o : ℕ) → o < block_count → o ≢ b → P o (r o)) →
+    (o : ℕ) → o < block_count → P o (at_block b x r o)
+at_each P b x r here there =
+    each_block (λ o. P o (at_block b x r o)) b (here_at (nat_eq b b) same)
+    (λ o l other. there_at o (nat_eq o b) (apart o other) (there o l other))
   where
     same : nat_eq b b ≡ true
     same = grind (arith, nat_tests)
@@ -71,12 +75,16 @@ module _ (s : Fabric) (t : Beside) (r : ℕ → Records) (kept : IsKept s t) (re
       -- a load and an LR
       pub load : (o : ℕ) → o < block_count → KeptRecords (block_seen s t o) (at_block b (loads (r b) n (node_at s n).now) r o)
       load = at_each (λ o x. KeptRecords (block_seen s t o) x) b (loads (r b) n (node_at s n).now) r
-          (event_recorded (length s.nodes) (block_seen s t b) (r b) (Load n) (kept.blocks b can.block) (recorded b can.block) (free_here, present_seen (line_of (node_at s n).cache b).state present))
+          (event_recorded (length s.nodes) (block_seen s t b) (r b) (Load n) (kept.blocks b can.block) (recorded b can.block)
+          (free_here, present_seen (line_of (node_at s n).cache b).state present))
           (λ o w other. recorded o w)
 
-      pub load_reserved : (o : ℕ) → o < block_count → KeptRecords (block_seen s t o) (at_block b (loads_reserved (r b) n (node_at s n).now) (λ o. unreserves (r o) n) o)
-      load_reserved = at_each (λ o x. KeptRecords (block_seen s t o) x) b (loads_reserved (r b) n (node_at s n).now) (λ o. unreserves (r o) n)
-          (event_recorded (length s.nodes) (block_seen s t b) (r b) (LoadReserved n) (kept.blocks b can.block) (recorded b can.block) (free_here, present_seen (line_of (node_at s n).cache b).state present))
+      pub load_reserved : (o : ℕ) → o < block_count →
+          KeptRecords (block_seen s t o) (at_block b (loads_reserved (r b) n (node_at s n).now) (λ o. unreserves (r o) n) o)
+      load_reserved =
+          at_each (λ o x. KeptRecords (block_seen s t o) x) b (loads_reserved (r b) n (node_at s n).now) (λ o. unreserves (r o) n)
+          (event_recorded (length s.nodes) (block_seen s t b) (r b) (LoadReserved n) (kept.blocks b can.block) (recorded b can.block)
+          (free_here, present_seen (line_of (node_at s n).cache b).state present))
           (λ o w other. undone n can.node o w)
 
 module _ (s : Fabric) (t : Beside) (kept : IsKept s t) (n : ℕ) (w : Write) (can : CanWrite s n w) where
@@ -90,10 +98,14 @@ module _ (s : Fabric) (t : Beside) (kept : IsKept s t) (n : ℕ) (w : Write) (ca
   newest = (kept.blocks b can.line.block).logs.own n
 
   may_store : Free (length s.nodes) (block_seen s t b) n × (is_writable ((block_seen s t b).line n) ≡ true)
-  may_store = (free s t n kept can.line.node can.line.no_miss b can.line.no_put, writable_seen (line_of (node_at s n).cache b).state can.writable)
+  may_store =
+      (free s t n kept can.line.node can.line.no_miss b can.line.no_put, writable_seen (line_of (node_at s n).cache b).state can.writable)
 
   stored-shaped : IsShaped (stored s n w)
-  stored-shaped = with_node-shaped s n (with_write (node_at s n) w) kept.shape can.line.node (length-set (prepared (node_at s n) b).cache.lines b _ ∙ (length-set (node_at s n).cache.lines b _ ∙ kept.shape.lines n can.line.node))
+  stored-shaped =
+      with_node-shaped s n (with_write (node_at s n) w) kept.shape can.line.node
+      (length-set (prepared (node_at s n) b).cache.lines b _
+      ∙ (length-set (node_at s n).cache.lines b _ ∙ kept.shape.lines n can.line.node))
 
   as_many : length (stored s n w).nodes ≡ length s.nodes
   as_many = length-set s.nodes n (with_write (node_at s n) w)
@@ -108,9 +120,13 @@ module _ (s : Fabric) (t : Beside) (kept : IsKept s t) (n : ℕ) (w : Write) (ca
   pub stored_kept : IsKept (stored s n w) t
   stored_kept = record {
     shape = stored-shaped;
-    blocks = λ o l. subst (λ N. AllSentences N (block_seen (stored s n w) t o)) (sym as_many) (each_block (λ o. AllSentences (length s.nodes) (block_seen (stored s n w) t o)) b
-        (same_kept (length s.nodes) (block_seen (stored s n w) t b) (store (block_seen s t b) n content) seen_here (event_kept (length s.nodes) (block_seen s t b) (Store n content) (kept.blocks b can.line.block) may_store))
-        (λ o q other. same_kept (length s.nodes) (block_seen (stored s n w) t o) (block_seen s t o) (seen_there o other) (kept.blocks o q)) o l);
+    blocks =
+        λ o l. subst (λ N. AllSentences N (block_seen (stored s n w) t o)) (sym as_many)
+        (each_block (λ o. AllSentences (length s.nodes) (block_seen (stored s n w) t o)) b
+        (same_kept (length s.nodes) (block_seen (stored s n w) t b) (store (block_seen s t b) n content) seen_here
+        (event_kept (length s.nodes) (block_seen s t b) (Store n content) (kept.blocks b can.line.block) may_store))
+        (λ o q other. same_kept (length s.nodes) (block_seen (stored s n w) t o) (block_seen s t o) (seen_there o other)
+        (kept.blocks o q)) o l);
   }
 
   module _ (r : ℕ → Records) (recorded : (b : ℕ) → b < block_count → KeptRecords (block_seen s t b) (r b)) where
@@ -120,12 +136,18 @@ module _ (s : Fabric) (t : Beside) (kept : IsKept s t) (n : ℕ) (w : Write) (ca
     -- a store, and an SC that is done
     pub store_recorded : (o : ℕ) → o < block_count → Says o (at_block b (stores (r b) n (node_at s n).now content) r o)
     store_recorded = at_each Says b (stores (r b) n (node_at s n).now content) r
-        (same_kept_records (block_seen (stored s n w) t b) (store (block_seen s t b) n content) (stores (r b) n (node_at s n).now content) seen_here
-        (event_recorded (length s.nodes) (block_seen s t b) (r b) (Store n content) (kept.blocks b can.line.block) (recorded b can.line.block) may_store))
+        (same_kept_records (block_seen (stored s n w) t b) (store (block_seen s t b) n content)
+        (stores (r b) n (node_at s n).now content) seen_here
+        (event_recorded (length s.nodes) (block_seen s t b) (r b) (Store n content) (kept.blocks b can.line.block)
+        (recorded b can.line.block) may_store))
         (λ o q other. same_kept_records (block_seen (stored s n w) t o) (block_seen s t o) (r o) (seen_there o other) (recorded o q))
 
-    pub store_conditional_recorded : (r b).reserved n ≡ true → (o : ℕ) → o < block_count → Says o (at_block b (stores_conditional (r b) n (node_at s n).now content) (λ o. unreserves (r o) n) o)
+    pub store_conditional_recorded : (r b).reserved n ≡ true → (o : ℕ) → o < block_count →
+        Says o (at_block b (stores_conditional (r b) n (node_at s n).now content) (λ o. unreserves (r o) n) o)
     store_conditional_recorded reserved = at_each Says b (stores_conditional (r b) n (node_at s n).now content) (λ o. unreserves (r o) n)
-        (same_kept_records (block_seen (stored s n w) t b) (store (block_seen s t b) n content) (stores_conditional (r b) n (node_at s n).now content) seen_here
-        (event_recorded (length s.nodes) (block_seen s t b) (r b) (StoreConditionalDone n content) (kept.blocks b can.line.block) (recorded b can.line.block) (may_store, reserved)))
-        (λ o q other. same_kept_records (block_seen (stored s n w) t o) (block_seen s t o) (unreserves (r o) n) (seen_there o other) (undone s t r kept recorded n can.line.node o q))
+        (same_kept_records (block_seen (stored s n w) t b) (store (block_seen s t b) n content)
+        (stores_conditional (r b) n (node_at s n).now content) seen_here
+        (event_recorded (length s.nodes) (block_seen s t b) (r b) (StoreConditionalDone n content) (kept.blocks b can.line.block)
+        (recorded b can.line.block) (may_store, reserved)))
+        (λ o q other. same_kept_records (block_seen (stored s n w) t o) (block_seen s t o) (unreserves (r o) n) (seen_there o other)
+        (undone s t r kept recorded n can.line.node o q))

@@ -33,7 +33,10 @@ from-moved id place (f ∷ fs) n l = (subst (λ i. n ≤ i) (sym (placed_number 
 
 pub rising-moved : (id place : ℕ) (fs : List Flight) → Rising fs → Rising (map (placed id place) fs)
 rising-moved id place [] r = tt
-rising-moved id place (f ∷ fs) r = (subst (λ i. From (map (placed id place) fs) (i + 1)) (sym (placed_number id place f)) (from-moved id place fs (f.message.id + 1) r.0), rising-moved id place fs r.1)
+rising-moved id place (f ∷ fs) r = (
+  subst (λ i. From (map (placed id place) fs) (i + 1)) (sym (placed_number id place f)) (from-moved id place fs (f.message.id + 1) r.0),
+  rising-moved id place fs r.1,
+)
 
 from-push : (fs : List Flight) (f : Flight) (n : ℕ) → From fs n → n ≤ f.message.id → From (fs ++ f ∷ []) n
 from-push [] f n l m = (m, tt)
@@ -47,6 +50,8 @@ rising_either : (lost : Bool) (fs gs : List Flight) → Rising fs → Rising gs 
 rising_either true fs gs r q = r
 rising_either false fs gs r q = q
 
-pub rising-post : (routes : Switches) (net : Net) (m : Sent) → m.id ≡ net.next_id → Below net.flights net.next_id → Rising net.flights → Rising (post routes net m).flights
+pub rising-post : (routes : Switches) (net : Net) (m : Sent) → m.id ≡ net.next_id → Below net.flights net.next_id → Rising net.flights →
+    Rising (post routes net m).flights
 rising-post routes net m e l r =
-    rising_either (is_lost routes net m) net.flights (net.flights ++ record { message = m; place = entry_of routes m } ∷ []) r (rising-push net.flights (record { message = m; place = entry_of routes m }) r (rw e l))
+    rising_either (is_lost routes net m) net.flights (net.flights ++ record { message = m; place = entry_of routes m } ∷ []) r
+    (rising-push net.flights (record { message = m; place = entry_of routes m }) r (rw e l))

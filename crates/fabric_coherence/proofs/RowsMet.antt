@@ -4,7 +4,8 @@ use Rattle.std.proofs.lemmas.Bool.Decides.{nat_tests}
 use Rattle.std.specs.Prelude.{Option, Some, None, IfSome}
 use Rattle.sn_msg.specs.declared.Message.{Message}
 use Rattle.sn_msg.specs.declared.Body.{Body}
-use Rattle.sn_msg.specs.declared.Body.TheVariants.{GetS, GetM, FwdGetS, FwdGetM, Inv, DataS, DataM, DataE, UpgOk, InvAck, Unblock, PutReq, PutGo, PutData, PutDone}
+use Rattle.sn_msg.specs.declared.Body.TheVariants.{GetS, GetM, FwdGetS, FwdGetM, Inv, DataS, DataM, DataE, UpgOk, InvAck, Unblock, PutReq}
+use Rattle.sn_msg.specs.declared.Body.TheVariants.{PutGo, PutData, PutDone}
 use Rattle.log_buffer.specs.Log.{logged_to}
 use Rattle.sn_model.specs.declared.home.Kind.{Kind}
 use Rattle.sn_model.specs.declared.home.Kind.TheVariants as kind
@@ -13,7 +14,8 @@ use Rattle.sn_model.specs.HomeRows.{count_others}
 use Rattle.sn_model.specs.Fabric.{Fabric, node_at, home_of, home_node}
 use Rattle.sn_model.specs.NetEvents.{logged_at}
 use Rattle.mosi_cache.specs.Rows.{MeetsRow, NotesLast, noted_in}
-use Rattle.home_directory.specs.Receipt.{HasRow, IsNotOlder, MayUnblock, MayGiveBack, is_put, noting, noted_by_read, noted_by_write, noted_by_end, noted_by_unblock, unless_open}
+use Rattle.home_directory.specs.Receipt.{HasRow, IsNotOlder, MayUnblock, MayGiveBack, is_put, noting, noted_by_read, noted_by_write}
+use Rattle.home_directory.specs.Receipt.{noted_by_end, noted_by_unblock, unless_open}
 use Rattle.sn_coherence.specs.Block as block
 use Rattle.sn_coherence.specs.Consequences.{MeetsRows, MeetsNotes}
 use Rattle.sn_coherence.proofs.WhatFollows.{kept_meets_rows, kept_meets_notes}
@@ -22,7 +24,10 @@ use Rattle.fabric_coherence.specs.Steps.{IsInFlight}
 use Rattle.fabric_coherence.specs.Coherent.{IsKept}
 use Rattle.fabric_coherence.specs.CacheEvents.{comes_to_cache}
 use Rattle.fabric_coherence.specs.Met.{comes_to_home, MeetsCache, MeetsHome}
-use Rattle.fabric_coherence.proofs.CacheConditions.{meets_forward_read, meets_forward_write, meets_data_shared, meets_data_modified, meets_data_exclusive, meets_upgrade_granted, meets_acknowledge, meets_put_go, meets_put_done, notes_forward_write, notes_put_go, notes_data_modified, notes_data_exclusive}
+use Rattle.fabric_coherence.proofs.CacheConditions.{meets_forward_read, meets_forward_write, meets_data_shared, meets_data_modified}
+use Rattle.fabric_coherence.proofs.CacheConditions.{meets_data_exclusive, meets_upgrade_granted, meets_acknowledge, meets_put_go}
+use Rattle.fabric_coherence.proofs.CacheConditions.{meets_put_done, notes_forward_write, notes_put_go, notes_data_modified}
+use Rattle.fabric_coherence.proofs.CacheConditions.{notes_data_exclusive}
 
 -- a transaction that is seen as a Get is no Put, and one that is seen as a Put is one
 seen_put : (k : Kind) → kind_seen k ≡ block.Put → is_put k ≡ true
@@ -39,11 +44,13 @@ seen_get kind.Move e = refl
 seen_get kind.Upgrade e = refl
 seen_get kind.Put e = absurd (cc)
 
-may_unblock : (open_one : Option Transaction) (r : ℕ) → block.gets (kind_open open_one) ≡ true → requester_of open_one ≡ r → MayUnblock open_one r
+may_unblock : (open_one : Option Transaction) (r : ℕ) → block.gets (kind_open open_one) ≡ true → requester_of open_one ≡ r →
+    MayUnblock open_one r
 may_unblock None r g e = absurd (cc)
 may_unblock (Some transaction) r g e = (seen_get transaction.kind g, e)
 
-may_give_back : (open_one : Option Transaction) (r : ℕ) → kind_open open_one ≡ block.Put → requester_of open_one ≡ r → MayGiveBack open_one r
+may_give_back : (open_one : Option Transaction) (r : ℕ) → kind_open open_one ≡ block.Put → requester_of open_one ≡ r →
+    MayGiveBack open_one r
 may_give_back None r k e = absurd (cc)
 may_give_back (Some transaction) r k e = (seen_put transaction.kind k, e)
 
@@ -57,7 +64,8 @@ not_owner (OfCache owner) r h = by_test (nat_eq owner r) refl
     by_test true e = absurd (h refl (grind (arith, nat_tests)))
 
 -- a note of an interval, where there is one, is late enough
-late_read : (log : ℕ) (open_one : Option Transaction) (holder : Holder) (others now : ℕ) → log ≤ now + 1 → IfSome (unless_open open_one (noted_by_read holder others now)) (λ i. log ≤ i + 1)
+late_read : (log : ℕ) (open_one : Option Transaction) (holder : Holder) (others now : ℕ) → log ≤ now + 1 →
+    IfSome (unless_open open_one (noted_by_read holder others now)) (λ i. log ≤ i + 1)
 late_read log (Some transaction) holder others now l = tt
 late_read log None (OfCache owner) others now l = tt
 late_read log None (Itself content) others now l = by_test (nat_eq others 0)
@@ -66,12 +74,14 @@ late_read log None (Itself content) others now l = by_test (nat_eq others 0)
     by_test true = l
     by_test false = tt
 
-late_write : (log : ℕ) (open_one : Option Transaction) (holder : Holder) (now : ℕ) → log ≤ now + 1 → IfSome (unless_open open_one (noted_by_write holder now)) (λ i. log ≤ i + 1)
+late_write : (log : ℕ) (open_one : Option Transaction) (holder : Holder) (now : ℕ) → log ≤ now + 1 →
+    IfSome (unless_open open_one (noted_by_write holder now)) (λ i. log ≤ i + 1)
 late_write log (Some transaction) holder now l = tt
 late_write log None (OfCache owner) now l = tt
 late_write log None (Itself content) now l = l
 
-late_end : (log : ℕ) (k : Kind) (holder : Holder) (fixed : ℕ) → (kind_seen k ≡ block.Move → log ≤ fixed + 1) → IfSome (noted_by_end k holder fixed) (λ i. log ≤ i + 1)
+late_end : (log : ℕ) (k : Kind) (holder : Holder) (fixed : ℕ) → (kind_seen k ≡ block.Move → log ≤ fixed + 1) →
+    IfSome (noted_by_end k holder fixed) (λ i. log ≤ i + 1)
 late_end log kind.Move (OfCache owner) fixed l = l refl
 late_end log kind.Move (Itself content) fixed l = tt
 late_end log kind.Read holder fixed l = tt
@@ -79,7 +89,8 @@ late_end log kind.Take holder fixed l = tt
 late_end log kind.Upgrade holder fixed l = tt
 late_end log kind.Put holder fixed l = tt
 
-late_unblock : (log : ℕ) (open_one : Option Transaction) (holder : Holder) (fixed : ℕ) → (kind_open open_one ≡ block.Move → log ≤ fixed + 1) → IfSome (noted_by_unblock open_one holder fixed) (λ i. log ≤ i + 1)
+late_unblock : (log : ℕ) (open_one : Option Transaction) (holder : Holder) (fixed : ℕ) →
+    (kind_open open_one ≡ block.Move → log ≤ fixed + 1) → IfSome (noted_by_unblock open_one holder fixed) (λ i. log ≤ i + 1)
 late_unblock log None holder fixed l = tt
 late_unblock log (Some transaction) holder fixed l = late_end log transaction.kind holder fixed l
 
@@ -121,8 +132,10 @@ module _ (s : Fabric) (t : Beside) (m : Message) (flight : IsInFlight s m) (kept
   seen_as : (x : Body) → m.body ≡ x → here.net m.id ≡ message_seen m x
   seen_as x is = flight.seen ∙ ap (message_seen m) is
 
-  comes_home : (x : Body) → m.body ≡ x → block.is_to_home (message_seen m x).body ≡ true → (message_seen m x).to ≡ m.to → m.to ≡ home_node s m.block
-  comes_home x is h to = sym to ∙ (subst (λ y. block.is_to_home y.body ≡ true → y.to ≡ home_node s m.block) (seen_as x is) (rows.home m.id)) h
+  comes_home : (x : Body) → m.body ≡ x → block.is_to_home (message_seen m x).body ≡ true → (message_seen m x).to ≡ m.to →
+      m.to ≡ home_node s m.block
+  comes_home x is h to =
+      sym to ∙ (subst (λ y. block.is_to_home y.body ≡ true → y.to ≡ home_node s m.block) (seen_as x is) (rows.home m.id)) h
 
   to_home : (x : Body) → m.body ≡ x → comes_to_home x ≡ true → m.to ≡ home_node s m.block
   to_home GetS is h = comes_home GetS is refl refl
@@ -133,7 +146,10 @@ module _ (s : Fabric) (t : Beside) (m : Message) (flight : IsInFlight s m) (kept
   to_home _ is h = absurd (cc)
 
   reads : m.body ≡ GetS → HasRow (home_of s m.block) m.from GetS
-  reads is idle = not_owner (home_of s m.block).holder m.from (λ away owns. rows.read m.id (ap (λ x. x.body) (seen_as GetS is)) (ap kind_open idle) away (owns ∙ sym (ap (λ x. x.from) (seen_as GetS is))))
+  reads is idle =
+      not_owner (home_of s m.block).holder m.from
+      (λ away owns. rows.read m.id (ap (λ x. x.body) (seen_as GetS is)) (ap kind_open idle) away
+      (owns ∙ sym (ap (λ x. x.from) (seen_as GetS is))))
 
   unblocks : (fixed : ℕ) → m.body ≡ Unblock fixed → MayUnblock (home_of s m.block).transaction m.from
   unblocks fixed is = may_unblock (home_of s m.block).transaction m.from h.0 (h.1 ∙ ap (λ x. x.from) (seen_as (Unblock fixed) is))
@@ -162,18 +178,25 @@ module _ (s : Fabric) (t : Beside) (m : Message) (flight : IsInFlight s m) (kept
   late_now : m.to ≡ home_node s m.block → last ≤ (node_at s m.to).now + 1
   late_now home = subst (λ n. logged_to (node_at s n).log true m.block ≤ (node_at s n).now + 1) (sym home) notes.take
 
-  late_fixed : (fixed : ℕ) → m.body ≡ Unblock fixed → m.to ≡ home_node s m.block → kind_open (home_of s m.block).transaction ≡ block.Move → last ≤ fixed + 1
+  late_fixed : (fixed : ℕ) → m.body ≡ Unblock fixed → m.to ≡ home_node s m.block → kind_open (home_of s m.block).transaction ≡ block.Move →
+      last ≤ fixed + 1
   late_fixed fixed is home moves = subst (λ n. logged_to (node_at s n).log true m.block ≤ fixed + 1) (sym home)
-      (subst (λ y. here.home_last ≤ y.number + 1) (seen_as (Unblock fixed) is) (notes.unblock m.id (ap (λ x. x.body) (seen_as (Unblock fixed) is)) moves))
+      (subst (λ y. here.home_last ≤ y.number + 1) (seen_as (Unblock fixed) is)
+      (notes.unblock m.id (ap (λ x. x.body) (seen_as (Unblock fixed) is)) moves))
 
   late_tag : (content : List ℕ) → m.body ≡ PutData content → m.to ≡ home_node s m.block → last ≤ m.tag + 1
   late_tag content is home = subst (λ n. logged_to (node_at s n).log true m.block ≤ m.tag + 1) (sym home)
-      (subst (λ y. here.home_last ≤ y.tag + 1) (seen_as (PutData content) is) (notes.put_data m.id (ap (λ x. x.body) (seen_as (PutData content) is))))
+      (subst (λ y. here.home_last ≤ y.tag + 1) (seen_as (PutData content) is)
+      (notes.put_data m.id (ap (λ x. x.body) (seen_as (PutData content) is))))
 
-  home_note : (x : Body) → m.body ≡ x → m.to ≡ home_node s m.block → IsNotOlder (node_at s m.to).log (noting (home_of s m.block) (node_at s m.to).now m x) m.block
-  home_note GetS is home = late_read last (home_of s m.block).transaction (home_of s m.block).holder (count_others (home_of s m.block).sharers m.from) (node_at s m.to).now (late_now home)
+  home_note : (x : Body) → m.body ≡ x → m.to ≡ home_node s m.block →
+      IsNotOlder (node_at s m.to).log (noting (home_of s m.block) (node_at s m.to).now m x) m.block
+  home_note GetS is home =
+      late_read last (home_of s m.block).transaction (home_of s m.block).holder (count_others (home_of s m.block).sharers m.from)
+      (node_at s m.to).now (late_now home)
   home_note GetM is home = late_write last (home_of s m.block).transaction (home_of s m.block).holder (node_at s m.to).now (late_now home)
-  home_note (Unblock fixed) is home = late_unblock last (home_of s m.block).transaction (home_of s m.block).holder fixed (late_fixed fixed is home)
+  home_note (Unblock fixed) is home =
+      late_unblock last (home_of s m.block).transaction (home_of s m.block).holder fixed (late_fixed fixed is home)
   home_note (PutData content) is home = late_tag content is home
   home_note _ is home = tt
 

@@ -1,5 +1,6 @@
 -- What the records of a block tell of the fabric.
-use Rattle.std.proofs.Common.{◌≡◌, ◌≢◌, ◌∙◌, ℕ, ◌<◌, ◌≤◌, Bool, true, false, true≢false, List, length, refl, ap, sym, subst, arith, Option, Some, None}
+use Rattle.std.proofs.Common.{◌≡◌, ◌≢◌, ◌∙◌, ℕ, ◌<◌, ◌≤◌, Bool, true, false, true≢false, List, length, refl, ap, sym, subst, arith, Option}
+use Rattle.std.proofs.Common.{Some, None}
 use Rattle.std.specs.Prelude.{is_some}
 use Rattle.std.proofs.lemmas.List.{get_or-map}
 use Rattle.log_buffer.specs.Log.{entry_at}
@@ -10,7 +11,7 @@ use Rattle.sn_model.specs.Cuts.{holds_at, names_at, transaction_before}
 use Rattle.sn_model.specs.Homes.{Holder, Itself, OfCache, HomeEntry}
 use Rattle.sn_model.specs.Fabric.{Fabric, Node, node_at, home_of, home_node, first_node}
 use Rattle.sn_model.specs.PointEvents.{restored, restored_node, restored_line}
-use Rattle.sn_model.specs.RecoveryPoint.{IsHeld, IsOwned}
+use Rattle.sn_model.specs.RecoveryPoint.{HasOneHolderWith, IsOwned}
 use Rattle.sn_coherence.specs.Block as block
 use Rattle.sn_coherence.specs.Consequences.{HasContent, IsLegal}
 use Rattle.sn_coherence.specs.Kept.{AllSentences}
@@ -66,34 +67,41 @@ module _ (s : Fabric) (t : Beside) (kept : IsKept s t) (b : ℕ) (low : b < bloc
 
     held_content : (n : ℕ) → is_some (holds_at s n b k) ≡ true → holds_at s n b k ≡ Some (r.below k)
     held_content n h = some_is (holds_at s n b k) (r.below k) h
-        (content_told (entry_at (node_at s n).log false b k) (line_of (node_at s n).cache b) (entry_sided (node_at s n).log false b k) ∙ content.cache n (sym (holds_is s t b n k) ∙ h))
+        (content_told (entry_at (node_at s n).log false b k) (line_of (node_at s n).cache b) (entry_sided (node_at s n).log false b k)
+        ∙ content.cache n (sym (holds_is s t b n k) ∙ h))
 
     named_content : is_itself (names_at s b k) ≡ true → content_of (names_at s b k) ≡ r.below k
-    named_content h = kept_told (entry_at (node_at s (home_node s b)).log true b k) (home_of s b).holder (entry_sided (node_at s (home_node s b)).log true b k) ∙ content.home (sym (names_home s t b k) ∙ h)
+    named_content h =
+        kept_told (entry_at (node_at s (home_node s b)).log true b k) (home_of s b).holder
+        (entry_sided (node_at s (home_node s b)).log true b k) ∙ content.home (sym (names_home s t b k) ∙ h)
 
     other_caches : (x : Holder) → names_at s b k ≡ x → (n : ℕ) → n < length s.nodes → (x ≡ OfCache n → ⊥) → holds_at s n b k ≡ None
     other_caches x e n l other = none_is (holds_at s n b k) (λ h. other (sym e ∙ one.named n l h))
 
-    held_by_name : (x : Holder) → names_at s b k ≡ x → IsHeld s b k (r.below k) x
-    held_by_name (Itself named) e = (sym (ap content_of e) ∙ named_content (ap is_itself e), λ n l. other_caches (Itself named) e n l (λ q. cc))
+    held_by_name : (x : Holder) → names_at s b k ≡ x → HasOneHolderWith s b k (r.below k) x
+    held_by_name (Itself named) e =
+        (sym (ap content_of e) ∙ named_content (ap is_itself e), λ n l. other_caches (Itself named) e n l (λ q. cc))
     held_by_name (OfCache owner) e =
         let h = one.holds owner e in
         (h.0, held_content owner h.1, λ n l other. other_caches (OfCache owner) e n l (λ q. other (sym (ap owner_of q))))
 
-    held : IsHeld s b k (r.below k) (names_at s b k)
+    held : HasOneHolderWith s b k (r.below k) (names_at s b k)
     held = held_by_name (names_at s b k) refl
 
   -- the point is such a cut
   point_begun : transaction_before (home_of s b).transaction s.point ≡ false
   point_begun = home_finished (home_of s b).transaction s.point of_block.clocks.begun_point
 
-  point : IsHeld s b s.point (r.below s.point) (names_at s b s.point)
+  point : HasOneHolderWith s b s.point (r.below s.point) (names_at s b s.point)
   point = held s.point (omega arith) point_begun
 
   -- a recovery to it
-  restored_line_is : (n : ℕ) → n < length s.nodes → line_of (node_at (restored s s.point) n).cache b ≡ restored_line (holds_at s n b s.point)
+  restored_line_is : (n : ℕ) → n < length s.nodes →
+      line_of (node_at (restored s s.point) n).cache b ≡ restored_line (holds_at s n b s.point)
   unfolding restored
-  restored_line_is n l = ap (λ (x : Node). line_of x.cache b) (get_or-map (restored_node s.point) s.nodes n first_node first_node l) ∙ restored_line_at s.point b (node_at s n) (subst (λ c. b < c) (sym (kept.shape.lines n l)) low)
+  restored_line_is n l =
+      ap (λ (x : Node). line_of x.cache b) (get_or-map (restored_node s.point) s.nodes n first_node first_node l)
+      ∙ restored_line_at s.point b (node_at s n) (subst (λ c. b < c) (sym (kept.shape.lines n l)) low)
 
   restored_name_is : (home_of (restored s s.point) b).holder ≡ names_at s b s.point
   unfolding restored
@@ -102,13 +110,14 @@ module _ (s : Fabric) (t : Beside) (kept : IsKept s t) (b : ℕ) (low : b < bloc
   abbrev many : length (restored s s.point).nodes ≡ length s.nodes
   many = length-restored_nodes s kept.shape
 
-  absent : (n : ℕ) → n < length (restored s s.point).nodes → (n < length s.nodes → holds_at s n b s.point ≡ None) → (line_of (node_at (restored s s.point) n).cache b).state ≡ state.Absent
+  absent : (n : ℕ) → n < length (restored s s.point).nodes → (n < length s.nodes → holds_at s n b s.point ≡ None) →
+      (line_of (node_at (restored s s.point) n).cache b).state ≡ state.Absent
   absent n l h = ap (λ (x : Line). x.state) (restored_line_is n inside) ∙ ap (λ c. (restored_line c).state) (h inside)
     where
       inside : n < length s.nodes
       inside = subst (λ c. n < c) many l
 
-  owned_by : (x : Holder) → IsHeld s b s.point (r.below s.point) x → IsOwned (restored s s.point) b (r.below s.point) x
+  owned_by : (x : Holder) → HasOneHolderWith s b s.point (r.below s.point) x → IsOwned (restored s s.point) b (r.below s.point) x
   owned_by (Itself named) h = (h.0, λ n l. absent n l (h.1 n))
   owned_by (OfCache owner) h = (
     subst (λ c. owner < c) (sym many) h.0,
@@ -120,16 +129,25 @@ module _ (s : Fabric) (t : Beside) (kept : IsKept s t) (b : ℕ) (low : b < bloc
   restored_to = subst (IsOwned (restored s s.point) b (r.below s.point)) (sym restored_name_is) (owned_by (names_at s b s.point) point)
 
   -- who may write is alone, so nobody else has a reservation
-  alone : (n x : ℕ) → is_writable_state (line_of (node_at s n).cache b).state ≡ true → misses_on (node_at s n).cache.miss b ≡ false → x ≢ n → r.reserved x ≡ false
+  alone : (n x : ℕ) → is_writable_state (line_of (node_at s n).cache b).state ≡ true → misses_on (node_at s n).cache.miss b ≡ false →
+      x ≢ n → r.reserved x ≡ false
   alone n x writable none other = false_is (r.reserved x)
-      (λ e. recorded.contents.reserved_line x e (of_block.sharing.writer_alone n x (writable_seen (line_of (node_at s n).cache b).state writable) (misses_seen s t b (node_at s n).cache.miss none) (λ q. other (sym q))))
+      (λ e. recorded.contents.reserved_line x e
+      (of_block.sharing.writer_alone n x (writable_seen (line_of (node_at s n).cache b).state writable)
+      (misses_seen s t b (node_at s n).cache.miss none) (λ q. other (sym q))))
 
   pub tells : Tells s b r
   tells = record {
     copies = λ n l present. recorded.contents.of_line n (present_seen (line_of (node_at s n).cache b).state present);
     read = λ n l present. legal.read n (present_seen (line_of (node_at s n).cache b).state present);
-    write = λ n can writable. (legal.write n (free s t n kept can.node can.no_miss b can.no_put) (writable_seen (line_of (node_at s n).cache b).state writable)).1;
-    reserved = λ n l e. (seen_present (line_of (node_at s n).cache b).state (recorded.contents.reserved_line n e), recorded.contents.reserved_alone n e);
+    write =
+        λ n can writable. (legal.write n (free s t n kept can.node can.no_miss b can.no_put)
+        (writable_seen (line_of (node_at s n).cache b).state writable)).1;
+    reserved =
+        λ n l e. (
+          seen_present (line_of (node_at s n).cache b).state (recorded.contents.reserved_line n e),
+          recorded.contents.reserved_alone n e,
+        );
     alone = λ n x l writable none other. alone n x writable none other;
     held = held;
     point = point;

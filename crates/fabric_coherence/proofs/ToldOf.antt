@@ -1,24 +1,30 @@
 -- What an event tells is of the fabric: its node and block are there, and its point isn't above the recovery point.
-use Rattle.std.proofs.Common.{◌≡◌, ◌∙◌, ℕ, ◌+◌, ◌-◌, ◌<◌, ◌≤◌, Bool, true, false, not, ◌&&◌, length, refl, ap, sym, subst, if◌then◌else◌, nat_eq, nat_lt, nat_le, Option, Some, None}
+use Rattle.std.proofs.Common.{◌≡◌, ◌∙◌, ℕ, ◌+◌, ◌-◌, ◌<◌, ◌≤◌, Bool, true, false, not, ◌&&◌, length, refl, ap, sym, subst, if◌then◌else◌}
+use Rattle.std.proofs.Common.{nat_eq, nat_lt, nat_le, Option, Some, None}
 use Rattle.sn_base.specs.declared.config.Config.{Config}
-use Rattle.sn_base.specs.declared.event.Answer.TheVariants.{Retired, Waits, LogFull, NetFull, NeedsEvict, PutOpen, MissOpen, CheckpointsFull, Arrived, AlreadyDead, NotArrived, Held}
+use Rattle.sn_base.specs.declared.event.Answer.TheVariants.{Retired, Waits, LogFull, NetFull, NeedsEvict, PutOpen, MissOpen}
+use Rattle.sn_base.specs.declared.event.Answer.TheVariants.{CheckpointsFull, Arrived, AlreadyDead, NotArrived, Held}
 use Rattle.sn_msg.specs.declared.Message.{Message}
 use Rattle.sn_msg.specs.declared.Body.{Body}
-use Rattle.sn_msg.specs.declared.Body.TheVariants.{GetS, GetM, FwdGetS, FwdGetM, Inv, DataS, DataM, DataE, UpgOk, InvAck, Unblock, PutReq, PutGo, PutData, PutDone, Ready, Advance}
+use Rattle.sn_msg.specs.declared.Body.TheVariants.{GetS, GetM, FwdGetS, FwdGetM, Inv, DataS, DataM, DataE, UpgOk, InvAck, Unblock, PutReq}
+use Rattle.sn_msg.specs.declared.Body.TheVariants.{PutGo, PutData, PutDone, Ready, Advance}
 use Rattle.sn_model.specs.declared.cache.LineState.{LineState}
 use Rattle.sn_model.specs.declared.cache.LineState.TheVariants as state
 use Rattle.sn_model.specs.declared.cache.LineState.TheVariants.{Shared, Modified, Exclusive}
 use Rattle.sn_model.specs.declared.cache.Need.{Need}
 use Rattle.sn_model.specs.Caches.{block_count, line_of, with_line, is_present, misses_on, puts_on, frames_taken}
-use Rattle.sn_model.specs.CacheRows.{Logged, CacheReply, fixed_at, acknowledged, taken_over, forward_read, forward_write, invalidate, data_shared, data_modified, data_exclusive, upgrade_granted, acknowledge, put_go, put_done}
+use Rattle.sn_model.specs.CacheRows.{Logged, CacheReply, fixed_at, acknowledged, taken_over, forward_read, forward_write, invalidate}
+use Rattle.sn_model.specs.CacheRows.{data_shared, data_modified, data_exclusive, upgrade_granted, acknowledge, put_go, put_done}
 use Rattle.sn_model.specs.HomeRows.{HomeReply, unblock, put_data}
 use Rattle.sn_model.specs.Homes.{Transaction}
 use Rattle.sn_model.specs.Access.{missed, misses, has_miss, serves, lacks_room, accesses, accessed}
 use Rattle.sn_model.specs.Fabric.{Fabric, Flight, Moved, node_at, home_of, home_node, refused, answered}
-use Rattle.sn_model.specs.FabricEvents.{FabricEvent, Access, Write, Evict, Edge, Hop, Deliver, Lose, Kill, Report, Advance as Advances, Recover, moved_by}
+use Rattle.sn_model.specs.FabricEvents.{FabricEvent, Access, Write, Evict, Edge, Hop, Deliver, Lose, Kill, Report, Advance as Advances}
+use Rattle.sn_model.specs.FabricEvents.{Recover, moved_by}
 use Rattle.sn_model.specs.Net.{net_limit, routes_of, flight_of, is_there, is_full, next_switch}
 use Rattle.sn_model.specs.NodeEvents.{evicts, begins_put, has_put, checkpoint_limit}
-use Rattle.sn_model.specs.NetEvents.{AtCache, AtHome, logged_at, kept_at, get_shared, get_modified, put_request, unless_busy, outcome_of, delivers, delivers_flight, hops, hops_to, loses}
+use Rattle.sn_model.specs.NetEvents.{AtCache, AtHome, logged_at, kept_at, get_shared, get_modified, put_request, unless_busy, outcome_of}
+use Rattle.sn_model.specs.NetEvents.{delivers, delivers_flight, hops, hops_to, loses}
 use Rattle.sn_model.specs.PointEvents.{recovers, living_switches}
 use Rattle.route_plan.specs.Distances.{is_dead}
 use Rattle.route_plan.specs.Routes.{first_cut_off}
@@ -29,7 +35,7 @@ use Rattle.fabric_coherence.specs.CacheEvents.{told_of}
 use Rattle.fabric_coherence.specs.Coherent.{IsKept, Keeps}
 use Rattle.fabric_coherence.specs.Events.{MayBe}
 use Rattle.fabric_coherence.specs.Recorded.{IsOfFabric}
-use Rattle.fabric_coherence.proofs.CacheOutcomes.{settled_loses}
+use Rattle.fabric_coherence.proofs.CacheOutcomes.{completed_or_waiting_loses}
 use Rattle.fabric_coherence.proofs.InFlight.{in_flight}
 
 abbrev Tells : Fabric → Moved → Type 0
@@ -45,11 +51,13 @@ tells_accessed config s n block need =
     (by_test s (puts_on (node_at s n).cache.put block) (refused s Waits) _ tt
     (by_test s (serves need (line_of (node_at s n).cache block).state) _ (misses config s n block need)
     (by_test s (lacks_room config (node_at s n) block need) (refused s LogFull) (answered s Retired) tt tt)
-    (by_test s (not (is_present (line_of (node_at s n).cache block).state) && nat_le config.ways (frames_taken (node_at s n).cache config.sets block)) (refused s NeedsEvict) _ tt
+    (by_test s (not (is_present (line_of (node_at s n).cache block).state)
+    && nat_le config.ways (frames_taken (node_at s n).cache config.sets block)) (refused s NeedsEvict) _ tt
     (by_test s (is_full s 1) (refused s NetFull) (missed s n block need) tt tt))))
 
 tells_begins_put : (s : Fabric) (n b : ℕ) → Tells s (begins_put s n b)
-tells_begins_put s n b = by_test s (has_put (node_at s n).cache.put) (refused s PutOpen) _ tt (by_test s (is_full s 1) (refused s NetFull) _ tt tt)
+tells_begins_put s n b =
+    by_test s (has_put (node_at s n).cache.put) (refused s PutOpen) _ tt (by_test s (is_full s 1) (refused s NetFull) _ tt tt)
 
 tells_evicts : (s : Fabric) (n b : ℕ) (line : LineState) → n < length s.nodes → b < block_count → Tells s (evicts s n b line)
 tells_evicts s n b state.Absent l low = tt
@@ -60,7 +68,9 @@ tells_evicts s n b state.Exclusive l low = tells_begins_put s n b
 
 tells_hops : (s : Fabric) (found : Option Flight) → Tells s (hops s found)
 tells_hops s None = tt
-tells_hops s (Some f) = by_test s (is_there f) (refused s Arrived) (hops_to s f (next_switch (routes_of s) f)) tt (by_test s (is_dead s.net.dead (next_switch (routes_of s) f)) _ _ tt tt)
+tells_hops s (Some f) =
+    by_test s (is_there f) (refused s Arrived) (hops_to s f (next_switch (routes_of s) f)) tt
+    (by_test s (is_dead s.net.dead (next_switch (routes_of s) f)) _ _ tt tt)
 
 tells_loses : (s : Fabric) (found : Option Flight) → Tells s (loses s found)
 tells_loses s None = tt
@@ -100,14 +110,20 @@ module _ (config : Config) (s : Fabric) (t : Beside) (id : ℕ) (f : Flight) (ke
   none_lost reply e = subst (λ lost. IsOfFabric s (told_of m.to lost)) (sym e) tt
 
   advance_low : (k : ℕ) → m.body ≡ Advance k → k ≤ s.point
-  advance_low k is = subst (λ (x : block.Message). x.body ≡ block.Advance → x.number ≤ s.point) seen ((kept.blocks m.block flight.block).clocks.advance_point m.id) refl
+  advance_low k is =
+      subst (λ (x : block.Message). x.body ≡ block.Advance → x.number ≤ s.point) seen
+      ((kept.blocks m.block flight.block).clocks.advance_point m.id) refl
     where
       seen : net_seen m.block s.net.flights m.id ≡ message_seen m (Advance k)
       seen = flight.seen ∙ ap (message_seen m) is
 
   by_body : (x : Body) → m.body ≡ x → Tells s (delivers config s m (outcome_of s m x))
-  by_body GetS is = request (home_of s m.block).transaction (get_shared (kept_at s m.to m.block) m.block (node_at s m.to).now m.from (home_of s m.block).holder)
-  by_body GetM is = request (home_of s m.block).transaction (get_modified (kept_at s m.to m.block) m.block (node_at s m.to).now m.from (home_of s m.block).holder)
+  by_body GetS is =
+      request (home_of s m.block).transaction
+      (get_shared (kept_at s m.to m.block) m.block (node_at s m.to).now m.from (home_of s m.block).holder)
+  by_body GetM is =
+      request (home_of s m.block).transaction
+      (get_modified (kept_at s m.to m.block) m.block (node_at s m.to).now m.from (home_of s m.block).holder)
   by_body PutReq is = request (home_of s m.block).transaction (put_request (kept_at s m.to m.block) (node_at s m.to).now m.from)
   by_body (Unblock fixed) is = at_home (unblock (kept_at s m.to m.block) m.block fixed (home_of s m.block).transaction)
   by_body (PutData content) is = at_home (put_data (kept_at s m.to m.block) m.block m.tag m.from content)
@@ -115,13 +131,19 @@ module _ (config : Config) (s : Fabric) (t : Beside) (id : ℕ) (f : Flight) (ke
   by_body (FwdGetM r due) is = at_cache (forward_write at m.block (node_at s m.to).now r due) (lost_here true)
   by_body (Inv r) is = at_cache (invalidate at m.block r) (lost_here (is_present (line_of at.cache m.block).state))
   by_body (DataS content) is = at_cache (data_shared at home m.block m.tag content)
-      (none_lost (data_shared at home m.block m.tag content) (settled_loses (record at { cache = with_line at.cache m.block Shared content }) home (fixed_at at.cache.miss m.tag 0)))
+      (none_lost (data_shared at home m.block m.tag content)
+      (completed_or_waiting_loses (record at { cache = with_line at.cache m.block Shared content }) home (fixed_at at.cache.miss m.tag 0)))
   by_body (DataM content due) is = at_cache (data_modified at home m.block m.tag content due)
-      (none_lost (data_modified at home m.block m.tag content due) (settled_loses (taken_over at m.block m.tag Modified content) home (fixed_at at.cache.miss m.tag due)))
+      (none_lost (data_modified at home m.block m.tag content due)
+      (completed_or_waiting_loses (taken_over at m.block m.tag Modified content) home (fixed_at at.cache.miss m.tag due)))
   by_body (DataE content) is = at_cache (data_exclusive at home m.block m.tag content)
-      (none_lost (data_exclusive at home m.block m.tag content) (settled_loses (taken_over at m.block m.tag Exclusive content) home (fixed_at at.cache.miss m.tag 0)))
-  by_body (UpgOk due) is = at_cache (upgrade_granted at home m.tag due) (none_lost (upgrade_granted at home m.tag due) (settled_loses at home (fixed_at at.cache.miss m.tag due)))
-  by_body InvAck is = at_cache (acknowledge at home) (none_lost (acknowledge at home) (settled_loses at home (acknowledged at.cache.miss)))
+      (none_lost (data_exclusive at home m.block m.tag content)
+      (completed_or_waiting_loses (taken_over at m.block m.tag Exclusive content) home (fixed_at at.cache.miss m.tag 0)))
+  by_body (UpgOk due) is =
+      at_cache (upgrade_granted at home m.tag due)
+      (none_lost (upgrade_granted at home m.tag due) (completed_or_waiting_loses at home (fixed_at at.cache.miss m.tag due)))
+  by_body InvAck is =
+      at_cache (acknowledge at home) (none_lost (acknowledge at home) (completed_or_waiting_loses at home (acknowledged at.cache.miss)))
   by_body PutGo is = at_cache (put_go at home m.block (node_at s m.to).now) (lost_here true)
   by_body PutDone is = at_cache (put_done at) tt
   by_body (Ready k) is = flight.from
@@ -129,9 +151,11 @@ module _ (config : Config) (s : Fabric) (t : Beside) (id : ℕ) (f : Flight) (ke
 
   tells_found : Tells s (delivers_flight config s (Some f))
   tells_found = by_test s (not (is_there f)) (refused s NotArrived) _ tt
-      (by_test s (nat_lt (node_at s m.to).now m.tag) (refused s Held) (delivers config s m (outcome_of s m m.body)) tt (by_body m.body refl))
+      (by_test s (nat_lt (node_at s m.to).now m.tag) (refused s Held) (delivers config s m (outcome_of s m m.body)) tt
+      (by_body m.body refl))
 
-tells_flight : (config : Config) (s : Fabric) (t : Beside) (id : ℕ) (found : Option Flight) → IsKept s t → flight_of s.net.flights id ≡ found → Tells s (delivers_flight config s found)
+tells_flight : (config : Config) (s : Fabric) (t : Beside) (id : ℕ) (found : Option Flight) → IsKept s t →
+    flight_of s.net.flights id ≡ found → Tells s (delivers_flight config s found)
 tells_flight config s t id None kept e = tt
 tells_flight config s t id (Some f) kept e = tells_found config s t id f kept e
 
@@ -143,8 +167,11 @@ pub told_of_fabric : (config : Config) (s : Fabric) (event : FabricEvent) → Ke
 unfolding moved_by
 told_of_fabric config s (Access n b need) k m = tells_accessed config s n b need
 told_of_fabric config s (Write n w) k m = tt
-told_of_fabric config s (Evict n b) k m = by_test s (misses_on (node_at s n).cache.miss b) (refused s MissOpen) _ tt (tells_evicts s n b (line_of (node_at s n).cache b).state m.0 m.1)
-told_of_fabric config s (Edge n) k m = by_test s (nat_eq ((node_at s n).now - (node_at s n).known) checkpoint_limit) (refused s CheckpointsFull) _ tt tt
+told_of_fabric config s (Evict n b) k m =
+    by_test s (misses_on (node_at s n).cache.miss b) (refused s MissOpen) _ tt
+    (tells_evicts s n b (line_of (node_at s n).cache b).state m.0 m.1)
+told_of_fabric config s (Edge n) k m =
+    by_test s (nat_eq ((node_at s n).now - (node_at s n).known) checkpoint_limit) (refused s CheckpointsFull) _ tt tt
 told_of_fabric config s (Hop id) k m = tells_hops s (flight_of s.net.flights id)
 told_of_fabric config s (Deliver id) k m = tells_flight config s k.0 id (flight_of s.net.flights id) k.1 refl
 told_of_fabric config s (Lose id) k m = tells_loses s (flight_of s.net.flights id)

@@ -11,7 +11,8 @@ use Rattle.sn_coherence.specs.Block.{Block, Content, Message as Seen, gone, set,
 use Rattle.sn_coherence.specs.OtherEvents.{end_miss_elsewhere}
 use Rattle.sn_coherence.specs.Same.{IsSame}
 use Rattle.sn_coherence.specs.Log.{was_owned, old_content, was_home, old_cache, told_at}
-use Rattle.fabric_coherence.specs.View.{Beside, block_seen, line_seen, content_held, miss_seen, put_seen, put_issued, net_seen, message_seen}
+use Rattle.fabric_coherence.specs.View.{Beside, block_seen, line_seen, content_held, miss_seen, put_seen, put_issued, net_seen}
+use Rattle.fabric_coherence.specs.View.{message_seen}
 use Rattle.fabric_coherence.specs.Steps.{after_cache, beside_with, losing, lost_at_once, elsewhere}
 
 abbrev pub cache_seen : Fabric → Beside → Message → CacheReply → Line → ℕ → Block
@@ -69,12 +70,14 @@ pub record IsRow (a b : Block) : Type 0 where
 -- a reply of a cache is, for its own block, this row of the block
 abbrev pub IsOwnRow : Fabric → Beside → Message → CacheReply → Block → Type 0
 IsOwnRow s t m reply row =
-    IsSame (block_seen (after_cache s m reply).fabric (beside_with t m.block row) m.block) (losing row (lost_at_once (after_cache s m reply).sent))
+    IsSame (block_seen (after_cache s m reply).fabric (beside_with t m.block row) m.block)
+    (losing row (lost_at_once (after_cache s m reply).sent))
 
 -- the net with a message of the block taken, and one sent by its receiver
 abbrev pub net_answered : Fabric → Beside → Message → Out → ℕ → Seen
 net_answered s t m out =
-    set (set (block_seen s t m.block).net m.id gone) s.net.next_id (message_seen (message_of s.net m.to (node_at s m.to).now m.block out) out.body)
+    set (set (block_seen s t m.block).net m.id gone) s.net.next_id
+    (message_seen (message_of s.net m.to (node_at s m.to).now m.block out) out.body)
 
 -- a log says of the cache's side of a block what it said before
 pub record KeepsCacheSide (before after : List LogEntry) (o : ℕ) : Type 0 where
@@ -87,5 +90,5 @@ abbrev pub IsElsewhere : Fabric → Beside → Message → CacheReply → Block 
 IsElsewhere s t m reply row o block = IsSame (block_seen (after_cache s m reply).fabric (beside_with t m.block row) o) block
 
 -- another block, where node n's miss is complete or waits for acknowledgements
-abbrev pub settled_elsewhere : Block → ℕ → ℕ → Bool → Block
-settled_elsewhere block i n complete = cond complete (end_miss_elsewhere (elsewhere block i 1) n) (elsewhere block i 0)
+abbrev pub completed_or_waiting_elsewhere : Block → ℕ → ℕ → Bool → Block
+completed_or_waiting_elsewhere block i n complete = cond complete (end_miss_elsewhere (elsewhere block i 1) n) (elsewhere block i 0)

@@ -17,7 +17,7 @@ abbrev pub Keeps : Fabric → Type 0
 Keeps s = (t : Beside) × IsKept s t
 
 -- each node has reached k, and nothing that was begun in an interval below k is unfinished
-pub record IsFinished (s : Fabric) (k : ℕ) : Type 0 where
+pub record NothingUnfinished (s : Fabric) (k : ℕ) : Type 0 where
   pub now : (n : ℕ) → n < length s.nodes → k ≤ (node_at s n).now
   pub none : is_unfinished s k ≡ false
 

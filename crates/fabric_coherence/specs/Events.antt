@@ -6,7 +6,7 @@ use Rattle.sn_model.specs.Access.{has_miss}
 use Rattle.sn_model.specs.Fabric.{Fabric, node_at}
 use Rattle.sn_model.specs.Caches.{block_count, line_of, is_writable_state, puts_on}
 use Rattle.sn_model.specs.FabricEvents.{FabricEvent, Access, Write, Evict, Edge, Report, Advance, Recover}
-use Rattle.fabric_coherence.specs.Coherent.{IsFinished}
+use Rattle.fabric_coherence.specs.Coherent.{NothingUnfinished}
 
 -- node n can use its line of block b: it has no miss open, and no put of the block
 pub record CanUse (s : Fabric) (n b : ℕ) : Type 0 where
@@ -26,6 +26,6 @@ MayBe s (Write n w) = CanWrite s n w
 MayBe s (Evict n block) = (n < length s.nodes) × (block < block_count)
 MayBe s (Edge n) = n < length s.nodes
 MayBe s (Report n) = n < length s.nodes
-MayBe s (Advance k) = (k ≡ s.point + 1) × IsFinished s k
+MayBe s (Advance k) = (k ≡ s.point + 1) × NothingUnfinished s k
 MayBe s (Recover k) = k ≡ s.point
 MayBe s _ = Unit {0}

@@ -3,7 +3,7 @@ use Rattle.std.specs.Prelude.{◌≡◌, ◌≢◌, ℕ, ◌<◌, ◌≤◌, tru
 use Rattle.sn_model.specs.declared.cache.LineState.TheVariants.{Absent}
 use Rattle.sn_model.specs.Caches.{line_of, is_writable_state, misses_on}
 use Rattle.sn_model.specs.Cuts.{names_at, transaction_before}
-use Rattle.sn_model.specs.RecoveryPoint.{IsHeld}
+use Rattle.sn_model.specs.RecoveryPoint.{HasOneHolderWith}
 use Rattle.sn_model.specs.Fabric.{Fabric, node_at, home_of}
 
 -- a cache that may write a block, with no miss open on it, has the only copy
@@ -15,7 +15,7 @@ HasOneWriter s b =
 
 -- at checkpoint k the block has one holder, whom its home names, with some content
 abbrev pub HasHolder : Fabric → ℕ → ℕ → Type 0
-HasHolder s b k = (content : List ℕ) × IsHeld s b k content (names_at s b k)
+HasHolder s b k = (content : List ℕ) × HasOneHolderWith s b k content (names_at s b k)
 
 -- who holds a block of the fabric
 pub record IsCoherent (s : Fabric) (b : ℕ) : Type 0 where

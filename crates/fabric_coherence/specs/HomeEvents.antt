@@ -6,7 +6,8 @@ use Rattle.sn_msg.specs.declared.Body.TheVariants.{GetS, GetM, Unblock, PutReq, 
 use Rattle.sn_model.specs.Homes.{Holder, Itself, OfCache, is_owner}
 use Rattle.sn_model.specs.HomeRows.{count_others}
 use Rattle.sn_model.specs.Fabric.{Fabric, home_of}
-use Rattle.sn_coherence.specs.Events.{Event, ReadAtHome, ReadAtOwner, Takes, MovesOwnership, Upgrades, Unblocks, PutBegins, PutIsStale, PutDataComes, GrantExclusive, Lose}
+use Rattle.sn_coherence.specs.Events.{Event, ReadAtHome, ReadAtOwner, Takes, MovesOwnership, Upgrades, Unblocks, PutBegins, PutIsStale}
+use Rattle.sn_coherence.specs.Events.{PutDataComes, GrantExclusive, Lose}
 use Rattle.fabric_coherence.specs.HomeSeen.{other_targets}
 
 -- how many sharers there are beside the sender

@@ -77,7 +77,8 @@ other_targets sharers r k = slice_index_or (targets 0 (others sharers r)) k 0
 -- a row of a home is this row of its block, and then the loss of what was lost at once
 abbrev pub IsHomeRow : Fabric → Beside → Sent → HomeReply → Block → Type 0
 IsHomeRow s t m reply e =
-    IsSame (block_seen (after_home s m reply).fabric (beside_with t m.block e) m.block) (losing e (lost_at_once (after_home s m reply).sent))
+    IsSame (block_seen (after_home s m reply).fabric (beside_with t m.block e) m.block)
+    (losing e (lost_at_once (after_home s m reply).sent))
 
 -- another block sees that the message is gone, and that numbers were taken
 abbrev pub IsHomeElsewhere : Fabric → Beside → Sent → HomeReply → Block → ℕ → Type 0

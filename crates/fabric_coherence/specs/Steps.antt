@@ -19,9 +19,11 @@ use Rattle.fabric_coherence.specs.Flights.{Rising}
 
 -- the fabric after a row of a cache, and after a row of a home, for a message
 abbrev pub after_cache : Fabric → Message → CacheReply → Moved
-after_cache s m reply = record (sending (with_net (with_node s m.to (node_after (node_at s m.to) reply)) (without_flight s.net m.id)) m.to m.block reply.sends Delivered) {
-  told = copy_lost m.to reply;
-}
+after_cache s m reply =
+    record (sending (with_net (with_node s m.to (node_after (node_at s m.to) reply))
+    (without_flight s.net m.id)) m.to m.block reply.sends Delivered) {
+      told = copy_lost m.to reply;
+    }
 
 abbrev pub after_home : Fabric → Message → HomeReply → Moved
 after_home s m reply = sending (with_net (home_after s m.to m.block reply) (without_flight s.net m.id)) m.to m.block reply.sends Delivered

@@ -4,7 +4,7 @@ use Rattle.sn_model.specs.Fabric.{Fabric, node_at, home_of}
 use Rattle.sn_model.specs.PointEvents.{restored}
 use Rattle.sn_model.specs.Caches.{Line, line_of, is_present, is_writable_state, misses_on}
 use Rattle.sn_model.specs.Cuts.{names_at, transaction_before}
-use Rattle.sn_model.specs.RecoveryPoint.{IsHeld, IsOwned}
+use Rattle.sn_model.specs.RecoveryPoint.{HasOneHolderWith, IsOwned}
 use Rattle.sn_coherence.specs.Records.{Records}
 use Rattle.fabric_coherence.specs.Events.{CanUse}
 
@@ -26,7 +26,8 @@ pub record Tells (s : Fabric) (b : ℕ) (r : Records) : Type 0 where
       misses_on (node_at s n).cache.miss b ≡ false → x ≢ n → r.reserved x ≡ false
   -- at a cut from the point on below which the home has begun nothing that is open there is one holder, with what the
   -- accesses below the cut leave; the point is such a cut
-  pub held : (k : ℕ) → s.point ≤ k → transaction_before (home_of s b).transaction k ≡ false → IsHeld s b k (r.below k) (names_at s b k)
-  pub point : IsHeld s b s.point (r.below s.point) (names_at s b s.point)
+  pub held : (k : ℕ) → s.point ≤ k → transaction_before (home_of s b).transaction k ≡ false →
+      HasOneHolderWith s b k (r.below k) (names_at s b k)
+  pub point : HasOneHolderWith s b s.point (r.below s.point) (names_at s b s.point)
   -- so that is what a recovery to the point leaves at the one owner
   pub restored_to : IsOwned (restored s s.point) b (r.below s.point) (home_of (restored s s.point) b).holder

@@ -71,5 +71,6 @@ pub fn every_run_is_coherent()
     ensures kept { (image : ImageData) (config : Config) (nodes : ℕ) (events : List FabricEvent) → 1 ≤ nodes → nodes ≤ 16
         → IsRun config (first_fabric image nodes) events → Keeps (fabric_after config (first_fabric image nodes) events) }
     ensures coherent { (image : ImageData) (config : Config) (nodes : ℕ) (events : List FabricEvent) → 1 ≤ nodes → nodes ≤ 16
-        → IsRun config (first_fabric image nodes) events → (b : ℕ) → b < block_count → IsCoherent (fabric_after config (first_fabric image nodes) events) b }
+        → IsRun config (first_fabric image nodes) events → (b : ℕ) → b < block_count →
+        IsCoherent (fabric_after config (first_fabric image nodes) events) b }
 {}

@@ -10,7 +10,7 @@ ghost use Rattle.sn_model.specs.Fabric.{Fabric, node_at, first_fabric, initial_b
 ghost use Rattle.sn_model.specs.FabricEvents.{FabricEvent, moved_by};
 ghost use Rattle.sn_model.specs.NodeEvents.{ready_of};
 ghost use Rattle.sn_coherence.specs.Records.{Records, no_records, loads, loads_reserved, stores, stores_conditional, unreserves};
-ghost use Rattle.fabric_coherence.specs.Coherent.{IsFinished};
+ghost use Rattle.fabric_coherence.specs.Coherent.{NothingUnfinished};
 ghost use Rattle.fabric_coherence.specs.Events.{CanUse, CanWrite};
 ghost use Rattle.fabric_coherence.specs.Recorded.{KeepsRecords, MayBeRecorded, HaveReported, recorded_by, at_block};
 ghost use Rattle.fabric_coherence.specs.Told.{Tells};
@@ -41,7 +41,8 @@ pub fn each_access_keeps_records()
     ensures store_conditional { (s : Fabric) (r : ℕ → Records) (n : ℕ) (w : Write) → KeepsRecords s r → CanWrite s n w
         → (r (block_of w.address)).reserved n ≡ true
         → KeepsRecords (stored s n w) (at_block (block_of w.address)
-        (stores_conditional (r (block_of w.address)) n (node_at s n).now (written_in (line_of (node_at s n).cache (block_of w.address)).content w)) (λ o. unreserves (r o) n)) }
+        (stores_conditional (r (block_of w.address)) n (node_at s n).now
+        (written_in (line_of (node_at s n).cache (block_of w.address)).content w)) (λ o. unreserves (r o) n)) }
     ensures undone { (s : Fabric) (r : ℕ → Records) (n : ℕ) → KeepsRecords s r → n < length s.nodes
         → KeepsRecords s (λ o. unreserves (r o) n) }
 {}
@@ -56,5 +57,5 @@ pub fn records_tell()
 pub fn reports_are_true()
     ensures ready { (s : Fabric) (r : ℕ → Records) (n k : ℕ) → KeepsRecords s r → n < length s.nodes
         → ((b : ℕ) → b < block_count → (r b).reported n ≡ k) → k ≤ ready_of s n }
-    ensures finished { (s : Fabric) (r : ℕ → Records) → KeepsRecords s r → HaveReported s r → IsFinished s (s.point + 1) }
+    ensures finished { (s : Fabric) (r : ℕ → Records) → KeepsRecords s r → HaveReported s r → NothingUnfinished s (s.point + 1) }
 {}

@@ -1,23 +1,29 @@
 -- A switch dies by its own event alone, and where no nodes are cut off no recovery answers that some are.
-use Rattle.std.proofs.Common.{◌≡◌, ℕ, ◌+◌, ◌-◌, Bool, true, false, not, ◌&&◌, List, [], ◌∷◌, length, refl, ◌∙◌, if◌then◌else◌, nat_eq, nat_lt, nat_le, Option, Some, None}
+use Rattle.std.proofs.Common.{◌≡◌, ℕ, ◌+◌, ◌-◌, Bool, true, false, not, ◌&&◌, List, [], ◌∷◌, length, refl, ◌∙◌, if◌then◌else◌, nat_eq}
+use Rattle.std.proofs.Common.{nat_lt, nat_le, Option, Some, None}
 use Rattle.sn_base.specs.declared.config.Config.{Config}
 use Rattle.sn_base.specs.declared.event.Answer.{Answer}
-use Rattle.sn_base.specs.declared.event.Answer.TheVariants.{CutOff, Retired, Missed, PutBegun, Validated, Reported, Waits, Ended, LogFull, NetFull, NeedsEvict, PutOpen, MissOpen, CheckpointsFull, Arrived, NotArrived, Held}
+use Rattle.sn_base.specs.declared.event.Answer.TheVariants.{CutOff, Retired, Missed, PutBegun, Validated, Reported, Waits, Ended, LogFull}
+use Rattle.sn_base.specs.declared.event.Answer.TheVariants.{NetFull, NeedsEvict, PutOpen, MissOpen, CheckpointsFull, Arrived, NotArrived}
+use Rattle.sn_base.specs.declared.event.Answer.TheVariants.{Held}
 use Rattle.sn_msg.specs.declared.Message.{Message}
 use Rattle.sn_msg.specs.declared.Body.{Body}
-use Rattle.sn_msg.specs.declared.Body.TheVariants.{GetS, GetM, FwdGetS, FwdGetM, Inv, DataS, DataM, DataE, UpgOk, InvAck, Unblock, PutReq, PutGo, PutData, PutDone, Ready, Advance}
+use Rattle.sn_msg.specs.declared.Body.TheVariants.{GetS, GetM, FwdGetS, FwdGetM, Inv, DataS, DataM, DataE, UpgOk, InvAck, Unblock, PutReq}
+use Rattle.sn_msg.specs.declared.Body.TheVariants.{PutGo, PutData, PutDone, Ready, Advance}
 use Rattle.sn_model.specs.declared.cache.LineState.{LineState}
 use Rattle.sn_model.specs.declared.cache.LineState.TheVariants as state
 use Rattle.sn_model.specs.declared.cache.Need.{Need}
 use Rattle.sn_model.specs.Caches.{line_of, is_present, misses_on, puts_on, frames_taken}
-use Rattle.sn_model.specs.CacheRows.{CacheReply, send, forward_read, forward_write, invalidate, data_shared, data_modified, data_exclusive, upgrade_granted, acknowledge, put_go, put_done}
+use Rattle.sn_model.specs.CacheRows.{CacheReply, send, forward_read, forward_write, invalidate, data_shared, data_modified, data_exclusive}
+use Rattle.sn_model.specs.CacheRows.{upgrade_granted, acknowledge, put_go, put_done}
 use Rattle.sn_model.specs.HomeRows.{HomeReply, unblock, put_data}
 use Rattle.sn_model.specs.Homes.{Transaction}
 use Rattle.sn_model.specs.Access.{missing, request_for, missed, misses, has_miss, serves, lacks_room, accesses, accessed}
 use Rattle.sn_model.specs.Fabric.{Fabric, Net, Flight, Moved, node_at, with_node, home_of, home_node, refused, answered}
 use Rattle.sn_model.specs.Net.{net_limit, routes_of, flight_of, is_there, is_full, next_switch, message_of, post, posted, sending}
 use Rattle.sn_model.specs.NodeEvents.{evicts, begins_put, has_put, with_put, ready_of, checkpoint_limit}
-use Rattle.sn_model.specs.NetEvents.{AtCache, AtHome, logged_at, kept_at, get_shared, get_modified, put_request, unless_busy, outcome_of, delivers, delivers_flight, hops, hops_to, loses}
+use Rattle.sn_model.specs.NetEvents.{AtCache, AtHome, logged_at, kept_at, get_shared, get_modified, put_request, unless_busy, outcome_of}
+use Rattle.sn_model.specs.NetEvents.{delivers, delivers_flight, hops, hops_to, loses}
 use Rattle.sn_model.specs.PointEvents.{advances, recovers, restored, living_switches}
 use Rattle.route_plan.specs.Distances.{is_dead}
 use Rattle.route_plan.specs.Routes.{first_cut_off}
@@ -33,7 +39,8 @@ use Rattle.route_plan.specs.Distances.{Switches}
 use Rattle.sn_model.specs.declared.cache.Need.TheVariants as need
 use Rattle.sn_model.specs.declared.cache.Out.{Out}
 use Rattle.sn_model.specs.Instructions as machine
-use Rattle.sn_model.specs.Instructions.{Stepped, is_retired, carried, retired, written_by, found_at, next_with, stepped, step_wanting, accessing, takes_input, next_byte}
+use Rattle.sn_model.specs.Instructions.{Stepped, is_retired, carried, retired, written_by, found_at, next_with, stepped, step_wanting}
+use Rattle.sn_model.specs.Instructions.{accessing, takes_input, next_byte}
 use Rattle.sn_model.specs.Machine.{State, processor_at}
 use Rattle.sn_model.specs.MachineEvents.{validates, unready_node}
 use Rattle.sn_model.specs.NodeEvents.{evicted}
@@ -55,16 +62,22 @@ by_test s true a b first second = first
 by_test s false a b first second = second
 
 -- messages are sent
-stays_posted : (routes : Switches) (net : Net) (from tag block : ℕ) (outs : List Out) → (posted routes net from tag block outs).dead ≡ net.dead
+stays_posted : (routes : Switches) (net : Net) (from tag block : ℕ) (outs : List Out) →
+    (posted routes net from tag block outs).dead ≡ net.dead
 stays_posted routes net from tag block [] = refl
-stays_posted routes net from tag block (out ∷ outs) = stays_posted routes (post routes net (message_of net from tag block out)) from tag block outs
+stays_posted routes net from tag block (out ∷ outs) =
+    stays_posted routes (post routes net (message_of net from tag block out)) from tag block outs
 
 -- what an event sends is said of the network alone
-stays_sending : (before s : Fabric) (from block : ℕ) (outs : List Out) (answer : Answer) → s.net.dead ≡ before.net.dead → is_cut answer ≡ false → Stays before (sending s from block outs answer)
-stays_sending before s from block outs answer same uncut = (stays_posted (routes_of s) s.net from (node_at s from).now block outs ∙ same, uncut)
+stays_sending : (before s : Fabric) (from block : ℕ) (outs : List Out) (answer : Answer) → s.net.dead ≡ before.net.dead →
+    is_cut answer ≡ false → Stays before (sending s from block outs answer)
+stays_sending before s from block outs answer same uncut =
+    (stays_posted (routes_of s) s.net from (node_at s from).now block outs ∙ same, uncut)
 
 stays_missed : (s : Fabric) (n block : ℕ) (need : Need) → Stays s (missed s n block need)
-stays_missed s n block need = stays_sending s (with_node s n (missing (node_at s n) block need)) n block (send (home_node s block) (request_for need) ∷ []) Missed refl refl
+stays_missed s n block need =
+    stays_sending s (with_node s n (missing (node_at s n) block need)) n block
+    (send (home_node s block) (request_for need) ∷ []) Missed refl refl
 
 stays_accessed : (config : Config) (s : Fabric) (n block : ℕ) (need : Need) → Stays s (accessed config s n block need)
 stays_accessed config s n block need =
@@ -72,7 +85,8 @@ stays_accessed config s n block need =
     (by_test s (puts_on (node_at s n).cache.put block) (refused s Waits) _ (refl, refl)
     (by_test s (serves need (line_of (node_at s n).cache block).state) _ (misses config s n block need)
     (by_test s (lacks_room config (node_at s n) block need) (refused s LogFull) (answered s Retired) (refl, refl) (refl, refl))
-    (by_test s (not (is_present (line_of (node_at s n).cache block).state) && nat_le config.ways (frames_taken (node_at s n).cache config.sets block)) (refused s NeedsEvict) _ (refl, refl)
+    (by_test s (not (is_present (line_of (node_at s n).cache block).state)
+    && nat_le config.ways (frames_taken (node_at s n).cache config.sets block)) (refused s NeedsEvict) _ (refl, refl)
     (by_test s (is_full s 1) (refused s NetFull) (missed s n block need) (refl, refl) (stays_missed s n block need)))))
 
 stays_begins_put : (s : Fabric) (n block : ℕ) → Stays s (begins_put s n block)
@@ -90,11 +104,15 @@ stays_evicts s n block state.Modified = stays_begins_put s n block
 stays_evicts s n block state.Exclusive = stays_begins_put s n block
 
 stays_evicted : (s : Fabric) (n block : ℕ) → Stays s (evicted s n block)
-stays_evicted s n block = by_test s (misses_on (node_at s n).cache.miss block) (refused s MissOpen) _ (refl, refl) (stays_evicts s n block (line_of (node_at s n).cache block).state)
+stays_evicted s n block =
+    by_test s (misses_on (node_at s n).cache.miss block) (refused s MissOpen) _ (refl, refl)
+    (stays_evicts s n block (line_of (node_at s n).cache block).state)
 
 stays_hops : (s : Fabric) (found : Option Flight) → Stays s (hops s found)
 stays_hops s None = (refl, refl)
-stays_hops s (Some f) = by_test s (is_there f) (refused s Arrived) (hops_to s f (next_switch (routes_of s) f)) (refl, refl) (by_test s (is_dead s.net.dead (next_switch (routes_of s) f)) _ _ (refl, refl) (refl, refl))
+stays_hops s (Some f) =
+    by_test s (is_there f) (refused s Arrived) (hops_to s f (next_switch (routes_of s) f)) (refl, refl)
+    (by_test s (is_dead s.net.dead (next_switch (routes_of s) f)) _ _ (refl, refl) (refl, refl))
 
 stays_loses : (s : Fabric) (found : Option Flight) → Stays s (loses s found)
 stays_loses s None = (refl, refl)
@@ -104,19 +122,25 @@ stays_loses s (Some f) = (refl, refl)
 module _ (config : Config) (s : Fabric) (m : Message) where
   at_cache : (reply : CacheReply) → Stays s (delivers config s m (AtCache reply))
   at_cache reply = by_test s (nat_lt config.log (length reply.after.log)) (refused s LogFull) _ (refl, refl)
-      (by_test s (nat_lt (net_limit + 1) (length s.net.flights + length reply.sends)) (refused s NetFull) _ (refl, refl) (stays_posted _ _ m.to _ m.block reply.sends, refl))
+      (by_test s (nat_lt (net_limit + 1) (length s.net.flights + length reply.sends)) (refused s NetFull) _ (refl, refl)
+      (stays_posted _ _ m.to _ m.block reply.sends, refl))
 
   at_home : (reply : HomeReply) → Stays s (delivers config s m (AtHome reply))
   at_home reply = by_test s (nat_lt config.log (length reply.after.log)) (refused s LogFull) _ (refl, refl)
-      (by_test s (nat_lt (net_limit + 1) (length s.net.flights + length reply.sends)) (refused s NetFull) _ (refl, refl) (stays_posted _ _ m.to _ m.block reply.sends, refl))
+      (by_test s (nat_lt (net_limit + 1) (length s.net.flights + length reply.sends)) (refused s NetFull) _ (refl, refl)
+      (stays_posted _ _ m.to _ m.block reply.sends, refl))
 
   request : (open_one : Option Transaction) (reply : HomeReply) → Stays s (delivers config s m (unless_busy open_one reply))
   request None reply = at_home reply
   request (Some transaction) reply = (refl, refl)
 
   by_body : (x : Body) → Stays s (delivers config s m (outcome_of s m x))
-  by_body GetS = request (home_of s m.block).transaction (get_shared (kept_at s m.to m.block) m.block (node_at s m.to).now m.from (home_of s m.block).holder)
-  by_body GetM = request (home_of s m.block).transaction (get_modified (kept_at s m.to m.block) m.block (node_at s m.to).now m.from (home_of s m.block).holder)
+  by_body GetS =
+      request (home_of s m.block).transaction
+      (get_shared (kept_at s m.to m.block) m.block (node_at s m.to).now m.from (home_of s m.block).holder)
+  by_body GetM =
+      request (home_of s m.block).transaction
+      (get_modified (kept_at s m.to m.block) m.block (node_at s m.to).now m.from (home_of s m.block).holder)
   by_body PutReq = request (home_of s m.block).transaction (put_request (kept_at s m.to m.block) (node_at s m.to).now m.from)
   by_body (Unblock fixed) = at_home (unblock (kept_at s m.to m.block) m.block fixed (home_of s m.block).transaction)
   by_body (PutData content) = at_home (put_data (kept_at s m.to m.block) m.block m.tag m.from content)
@@ -136,7 +160,8 @@ module _ (config : Config) (s : Fabric) (m : Message) where
 stays_flight : (config : Config) (s : Fabric) (found : Option Flight) → Stays s (delivers_flight config s found)
 stays_flight config s None = (refl, refl)
 stays_flight config s (Some f) = by_test s (not (is_there f)) (refused s NotArrived) _ (refl, refl)
-    (by_test s (nat_lt (node_at s f.message.to).now f.message.tag) (refused s Held) (delivers config s f.message (outcome_of s f.message f.message.body)) (refl, refl) (by_body config s f.message f.message.body))
+    (by_test s (nat_lt (node_at s f.message.to).now f.message.tag) (refused s Held)
+    (delivers config s f.message (outcome_of s f.message f.message.body)) (refl, refl) (by_body config s f.message f.message.body))
 
 stays_recovers : (s : Fabric) (k : ℕ) (cut : Option (ℕ × ℕ)) → cut ≡ None → Stays s (recovers s k cut)
 unfolding restored
@@ -161,7 +186,8 @@ module _ (image : ImageData) (config : Config) (s : State) where
 
   keeps_accessing : (n address : ℕ) (access : Need) → Keeps (accessing image config s n address access)
   keeps_accessing n address access =
-      either (is_retired (accessed config s.fabric n (block_of address) access).answer) (retired image s n) (carried s (accessed config s.fabric n (block_of address) access)) (keeps_retired n)
+      either (is_retired (accessed config s.fabric n (block_of address) access).answer) (retired image s n)
+      (carried s (accessed config s.fabric n (block_of address) access)) (keeps_retired n)
       (stays_accessed config s.fabric n (block_of address) access)
 
   keeps_input : (n : ℕ) (byte : Option ℕ) → Keeps (takes_input image s n byte)
@@ -176,19 +202,22 @@ module _ (image : ImageData) (config : Config) (s : State) where
   keeps_wanting n (want.Store address) = keeps_accessing n address need.Write
   keeps_wanting n (want.Amo address) = keeps_accessing n address need.Write
   keeps_wanting n (want.Sc address) =
-      either (is_reserved (processor_at s n).core.reservation (block_of address)) (accessing image config s n address need.Write) (retired image s n)
+      either (is_reserved (processor_at s n).core.reservation (block_of address)) (accessing image config s n address need.Write)
+      (retired image s n)
       (keeps_accessing n address need.Write) (keeps_retired n)
 
   keeps_stepped : (n : ℕ) → Keeps (stepped image config s n)
   keeps_stepped n =
       either (not (is_running (processor_at s n).core.end)) (machine.refused s Ended) _ (refl, refl)
-      (either (has_miss (node_at s.fabric n).cache.miss) (machine.refused s Waits) _ (refl, refl) (keeps_wanting n (want_of image (processor_at s n).core)))
+      (either (has_miss (node_at s.fabric n).cache.miss) (machine.refused s Waits) _ (refl, refl)
+      (keeps_wanting n (want_of image (processor_at s n).core)))
 
   keeps_validates : (unready : Option ℕ) → Keeps (validates s unready)
   keeps_validates (Some n) = (refl, refl)
   keeps_validates None =
       let k = s.fabric.point + 1 in
-      by_test s.fabric (is_full s.fabric (length s.fabric.nodes)) (refused s.fabric NetFull) (sending (record s.fabric { point = k }) 0 0 (advances k 0 s.fabric.nodes) (Validated k)) (refl, refl)
+      by_test s.fabric (is_full s.fabric (length s.fabric.nodes)) (refused s.fabric NetFull)
+      (sending (record s.fabric { point = k }) 0 0 (advances k 0 s.fabric.nodes) (Validated k)) (refl, refl)
       (stays_sending s.fabric (record s.fabric { point = k }) 0 0 (advances k 0 s.fabric.nodes) (Validated k) refl refl)
 
   -- every event but one that kills a switch
@@ -196,12 +225,16 @@ module _ (image : ImageData) (config : Config) (s : State) where
   unfolding step_of
   dead_stays (event.Step n) k joined = keeps_stepped n
   dead_stays (event.Evict n block) k joined = stays_evicted s.fabric n block
-  dead_stays (event.Edge n) k joined = by_test s.fabric (nat_eq ((node_at s.fabric n).now - (node_at s.fabric n).known) checkpoint_limit) (refused s.fabric CheckpointsFull) _ (refl, refl) (refl, refl)
+  dead_stays (event.Edge n) k joined =
+      by_test s.fabric (nat_eq ((node_at s.fabric n).now - (node_at s.fabric n).known) checkpoint_limit)
+      (refused s.fabric CheckpointsFull) _ (refl, refl) (refl, refl)
   dead_stays (event.Hop id) k joined = stays_hops s.fabric (flight_of s.fabric.net.flights id)
   dead_stays (event.Deliver id) k joined = stays_flight config s.fabric (flight_of s.fabric.net.flights id)
   dead_stays (event.Lose id) k joined = stays_loses s.fabric (flight_of s.fabric.net.flights id)
   dead_stays (event.Kill switch) k joined = absurd cc
-  dead_stays (event.Report n) k joined = by_test s.fabric (is_full s.fabric 1) (refused s.fabric NetFull) _ (refl, refl) (stays_sending s.fabric s.fabric n 0 (send 0 (Ready (ready_of s.fabric n)) ∷ []) (Reported (ready_of s.fabric n)) refl refl)
+  dead_stays (event.Report n) k joined =
+      by_test s.fabric (is_full s.fabric 1) (refused s.fabric NetFull) _ (refl, refl)
+      (stays_sending s.fabric s.fabric n 0 (send 0 (Ready (ready_of s.fabric n)) ∷ []) (Reported (ready_of s.fabric n)) refl refl)
   dead_stays event.Validate k joined = keeps_validates (unready_node s)
   dead_stays event.Recover k joined = stays_recovers s.fabric s.fabric.point (first_cut_off (living_switches s.fabric)) joined
   dead_stays (event.Input n byte) k joined = (refl, refl)

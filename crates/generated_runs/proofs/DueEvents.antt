@@ -1,5 +1,6 @@
 -- Where no rule kills a switch, a due event does not either, and the nodes and the block that it names are there.
-use Rattle.std.proofs.Common.{◌≡◌, Bool, true, false, ◌||◌, zero, suc, ℕ, ◌+◌, ◌%◌, ◌<◌, ◌≤◌, List, [], ◌∷◌, ◌++◌, map, filter_map, slice_get, Option, Some, None, is_some, option_map, if◌then◌else◌, cond, find, refl, sym, subst, arith}
+use Rattle.std.proofs.Common.{◌≡◌, Bool, true, false, ◌||◌, zero, suc, ℕ, ◌+◌, ◌%◌, ◌<◌, ◌≤◌, List, [], ◌∷◌, ◌++◌, map, filter_map}
+use Rattle.std.proofs.Common.{slice_get, Option, Some, None, is_some, option_map, if◌then◌else◌, cond, find, refl, sym, subst, arith}
 use Rattle.std.specs.Prelude.{⊤, unwrap_or}
 use Rattle.std.specs.List.{range_with_len}
 use Rattle.std.specs.Option.{option_or}
@@ -16,7 +17,8 @@ use Rattle.sn_machine.specs.Looks.{wanted_block}
 use Rattle.consistent_cuts.specs.Runs.{Fits}
 use Rattle.due_events.specs.declared.rules.Rules.{Rules}
 use Rattle.due_events.specs.Numbers.{Numbers}
-use Rattle.due_events.specs.Lists.{foreseen, needs_evict, event_if, delivery, hop, leaves_for, least_to_leave, own_places, places_of, list_of}
+use Rattle.due_events.specs.Lists.{foreseen, needs_evict, event_if, delivery, hop, leaves_for, least_to_leave, own_places, places_of}
+use Rattle.due_events.specs.Lists.{list_of}
 use Rattle.due_events.specs.Due.{is_over, killing, picked, first_picked, loses_next, loss_of, or_loss, listed, next_due, due_of}
 use Rattle.generated_runs.proofs.DeadStays.{is_kill}
 
@@ -32,7 +34,8 @@ cond_below bound k false later h l = l
 find_below : (test : ℕ → Bool) (bound from count : ℕ) → from + count ≤ bound → Below bound (find test (range_with_len from count))
 find_below test bound from zero h = tt
 find_below test bound from (suc count) h =
-    cond_below bound from (test from) (find test (range_with_len (from + 1) count)) (omega (arith, h)) (find_below test bound (from + 1) count (omega (arith, h)))
+    cond_below bound from (test from) (find test (range_with_len (from + 1) count)) (omega (arith, h))
+    (find_below test bound (from + 1) count (omega (arith, h)))
 
 module _ (nodes : ℕ) where
   pub record IsGood (event : Event) : Type 0 where
@@ -141,11 +144,13 @@ is_it false event due e = cc
 module _ (rules : Rules) (image : ImageData) (config : Config) (s : State) (x : Numbers) where
   least_to_leave-below : (n : ℕ) → Below block_count (least_to_leave image config s n)
   unfolding least_to_leave
-  least_to_leave-below n = find_below (leaves_for config s.fabric n (wanted_block image (processor_at s n).core)) block_count 0 block_count (omega arith)
+  least_to_leave-below n =
+      find_below (leaves_for config s.fabric n (wanted_block image (processor_at s n).core)) block_count 0 block_count (omega arith)
 
   own_good : (n : ℕ) → n < config.nodes → GoodPlaces config.nodes (own_places rules image config s x n)
   own_good n h = (
-    unless_not (needs_evict (foreseen image config s (Step n))) _ (block_good config.nodes n (least_to_leave image config s n) h (least_to_leave-below n)),
+    unless_not (needs_evict (foreseen image config s (Step n))) _
+        (block_good config.nodes n (least_to_leave image config s n) h (least_to_leave-below n)),
     (
       if_good config.nodes _ (Edge n) (edge_good config.nodes n h),
       (
@@ -163,24 +168,31 @@ module _ (rules : Rules) (image : ImageData) (config : Config) (s : State) (x : 
   list_good n h = filter_good config.nodes (places_of rules image config s x n)
       (append_good config.nodes (map (delivery image config s n) s.fabric.net.flights ++ map (hop n) s.fabric.net.flights) _
       (append_good config.nodes (map (delivery image config s n) s.fabric.net.flights) _
-      (map_good config.nodes (delivery image config s n) (λ f. if_good config.nodes _ (Deliver f.message.id) (message_good config.nodes f.message.id).1) s.fabric.net.flights)
-      (map_good config.nodes (hop n) (λ f. if_good config.nodes _ (Hop f.message.id) (message_good config.nodes f.message.id).0) s.fabric.net.flights))
+      (map_good config.nodes (delivery image config s n)
+      (λ f. if_good config.nodes _ (Deliver f.message.id) (message_good config.nodes f.message.id).1) s.fabric.net.flights)
+      (map_good config.nodes (hop n)
+      (λ f. if_good config.nodes _ (Hop f.message.id) (message_good config.nodes f.message.id).0) s.fabric.net.flights))
       (own_good n h))
 
   first_good : (pick left n : ℕ) → n < config.nodes → Good config.nodes (first_picked rules image config s x pick left n)
   first_good pick zero n h = tt
   first_good pick (suc left) n h =
-      or_good config.nodes (picked pick (list_of rules image config s x n)) _ (get_good config.nodes (list_of rules image config s x n) _ (list_good n h))
+      or_good config.nodes (picked pick (list_of rules image config s x n)) _
+      (get_good config.nodes (list_of rules image config s x n) _ (list_good n h))
       (first_good pick left ((n + 1) % config.nodes) (mod_below (n + 1) config.nodes (omega (arith, h))))
 
   listed_good : (worker pick : ℕ) → worker < config.nodes → Good config.nodes (listed rules image config s x worker pick)
   listed_good worker pick h = unless_good config.nodes _ _ (lost_good config.nodes rules x _ (first_good pick config.nodes worker h))
 
-  next_good : (worker pick : ℕ) → worker < config.nodes → rules.kill ≡ None → IsGood config.nodes (next_due rules image config s x worker pick)
+  next_good : (worker pick : ℕ) → worker < config.nodes → rules.kill ≡ None →
+      IsGood config.nodes (next_due rules image config s x worker pick)
   next_good worker pick h e =
-      subst (λ (kill : Option (ℕ × ℕ)). IsGood config.nodes (unwrap_or (option_or (killing s x kill) (listed rules image config s x worker pick)) Recover)) (sym e)
+      subst (λ (kill : Option (ℕ × ℕ)). IsGood config.nodes
+      (unwrap_or (option_or (killing s x kill) (listed rules image config s x worker pick)) Recover)) (sym e)
       (or_recover config.nodes (listed rules image config s x worker pick) (listed_good worker pick h))
 
-  pub due_good : (worker pick : ℕ) (event : Event) → worker < config.nodes → rules.kill ≡ None → due_of rules image config s x worker pick ≡ Some event → IsGood config.nodes event
+  pub due_good : (worker pick : ℕ) (event : Event) → worker < config.nodes → rules.kill ≡ None →
+      due_of rules image config s x worker pick ≡ Some event → IsGood config.nodes event
   unfolding due_of
-  due_good worker pick event h e d = subst (IsGood config.nodes) (is_it (is_over image config s || is_some x.cut_off) _ event d) (next_good worker pick h e)
+  due_good worker pick event h e d =
+      subst (IsGood config.nodes) (is_it (is_over image config s || is_some x.cut_off) _ event d) (next_good worker pick h e)

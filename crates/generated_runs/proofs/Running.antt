@@ -1,6 +1,7 @@
 -- A machine of the counting program is never over, and without a dead switch no recovery finds nodes cut off: an event is always
 -- due, and it leaves the machine so.
-use Rattle.std.proofs.Common.{◌≡◌, Bool, true, false, not, ◌&&◌, suc, ℕ, ◌<◌, List, length, Option, Some, None, refl, sym, ap, ◌∙◌, subst, arith}
+use Rattle.std.proofs.Common.{◌≡◌, Bool, true, false, not, ◌&&◌, suc, ℕ, ◌<◌, List, length, Option, Some, None, refl, sym, ap, ◌∙◌, subst}
+use Rattle.std.proofs.Common.{arith}
 use Rattle.sn_base.specs.Image.{ImageData}
 use Rattle.sn_base.specs.declared.config.Config.{Config}
 use Rattle.sn_base.specs.declared.event.Event.{Event}
@@ -37,7 +38,8 @@ not_ended k records = and_not (have_ended k (end_of counting_image (suc k) recor
 
 pub not_over : (driver : DriverData) (m : MachineData) → IsRunning driver m → is_over m.image m.config m.state ≡ false
 not_over driver m r =
-    ap (λ (i : ImageData). is_over i m.config m.state) r.image ∙ ap (λ (c : Config). is_over counting_image c m.state) r.config ∙ not_ended 3 m.state.committed
+    ap (λ (i : ImageData). is_over i m.config m.state) r.image ∙ ap (λ (c : Config). is_over counting_image c m.state) r.config
+    ∙ not_ended 3 m.state.committed
 
 -- what a turn leaves of the pair of nodes that are cut off
 
@@ -61,21 +63,28 @@ answer_keeps x e (answer.CutOff a b) h = absurd cc
 answer_keeps x e _ h = refl
 
 -- all nodes of a machine without a dead switch are joined
-all_joined : (driver : DriverData) (m : MachineData) → IsRunning driver m → length m.state.fabric.nodes ≡ m.config.nodes → first_cut_off (living_switches m.state.fabric) ≡ None
+all_joined : (driver : DriverData) (m : MachineData) → IsRunning driver m → length m.state.fabric.nodes ≡ m.config.nodes →
+    first_cut_off (living_switches m.state.fabric) ≡ None
 all_joined driver m r count =
     let four : length m.state.fabric.nodes ≡ 4 = count ∙ ap (λ (c : Config). c.nodes) r.config in
     whole (living_switches m.state.fabric) (record { some = omega (arith, four); few = omega (arith, four) }) r.dead
 
 -- a due event of a worker that is there
-good_now : (driver : DriverData) (m : MachineData) (worker pick : ℕ) (e : Event) → IsRunning driver m → worker < 4 → due_at driver m worker pick ≡ Some e → IsGood m.config.nodes e
+good_now : (driver : DriverData) (m : MachineData) (worker pick : ℕ) (e : Event) → IsRunning driver m → worker < 4 →
+    due_at driver m worker pick ≡ Some e → IsGood m.config.nodes e
 good_now driver m worker pick e r below due =
-    due_good driver.rules m.image m.config m.state driver.numbers worker pick e (omega (arith, below, ap (λ (c : Config). c.nodes) r.config)) (ap (λ (q : Rules). q.kill) r.rules) due
+    due_good driver.rules m.image m.config m.state driver.numbers worker pick e
+    (omega (arith, below, ap (λ (c : Config). c.nodes) r.config)) (ap (λ (q : Rules). q.kill) r.rules) due
 
-pub fits_now : (driver : DriverData) (m : MachineData) (worker pick : ℕ) (e : Event) → IsRunning driver m → worker < 4 → due_at driver m worker pick ≡ Some e → Fits 4 e
-fits_now driver m worker pick e r below due = subst (λ (n : ℕ). Fits n e) (ap (λ (c : Config). c.nodes) r.config) (good_now driver m worker pick e r below due).fits
+pub fits_now : (driver : DriverData) (m : MachineData) (worker pick : ℕ) (e : Event) → IsRunning driver m → worker < 4 →
+    due_at driver m worker pick ≡ Some e → Fits 4 e
+fits_now driver m worker pick e r below due =
+    subst (λ (n : ℕ). Fits n e) (ap (λ (c : Config). c.nodes) r.config) (good_now driver m worker pick e r below due).fits
 
-pub runs_on : (driver later : DriverData) (m after : MachineData) (worker pick : ℕ) (e : Event) (said : Answer) → IsRunning driver m → worker < 4 → length m.state.fabric.nodes ≡ m.config.nodes →
-    due_at driver m worker pick ≡ Some e → IsApplied m after e said → later ≡ record driver { numbers = numbers_after driver.numbers e said } → IsRunning later after
+pub runs_on : (driver later : DriverData) (m after : MachineData) (worker pick : ℕ) (e : Event) (said : Answer) → IsRunning driver m →
+    worker < 4 → length m.state.fabric.nodes ≡ m.config.nodes →
+    due_at driver m worker pick ≡ Some e → IsApplied m after e said →
+    later ≡ record driver { numbers = numbers_after driver.numbers e said } → IsRunning later after
 runs_on driver later m after worker pick e said r below count due applied counted =
     let stays = dead_stays m.image m.config m.state e (good_now driver m worker pick e r below due).spares (all_joined driver m r count) in
     let uncut : is_cut said ≡ false = ap is_cut applied.answer ∙ stays.1 in
@@ -90,24 +99,29 @@ runs_on driver later m after worker pick e said r below count due applied counte
 
 -- the same in the words of a generated run
 
-pub due_now : (driver : DriverData) (m : MachineData) (worker pick : ℕ) (e : Event) → IsRunning driver m → due_at driver m worker pick ≡ Some e →
+pub due_now : (driver : DriverData) (m : MachineData) (worker pick : ℕ) (e : Event) → IsRunning driver m →
+    due_at driver m worker pick ≡ Some e →
     due_of generated_rules counting_image generated_config m.state driver.numbers worker pick ≡ Some e
 due_now driver m worker pick e r h =
     ap (λ (q : Rules). due_of q counting_image generated_config m.state driver.numbers worker pick) (sym r.rules)
     ∙ ap (λ (i : ImageData). due_of driver.rules i generated_config m.state driver.numbers worker pick) (sym r.image)
     ∙ ap (λ (c : Config). due_of driver.rules m.image c m.state driver.numbers worker pick) (sym r.config) ∙ h
 
-step_now : (driver : DriverData) (m : MachineData) (e : Event) → IsRunning driver m → next_of m e ≡ step_of counting_image generated_config m.state e
-step_now driver m e r = ap (λ (i : ImageData). step_of i m.config m.state e) r.image ∙ ap (λ (c : Config). step_of counting_image c m.state e) r.config
+step_now : (driver : DriverData) (m : MachineData) (e : Event) → IsRunning driver m →
+    next_of m e ≡ step_of counting_image generated_config m.state e
+step_now driver m e r =
+    ap (λ (i : ImageData). step_of i m.config m.state e) r.image ∙ ap (λ (c : Config). step_of counting_image c m.state e) r.config
 
 pub state_now : (driver : DriverData) (m after : MachineData) (e : Event) (said : Answer) → IsRunning driver m → IsApplied m after e said →
     after.state ≡ (step_of counting_image generated_config m.state e).state
 state_now driver m after e said r a = ap (λ (q : MachineData). q.state) a.left ∙ ap (λ (x : Stepped). x.state) (step_now driver m e r)
 
-pub numbers_now : (driver later : DriverData) (m after : MachineData) (e : Event) (said : Answer) → IsRunning driver m → IsApplied m after e said → later ≡ record driver { numbers = numbers_after driver.numbers e said } →
+pub numbers_now : (driver later : DriverData) (m after : MachineData) (e : Event) (said : Answer) → IsRunning driver m →
+    IsApplied m after e said → later ≡ record driver { numbers = numbers_after driver.numbers e said } →
     later.numbers ≡ numbers_after driver.numbers e (step_of counting_image generated_config m.state e).answer
 numbers_now driver later m after e said r a counted =
-    ap (λ (d : DriverData). d.numbers) counted ∙ ap (λ (s : Answer). numbers_after driver.numbers e s) (a.answer ∙ ap (λ (x : Stepped). x.answer) (step_now driver m e r))
+    ap (λ (d : DriverData). d.numbers) counted
+    ∙ ap (λ (s : Answer). numbers_after driver.numbers e s) (a.answer ∙ ap (λ (x : Stepped). x.answer) (step_now driver m e r))
 
 -- no turn but one that is done
 

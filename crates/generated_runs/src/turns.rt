@@ -23,7 +23,8 @@ fn turn(driver: &mut Driver, machine: &mut Machine, worker: u32, pick: u32) -> E
     requires room { 1 ≤ machine.old.spare }
     ensures due { due_of generated_rules counting_image generated_config machine.old.state driver.old.numbers worker pick ≡ Some result }
     ensures fits { Fits 4 result }
-    ensures counted { driver.new.numbers ≡ numbers_after driver.old.numbers result (step_of counting_image generated_config machine.old.state result).answer }
+    ensures counted { driver.new.numbers
+        ≡ numbers_after driver.old.numbers result (step_of counting_image generated_config machine.old.state result).answer }
     ensures applied { machine.new.state ≡ (step_of counting_image generated_config machine.old.state result).state }
     ensures running { IsRunning driver.new machine.new }
     ensures done { driver.new.numbers.done ≤ driver.old.numbers.done + 1 }

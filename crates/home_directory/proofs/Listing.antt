@@ -1,5 +1,6 @@
 -- The list of the touched places: one place more, and what a pass over it leaves.
-use Rattle.std.proofs.Common.{◌≡◌, ◌≢◌, ℕ, suc, ◌+◌, ◌<◌, ◌≤◌, Bool, true, false, ◌||◌, cond, List, [], ◌∷◌, ◌++◌, length, get_or, set, drop, refl, sym, ap, subst, ◌∙◌, arith, length-set, get_or-set_same, get_or-set_other, ext_get_or}
+use Rattle.std.proofs.Common.{◌≡◌, ◌≢◌, ℕ, suc, ◌+◌, ◌<◌, ◌≤◌, Bool, true, false, ◌||◌, cond, List, [], ◌∷◌, ◌++◌, length, get_or, set}
+use Rattle.std.proofs.Common.{drop, refl, sym, ap, subst, ◌∙◌, arith, length-set, get_or-set_same, get_or-set_other, ext_get_or}
 use Rattle.std.specs.Prelude.{nat_eq, count_by, map, replicate}
 use Rattle.std.specs.List.{All}
 use Rattle.std.proofs.lemmas.Bool.Decides.{nat_tests}
@@ -8,9 +9,9 @@ use Rattle.std.proofs.lemmas.List.Elements.{All-push}
 use Rattle.std.proofs.lemmas.List.Sums.{count_by-le-length, sum_by-set}
 use Rattle.sn_model.specs.Homes.{HomeEntry}
 use Rattle.sn_model.specs.Fabric.{no_entry}
-use Rattle.home_directory.specs.Restored.{settled}
-use Rattle.home_directory.specs.Touched.{is_marked, is_listed, IsListOf, IsSettled, AreSettled}
-use Rattle.home_directory.proofs.Restored.{entry_by, settled-at, length-settled}
+use Rattle.home_directory.specs.Restored.{cleared}
+use Rattle.home_directory.specs.Touched.{is_marked, is_listed, IsListOf, IsCleared, AreCleared}
+use Rattle.home_directory.proofs.Restored.{entry_by, cleared-at, length-cleared}
 
 -- one place more is listed
 listed-push : (places : List ℕ) (new place : ℕ) → is_listed (places ++ new ∷ []) place ≡ (is_listed places place || nat_eq new place)
@@ -26,15 +27,19 @@ mark_of mark = cond mark 1 0
 module _ (marks : List Bool) (places : List ℕ) (place : ℕ) (is : IsListOf marks places) (l : place < length marks) (bare : is_marked marks place ≡ false) where
   counts_more : count (set marks place true) ≡ count marks + 1
   counts_more =
-      let e : count (set marks place true) + mark_of (is_marked marks place) ≡ count marks + 1 = sum_by-set mark_of marks place true false l in
+      let e : count (set marks place true) + mark_of (is_marked marks place)
+      ≡ count marks + 1 = sum_by-set mark_of marks place true false l in
       let z : mark_of (is_marked marks place) ≡ 0 = ap mark_of bare in
       omega arith
 
   -- a place that isn't marked has room in the list
   pub room-to_list : length places < length marks
-  room-to_list = let h = count_by-le-length (λ (mark : Bool). mark) (set marks place true) in omega (arith, h, counts_more, is.once, length-set marks place true)
+  room-to_list =
+      let h = count_by-le-length (λ (mark : Bool). mark) (set marks place true) in
+      omega (arith, h, counts_more, is.once, length-set marks place true)
 
-  all_listed : (p : ℕ) (t : Bool) → nat_eq place p ≡ t → is_marked (set marks place true) p ≡ true → is_listed (places ++ place ∷ []) p ≡ true
+  all_listed : (p : ℕ) (t : Bool) → nat_eq place p ≡ t → is_marked (set marks place true) p ≡ true →
+      is_listed (places ++ place ∷ []) p ≡ true
   all_listed p true e m = let h = listed-push places place p in grind arith
   all_listed p false e m =
       let n : p ≢ place = λ q. grind (arith, nat_tests) in
@@ -44,7 +49,9 @@ module _ (marks : List Bool) (places : List ℕ) (place : ℕ) (is : IsListOf ma
 
   pub listed-more : IsListOf (set marks place true) (places ++ place ∷ [])
   listed-more = record {
-    inside = subst (λ (n : ℕ). All (λ (p : ℕ). p < n) (places ++ place ∷ [])) (sym (length-set marks place true)) (All-push (λ (p : ℕ). p < length marks) places place is.inside l);
+    inside =
+        subst (λ (n : ℕ). All (λ (p : ℕ). p < n) (places ++ place ∷ [])) (sym (length-set marks place true))
+        (All-push (λ (p : ℕ). p < length marks) places place is.inside l);
     all = λ p m. all_listed p (nat_eq place p) refl m;
     once = length_push places place ∙ (ap (λ (n : ℕ). n + 1) is.once ∙ sym counts_more);
   }
@@ -54,7 +61,8 @@ pub listed-same : (marks : List Bool) (places : List ℕ) (place : ℕ) → is_m
 listed-same marks places place h = ap (set marks place) (sym h) ∙ set-get_or marks place false
 
 -- a place that isn't listed any more after this one is this one, or wasn't listed before
-unlisted : (first place : ℕ) (places : List ℕ) → nat_eq first place ≡ false → is_listed places place ≡ false → is_listed (first ∷ places) place ≡ false
+unlisted : (first place : ℕ) (places : List ℕ) → nat_eq first place ≡ false → is_listed places place ≡ false →
+    is_listed (first ∷ places) place ≡ false
 unlisted first place places e h = grind arith
 
 -- marks of which those of a list are still to be taken away
@@ -69,14 +77,17 @@ unmarked-first marks places is = record { whole = refl; others = λ p h. by_test
     by_test p true e h = let k = is.all p e in absurd (grind arith)
     by_test p false e h = e
 
-pub unmarked-more : (was now : List Bool) (places : List ℕ) (i place : ℕ) → i < length places → place ≡ get_or places i place → place < length now →
+pub unmarked-more : (was now : List Bool) (places : List ℕ) (i place : ℕ) → i < length places → place ≡ get_or places i place →
+    place < length now →
     AreUnmarked was now (drop i places) → AreUnmarked was (set now place false) (drop (i + 1) places)
-unmarked-more was now places i place l e m h = record { whole = length-set now place false ∙ h.whole; others = λ p k. by_test p (nat_eq place p) refl k }
+unmarked-more was now places i place l e m h =
+    record { whole = length-set now place false ∙ h.whole; others = λ p k. by_test p (nat_eq place p) refl k }
   where
     rest : drop i places ≡ place ∷ drop (i + 1) places
     rest = drop_more places i place l ∙ ap (λ (q : ℕ). q ∷ drop (i + 1) places) (sym e)
 
-    by_test : (p : ℕ) (t : Bool) → nat_eq place p ≡ t → is_listed (drop (i + 1) places) p ≡ false → is_marked (set now place false) p ≡ false
+    by_test : (p : ℕ) (t : Bool) → nat_eq place p ≡ t → is_listed (drop (i + 1) places) p ≡ false →
+        is_marked (set now place false) p ≡ false
     by_test p true q k =
         let s : place ≡ p = grind (arith, nat_tests) in
         subst (λ (j : ℕ). get_or (set now place false) j false ≡ false) s (get_or-set_same now place false false m)
@@ -85,86 +96,103 @@ unmarked-more was now places i place l e m h = record { whole = length-set now p
         get_or-set_other now place p false false n
         ∙ h.others p (ap (λ (ps : List ℕ). is_listed ps p) rest ∙ unlisted place p (drop (i + 1) places) q k)
 
-pub unmarked-all : (was now : List Bool) (places : List ℕ) (i : ℕ) → length places ≤ i → AreUnmarked was now (drop i places) → now ≡ replicate (length was) false
+pub unmarked-all : (was now : List Bool) (places : List ℕ) (i : ℕ) → length places ≤ i → AreUnmarked was now (drop i places) →
+    now ≡ replicate (length was) false
 unmarked-all was now places i l h =
     let none : drop i places ≡ [] = drop_all i places l in
     ext_get_or false now (replicate (length was) false) (h.whole ∙ sym (length-replicate (length was) false))
-    (λ p m. h.others p (ap (λ (ps : List ℕ). is_listed ps p) none) ∙ sym (get_or-replicate (length was) p false false (omega (arith, h.whole))))
+    (λ p m. h.others p (ap (λ (ps : List ℕ). is_listed ps p) none)
+    ∙ sym (get_or-replicate (length was) p false false (omega (arith, h.whole))))
 
--- entries of which those of a list are still to be settled
-pub record AreSettling (was now : List HomeEntry) (rest : List ℕ) : Type 0 where
+-- entries of which those of a list are still to be cleared
+pub record AreClearing (was now : List HomeEntry) (rest : List ℕ) : Type 0 where
   pub whole : length now ≡ length was
-  pub same : map settled now ≡ map settled was
-  pub others : (place : ℕ) → is_listed rest place ≡ false → IsSettled (get_or now place no_entry)
+  pub same : map cleared now ≡ map cleared was
+  pub others : (place : ℕ) → is_listed rest place ≡ false → IsCleared (get_or now place no_entry)
 
-pub settling-first : (marks : List Bool) (places : List ℕ) (entries : List HomeEntry) → IsListOf marks places → AreSettled marks entries → AreSettling entries entries places
-settling-first marks places entries is h = record { whole = refl; same = refl; others = λ p k. h.others p ((unmarked-first marks places is).others p k) }
+pub clearing-first : (marks : List Bool) (places : List ℕ) (entries : List HomeEntry) → IsListOf marks places → AreCleared marks entries →
+    AreClearing entries entries places
+clearing-first marks places entries is h =
+    record { whole = refl; same = refl; others = λ p k. h.others p ((unmarked-first marks places is).others p k) }
 
-settles : (now : List HomeEntry) (place : ℕ) (x : HomeEntry) → x ≡ get_or now place no_entry → map settled (set now place (settled x)) ≡ map settled now
-settles now place x e =
-    map-set settled now place (settled x)
-    ∙ sym (map-set settled now place x)
-    ∙ ap (λ (y : HomeEntry). map settled (set now place y)) e
-    ∙ ap (map settled) (set-get_or now place no_entry)
+clears : (now : List HomeEntry) (place : ℕ) (x : HomeEntry) → x ≡ get_or now place no_entry →
+    map cleared (set now place (cleared x)) ≡ map cleared now
+clears now place x e =
+    map-set cleared now place (cleared x)
+    ∙ sym (map-set cleared now place x)
+    ∙ ap (λ (y : HomeEntry). map cleared (set now place y)) e
+    ∙ ap (map cleared) (set-get_or now place no_entry)
 
-pub settling-more : (was now : List HomeEntry) (places : List ℕ) (i place : ℕ) (x : HomeEntry) → i < length places → place ≡ get_or places i place → place < length now → x ≡ get_or now place no_entry →
-    AreSettling was now (drop i places) → AreSettling was (set now place (settled x)) (drop (i + 1) places)
-settling-more was now places i place x l e m r h = record {
-  whole = length-set now place (settled x) ∙ h.whole;
-  same = settles now place x r ∙ h.same;
+pub clearing-more : (was now : List HomeEntry) (places : List ℕ) (i place : ℕ) (x : HomeEntry) → i < length places →
+    place ≡ get_or places i place → place < length now → x ≡ get_or now place no_entry →
+    AreClearing was now (drop i places) → AreClearing was (set now place (cleared x)) (drop (i + 1) places)
+clearing-more was now places i place x l e m r h = record {
+  whole = length-set now place (cleared x) ∙ h.whole;
+  same = clears now place x r ∙ h.same;
   others = λ p k. by_test p (nat_eq place p) refl k;
 }
   where
     rest : drop i places ≡ place ∷ drop (i + 1) places
     rest = drop_more places i place l ∙ ap (λ (q : ℕ). q ∷ drop (i + 1) places) (sym e)
 
-    by_test : (p : ℕ) (t : Bool) → nat_eq place p ≡ t → is_listed (drop (i + 1) places) p ≡ false → IsSettled (get_or (set now place (settled x)) p no_entry)
+    by_test : (p : ℕ) (t : Bool) → nat_eq place p ≡ t → is_listed (drop (i + 1) places) p ≡ false →
+        IsCleared (get_or (set now place (cleared x)) p no_entry)
     by_test p true q k =
         let s : place ≡ p = grind (arith, nat_tests) in
-        subst (λ (j : ℕ). IsSettled (get_or (set now place (settled x)) j no_entry)) s (subst IsSettled (sym (get_or-set_same now place (settled x) no_entry m)) refl)
+        subst (λ (j : ℕ). IsCleared (get_or (set now place (cleared x)) j no_entry)) s
+        (subst IsCleared (sym (get_or-set_same now place (cleared x) no_entry m)) refl)
     by_test p false q k =
         let n : p ≢ place = λ s. grind (arith, nat_tests) in
-        subst IsSettled (sym (get_or-set_other now place p (settled x) no_entry n))
+        subst IsCleared (sym (get_or-set_other now place p (cleared x) no_entry n))
         (h.others p (ap (λ (ps : List ℕ). is_listed ps p) rest ∙ unlisted place p (drop (i + 1) places) q k))
 
-settled_all : (entries : List HomeEntry) → ((place : ℕ) → IsSettled (get_or entries place no_entry)) → map settled entries ≡ entries
-settled_all [] h = refl
-settled_all (entry ∷ entries) h = ap (λ (x : HomeEntry). x ∷ map settled entries) (h 0) ∙ ap (λ (xs : List HomeEntry). entry ∷ xs) (settled_all entries (λ p. h (suc p)))
+cleared_all : (entries : List HomeEntry) → ((place : ℕ) → IsCleared (get_or entries place no_entry)) → map cleared entries ≡ entries
+cleared_all [] h = refl
+cleared_all (entry ∷ entries) h =
+    ap (λ (x : HomeEntry). x ∷ map cleared entries) (h 0) ∙ ap (λ (xs : List HomeEntry). entry ∷ xs) (cleared_all entries (λ p. h (suc p)))
 
-pub settling-all : (was now : List HomeEntry) (places : List ℕ) (i : ℕ) → length places ≤ i → AreSettling was now (drop i places) → now ≡ map settled was
-settling-all was now places i l h =
+pub clearing-all : (was now : List HomeEntry) (places : List ℕ) (i : ℕ) → length places ≤ i → AreClearing was now (drop i places) →
+    now ≡ map cleared was
+clearing-all was now places i l h =
     let none : drop i places ≡ [] = drop_all i places l in
-    sym (settled_all now (λ p. h.others p (ap (λ (ps : List ℕ). is_listed ps p) none))) ∙ h.same
+    sym (cleared_all now (λ p. h.others p (ap (λ (ps : List ℕ). is_listed ps p) none))) ∙ h.same
 
--- what is settled but for the marked places
+-- what is cleared but for the marked places
 
--- another holder leaves an entry as settled as it is
-settled-holder : (entry other : HomeEntry) → other.sharers ≡ entry.sharers → other.transaction ≡ entry.transaction → IsSettled entry → IsSettled other
-settled-holder entry other s t h =
-    sym (entry_by other other.holder (settled entry).sharers (settled entry).transaction refl (s ∙ sym (ap (λ (x : HomeEntry). x.sharers) h)) (t ∙ sym (ap (λ (x : HomeEntry). x.transaction) h)))
+-- another holder leaves an entry as cleared as it is
+cleared-holder : (entry other : HomeEntry) → other.sharers ≡ entry.sharers → other.transaction ≡ entry.transaction → IsCleared entry →
+    IsCleared other
+cleared-holder entry other s t h =
+    sym (entry_by other other.holder (cleared entry).sharers (cleared entry).transaction refl
+    (s ∙ sym (ap (λ (x : HomeEntry). x.sharers) h)) (t ∙ sym (ap (λ (x : HomeEntry). x.transaction) h)))
 
-pub settled-put : (marks : List Bool) (entries : List HomeEntry) (place : ℕ) (other : HomeEntry) → place < length entries →
-    other.sharers ≡ (get_or entries place no_entry).sharers → other.transaction ≡ (get_or entries place no_entry).transaction → AreSettled marks entries → AreSettled marks (set entries place other)
-settled-put marks entries place other l s t h = record { whole = h.whole ∙ sym (length-set entries place other); others = λ p k. by_test p (nat_eq place p) refl k }
+pub cleared-put : (marks : List Bool) (entries : List HomeEntry) (place : ℕ) (other : HomeEntry) → place < length entries →
+    other.sharers ≡ (get_or entries place no_entry).sharers → other.transaction ≡ (get_or entries place no_entry).transaction →
+    AreCleared marks entries → AreCleared marks (set entries place other)
+cleared-put marks entries place other l s t h =
+    record { whole = h.whole ∙ sym (length-set entries place other); others = λ p k. by_test p (nat_eq place p) refl k }
   where
-    by_test : (p : ℕ) (c : Bool) → nat_eq place p ≡ c → is_marked marks p ≡ false → IsSettled (get_or (set entries place other) p no_entry)
+    by_test : (p : ℕ) (c : Bool) → nat_eq place p ≡ c → is_marked marks p ≡ false → IsCleared (get_or (set entries place other) p no_entry)
     by_test p true q k =
         let e : place ≡ p = grind (arith, nat_tests) in
         let m : is_marked marks place ≡ false = ap (is_marked marks) e ∙ k in
-        subst (λ (j : ℕ). IsSettled (get_or (set entries place other) j no_entry)) e
-        (subst IsSettled (sym (get_or-set_same entries place other no_entry l)) (settled-holder (get_or entries place no_entry) other s t (h.others place m)))
+        subst (λ (j : ℕ). IsCleared (get_or (set entries place other) j no_entry)) e
+        (subst IsCleared (sym (get_or-set_same entries place other no_entry l))
+        (cleared-holder (get_or entries place no_entry) other s t (h.others place m)))
     by_test p false q k =
         let n : p ≢ place = λ e. grind (arith, nat_tests) in
-        subst IsSettled (sym (get_or-set_other entries place p other no_entry n)) (h.others p k)
+        subst IsCleared (sym (get_or-set_other entries place p other no_entry n)) (h.others p k)
 
-pub settled-touched : (marks : List Bool) (entries : List HomeEntry) (place : ℕ) (other : HomeEntry) → place < length entries → AreSettled marks entries →
-    AreSettled (set marks place true) (set entries place other)
-settled-touched marks entries place other l h = record {
+pub cleared-touched : (marks : List Bool) (entries : List HomeEntry) (place : ℕ) (other : HomeEntry) → place < length entries →
+    AreCleared marks entries →
+    AreCleared (set marks place true) (set entries place other)
+cleared-touched marks entries place other l h = record {
   whole = length-set marks place true ∙ (h.whole ∙ sym (length-set entries place other));
   others = λ p k. by_test p (nat_eq place p) refl k;
 }
   where
-    by_test : (p : ℕ) (c : Bool) → nat_eq place p ≡ c → is_marked (set marks place true) p ≡ false → IsSettled (get_or (set entries place other) p no_entry)
+    by_test : (p : ℕ) (c : Bool) → nat_eq place p ≡ c → is_marked (set marks place true) p ≡ false →
+        IsCleared (get_or (set entries place other) p no_entry)
     by_test p true q k =
         let e : place ≡ p = grind (arith, nat_tests) in
         let m : is_marked (set marks place true) place ≡ false = ap (is_marked (set marks place true)) e ∙ k in
@@ -172,10 +200,12 @@ settled-touched marks entries place other l h = record {
         absurd (grind arith)
     by_test p false q k =
         let n : p ≢ place = λ e. grind (arith, nat_tests) in
-        subst IsSettled (sym (get_or-set_other entries place p other no_entry n)) (h.others p (sym (get_or-set_other marks place p true false n) ∙ k))
+        subst IsCleared (sym (get_or-set_other entries place p other no_entry n))
+        (h.others p (sym (get_or-set_other marks place p true false n) ∙ k))
 
-pub settled-begun : (marks : List Bool) (entries : List HomeEntry) → AreSettled marks entries → AreSettled (replicate (length marks) false) (map settled entries)
-settled-begun marks entries h = record {
-  whole = length-replicate (length marks) false ∙ (h.whole ∙ sym (length-settled entries));
-  others = λ p k. subst IsSettled (sym (settled-at entries p)) refl;
+pub cleared-begun : (marks : List Bool) (entries : List HomeEntry) → AreCleared marks entries →
+    AreCleared (replicate (length marks) false) (map cleared entries)
+cleared-begun marks entries h = record {
+  whole = length-replicate (length marks) false ∙ (h.whole ∙ sym (length-cleared entries));
+  others = λ p k. subst IsCleared (sym (cleared-at entries p)) refl;
 }

@@ -1,5 +1,6 @@
 -- The list of the open transactions stays what the entries say.
-use Rattle.std.proofs.Common.{◌≡◌, ℕ, zero, suc, ◌+◌, ◌<◌, ◌≤◌, Bool, true, false, cond, List, [], ◌∷◌, length, Option, Some, None, refl, ap, ◌∙◌, arith}
+use Rattle.std.proofs.Common.{◌≡◌, ℕ, zero, suc, ◌+◌, ◌<◌, ◌≤◌, Bool, true, false, cond, List, [], ◌∷◌, length, Option, Some, None, refl}
+use Rattle.std.proofs.Common.{ap, ◌∙◌, arith}
 use Rattle.std.specs.Prelude.{nat_eq, nat_lt, count_by, slice_set}
 use Rattle.std.specs.List.{insert}
 use Rattle.std.proofs.lemmas.Bool.Decides.{nat_tests}
@@ -30,7 +31,9 @@ put_in-cons p b o os h = ap (λ i. insert (o ∷ os) i (open_at p b)) (before_co
 
 before_with : (p s : ℕ) (t : Option Transaction) (os : List Open) → p ≤ s → before p os ≡ 0 → before p (with_open s t os) ≡ 0
 before_with p s None os h z = z
-before_with p s (Some t) os h z = sum_by-cons (λ (x : Open). cond (nat_lt x.place p) 1 0) (open_at s t.begun) os ∙ not_counted (nat_lt s p) (before p os) (grind (arith, nat_tests)) z
+before_with p s (Some t) os h z =
+    sum_by-cons (λ (x : Open). cond (nat_lt x.place p) 1 0) (open_at s t.begun) os
+    ∙ not_counted (nat_lt s p) (before p os) (grind (arith, nat_tests)) z
 
 before_later : (p s : ℕ) (es : List HomeEntry) → p ≤ s → before p (opens_from s es) ≡ 0
 before_later p s [] h = refl
@@ -42,50 +45,61 @@ keeps_cons p o os h = rw h refl
 drops_cons : (p : ℕ) (o : Open) (os : List Open) → nat_eq o.place p ≡ true → without_place p (o ∷ os) ≡ without_place p os
 drops_cons p o os h = rw h refl
 
-without_with : (p s : ℕ) (t : Option Transaction) (os : List Open) → nat_eq s p ≡ false → without_place p (with_open s t os) ≡ with_open s t (without_place p os)
+without_with : (p s : ℕ) (t : Option Transaction) (os : List Open) → nat_eq s p ≡ false →
+    without_place p (with_open s t os) ≡ with_open s t (without_place p os)
 without_with p s None os h = refl
 without_with p s (Some t) os h = keeps_cons p (open_at s t.begun) os h
 
-without_here : (p s : ℕ) (t : Option Transaction) (os : List Open) → nat_eq s p ≡ true → without_place p (with_open s t os) ≡ without_place p os
+without_here : (p s : ℕ) (t : Option Transaction) (os : List Open) → nat_eq s p ≡ true →
+    without_place p (with_open s t os) ≡ without_place p os
 without_here p s None os h = refl
 without_here p s (Some t) os h = drops_cons p (open_at s t.begun) os h
 
 without_later : (p s : ℕ) (es : List HomeEntry) → p < s → without_place p (opens_from s es) ≡ opens_from s es
 without_later p s [] h = refl
 without_later p s (e ∷ es) h =
-    without_with p s e.transaction (opens_from (s + 1) es) (grind (arith, nat_tests)) ∙ ap (with_open s e.transaction) (without_later p (s + 1) es (omega arith))
+    without_with p s e.transaction (opens_from (s + 1) es) (grind (arith, nat_tests))
+    ∙ ap (with_open s e.transaction) (without_later p (s + 1) es (omega arith))
 
 -- what a place has open is listed
 
-listed_here : (p s : ℕ) (t : Option Transaction) (os : List Open) → p ≡ s → before p os ≡ 0 → without_place p os ≡ os → relisted p (begun_of t) os ≡ with_open s t os
+listed_here : (p s : ℕ) (t : Option Transaction) (os : List Open) → p ≡ s → before p os ≡ 0 → without_place p os ≡ os →
+    relisted p (begun_of t) os ≡ with_open s t os
 listed_here p s None os e z w = w
 listed_here p s (Some t) os e z w =
     ap (put_in p t.begun) w ∙ ap (λ i. insert os i (open_at p t.begun)) z ∙ ap (λ q. open_at q t.begun ∷ os) e
 
-put_after : (p s b : ℕ) (t : Option Transaction) (os : List Open) → nat_lt s p ≡ true → put_in p b (with_open s t os) ≡ with_open s t (put_in p b os)
+put_after : (p s b : ℕ) (t : Option Transaction) (os : List Open) → nat_lt s p ≡ true →
+    put_in p b (with_open s t os) ≡ with_open s t (put_in p b os)
 put_after p s b None os h = refl
 put_after p s b (Some t) os h = put_in-cons p b (open_at s t.begun) os h
 
-listed_after : (p s : ℕ) (u t : Option Transaction) (os : List Open) → s < p → relisted p (begun_of u) (with_open s t os) ≡ with_open s t (relisted p (begun_of u) os)
+listed_after : (p s : ℕ) (u t : Option Transaction) (os : List Open) → s < p →
+    relisted p (begun_of u) (with_open s t os) ≡ with_open s t (relisted p (begun_of u) os)
 listed_after p s None t os h = without_with p s t os (grind (arith, nat_tests))
 listed_after p s (Some u) t os h =
-    ap (put_in p u.begun) (without_with p s t os (grind (arith, nat_tests))) ∙ put_after p s u.begun t (without_place p os) (grind (arith, nat_tests))
+    ap (put_in p u.begun) (without_with p s t os (grind (arith, nat_tests)))
+    ∙ put_after p s u.begun t (without_place p os) (grind (arith, nat_tests))
 
 relisted_same : (p : ℕ) (o : Option ℕ) (xs ys : List Open) → without_place p xs ≡ without_place p ys → relisted p o xs ≡ relisted p o ys
 relisted_same p None xs ys h = h
 relisted_same p (Some b) xs ys h = ap (put_in p b) h
 
-relisted_from : (es : List HomeEntry) (s k p : ℕ) (e : HomeEntry) → p ≡ s + k → k < length es → relisted p (begun_of e.transaction) (opens_from s es) ≡ opens_from s (slice_set es k e)
+relisted_from : (es : List HomeEntry) (s k p : ℕ) (e : HomeEntry) → p ≡ s + k → k < length es →
+    relisted p (begun_of e.transaction) (opens_from s es) ≡ opens_from s (slice_set es k e)
 relisted_from [] s k p e h l = absurd (omega arith)
 relisted_from (x ∷ xs) s zero p e h l =
-    relisted_same p (begun_of e.transaction) (with_open s x.transaction (opens_from (s + 1) xs)) (opens_from (s + 1) xs) (without_here p s x.transaction (opens_from (s + 1) xs) (grind (arith, nat_tests)))
-    ∙ listed_here p s e.transaction (opens_from (s + 1) xs) (omega arith) (before_later p (s + 1) xs (omega arith)) (without_later p (s + 1) xs (omega arith))
+    relisted_same p (begun_of e.transaction) (with_open s x.transaction (opens_from (s + 1) xs)) (opens_from (s + 1) xs)
+    (without_here p s x.transaction (opens_from (s + 1) xs) (grind (arith, nat_tests)))
+    ∙ listed_here p s e.transaction (opens_from (s + 1) xs) (omega arith) (before_later p (s + 1) xs (omega arith))
+    (without_later p (s + 1) xs (omega arith))
 relisted_from (x ∷ xs) s (suc k) p e h l =
     listed_after p s e.transaction x.transaction (opens_from (s + 1) xs) (omega arith)
     ∙ ap (with_open s x.transaction) (relisted_from xs (s + 1) k p e (omega arith) (omega arith))
 
 -- the list follows the change of an entry
-pub relisted_is : (es : List HomeEntry) (p : ℕ) (e : HomeEntry) → p < length es → relisted p (begun_of e.transaction) (opens_from 0 es) ≡ opens_from 0 (slice_set es p e)
+pub relisted_is : (es : List HomeEntry) (p : ℕ) (e : HomeEntry) → p < length es →
+    relisted p (begun_of e.transaction) (opens_from 0 es) ≡ opens_from 0 (slice_set es p e)
 relisted_is es p e l = relisted_from es 0 p p e (omega arith) l
 
 length_with : (s : ℕ) (t : Option Transaction) (os : List Open) (n : ℕ) → length os ≤ n → length (with_open s t os) ≤ n + 1
@@ -103,16 +117,19 @@ short_step s (Some t) os n h = omega arith
 short_from : (es : List HomeEntry) (s k p : ℕ) → p ≡ s + k → k < length es → length (without_place p (opens_from s es)) < length es
 short_from [] s k p h l = absurd (omega arith)
 short_from (x ∷ xs) s zero p h l =
-    rw (without_here p s x.transaction (opens_from (s + 1) xs) (grind (arith, nat_tests)), without_later p (s + 1) xs (omega arith)) (let q = length_opens (s + 1) xs in omega arith)
+    rw (without_here p s x.transaction (opens_from (s + 1) xs) (grind (arith, nat_tests)), without_later p (s + 1) xs (omega arith))
+    (let q = length_opens (s + 1) xs in omega arith)
 short_from (x ∷ xs) s (suc k) p h l =
     rw (without_with p s x.transaction (opens_from (s + 1) xs) (grind (arith, nat_tests)))
-    (short_step s x.transaction (without_place p (opens_from (s + 1) xs)) (length xs) (short_from xs (s + 1) k p (omega arith) (omega arith)))
+    (short_step s x.transaction (without_place p (opens_from (s + 1) xs)) (length xs)
+    (short_from xs (s + 1) k p (omega arith) (omega arith)))
 
 -- a place has room in the list
 pub short_is : (es : List HomeEntry) (p : ℕ) → p < length es → length (without_place p (opens_from 0 es)) < length es
 short_is es p l = short_from es 0 p p (omega arith) l
 
-lesser_is : (t : Option Transaction) (s : ℕ) (os : List Open) (o : Option ℕ) → least_in os ≡ o → least_in (with_open s t os) ≡ lesser_of (begun_of t) o
+lesser_is : (t : Option Transaction) (s : ℕ) (os : List Open) (o : Option ℕ) → least_in os ≡ o →
+    least_in (with_open s t os) ≡ lesser_of (begun_of t) o
 lesser_is None s os o h = h
 lesser_is (Some t) s os None h = rw h refl
 lesser_is (Some t) s os (Some n) h = rw h refl

@@ -1,5 +1,6 @@
 -- A home that is put back to a checkpoint is the machine's restored home, entry by entry.
-use Rattle.std.proofs.Common.{◌≡◌, ℕ, zero, suc, ◌+◌, ◌/◌, ◌%◌, ◌<◌, Bool, true, false, List, [], ◌∷◌, length, get_or, refl, sym, ap, ◌∙◌, arith}
+use Rattle.std.proofs.Common.{◌≡◌, ℕ, zero, suc, ◌+◌, ◌/◌, ◌%◌, ◌<◌, Bool, true, false, List, [], ◌∷◌, length, get_or, refl, sym, ap, ◌∙◌}
+use Rattle.std.proofs.Common.{arith}
 use Rattle.std.specs.Prelude.{nat_eq, nat_le, ◌&&◌, if◌then◌else◌, map, Option, Some, None, unwrap_or, ⊤}
 use Rattle.std.specs.Option.{option_map}
 use Rattle.std.proofs.lemmas.Bool.Decides.{nat_tests}
@@ -12,7 +13,7 @@ use Rattle.sn_model.specs.Cuts.{named_by}
 use Rattle.sn_model.specs.Fabric.{Fabric, home_of, no_entry}
 use Rattle.sn_model.specs.PointEvents.{log_of_home, restored_homes}
 use Rattle.home_directory.specs.Home.{HomeData, entry_of}
-use Rattle.home_directory.specs.Restored.{settled, begun_restore, old_of, is_here, had, CanHave, Stays}
+use Rattle.home_directory.specs.Restored.{cleared, begun_restore, old_of, is_here, had, CanHave, Stays}
 
 -- what a home has, it can have
 pub can-had : (home : HomeData) → CanHave home (had home)
@@ -32,7 +33,8 @@ earlier_sided e (Some f) h g = choice (nat_le e.interval f.interval)
     choice true = h
     choice false = g
 
-sided_step : (b k : ℕ) (e : LogEntry) (r : Option LogEntry) (c : Bool) → (is_about true b e && nat_le k e.interval) ≡ c → IsSided r → IsSided (if c then Some (earlier e r) else r)
+sided_step : (b k : ℕ) (e : LogEntry) (r : Option LogEntry) (c : Bool) → (is_about true b e && nat_le k e.interval) ≡ c → IsSided r →
+    IsSided (if c then Some (earlier e r) else r)
 sided_step b k e r true h g = earlier_sided e r (grind arith) g
 sided_step b k e r false h g = g
 
@@ -48,7 +50,8 @@ old_named (Owned content) holder h = absurd (cc)
 old_named (WasHome content) holder h = refl
 old_named (WasCache node) holder h = refl
 
-named : (o : Option LogEntry) (holder : Holder) → IsSided o → unwrap_or (option_map (λ (e : LogEntry). e.old) o) (old_of holder) ≡ old_of (named_by (option_map (λ (e : LogEntry). e.old) o) holder)
+named : (o : Option LogEntry) (holder : Holder) → IsSided o →
+    unwrap_or (option_map (λ (e : LogEntry). e.old) o) (old_of holder) ≡ old_of (named_by (option_map (λ (e : LogEntry). e.old) o) holder)
 named None holder h = refl
 named (Some e) holder h = old_named e.old holder h
 
@@ -59,21 +62,23 @@ one_holder (OfCache node) (Itself content) e = cc
 one_holder (OfCache node) (OfCache other) e = cc
 
 -- an entry by its three parts
-pub entry_by : (x : HomeEntry) (holder : Holder) (sharers : List Bool) (transaction : Option Transaction) → x.holder ≡ holder → x.sharers ≡ sharers → x.transaction ≡ transaction →
+pub entry_by : (x : HomeEntry) (holder : Holder) (sharers : List Bool) (transaction : Option Transaction) → x.holder ≡ holder →
+    x.sharers ≡ sharers → x.transaction ≡ transaction →
     x ≡ record { holder = holder; sharers = sharers; transaction = transaction }
 entry_by x holder sharers transaction h s t =
     ap (λ (y : Holder). record x { holder = y }) h
     ∙ ap (λ (y : List Bool). record x { holder = holder; sharers = y }) s
     ∙ ap (λ (y : Option Transaction). record { holder = holder; sharers = sharers; transaction = y }) t
 
-pub settled-at : (entries : List HomeEntry) (place : ℕ) → get_or (map settled entries) place no_entry ≡ settled (get_or entries place no_entry)
-settled-at [] place = refl
-settled-at (entry ∷ entries) zero = refl
-settled-at (entry ∷ entries) (suc place) = settled-at entries place
+pub cleared-at : (entries : List HomeEntry) (place : ℕ) →
+    get_or (map cleared entries) place no_entry ≡ cleared (get_or entries place no_entry)
+cleared-at [] place = refl
+cleared-at (entry ∷ entries) zero = refl
+cleared-at (entry ∷ entries) (suc place) = cleared-at entries place
 
-pub length-settled : (entries : List HomeEntry) → length (map settled entries) ≡ length entries
-length-settled [] = refl
-length-settled (entry ∷ entries) = ap suc (length-settled entries)
+pub length-cleared : (entries : List HomeEntry) → length (map cleared entries) ≡ length entries
+length-cleared [] = refl
+length-cleared (entry ∷ entries) = ap suc (length-cleared entries)
 
 -- the machine's entry at its place
 
@@ -83,13 +88,17 @@ restored_entry log k b entry = record { holder = named_by (old_at log true b k) 
 restored-from : (s : Fabric) (k start : ℕ) (homes : List HomeEntry) (i : ℕ) → i < length homes →
     get_or (restored_homes s k start homes) i no_entry ≡ restored_entry (log_of_home s (start + i)) k (start + i) (get_or homes i no_entry)
 restored-from s k start [] i l = absurd (omega arith)
-restored-from s k start (entry ∷ homes) zero l = let e : start ≡ start + zero = omega arith in ap (λ (b : ℕ). restored_entry (log_of_home s b) k b entry) e
+restored-from s k start (entry ∷ homes) zero l =
+    let e : start ≡ start + zero = omega arith in ap (λ (b : ℕ). restored_entry (log_of_home s b) k b entry) e
 restored-from s k start (entry ∷ homes) (suc i) l =
     let e : start + 1 + i ≡ start + suc i = omega arith in
     restored-from s k (start + 1) homes i (omega arith) ∙ ap (λ (b : ℕ). restored_entry (log_of_home s b) k b (get_or homes i no_entry)) e
 
-pub restored-at : (s : Fabric) (k b : ℕ) → b < length s.homes → get_or (restored_homes s k 0 s.homes) b no_entry ≡ restored_entry (log_of_home s b) k b (home_of s b)
-restored-at s k b l = let e : 0 + b ≡ b = omega arith in restored-from s k 0 s.homes b l ∙ ap (λ (j : ℕ). restored_entry (log_of_home s j) k j (home_of s b)) e
+pub restored-at : (s : Fabric) (k b : ℕ) → b < length s.homes →
+    get_or (restored_homes s k 0 s.homes) b no_entry ≡ restored_entry (log_of_home s b) k b (home_of s b)
+restored-at s k b l =
+    let e : 0 + b ≡ b = omega arith in
+    restored-from s k 0 s.homes b l ∙ ap (λ (j : ℕ). restored_entry (log_of_home s j) k j (home_of s b)) e
 
 -- a home that began to be put back, and into which a log was unwound
 module _ (c d e : HomeData) (log : List LogEntry) (k : ℕ) (begun : d ≡ begun_restore c) (held : (b : ℕ) → had e b ≡ unwound log true k (had d) b) (stays : Stays d e) (b : ℕ) (here : b % c.nodes ≡ c.node) where
@@ -105,33 +114,43 @@ module _ (c d e : HomeData) (log : List LogEntry) (k : ℕ) (begun : d ≡ begun
   last-here : is_here e b ≡ true
   last-here = ap (λ (j : ℕ). nat_eq (b % j) e.node) stays.nodes ∙ ap (λ (j : ℕ). nat_eq (b % d.nodes) j) stays.node ∙ begun-here
 
-  entry-begun : entry_of d b ≡ settled (entry_of c b)
-  entry-begun = ap (λ (x : HomeData). entry_of x b) begun ∙ settled-at c.entries (b / c.nodes)
+  entry-begun : entry_of d b ≡ cleared (entry_of c b)
+  entry-begun = ap (λ (x : HomeData). entry_of x b) begun ∙ cleared-at c.entries (b / c.nodes)
 
   had-begun : had d b ≡ old_of (entry_of c b).holder
-  had-begun = ap (λ (t : Bool). if t then old_of (entry_of d b).holder else NotOwned) begun-here ∙ ap (λ (x : HomeEntry). old_of x.holder) entry-begun
+  had-begun =
+      ap (λ (t : Bool). if t then old_of (entry_of d b).holder else NotOwned) begun-here
+      ∙ ap (λ (x : HomeEntry). old_of x.holder) entry-begun
 
   had-last : had e b ≡ old_of (entry_of e b).holder
   had-last = ap (λ (t : Bool). if t then old_of (entry_of e b).holder else NotOwned) last-here
 
   holder-last : (entry_of e b).holder ≡ named_by (old_at log true b k) (entry_of c b).holder
   holder-last = one_holder (entry_of e b).holder (named_by (old_at log true b k) (entry_of c b).holder)
-      (sym had-last ∙ held b ∙ ap (unwrap_or (old_at log true b k)) had-begun ∙ named (entry_at log true b k) (entry_of c b).holder (sided log b k))
+      (sym had-last ∙ held b ∙ ap (unwrap_or (old_at log true b k)) had-begun
+      ∙ named (entry_at log true b k) (entry_of c b).holder (sided log b k))
 
   place-last : b / e.nodes ≡ b / d.nodes
   place-last = ap (λ (j : ℕ). b / j) stays.nodes
 
   sharers-last : (entry_of e b).sharers ≡ no_sharers
-  sharers-last = ap (λ (p : ℕ). (get_or e.entries p no_entry).sharers) place-last ∙ stays.sharers (b / d.nodes) ∙ ap (λ (x : HomeEntry). x.sharers) entry-begun
+  sharers-last =
+      ap (λ (p : ℕ). (get_or e.entries p no_entry).sharers) place-last ∙ stays.sharers (b / d.nodes)
+      ∙ ap (λ (x : HomeEntry). x.sharers) entry-begun
 
   transaction-last : (entry_of e b).transaction ≡ None
-  transaction-last = ap (λ (p : ℕ). (get_or e.entries p no_entry).transaction) place-last ∙ stays.transactions (b / d.nodes) ∙ ap (λ (x : HomeEntry). x.transaction) entry-begun
+  transaction-last =
+      ap (λ (p : ℕ). (get_or e.entries p no_entry).transaction) place-last ∙ stays.transactions (b / d.nodes)
+      ∙ ap (λ (x : HomeEntry). x.transaction) entry-begun
 
   pub entry-restored : entry_of e b ≡ restored_entry log k b (entry_of c b)
-  entry-restored = entry_by (entry_of e b) (named_by (old_at log true b k) (entry_of c b).holder) no_sharers None holder-last sharers-last transaction-last
+  entry-restored =
+      entry_by (entry_of e b)
+      (named_by (old_at log true b k) (entry_of c b).holder) no_sharers None holder-last sharers-last transaction-last
 
 -- so it is the machine's
-pub restored-is : (s : Fabric) (c d e : HomeData) (k b : ℕ) → d ≡ begun_restore c → ((j : ℕ) → had e j ≡ unwound (log_of_home s b) true k (had d) j) → Stays d e →
+pub restored-is : (s : Fabric) (c d e : HomeData) (k b : ℕ) → d ≡ begun_restore c →
+    ((j : ℕ) → had e j ≡ unwound (log_of_home s b) true k (had d) j) → Stays d e →
     b % c.nodes ≡ c.node → home_of s b ≡ entry_of c b → b < length s.homes → entry_of e b ≡ get_or (restored_homes s k 0 s.homes) b no_entry
 restored-is s c d e k b begun held stays here home l =
     entry-restored c d e (log_of_home s b) k begun held stays b here
@@ -139,7 +158,8 @@ restored-is s c d e k b begun held stays here home l =
     ∙ sym (restored-at s k b l)
 
 -- what an unwinding leaves, a home can have, where the log has nothing of blocks of other homes
-pub unwound-can : (c d : HomeData) (log : List LogEntry) (k : ℕ) → d ≡ begun_restore c → ((b : ℕ) → is_here c b ≡ false → old_at log true b k ≡ None) → CanHave d (unwound log true k (had d))
+pub unwound-can : (c d : HomeData) (log : List LogEntry) (k : ℕ) → d ≡ begun_restore c →
+    ((b : ℕ) → is_here c b ≡ false → old_at log true b k ≡ None) → CanHave d (unwound log true k (had d))
 unwound-can c d log k begun none b other =
     let h : is_here c b ≡ false = sym (ap (λ (x : HomeData). is_here x b) begun) ∙ other in
     ap (λ (o : Option Old). unwrap_or o (had d b)) (none b h) ∙ can-had d b other

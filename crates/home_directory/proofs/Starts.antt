@@ -5,7 +5,7 @@ use Rattle.sn_model.specs.Homes.{HomeEntry}
 use Rattle.sn_model.specs.Fabric.{first_home, no_entry}
 use Rattle.home_directory.specs.Home.{entries_below}
 use Rattle.home_directory.specs.Open.{with_open, opens_from}
-use Rattle.home_directory.specs.Touched.{IsSettled}
+use Rattle.home_directory.specs.Touched.{IsCleared}
 
 -- one entry more
 pub entries_more : (place : ℕ) (image : ImageData) (node nodes : ℕ) →
@@ -25,15 +25,19 @@ closed_more s (x ∷ xs) e h = ap (with_open s x.transaction) (closed_more (s + 
 pub nothing_open : (places s : ℕ) (image : ImageData) (node nodes : ℕ) → opens_from s (entries_below places image node nodes) ≡ []
 nothing_open zero s image node nodes = refl
 nothing_open (suc place) s image node nodes =
-    closed_more s (entries_below place image node nodes) (first_home image (node + nodes * place)) refl ∙ nothing_open place s image node nodes
+    closed_more s (entries_below place image node nodes) (first_home image (node + nodes * place)) refl
+    ∙ nothing_open place s image node nodes
 
-settled_more : (xs : List HomeEntry) (e : HomeEntry) → IsSettled e → ((p : ℕ) → IsSettled (get_or xs p no_entry)) → (p : ℕ) → IsSettled (get_or (xs ++ e ∷ []) p no_entry)
-settled_more [] e h k zero = h
-settled_more [] e h k (suc p) = refl
-settled_more (x ∷ xs) e h k zero = k zero
-settled_more (x ∷ xs) e h k (suc p) = settled_more xs e h (λ q. k (suc q)) p
+cleared_more : (xs : List HomeEntry) (e : HomeEntry) → IsCleared e → ((p : ℕ) → IsCleared (get_or xs p no_entry)) → (p : ℕ) →
+    IsCleared (get_or (xs ++ e ∷ []) p no_entry)
+cleared_more [] e h k zero = h
+cleared_more [] e h k (suc p) = refl
+cleared_more (x ∷ xs) e h k zero = k zero
+cleared_more (x ∷ xs) e h k (suc p) = cleared_more xs e h (λ q. k (suc q)) p
 
-pub settled_first : (places : ℕ) (image : ImageData) (node nodes : ℕ) (p : ℕ) → IsSettled (get_or (entries_below places image node nodes) p no_entry)
-settled_first zero image node nodes p = refl
-settled_first (suc place) image node nodes p =
-    settled_more (entries_below place image node nodes) (first_home image (node + nodes * place)) refl (settled_first place image node nodes) p
+pub cleared_first : (places : ℕ) (image : ImageData) (node nodes : ℕ) (p : ℕ) →
+    IsCleared (get_or (entries_below places image node nodes) p no_entry)
+cleared_first zero image node nodes p = refl
+cleared_first (suc place) image node nodes p =
+    cleared_more (entries_below place image node nodes) (first_home image (node + nodes * place)) refl
+    (cleared_first place image node nodes) p

@@ -1,5 +1,6 @@
 -- The verdict on a message, by the two tests that come before its row.
-use Rattle.std.proofs.Common.{◌≡◌, ℕ, suc, ◌+◌, ◌≤◌, Bool, true, false, not, ◌&&◌, List, [], ◌∷◌, ◌++◌, length, Option, Some, None, refl, sym, ap, arith, length-append}
+use Rattle.std.proofs.Common.{◌≡◌, ℕ, suc, ◌+◌, ◌≤◌, Bool, true, false, not, ◌&&◌, List, [], ◌∷◌, ◌++◌, length, Option, Some, None, refl}
+use Rattle.std.proofs.Common.{sym, ap, arith, length-append}
 use Rattle.std.specs.Prelude.{nat_le, nat_lt, nat_eq, if◌then◌else◌, is_some, count_by, IfSome}
 use Rattle.std.proofs.lemmas.Bool.Decides.{nat_tests}
 use Rattle.std.proofs.lemmas.List.Sums.{sum_by-cons}
@@ -11,7 +12,8 @@ use Rattle.log_buffer.specs.Log.{LogData, has_entry}
 use Rattle.sn_model.specs.declared.home.Kind.{Kind}
 use Rattle.sn_model.specs.declared.home.Kind.TheVariants.{Read, Take, Move, Upgrade, Put}
 use Rattle.sn_model.specs.Homes.{HomeEntry, Holder, Itself, OfCache, Transaction, is_owner}
-use Rattle.sn_model.specs.HomeRows.{LoggedEntry, HomeReply, count_others, others, invalidations, read_at_home, read_at_owner, move_ownership, upgrade, unblock, put_begins, put_is_stale, grant_exclusive}
+use Rattle.sn_model.specs.HomeRows.{LoggedEntry, HomeReply, count_others, others, invalidations, read_at_home, read_at_owner}
+use Rattle.sn_model.specs.HomeRows.{move_ownership, upgrade, unblock, put_begins, put_is_stale, grant_exclusive}
 use Rattle.sn_model.specs.declared.home.Owner.{Owner}
 use Rattle.sn_model.specs.declared.home.Owner.TheVariants.{Home, Cache}
 use Rattle.home_directory.specs.Home.{holder_of, cache_of}
@@ -19,7 +21,8 @@ use Rattle.sn_model.specs.NetEvents.{Outcome, Busy, AtCache, AtHome, Noted, get_
 use Rattle.home_directory.specs.declared.step.HomeStep.{HomeStep}
 use Rattle.sn_model.specs.declared.look.Look.{Look}
 use Rattle.sn_model.specs.declared.look.Look.TheVariants.{Sends}
-use Rattle.home_directory.specs.Receipt.{Verdict, Does, Waits, LacksRoom, kept, HasRow, noted_by_read, noted_by_write, noted_by_unblock, unless_open, noting, outcome_at, judged, within, look_of, left_by, Tells}
+use Rattle.home_directory.specs.Receipt.{Verdict, Does, Waits, LacksRoom, kept, HasRow, noted_by_read, noted_by_write, noted_by_unblock}
+use Rattle.home_directory.specs.Receipt.{unless_open, noting, outcome_at, judged, within, look_of, left_by, Tells}
 use Rattle.home_directory.specs.Serving.{HasRoom, lacks_room, waits, count_sends, Did, DidOutcome}
 
 -- a log with a note has more than its limit just where it lacks the room
@@ -45,18 +48,22 @@ shared_step true log block now x y h p q = p
 shared_step false log block now x y h p q = q
 
 shared_size : (log : LogData) (entry : HomeEntry) (block now r : ℕ) (holder : Holder) → length log.entries ≤ log.limit →
-    nat_lt log.limit (length (get_shared (kept entry log.entries) block now r holder).after.log) ≡ lacks_room log (noted_by_read holder (count_others entry.sharers r) now) block
+    nat_lt log.limit (length (get_shared (kept entry log.entries) block now r holder).after.log)
+    ≡ lacks_room log (noted_by_read holder (count_others entry.sharers r) now) block
 shared_size log entry block now r (Itself content) h =
-    shared_step (nat_eq (count_others entry.sharers r) 0) log block now _ _ h (grew (has_entry log.entries now true block) log.entries _ log.limit h) (stays (length log.entries) log.limit h)
+    shared_step (nat_eq (count_others entry.sharers r) 0) log block now _ _ h
+    (grew (has_entry log.entries now true block) log.entries _ log.limit h) (stays (length log.entries) log.limit h)
 shared_size log entry block now r (OfCache owner) h = stays (length log.entries) log.limit h
 
-modified_step : (b : Bool) (limit : ℕ) (x y : HomeReply) → nat_lt limit (length x.after.log) ≡ false → nat_lt limit (length y.after.log) ≡ false →
+modified_step : (b : Bool) (limit : ℕ) (x y : HomeReply) → nat_lt limit (length x.after.log) ≡ false →
+    nat_lt limit (length y.after.log) ≡ false →
     nat_lt limit (length (if b then x else y).after.log) ≡ false
 modified_step true limit x y p q = p
 modified_step false limit x y p q = q
 
 modified_size : (log : LogData) (entry : HomeEntry) (block now r : ℕ) (holder : Holder) → length log.entries ≤ log.limit →
-    nat_lt log.limit (length (get_modified (kept entry log.entries) block now r holder).after.log) ≡ lacks_room log (noted_by_write holder now) block
+    nat_lt log.limit (length (get_modified (kept entry log.entries) block now r holder).after.log)
+    ≡ lacks_room log (noted_by_write holder now) block
 modified_size log entry block now r (Itself content) h = grew (has_entry log.entries now true block) log.entries _ log.limit h
 modified_size log entry block now r (OfCache owner) h =
     modified_step (nat_eq owner r) log.limit _ _ (stays (length log.entries) log.limit h) (stays (length log.entries) log.limit h)
@@ -66,8 +73,10 @@ put_size : (log : LogData) (entry : HomeEntry) (now r : ℕ) → length log.entr
 put_size log entry now r h =
     modified_step (is_owner entry.holder r) log.limit _ _ (stays (length log.entries) log.limit h) (stays (length log.entries) log.limit h)
 
-end_size : (log : LogData) (entry : HomeEntry) (block fixed : ℕ) (holder : Holder) (t : Transaction) (kind : Kind) → entry.holder ≡ holder → t.kind ≡ kind → length log.entries ≤ log.limit →
-    nat_lt log.limit (length (unblock (kept (record entry { holder = holder }) log.entries) block fixed (Some (record t { kind = kind }))).after.log)
+end_size : (log : LogData) (entry : HomeEntry) (block fixed : ℕ) (holder : Holder) (t : Transaction) (kind : Kind) → entry.holder ≡ holder →
+    t.kind ≡ kind → length log.entries ≤ log.limit →
+    nat_lt log.limit (length
+    (unblock (kept (record entry { holder = holder }) log.entries) block fixed (Some (record t { kind = kind }))).after.log)
     ≡ lacks_room log (noted_by_unblock (Some (record t { kind = kind })) holder fixed) block
 end_size log entry block fixed (Itself content) t Move p q h = stays (length log.entries) log.limit h
 end_size log entry block fixed (OfCache owner) t Move p q h = grew (has_entry log.entries fixed true block) log.entries _ log.limit h
@@ -77,31 +86,40 @@ end_size log entry block fixed holder t Upgrade p q h = stays (length log.entrie
 end_size log entry block fixed holder t Put p q h = stays (length log.entries) log.limit h
 
 unblock_size : (log : LogData) (entry : HomeEntry) (block fixed : ℕ) (t : Option Transaction) → length log.entries ≤ log.limit →
-    nat_lt log.limit (length (unblock (kept entry log.entries) block fixed t).after.log) ≡ lacks_room log (noted_by_unblock t entry.holder fixed) block
+    nat_lt log.limit (length (unblock (kept entry log.entries) block fixed t).after.log)
+    ≡ lacks_room log (noted_by_unblock t entry.holder fixed) block
 unblock_size log entry block fixed None h = stays (length log.entries) log.limit h
 unblock_size log entry block fixed (Some t) h = end_size log entry block fixed entry.holder t t.kind refl refl h
 
-within_is : (limit : ℕ) (reply : HomeReply) (b : Bool) → nat_lt limit (length reply.after.log) ≡ b → within limit reply ≡ (if b then LacksRoom else Does reply)
+within_is : (limit : ℕ) (reply : HomeReply) (b : Bool) → nat_lt limit (length reply.after.log) ≡ b →
+    within limit reply ≡ (if b then LacksRoom else Does reply)
 within_is limit reply b h = rw h
 
-request_is : (log : LogData) (block : ℕ) (t : Option Transaction) (reply : HomeReply) (interval : Option ℕ) → is_some t ≡ false → nat_lt log.limit (length reply.after.log) ≡ lacks_room log interval block →
-    judged log.limit (unless_busy t reply) ≡ (if lacks_room log (unless_open t interval) block then LacksRoom else does (unless_busy t reply))
+request_is : (log : LogData) (block : ℕ) (t : Option Transaction) (reply : HomeReply) (interval : Option ℕ) → is_some t ≡ false →
+    nat_lt log.limit (length reply.after.log) ≡ lacks_room log interval block →
+    judged log.limit (unless_busy t reply)
+    ≡ (if lacks_room log (unless_open t interval) block then LacksRoom else does (unless_busy t reply))
 request_is log block None reply interval w h = within_is log.limit reply _ h
 request_is log block (Some t) reply interval w h = cc
 
-put_is : (log : LogData) (block : ℕ) (t : Option Transaction) (reply : HomeReply) → is_some t ≡ false → nat_lt log.limit (length reply.after.log) ≡ false →
+put_is : (log : LogData) (block : ℕ) (t : Option Transaction) (reply : HomeReply) → is_some t ≡ false →
+    nat_lt log.limit (length reply.after.log) ≡ false →
     judged log.limit (unless_busy t reply) ≡ does (unless_busy t reply)
 put_is log block None reply w h = within_is log.limit reply false h
 put_is log block (Some t) reply w h = cc
 
 -- the verdict: a request waits; a row whose note has no room isn't done; else the row is done
-pub judged_is : (log : LogData) (entry : HomeEntry) (now : ℕ) (m : Message) (body : Body) → HasRow entry m.from body → length log.entries ≤ log.limit → waits entry body ≡ false →
+pub judged_is : (log : LogData) (entry : HomeEntry) (now : ℕ) (m : Message) (body : Body) → HasRow entry m.from body →
+    length log.entries ≤ log.limit → waits entry body ≡ false →
     judged log.limit (outcome_at (kept entry log.entries) now m body)
     ≡ (if lacks_room log (noting entry now m body) m.block then LacksRoom else does (outcome_at (kept entry log.entries) now m body))
 judged_is log entry now m (Unblock fixed) r h w = within_is log.limit _ _ (unblock_size log entry m.block fixed entry.transaction h)
-judged_is log entry now m (PutData content) r h w = within_is log.limit _ _ (grew (has_entry log.entries m.tag true m.block) log.entries _ log.limit h)
-judged_is log entry now m GetS r h w = request_is log m.block entry.transaction _ _ w (shared_size log entry m.block now m.from entry.holder h)
-judged_is log entry now m GetM r h w = request_is log m.block entry.transaction _ _ w (modified_size log entry m.block now m.from entry.holder h)
+judged_is log entry now m (PutData content) r h w =
+    within_is log.limit _ _ (grew (has_entry log.entries m.tag true m.block) log.entries _ log.limit h)
+judged_is log entry now m GetS r h w =
+    request_is log m.block entry.transaction _ _ w (shared_size log entry m.block now m.from entry.holder h)
+judged_is log entry now m GetM r h w =
+    request_is log m.block entry.transaction _ _ w (modified_size log entry m.block now m.from entry.holder h)
 judged_is log entry now m PutReq r h w = put_is log m.block entry.transaction _ w (put_size log entry now m.from h)
 judged_is log entry now m _ r h w = absurd r
 
@@ -109,7 +127,8 @@ wait_is : (limit : ℕ) (t : Option Transaction) (reply : HomeReply) → is_some
 wait_is limit None reply w = cc
 wait_is limit (Some t) reply w = refl
 
-pub judged_waits : (limit : ℕ) (at : LoggedEntry) (now : ℕ) (m : Message) (body : Body) → waits at.entry body ≡ true → judged limit (outcome_at at now m body) ≡ Waits
+pub judged_waits : (limit : ℕ) (at : LoggedEntry) (now : ℕ) (m : Message) (body : Body) → waits at.entry body ≡ true →
+    judged limit (outcome_at at now m body) ≡ Waits
 judged_waits limit at now m GetS w = wait_is limit at.entry.transaction _ w
 judged_waits limit at now m GetM w = wait_is limit at.entry.transaction _ w
 judged_waits limit at now m PutReq w = wait_is limit at.entry.transaction _ w
@@ -134,9 +153,11 @@ shared_sends at block now r (OfCache owner) = refl
 one_more : (r : ℕ) (sharers : List Bool) → suc (length (invalidations 0 (others sharers r) r)) ≡ 1 + count_others sharers r
 one_more r sharers = rw (length_invalidations 0 (others sharers r) r) (omega arith)
 
-modified_sends : (at : LoggedEntry) (block now r : ℕ) (holder : Holder) → look_of (Does (get_modified at block now r holder)) ≡ Sends (1 + count_others at.entry.sharers r)
+modified_sends : (at : LoggedEntry) (block now r : ℕ) (holder : Holder) →
+    look_of (Does (get_modified at block now r holder)) ≡ Sends (1 + count_others at.entry.sharers r)
 modified_sends at block now r (Itself content) = ap Sends (one_more r at.entry.sharers)
-modified_sends at block now r (OfCache owner) = sends_when (nat_eq owner r) _ _ _ (one_more r at.entry.sharers) (one_more r at.entry.sharers)
+modified_sends at block now r (OfCache owner) =
+    sends_when (nat_eq owner r) _ _ _ (one_more r at.entry.sharers) (one_more r at.entry.sharers)
 
 put_sends : (at : LoggedEntry) (now r : ℕ) → look_of (Does (put_request at now r)) ≡ Sends 1
 put_sends at now r = sends_when (is_owner at.entry.holder r) 1 _ _ refl refl
@@ -145,7 +166,8 @@ unblock_sends : (at : LoggedEntry) (block fixed : ℕ) (t : Option Transaction) 
 unblock_sends at block fixed None = refl
 unblock_sends at block fixed (Some t) = refl
 
-does_idle : (t : Option Transaction) (reply : HomeReply) (look : Look) → is_some t ≡ false → look_of (Does reply) ≡ look → look_of (does (unless_busy t reply)) ≡ look
+does_idle : (t : Option Transaction) (reply : HomeReply) (look : Look) → is_some t ≡ false → look_of (Does reply) ≡ look →
+    look_of (does (unless_busy t reply)) ≡ look
 does_idle None reply look w h = h
 does_idle (Some t) reply look w h = cc
 
@@ -160,7 +182,8 @@ sends_are at now m (PutData content) r w = refl
 sends_are at now m _ r w = absurd r
 
 -- a row that was done is what the verdict says
-pub tells_done : (before after : LoggedEntry) (step : HomeStep) (outcome : Outcome) → DidOutcome after step outcome → (after ≡ left_by before (does outcome)) × Tells step (does outcome)
+pub tells_done : (before after : LoggedEntry) (step : HomeStep) (outcome : Outcome) → DidOutcome after step outcome →
+    (after ≡ left_by before (does outcome)) × Tells step (does outcome)
 tells_done before after step Busy d = absurd d
 tells_done before after step (AtHome reply) d = (d.left, d.sent)
 tells_done before after step (AtCache reply) d = absurd d
@@ -168,7 +191,8 @@ tells_done before after step (Noted fabric told) d = absurd d
 
 -- who owns, by what the entry's owner and memory say
 
-pub home_owns : (o : Owner) (content : List ℕ) (holder : Holder) → holder_of o content ≡ holder → cache_of holder ≡ None → holder ≡ Itself content
+pub home_owns : (o : Owner) (content : List ℕ) (holder : Holder) → holder_of o content ≡ holder → cache_of holder ≡ None →
+    holder ≡ Itself content
 home_owns Home content holder p q = sym p
 home_owns (Cache node) content holder p q = cc (ap cache_of p)
 
@@ -176,42 +200,52 @@ pub cache_owns : (holder : Holder) (node : ℕ) → cache_of holder ≡ Some nod
 cache_owns (Itself content) node q = cc
 cache_owns (OfCache owner) node q = cc
 
-pub names_owner : (o : Owner) (content : List ℕ) (holder : Holder) (r : ℕ) → holder_of o content ≡ holder → o ≡ Cache r → is_owner holder r ≡ true
+pub names_owner : (o : Owner) (content : List ℕ) (holder : Holder) (r : ℕ) → holder_of o content ≡ holder → o ≡ Cache r →
+    is_owner holder r ≡ true
 names_owner o content holder r p q = rw (← p, q) (grind (arith, nat_tests))
 
-pub names_no_owner : (o : Owner) (content : List ℕ) (holder : Holder) (r : ℕ) → holder_of o content ≡ holder → ¬ (o ≡ Cache r) → is_owner holder r ≡ false
+pub names_no_owner : (o : Owner) (content : List ℕ) (holder : Holder) (r : ℕ) → holder_of o content ≡ holder → ¬ (o ≡ Cache r) →
+    is_owner holder r ≡ false
 names_no_owner Home content holder r p q = rw (← p) refl
 names_no_owner (Cache node) content holder r p q = rw (← p) (grind (arith, nat_tests))
 
 -- a row is done where its condition chooses it
 
-pub did_alone : (at : LoggedEntry) (block now r : ℕ) (holder : Holder) (content : List ℕ) (after : LoggedEntry) (step : HomeStep) → holder ≡ Itself content → count_others at.entry.sharers r ≡ 0 →
+pub did_alone : (at : LoggedEntry) (block now r : ℕ) (holder : Holder) (content : List ℕ) (after : LoggedEntry) (step : HomeStep) →
+    holder ≡ Itself content → count_others at.entry.sharers r ≡ 0 →
     Did after step (grant_exclusive at block now r content) → Did after step (get_shared at block now r holder)
 did_alone at block now r holder content after step p q d = rw (p, q) d
 
-pub did_copy : (at : LoggedEntry) (block now r : ℕ) (holder : Holder) (content : List ℕ) (after : LoggedEntry) (step : HomeStep) → holder ≡ Itself content → nat_eq (count_others at.entry.sharers r) 0 ≡ false →
+pub did_copy : (at : LoggedEntry) (block now r : ℕ) (holder : Holder) (content : List ℕ) (after : LoggedEntry) (step : HomeStep) →
+    holder ≡ Itself content → nat_eq (count_others at.entry.sharers r) 0 ≡ false →
     Did after step (read_at_home at now r content) → Did after step (get_shared at block now r holder)
 did_copy at block now r holder content after step p q d = rw (p, q) d
 
-pub did_forward : (at : LoggedEntry) (block now r : ℕ) (holder : Holder) (owner : ℕ) (after : LoggedEntry) (step : HomeStep) → holder ≡ OfCache owner →
+pub did_forward : (at : LoggedEntry) (block now r : ℕ) (holder : Holder) (owner : ℕ) (after : LoggedEntry) (step : HomeStep) →
+    holder ≡ OfCache owner →
     Did after step (read_at_owner at now r owner) → Did after step (get_shared at block now r holder)
 did_forward at block now r holder owner after step p d = rw p d
 
-pub did_upgrade : (at : LoggedEntry) (block now r : ℕ) (holder : Holder) (owner : ℕ) (after : LoggedEntry) (step : HomeStep) → holder ≡ OfCache owner → nat_eq owner r ≡ true →
+pub did_upgrade : (at : LoggedEntry) (block now r : ℕ) (holder : Holder) (owner : ℕ) (after : LoggedEntry) (step : HomeStep) →
+    holder ≡ OfCache owner → nat_eq owner r ≡ true →
     Did after step (upgrade at now r) → Did after step (get_modified at block now r holder)
 did_upgrade at block now r holder owner after step p q d = rw (p, q) d
 
-pub did_move : (at : LoggedEntry) (block now r : ℕ) (holder : Holder) (owner : ℕ) (after : LoggedEntry) (step : HomeStep) → holder ≡ OfCache owner → nat_eq owner r ≡ false →
+pub did_move : (at : LoggedEntry) (block now r : ℕ) (holder : Holder) (owner : ℕ) (after : LoggedEntry) (step : HomeStep) →
+    holder ≡ OfCache owner → nat_eq owner r ≡ false →
     Did after step (move_ownership at now r owner) → Did after step (get_modified at block now r holder)
 did_move at block now r holder owner after step p q d = rw (p, q) d
 
-pub did_put : (at : LoggedEntry) (now r : ℕ) (after : LoggedEntry) (step : HomeStep) → is_owner at.entry.holder r ≡ true → Did after step (put_begins at now r) → Did after step (put_request at now r)
+pub did_put : (at : LoggedEntry) (now r : ℕ) (after : LoggedEntry) (step : HomeStep) → is_owner at.entry.holder r ≡ true →
+    Did after step (put_begins at now r) → Did after step (put_request at now r)
 did_put at now r after step q d = rw q d
 
-pub did_stale : (at : LoggedEntry) (now r : ℕ) (after : LoggedEntry) (step : HomeStep) → is_owner at.entry.holder r ≡ false → Did after step (put_is_stale at r) → Did after step (put_request at now r)
+pub did_stale : (at : LoggedEntry) (now r : ℕ) (after : LoggedEntry) (step : HomeStep) → is_owner at.entry.holder r ≡ false →
+    Did after step (put_is_stale at r) → Did after step (put_request at now r)
 did_stale at now r after step q d = rw q d
 
 -- the note of a row that is done has room
-pub room_for : (log : LogData) (interval : Option ℕ) (block : ℕ) → lacks_room log interval block ≡ false → IfSome interval (λ i. HasRoom log i block)
+pub room_for : (log : LogData) (interval : Option ℕ) (block : ℕ) → lacks_room log interval block ≡ false →
+    IfSome interval (λ i. HasRoom log i block)
 room_for log None block h = tt
 room_for log (Some i) block h = λ e. grind (arith, nat_tests)

@@ -1,5 +1,6 @@
 -- What a home makes of a message: the row that it takes, or a refusal that changes nothing.
-use Rattle.std.specs.Prelude.{◌≡◌, ℕ, ◌+◌, ◌≤◌, Bool, true, false, nat_eq, nat_lt, if◌then◌else◌, List, ◌∷◌, length, Option, Some, None, IfSome}
+use Rattle.std.specs.Prelude.{◌≡◌, ℕ, ◌+◌, ◌≤◌, Bool, true, false, nat_eq, nat_lt, if◌then◌else◌, List, ◌∷◌, length, Option, Some, None}
+use Rattle.std.specs.Prelude.{IfSome}
 use Rattle.sn_base.specs.declared.log.LogEntry.{LogEntry}
 use Rattle.sn_msg.specs.declared.Message.{Message}
 use Rattle.sn_msg.specs.declared.Body.{Body}

@@ -3,7 +3,7 @@ use Rattle.std.specs.Prelude.{◌≡◌, ℕ, ◌<◌, Bool, true, false, ◌||�
 use Rattle.std.specs.List.{All}
 use Rattle.sn_model.specs.Homes.{HomeEntry}
 use Rattle.sn_model.specs.Fabric.{no_entry}
-use Rattle.home_directory.specs.Restored.{settled}
+use Rattle.home_directory.specs.Restored.{cleared}
 
 -- whether a place is marked; a look-up past the end finds no mark
 abbrev pub is_marked : List Bool → ℕ → Bool
@@ -21,10 +21,10 @@ pub record IsListOf (marks : List Bool) (places : List ℕ) : Type 0 where
   pub once : length places ≡ count_by (λ mark. mark) marks
 
 -- an entry is as a recovery leaves it
-abbrev pub IsSettled : HomeEntry → Type 0
-IsSettled entry = settled entry ≡ entry
+abbrev pub IsCleared : HomeEntry → Type 0
+IsCleared entry = cleared entry ≡ entry
 
 -- each entry is marked, or it is as a recovery leaves it
-pub record AreSettled (marks : List Bool) (entries : List HomeEntry) : Type 0 where
+pub record AreCleared (marks : List Bool) (entries : List HomeEntry) : Type 0 where
   pub whole : length marks ≡ length entries
-  pub others : (place : ℕ) → is_marked marks place ≡ false → IsSettled (slice_index_or entries place no_entry)
+  pub others : (place : ℕ) → is_marked marks place ≡ false → IsCleared (slice_index_or entries place no_entry)

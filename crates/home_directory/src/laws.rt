@@ -13,7 +13,8 @@ ghost use Rattle.home_directory.specs.Restored.{begun_restore, is_here, had, Can
 
 /// A message that has a row comes to just what its delivery in the machine comes to.
 pub fn outcome_is_the_machines()
-    ensures { (s : Fabric) (m : Message) (body : Body) → HasRow (home_of s m.block) m.from body → outcome_at (kept_at s m.to m.block) (node_at s m.to).now m body ≡ outcome_of s m body }
+    ensures { (s : Fabric) (m : Message) (body : Body) → HasRow (home_of s m.block) m.from body →
+        outcome_at (kept_at s m.to m.block) (node_at s m.to).now m body ≡ outcome_of s m body }
 {}
 
 /// A home that began to be put back, and into which its node's log was unwound, has of each of its blocks the entry that a

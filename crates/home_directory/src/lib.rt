@@ -55,13 +55,15 @@ impl Model for Home {
     ghost use Rattle.std.specs.Prelude.{◌≡◌, ◌≤◌, length, vec_capacity};
     ghost use Rattle.home_directory.specs.Home.{HomeData, IsHome};
     ghost use Rattle.home_directory.specs.Open.{opens_from};
-    ghost use Rattle.home_directory.specs.Touched.{AreSettled};
+    ghost use Rattle.home_directory.specs.Touched.{AreCleared};
 
     ghost Value = { HomeData };
 
     ghost view = { λ h. record { node = h.node; nodes = h.nodes; entries = h.entries.items } };
 
-    ghost invariant = { λ h. IsHome (record { node = h.node; nodes = h.nodes; entries = h.entries.items }) × (h.opens.items ≡ opens_from 0 h.entries.items) × (length h.entries.items ≤ vec_capacity h.opens) × AreSettled h.touched h.entries.items };
+    ghost invariant = { λ h. IsHome (record { node = h.node; nodes = h.nodes; entries = h.entries.items })
+        × (h.opens.items ≡ opens_from 0 h.entries.items) × (length h.entries.items ≤ vec_capacity h.opens)
+        × AreCleared h.touched h.entries.items };
 }
 
 impl Home {

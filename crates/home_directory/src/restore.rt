@@ -1,8 +1,8 @@
 //! A home is put back to a checkpoint: its transactions end, and each block is held as the log says.
 ghost use Rattle.std.specs.Prelude.{◌≡◌, ◌/◌, ◌%◌, ◌<◌, true, length, map};
 ghost use Rattle.sn_model.specs.Homes.{Itself, OfCache};
-ghost use Rattle.home_directory.specs.Restored.{settled, begun_restore, had, CanHave, Stays, with_holder};
-ghost use Rattle.home_directory.specs.Touched.{AreSettled};
+ghost use Rattle.home_directory.specs.Restored.{cleared, begun_restore, had, CanHave, Stays, with_holder};
+ghost use Rattle.home_directory.specs.Touched.{AreCleared};
 ghost use Rattle.home_directory.specs.Restored.{stays-same, stays-along, can-part, can-way};
 
 use crate::Home;
@@ -13,9 +13,9 @@ use sn_base::{Block, BlockNo, NodeId, NodeSet, Old};
 use sn_model::Owner;
 
 /// Nobody shares a block, and nothing is open: so it is but for the touched places already.
-fn settle(entries: &mut Vec<Entry>, touched: &Touched)
-    requires { AreSettled touched.now entries.old.items }
-    ensures { entries.new.items ≡ map settled entries.old.items }
+fn clear_entries(entries: &mut Vec<Entry>, touched: &Touched)
+    requires { AreCleared touched.now entries.old.items }
+    ensures { entries.new.items ≡ map cleared entries.old.items }
 {
     'places: for place in touched.places() {
         let entry = &mut entries[*place];
@@ -31,7 +31,7 @@ impl Home {
     pub fn begin_restore(&mut self)
         ensures { self.new ≡ begun_restore self.old }
     {
-        settle(&mut self.entries, &self.touched);
+        clear_entries(&mut self.entries, &self.touched);
         self.touched.clear();
         self.opens.clear();
     }

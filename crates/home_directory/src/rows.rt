@@ -3,7 +3,8 @@ ghost use Rattle.std.specs.Prelude.{◌≡◌, ◌+◌, ◌<◌, ◌≤◌, List
 ghost use Rattle.sn_base.specs.declared.log.LogEntry.{LogEntry};
 ghost use Rattle.log_buffer.specs.Log.{logged_to};
 ghost use Rattle.sn_model.specs.Homes.{HomeEntry, OfCache};
-ghost use Rattle.sn_model.specs.HomeRows.{taken_from_home, noted_owner, read_at_home, read_at_owner, take, move_ownership, upgrade, unblock, put_begins, put_is_stale, put_data, grant_exclusive};
+ghost use Rattle.sn_model.specs.HomeRows.{taken_from_home, noted_owner, read_at_home, read_at_owner, take, move_ownership, upgrade};
+ghost use Rattle.sn_model.specs.HomeRows.{unblock, put_begins, put_is_stale, put_data, grant_exclusive};
 ghost use Rattle.home_directory.specs.Receipt.{kept, noted_by_end, noted_by_unblock, IsNotOlder};
 ghost use Rattle.home_directory.specs.Serving.{Did, HasRoom};
 
@@ -119,7 +120,11 @@ fn end_move(
 )
     requires room { IfSome (noted_by_end Kind.Move entry.old.holder fixed) (λ i. HasRoom log.old i block) }
     requires latest { IsNotOlder log.old.entries (noted_by_end Kind.Move entry.old.holder fixed) block }
-    ensures gone { kept entry.new log.new.entries ≡ record { entry = record entry.old { holder = OfCache requester }; log = noted_owner log.old.entries fixed block entry.old.holder } }
+    ensures gone { kept entry.new log.new.entries
+        ≡ record {
+          entry = record entry.old { holder = OfCache requester };
+          log = noted_owner log.old.entries fixed block entry.old.holder;
+        } }
     ensures limit { log.new.limit ≡ log.old.limit }
 {
     let owner = entry.owner;

@@ -1,7 +1,7 @@
 //! Which places were touched since the last recovery, so that a recovery looks at these alone.
 ghost use Rattle.std.specs.Prelude.{◌≡◌, ◌<◌, ◌≤◌, ℕ, true, false, length, replicate, slice_set, vec_len, IfOk};
 ghost use Rattle.std.specs.List.{All};
-ghost use Rattle.home_directory.specs.Touched.{is_marked, is_listed, IsListOf};
+ghost use Rattle.home_directory.specs.Touched.{IsListOf};
 
 use sn_base::Memory;
 use std::alloc::Global;

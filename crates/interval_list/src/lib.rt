@@ -45,7 +45,8 @@ impl<T> Model for IntervalList<T> {
 
     ghost view = { λ l. record { waiting = l.waiting.items; committed = l.committed.items; room = l.room } };
 
-    ghost invariant = { λ l. (vec_len l.waiting + l.room ≤ vec_capacity l.waiting) × (vec_len l.committed + vec_len l.waiting + l.room ≤ vec_capacity l.committed) };
+    ghost invariant = { λ l. (vec_len l.waiting + l.room ≤ vec_capacity l.waiting)
+        × (vec_len l.committed + vec_len l.waiting + l.room ≤ vec_capacity l.committed) };
 }
 
 impl<T: Copy> IntervalList<T> {
@@ -83,7 +84,10 @@ impl<T: Copy> IntervalList<T> {
     /// An entry of this interval comes.
     pub fn add(&mut self, interval: Interval, entry: T)
         requires { 0 < self.old.room }
-        ensures { self.new ≡ record self.old { waiting = self.old.waiting ++ record { interval = interval; entry = entry } ∷ []; room = self.old.room - 1 } }
+        ensures { self.new ≡ record self.old {
+          waiting = self.old.waiting ++ record { interval = interval; entry = entry } ∷ [];
+          room = self.old.room - 1;
+        } }
     {
         append(&mut self.waiting, Waiting { interval, entry });
         self.room -= 1;
@@ -91,7 +95,10 @@ impl<T: Copy> IntervalList<T> {
 
     /// Commits the entries of the intervals below k, once checkpoint k is validated.
     pub fn commit_below(&mut self, k: Interval)
-        ensures { self.new ≡ record self.old { waiting = waiting_from k self.old.waiting; committed = self.old.committed ++ entries_below k self.old.waiting } }
+        ensures { self.new ≡ record self.old {
+          waiting = waiting_from k self.old.waiting;
+          committed = self.old.committed ++ entries_below k self.old.waiting;
+        } }
     {
         commit_in_order(self.waiting.as_slice(), &mut self.committed, k);
         self.waiting.retain(|one| one.interval >= k);

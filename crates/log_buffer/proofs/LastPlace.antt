@@ -1,5 +1,6 @@
 -- Where the entries of one side and block stand, and what they alone say.
-use Rattle.std.proofs.Common.{◌≡◌, ℕ, suc, zero, ◌+◌, ◌<◌, ◌≤◌, Bool, true, false, ◌&&◌, ◌||◌, max, List, [], ◌∷◌, ◌++◌, Option, Some, None, length, get_or, take, min, refl, sym, ap, ◌∙◌, arith, add-one}
+use Rattle.std.proofs.Common.{◌≡◌, ℕ, suc, zero, ◌+◌, ◌<◌, ◌≤◌, Bool, true, false, ◌&&◌, ◌||◌, max, List, [], ◌∷◌, ◌++◌, Option, Some, None}
+use Rattle.std.proofs.Common.{length, get_or, take, min, refl, sym, ap, ◌∙◌, arith, add-one}
 use Rattle.std.specs.Prelude.{nat_le, nat_eq, if◌then◌else◌}
 use Rattle.std.proofs.lemmas.List.{length-take, get_or-take}
 use Rattle.std.proofs.lemmas.Bool.Decides.{nat_tests}
@@ -26,33 +27,45 @@ push_step : (c d : Bool) (n : ℕ) (o : Option ℕ) → place_seen c (if d then 
 push_step c true n o = grind arith
 push_step c false n o = refl
 
-pub last_place-push : (es : List LogEntry) (e : LogEntry) (s : Bool) (b : ℕ) → last_place (es ++ e ∷ []) s b ≡ (if is_about s b e then Some (length es) else last_place es s b)
+pub last_place-push : (es : List LogEntry) (e : LogEntry) (s : Bool) (b : ℕ) →
+    last_place (es ++ e ∷ []) s b ≡ (if is_about s b e then Some (length es) else last_place es s b)
 last_place-push [] e s b = refl
 last_place-push (f ∷ es) e s b =
-    ap (place_seen (is_about s b f)) (last_place-push es e s b) ∙ push_step (is_about s b f) (is_about s b e) (length es) (last_place es s b)
+    ap (place_seen (is_about s b f)) (last_place-push es e s b)
+    ∙ push_step (is_about s b f) (is_about s b e) (length es) (last_place es s b)
 
-place_step : (s : Bool) (b : ℕ) (e : LogEntry) (es : List LogEntry) (o : Option ℕ) → IsPlaceOf es s b o → IsPlaceOf (e ∷ es) s b (place_seen (is_about s b e) o)
-place_step s b e es None h = elim (is_about s b e) as (λ t. is_about s b e ≡ t → IsPlaceOf (e ∷ es) s b (if t then Some 0 else None)) [ true ↦ λ q. (omega arith, λ d. q) | false ↦ λ q. tt ] refl
+place_step : (s : Bool) (b : ℕ) (e : LogEntry) (es : List LogEntry) (o : Option ℕ) → IsPlaceOf es s b o →
+    IsPlaceOf (e ∷ es) s b (place_seen (is_about s b e) o)
+place_step s b e es None h =
+    elim (is_about s b e) as
+    (λ t. is_about s b e ≡ t →
+    IsPlaceOf (e ∷ es) s b (if t then Some 0 else None)) [ true ↦ λ q. (omega arith, λ d. q) | false ↦ λ q. tt ] refl
 place_step s b e es (Some p) h = rw add-one (omega (arith, h.0), h.1)
 
 pub last_place-is : (es : List LogEntry) (s : Bool) (b : ℕ) → IsPlaceOf es s b (last_place es s b)
 last_place-is [] s b = tt
 last_place-is (e ∷ es) s b = place_step s b e es (last_place es s b) (last_place-is es s b)
 
-has_step : (e : LogEntry) (es : List LogEntry) (i : ℕ) (s : Bool) (b : ℕ) (o : Option ℕ) → has_entry (take (upto o) es) i s b ≡ has_entry es i s b →
+has_step : (e : LogEntry) (es : List LogEntry) (i : ℕ) (s : Bool) (b : ℕ) (o : Option ℕ) →
+    has_entry (take (upto o) es) i s b ≡ has_entry es i s b →
     has_entry (take (upto (place_seen (is_about s b e) o)) (e ∷ es)) i s b ≡ has_entry (e ∷ es) i s b
-has_step e es i s b None h = elim (is_about s b e) as (λ t. is_about s b e ≡ t → has_entry (take (upto (if t then Some 0 else None)) (e ∷ es)) i s b ≡ has_entry (e ∷ es) i s b)
+has_step e es i s b None h =
+    elim (is_about s b e) as
+    (λ t. is_about s b e ≡ t → has_entry (take (upto (if t then Some 0 else None)) (e ∷ es)) i s b ≡ has_entry (e ∷ es) i s b)
     [ true ↦ λ q. ap (λ t. (is_about s b e && nat_eq e.interval i) || t) h | false ↦ λ q. grind arith ] refl
 has_step e es i s b (Some p) h = rw add-one (ap (λ t. (is_about s b e && nat_eq e.interval i) || t) h)
 
 -- the entries up to the last of a side and block have what all have
-pub has_entry-last : (es : List LogEntry) (i : ℕ) (s : Bool) (b : ℕ) → has_entry (take (upto (last_place es s b)) es) i s b ≡ has_entry es i s b
+pub has_entry-last : (es : List LogEntry) (i : ℕ) (s : Bool) (b : ℕ) →
+    has_entry (take (upto (last_place es s b)) es) i s b ≡ has_entry es i s b
 has_entry-last [] i s b = refl
 has_entry-last (e ∷ es) i s b = has_step e es i s b (last_place es s b) (has_entry-last es i s b)
 
 at_step : (e : LogEntry) (es : List LogEntry) (s : Bool) (b k : ℕ) (o : Option ℕ) → entry_at (take (upto o) es) s b k ≡ entry_at es s b k →
     entry_at (take (upto (place_seen (is_about s b e) o)) (e ∷ es)) s b k ≡ entry_at (e ∷ es) s b k
-at_step e es s b k None h = elim (is_about s b e) as (λ t. is_about s b e ≡ t → entry_at (take (upto (if t then Some 0 else None)) (e ∷ es)) s b k ≡ entry_at (e ∷ es) s b k)
+at_step e es s b k None h =
+    elim (is_about s b e) as
+    (λ t. is_about s b e ≡ t → entry_at (take (upto (if t then Some 0 else None)) (e ∷ es)) s b k ≡ entry_at (e ∷ es) s b k)
     [ true ↦ λ q. ap (λ o. if is_about s b e && nat_le k e.interval then Some (earlier e o) else o) h | false ↦ λ q. grind arith ] refl
 at_step e es s b k (Some p) h = rw add-one (ap (λ o. if is_about s b e && nat_le k e.interval then Some (earlier e o) else o) h)
 
@@ -63,13 +76,16 @@ entry_at-last (e ∷ es) s b k = at_step e es s b k (last_place es s b) (entry_a
 has_push_step : (a b c : Bool) → ((a || b) || c) ≡ (a || (b || c))
 has_push_step a b c = grind arith
 
-pub has_entry-push : (es : List LogEntry) (f : LogEntry) (i : ℕ) (s : Bool) (b : ℕ) → has_entry (es ++ f ∷ []) i s b ≡ (has_entry es i s b || (is_about s b f && nat_eq f.interval i))
+pub has_entry-push : (es : List LogEntry) (f : LogEntry) (i : ℕ) (s : Bool) (b : ℕ) →
+    has_entry (es ++ f ∷ []) i s b ≡ (has_entry es i s b || (is_about s b f && nat_eq f.interval i))
 has_entry-push [] f i s b = grind arith
 has_entry-push (e ∷ es) f i s b =
-    ap (λ t. (is_about s b e && nat_eq e.interval i) || t) (has_entry-push es f i s b) ∙ sym (has_push_step (is_about s b e && nat_eq e.interval i) (has_entry es i s b) _)
+    ap (λ t. (is_about s b e && nat_eq e.interval i) || t) (has_entry-push es f i s b)
+    ∙ sym (has_push_step (is_about s b e && nat_eq e.interval i) (has_entry es i s b) _)
 
 -- before an entry of a growing log those of its side and block have lesser intervals
-pub logged_to-before : (es : List LogEntry) (p : ℕ) (s : Bool) (b : ℕ) (d : LogEntry) → IsGrowing es → p < length es → is_about s b (get_or es p d) ≡ true →
+pub logged_to-before : (es : List LogEntry) (p : ℕ) (s : Bool) (b : ℕ) (d : LogEntry) → IsGrowing es → p < length es →
+    is_about s b (get_or es p d) ≡ true →
     logged_to (take p es) s b ≤ (get_or es p d).interval
 logged_to-before [] p s b d g l h = absurd (omega arith)
 logged_to-before (e ∷ es) zero s b d g l h = omega arith

@@ -1,5 +1,6 @@
 -- Where the entries of one side and block stand in a log: each entry has the place of the one before it, and a table that of the last.
-use Rattle.std.specs.Prelude.{◌≡◌, ℕ, ◌+◌, ◌<◌, ◌≤◌, ◌^◌, Bool, ◌&&◌, not, nat_eq, if◌then◌else◌, List, [], ◌∷◌, length, map, take, slice_index_or, Option, Some, None, is_none}
+use Rattle.std.specs.Prelude.{◌≡◌, ℕ, ◌+◌, ◌<◌, ◌≤◌, ◌^◌, Bool, ◌&&◌, not, nat_eq, if◌then◌else◌, List, [], ◌∷◌, length, map, take}
+use Rattle.std.specs.Prelude.{slice_index_or, Option, Some, None, is_none}
 use Rattle.log_buffer.specs.Log.{LogEntry, is_home_side, is_about, IsLog}
 pub use Rattle.log_buffer.specs.declared.places.Stored.{Stored}
 pub use Rattle.log_buffer.specs.declared.places.Newest.{Newest}

@@ -1,5 +1,6 @@
 -- A log: its entries, oldest first, and what they say of the start of an interval.
-use Rattle.std.specs.Prelude.{◌≡◌, ℕ, ◌+◌, ◌<◌, ◌≤◌, Bool, true, false, not, ◌&&◌, ◌||◌, nat_eq, nat_le, max, if◌then◌else◌, List, [], ◌∷◌, ◌++◌, length, Option, Some, None}
+use Rattle.std.specs.Prelude.{◌≡◌, ℕ, ◌+◌, ◌<◌, ◌≤◌, Bool, true, false, not, ◌&&◌, ◌||◌, nat_eq, nat_le, max, if◌then◌else◌, List, [], ◌∷◌}
+use Rattle.std.specs.Prelude.{◌++◌, length, Option, Some, None}
 use Rattle.std.specs.List.{filter, AllPairs}
 use Rattle.std.specs.Option.{option_map}
 pub use Rattle.sn_base.specs.declared.log.LogEntry.{LogEntry}
@@ -46,7 +47,8 @@ old_at es home_side block k = option_map (λ e. e.old) (entry_at es home_side bl
 -- whether there is an entry of this interval, side and block
 abbrev pub has_entry : List LogEntry → ℕ → Bool → ℕ → Bool
 has_entry [] interval home_side block = false
-has_entry (e ∷ es) interval home_side block = (is_about home_side block e && nat_eq e.interval interval) || has_entry es interval home_side block
+has_entry (e ∷ es) interval home_side block =
+    (is_about home_side block e && nat_eq e.interval interval) || has_entry es interval home_side block
 
 -- the log after a change of the block: the first one in an interval adds an entry
 abbrev pub noted : List LogEntry → ℕ → ℕ → Old → List LogEntry

@@ -62,7 +62,8 @@ impl Newest {
     }
 
     pub fn put(&mut self, home_side: bool, block: BlockNo, place: Option<u16>)
-        ensures places { (s : Bool) (b : ℕ) → newest_of self.new s b ≡ (if are_same home_side block s b then place else newest_of self.old s b) }
+        ensures places { (s : Bool) (b : ℕ) →
+            newest_of self.new s b ≡ (if are_same home_side block s b then place else newest_of self.old s b) }
     {
         let number = usize::from(block.number());
         if home_side {

@@ -5,7 +5,8 @@ use Rattle.sn_base.specs.declared.config.Config.{Config}
 use Rattle.sn_base.specs.declared.event.Answer.TheVariants.{Retired, Waits, NeedsEvict, LogFull, NetFull, MissOpen}
 use Rattle.sn_msg.specs.declared.Message.{Message}
 use Rattle.sn_msg.specs.declared.Body.{Body}
-use Rattle.sn_msg.specs.declared.Body.TheVariants.{GetS, GetM, FwdGetS, FwdGetM, Inv, DataS, DataM, DataE, UpgOk, InvAck, Unblock, PutReq, PutGo, PutData, PutDone, Ready, Advance}
+use Rattle.sn_msg.specs.declared.Body.TheVariants.{GetS, GetM, FwdGetS, FwdGetM, Inv, DataS, DataM, DataE, UpgOk, InvAck, Unblock, PutReq}
+use Rattle.sn_msg.specs.declared.Body.TheVariants.{PutGo, PutData, PutDone, Ready, Advance}
 use Rattle.sn_model.specs.declared.cache.LineState.{LineState}
 use Rattle.sn_model.specs.declared.cache.LineState.TheVariants.{Absent, Shared, Owned, Modified, Exclusive}
 use Rattle.sn_model.specs.declared.cache.Need.{Need}
@@ -16,7 +17,8 @@ use Rattle.sn_model.specs.Net.{is_full}
 use Rattle.sn_model.specs.Access.{prepared, missed, accesses}
 use Rattle.sn_model.specs.NodeEvents.{evicted, evicts}
 use Rattle.sn_model.specs.NetEvents.{logged_at, outcome_of, AtCache}
-use Rattle.mosi_cache.specs.declared.step.Probe1.TheVariants.{Ready as IsReady, Waits as HasToWait, Miss, NeedsEvict as HasNoFrame, LogFull as HasNoRoom}
+use Rattle.mosi_cache.specs.declared.step.Probe1.TheVariants.{Ready as IsReady, Waits as HasToWait, Miss, NeedsEvict as HasNoFrame}
+use Rattle.mosi_cache.specs.declared.step.Probe1.TheVariants.{LogFull as HasNoRoom}
 use Rattle.mosi_cache.specs.Rows.{row_by, MeetsRow}
 use Rattle.mosi_cache.specs.Probe.{probe_by, evict_by, evict_line}
 use Rattle.mosi_cache.specs.Machine.{controller_at, log_at, access_by_probe, evicted_by}
@@ -44,13 +46,15 @@ row-agrees s m (Advance point) r = absurd r
 -- by the tests of an access, in their order
 
 miss_step : (s : Fabric) (misses : Moved) (p e : Bool) →
-    (if not p && e then refused s NeedsEvict else if is_full s 1 then refused s NetFull else misses) ≡ access_by_probe s misses (if not p && e then HasNoFrame else Miss)
+    (if not p && e then refused s NeedsEvict else if is_full s 1 then refused s NetFull else misses)
+    ≡ access_by_probe s misses (if not p && e then HasNoFrame else Miss)
 miss_step s misses true e = refl
 miss_step s misses false true = refl
 miss_step s misses false false = refl
 
 read_step : (s : Fabric) (misses : Moved) (w p e : Bool) →
-    (if w then refused s Waits else if p then answered s Retired else if not p && e then refused s NeedsEvict else if is_full s 1 then refused s NetFull else misses)
+    (if w then refused s Waits else if p then answered s Retired else if not p && e then refused s NeedsEvict
+    else if is_full s 1 then refused s NetFull else misses)
     ≡ access_by_probe s misses (if w then HasToWait else if p then IsReady else if not p && e then HasNoFrame else Miss)
 read_step s misses true p e = refl
 read_step s misses false true e = refl
@@ -58,24 +62,29 @@ read_step s misses false false true = refl
 read_step s misses false false false = refl
 
 write_step : (s : Fabric) (misses : Moved) (w v f p e : Bool) →
-    (if w then refused s Waits else if v then (if f then refused s LogFull else answered s Retired) else if not p && e then refused s NeedsEvict else if is_full s 1 then refused s NetFull else misses)
-    ≡ access_by_probe s misses (if w then HasToWait else if v then (if f then HasNoRoom else IsReady) else if not p && e then HasNoFrame else Miss)
+    (if w then refused s Waits else if v then (if f then refused s LogFull else answered s Retired)
+    else if not p && e then refused s NeedsEvict else if is_full s 1 then refused s NetFull else misses)
+    ≡ access_by_probe s misses
+    (if w then HasToWait else if v then (if f then HasNoRoom else IsReady) else if not p && e then HasNoFrame else Miss)
 write_step s misses true v f p e = refl
 write_step s misses false true true p e = refl
 write_step s misses false true false p e = refl
 write_step s misses false false f p e = miss_step s misses p e
 
 pub probe-agrees : (config : Config) (s : Fabric) (n block : ℕ) (need : Need) →
-    accesses config s n block need ≡ access_by_probe s (missed s n block need) (probe_by (controller_at config s n) (log_at config s n) block (node_at s n).now need)
+    accesses config s n block need
+    ≡ access_by_probe s (missed s n block need) (probe_by (controller_at config s n) (log_at config s n) block (node_at s n).now need)
 probe-agrees config s n block Read =
     read_step s (missed s n block Read) (puts_on (node_at s n).cache.put block) (is_present (line_of (node_at s n).cache block).state)
     (nat_le config.ways (frames_taken (node_at s n).cache config.sets block))
 probe-agrees config s n block Write =
-    write_step s (missed s n block Write) (puts_on (node_at s n).cache.put block) (is_writable_state (line_of (node_at s n).cache block).state)
+    write_step s (missed s n block Write) (puts_on (node_at s n).cache.put block)
+    (is_writable_state (line_of (node_at s n).cache block).state)
     (nat_lt config.log (length (prepared (node_at s n) block).log)) (is_present (line_of (node_at s n).cache block).state)
     (nat_le config.ways (frames_taken (node_at s n).cache config.sets block))
 
-put_agrees : (s : Fabric) (n block : ℕ) (put : Option Put) (state : LineState) → (node_at s n).cache.put ≡ put → evicts s n block state ≡ evicted_by s n block (evict_line put state)
+put_agrees : (s : Fabric) (n block : ℕ) (put : Option Put) (state : LineState) → (node_at s n).cache.put ≡ put →
+    evicts s n block state ≡ evicted_by s n block (evict_line put state)
 put_agrees s n block put Absent e = refl
 put_agrees s n block put Shared e = refl
 put_agrees s n block None Owned e = rw e refl
@@ -86,7 +95,8 @@ put_agrees s n block None Exclusive e = rw e refl
 put_agrees s n block (Some p) Exclusive e = rw e refl
 
 evict_step : (s : Fabric) (n block : ℕ) (state : LineState) (m : Bool) →
-    (if m then refused s MissOpen else evicts s n block state) ≡ evicted_by s n block (if m then MissOpen else evict_line (node_at s n).cache.put state)
+    (if m then refused s MissOpen else evicts s n block state)
+    ≡ evicted_by s n block (if m then MissOpen else evict_line (node_at s n).cache.put state)
 evict_step s n block state true = refl
 evict_step s n block state false = put_agrees s n block (node_at s n).cache.put state refl
 

@@ -1,5 +1,6 @@
 -- What a change of a block's line leaves: frames and what they keep as they may be, and the map from blocks with that line changed.
-use Rattle.std.proofs.Common.{◌≡◌, ℕ, zero, suc, ◌<◌, ◌≤◌, true, false, cond, List, [], ◌∷◌, length, get_or, set, Option, Some, None, refl, sym, ap, ◌∙◌, subst, arith, ⊎_elim, length-set}
+use Rattle.std.proofs.Common.{◌≡◌, ℕ, zero, suc, ◌<◌, ◌≤◌, true, false, cond, List, [], ◌∷◌, length, get_or, set, Option, Some, None, refl}
+use Rattle.std.proofs.Common.{sym, ap, ◌∙◌, subst, arith, ⊎_elim, length-set}
 use Rattle.std.specs.Prelude.{nat_eq, is_some, IfSome}
 use Rattle.std.proofs.lemmas.Bool.{cases_eq, cases_lt}
 use Rattle.std.proofs.lemmas.List.{get_or-set_same, get_or-set_other, get_or_past, set-get_or}
@@ -42,7 +43,8 @@ pub record Changed (d e : FrameSlots) (ks ms : List FrameLine) (b : ℕ) (l : Li
   pub lines : lines_of e ms ≡ set (lines_of d ks) b l
   pub read : line_at (lines_of e ms) b ≡ l
 
-changed : (d e : FrameSlots) (ks ms : List FrameLine) (b : ℕ) (l : Line) → AreLines e ms → b < block_count → ((x : ℕ) → line_in e ms x ≡ cond (nat_eq b x) l (line_in d ks x)) → Changed d e ks ms b l
+changed : (d e : FrameSlots) (ks ms : List FrameLine) (b : ℕ) (l : Line) → AreLines e ms → b < block_count →
+    ((x : ℕ) → line_in e ms x ≡ cond (nat_eq b x) l (line_in d ks x)) → Changed d e ks ms b l
 changed d e ks ms b l h n i =
     let q : lines_of e ms ≡ set (lines_of d ks) b l = lines-changed d e ks ms b l i n in
     let j : b < length (lines_of d ks) = rw (length-lines d ks) n in
@@ -53,15 +55,18 @@ changed d e ks ms b l h n i =
     }
 
 -- what was written into a frame, or what it kept
-kept_step : (ks : List FrameLine) (f g : ℕ) (k : FrameLine) → f < length ks → is_present k.state ≡ true → ((f ≡ g → ⊥) → is_present (kept_at ks g).state ≡ true) → is_present (kept_at (set ks f k) g).state ≡ true
+kept_step : (ks : List FrameLine) (f g : ℕ) (k : FrameLine) → f < length ks → is_present k.state ≡ true →
+    ((f ≡ g → ⊥) → is_present (kept_at ks g).state ≡ true) → is_present (kept_at (set ks f k) g).state ≡ true
 kept_step ks f g k l h i =
     ⊎_elim
-    (λ (e : f ≡ g). subst (λ (m : FrameLine). is_present m.state ≡ true) (sym (ap (λ (n : ℕ). kept_at (set ks f k) n) (sym e) ∙ get_or-set_same ks f k _ l)) h)
+    (λ (e : f ≡ g). subst (λ (m : FrameLine). is_present m.state ≡ true)
+    (sym (ap (λ (n : ℕ). kept_at (set ks f k) n) (sym e) ∙ get_or-set_same ks f k _ l)) h)
     (λ (e : f ≡ g → ⊥). subst (λ (m : FrameLine). is_present m.state ≡ true) (sym (get_or-set_other ks f g k _ (λ j. e (sym j)))) (i e))
     (cases_eq f g)
 
 -- a line in the place of the block's line
-pub put-found : (d : FrameSlots) (ks : List FrameLine) (k : FrameLine) (b f : ℕ) → AreLines d ks → frame_of d b ≡ Some f → is_present k.state ≡ true → Changed d d ks (set ks f k) b (line_kept k)
+pub put-found : (d : FrameSlots) (ks : List FrameLine) (k : FrameLine) (b f : ℕ) → AreLines d ks → frame_of d b ≡ Some f →
+    is_present k.state ≡ true → Changed d d ks (set ks f k) b (line_kept k)
 put-found d ks k b f h e t =
     let l = frame-kept d ks b f h e in
     changed d d ks (set ks f k) b (line_kept k)
@@ -75,7 +80,8 @@ put-found d ks k b f h e t =
     (line-written d ks f b k e l)
 
 -- what a slot that was taken has: the new block, or what it had
-at_taken : (d : FrameSlots) (f b g x : ℕ) (P : Type 0) → f < length d.slots → block_at (taken d f b) g ≡ Some x → (f ≡ g → b ≡ x → P) → ((f ≡ g → ⊥) → block_at d g ≡ Some x → P) → P
+at_taken : (d : FrameSlots) (f b g x : ℕ) (P : Type 0) → f < length d.slots → block_at (taken d f b) g ≡ Some x → (f ≡ g → b ≡ x → P) →
+    ((f ≡ g → ⊥) → block_at d g ≡ Some x → P) → P
 at_taken d f b g x P l h same other =
     ⊎_elim
     (λ (e : f ≡ g). same e (same_Some b x (sym (get_or-set_same d.slots f (Some b) None l) ∙ ap (block_at (taken d f b)) e ∙ h)))
@@ -83,7 +89,8 @@ at_taken d f b g x P l h same other =
     (cases_eq f g)
 
 -- a line of a block that had none, in a free frame of its set
-pub put-new : (d : FrameSlots) (ks : List FrameLine) (k : FrameLine) (b f : ℕ) → AreLines d ks → frame_of d b ≡ None → block_at d f ≡ None → IsOfSet d f b → b < block_count → is_present k.state ≡ true →
+pub put-new : (d : FrameSlots) (ks : List FrameLine) (k : FrameLine) (b f : ℕ) → AreLines d ks → frame_of d b ≡ None → block_at d f ≡ None →
+    IsOfSet d f b → b < block_count → is_present k.state ≡ true →
     Changed d (taken d f b) ks (set ks f k) b (line_kept k)
 put-new d ks k b f h e z i n t =
     let l = frame-inside d f b h.slots i in
@@ -93,7 +100,9 @@ put-new d ks k b f h e z i n t =
       slots = slots-taken d f b h.slots e i;
       whole = length-set ks f k ∙ h.whole ∙ sym (length-set d.slots f (Some b));
       inside = λ g x j. at_taken d f b g x (x < block_count) l j (λ _ q. subst (λ (y : ℕ). y < block_count) q n) (λ _ q. h.inside g x q);
-      present = λ g x j. kept_step ks f g k m t (λ a. at_taken d f b g x (is_present (kept_at ks g).state ≡ true) l j (λ q _. absurd (a q)) (λ _ q. h.present g x q));
+      present =
+          λ g x j. kept_step ks f g k m t
+          (λ a. at_taken d f b g x (is_present (kept_at ks g).state ≡ true) l j (λ q _. absurd (a q)) (λ _ q. h.present g x q));
     })
     n
     (line-taken d ks f b k h.slots e z i m)
@@ -107,7 +116,8 @@ at_freed d f g x l h =
     (cases_eq f g)
 
 -- the frame of a block is free
-pub removed : (d : FrameSlots) (ks : List FrameLine) (b f : ℕ) → AreLines d ks → frame_of d b ≡ Some f → Changed d (freed d f) ks ks b no_line
+pub removed : (d : FrameSlots) (ks : List FrameLine) (b f : ℕ) → AreLines d ks → frame_of d b ≡ Some f →
+    Changed d (freed d f) ks ks b no_line
 removed d ks b f h e =
     let a = found-at d f b e in
     let l = at-inside d f b a in
@@ -121,7 +131,8 @@ removed d ks b f h e =
     (h.inside f b a)
     (line-freed d ks f b h.slots e)
 
-pub dropped : (d e : FrameSlots) (ks : List FrameLine) (b : ℕ) (o : Option ℕ) → AreLines d ks → frame_of d b ≡ o → is_some o ≡ true → IfSome o (λ f. e ≡ freed d f) → Changed d e ks ks b no_line
+pub dropped : (d e : FrameSlots) (ks : List FrameLine) (b : ℕ) (o : Option ℕ) → AreLines d ks → frame_of d b ≡ o → is_some o ≡ true →
+    IfSome o (λ f. e ≡ freed d f) → Changed d e ks ks b no_line
 dropped d e ks b None h i s q = cc
 dropped d e ks b (Some f) h i s q = subst (λ (x : FrameSlots). Changed d x ks ks b no_line) (sym q) (removed d ks b f h i)
 
@@ -135,6 +146,7 @@ nothing-removed d ks b e = sym (set-get_or (lines_of d ks) b no_line) ∙ ap (se
 
 -- the set of a block without a line has a frame for it, where the machine's count says so
 pub has-frame : (d : FrameSlots) (ks : List FrameLine) (b : ℕ) → AreLines d ks → frame_of d b ≡ None → b < block_count →
-    (b < block_count → is_present (line_at (lines_of d ks) b).state ≡ false → frames_taken (closed (lines_of d ks)) d.sets b < d.ways) → is_full d b ≡ false
+    (b < block_count → is_present (line_at (lines_of d ks) b).state ≡ false → frames_taken (closed (lines_of d ks)) d.sets b < d.ways) →
+    is_full d b ≡ false
 has-frame d ks b h e n r =
     let w : is_present (line_at (lines_of d ks) b).state ≡ false = rw (read-absent d ks b e) refl in not-full d ks b h (r n w)

@@ -1,5 +1,6 @@
 -- How many frames of a set the lines take: as many as blocks of the set have a frame.
-use Rattle.std.proofs.Common.{◌≡◌, ℕ, zero, suc, ◌+◌, ◌<◌, ◌≤◌, ◌%◌, Bool, true, false, ◌&&◌, ◌||◌, cond, List, [], ◌∷◌, length, get_or, Option, Some, None, refl, sym, ap, ◌∙◌, arith, ⊎_elim}
+use Rattle.std.proofs.Common.{◌≡◌, ℕ, zero, suc, ◌+◌, ◌<◌, ◌≤◌, ◌%◌, Bool, true, false, ◌&&◌, ◌||◌, cond, List, [], ◌∷◌, length, get_or}
+use Rattle.std.proofs.Common.{Option, Some, None, refl, sym, ap, ◌∙◌, arith, ⊎_elim}
 use Rattle.std.specs.Prelude.{nat_eq, nat_lt, nat_le, if◌then◌else◌, is_some}
 use Rattle.std.specs.List.{position}
 use Rattle.std.proofs.lemmas.Bool.{cases_eq}
@@ -28,13 +29,16 @@ none_below sets s [] = refl
 none_below sets s (None ∷ os) = rw (none_below sets s os) refl
 none_below sets s (Some n ∷ os) = let t : nat_lt n 0 ≡ false = grind (arith, nat_tests) in rw (t, none_below sets s os) refl
 
-one_more : (n m : ℕ) (c : Bool) (a b : ℕ) → cond (nat_lt n (suc m) && c) 1 0 + (a + b) ≡ (cond (nat_lt n m && c) 1 0 + a) + (cond (nat_eq n m && c) 1 0 + b)
+one_more : (n m : ℕ) (c : Bool) (a b : ℕ) →
+    cond (nat_lt n (suc m) && c) 1 0 + (a + b) ≡ (cond (nat_lt n m && c) 1 0 + a) + (cond (nat_eq n m && c) 1 0 + b)
 one_more n m c a b = grind (arith, nat_tests)
 
-more_below : (m sets s : ℕ) (os : List (Option ℕ)) → how_many (below (suc m) sets s) os ≡ how_many (below m sets s) os + how_many (at m sets s) os
+more_below : (m sets s : ℕ) (os : List (Option ℕ)) →
+    how_many (below (suc m) sets s) os ≡ how_many (below m sets s) os + how_many (at m sets s) os
 more_below m sets s [] = refl
 more_below m sets s (None ∷ os) = rw (more_below m sets s os) (omega arith)
-more_below m sets s (Some n ∷ os) = rw (more_below m sets s os) (one_more n m (nat_eq (n % sets) s) (how_many (below m sets s) os) (how_many (at m sets s) os))
+more_below m sets s (Some n ∷ os) =
+    rw (more_below m sets s os) (one_more n m (nat_eq (n % sets) s) (how_many (below m sets s) os) (how_many (at m sets s) os))
 
 -- no block stands there twice
 abbrev AreApart : List (Option ℕ) → Type 0
@@ -71,7 +75,8 @@ one_at m sets s (Some n ∷ os) a =
     let t : nat_eq n m ≡ true = grind (arith, nat_tests) in
     let z = none_at m sets s os (λ f e. apart_first n m os f a i e) in
     rw (t, i) (omega (arith, z)))
-    (λ (i : n ≡ m → ⊥). let t : nat_eq n m ≡ false = grind (arith, nat_tests) in rw (t, one_at m sets s os (apart_rest (Some n) os a)) (omega arith))
+    (λ (i : n ≡ m → ⊥). let t : nat_eq n m ≡ false = grind (arith, nat_tests) in
+    rw (t, one_at m sets s os (apart_rest (Some n) os a)) (omega arith))
     (cases_eq n m)
 
 -- a block stands among the slots exactly where it has a frame, and then it has a line
@@ -103,7 +108,8 @@ has_frame : (d : FrameSlots) (b : ℕ) (o : Option ℕ) → frame_of d b ≡ o �
 has_frame d b None h = sym (no_place d.slots b h)
 has_frame d b (Some f) h = sym (has_at d.slots f b (found-at d f b h))
 
-present_step : (d : FrameSlots) (ks : List FrameLine) (b : ℕ) (o : Option ℕ) → AreLines d ks → frame_of d b ≡ o → is_present (line_in_frame ks o).state ≡ is_some o
+present_step : (d : FrameSlots) (ks : List FrameLine) (b : ℕ) (o : Option ℕ) → AreLines d ks → frame_of d b ≡ o →
+    is_present (line_in_frame ks o).state ≡ is_some o
 present_step d ks b None h e = refl
 present_step d ks b (Some f) h e = h.present f b (found-at d f b e)
 
@@ -129,23 +135,27 @@ within_step : (o : Option ℕ) (sets s : ℕ) → ((b : ℕ) → o ≡ Some b �
 within_step None sets s h = refl
 within_step (Some b) sets s h = let l : b < block_count = h b refl in grind (arith, nat_tests)
 
-all_below : (os : List (Option ℕ)) (sets s : ℕ) → ((f b : ℕ) → get_or os f None ≡ Some b → b < block_count) → how_many (below block_count sets s) os ≡ how_many (is_in sets s) os
+all_below : (os : List (Option ℕ)) (sets s : ℕ) → ((f b : ℕ) → get_or os f None ≡ Some b → b < block_count) →
+    how_many (below block_count sets s) os ≡ how_many (is_in sets s) os
 all_below [] sets s h = refl
 all_below (o ∷ os) sets s h = rw (within_step o sets s (h 0), all_below os sets s (λ f b e. h (suc f) b e)) refl
 
 -- the frames of a set that the lines take are as many as its blocks that have a frame
-pub taken-counted : (d : FrameSlots) (ks : List FrameLine) (b : ℕ) → AreLines d ks → frames_taken (closed (lines_of d ks)) d.sets b ≡ blocks_in d (b % d.sets)
+pub taken-counted : (d : FrameSlots) (ks : List FrameLine) (b : ℕ) → AreLines d ks →
+    frames_taken (closed (lines_of d ks)) d.sets b ≡ blocks_in d (b % d.sets)
 unfolding frames_taken
 taken-counted d ks b h = counted d ks d.sets (b % d.sets) block_count h (omega arith) ∙ all_below d.slots d.sets (b % d.sets) h.inside
 
 -- a set is full exactly where the lines take as many of its frames as it has ways
-pub full-taken : (d : FrameSlots) (ks : List FrameLine) (b : ℕ) → AreLines d ks → is_full d b ≡ nat_le d.ways (frames_taken (closed (lines_of d ks)) d.sets b)
+pub full-taken : (d : FrameSlots) (ks : List FrameLine) (b : ℕ) → AreLines d ks →
+    is_full d b ≡ nat_le d.ways (frames_taken (closed (lines_of d ks)) d.sets b)
 full-taken d ks b h = rw (taken-counted d ks b h) (full-counted d b h.slots)
 
 few_step : (full : Bool) (n w : ℕ) → full ≡ nat_le w n → n < w → full ≡ false
 few_step full n w h l = grind (arith, nat_tests)
 
-pub not-full : (d : FrameSlots) (ks : List FrameLine) (b : ℕ) → AreLines d ks → frames_taken (closed (lines_of d ks)) d.sets b < d.ways → is_full d b ≡ false
+pub not-full : (d : FrameSlots) (ks : List FrameLine) (b : ℕ) → AreLines d ks → frames_taken (closed (lines_of d ks)) d.sets b < d.ways →
+    is_full d b ≡ false
 not-full d ks b h l = few_step (is_full d b) (frames_taken (closed (lines_of d ks)) d.sets b) d.ways (full-taken d ks b h) l
 
 -- a cache without a line takes no frame
@@ -156,7 +166,8 @@ no_step a c p h i = grind arith
 no_frame : (n sets s : ℕ) → frames_below n (closed empty_lines) sets s ≡ 0
 no_frame zero sets s = refl
 no_frame (suc n) sets s =
-    no_step (frames_below n (closed empty_lines) sets s) (nat_eq (n % sets) s) (is_present (line_at empty_lines n).state) (no_frame n sets s) (ap (λ (l : Line). is_present l.state) (empty-at n))
+    no_step (frames_below n (closed empty_lines) sets s) (nat_eq (n % sets) s) (is_present (line_at empty_lines n).state)
+    (no_frame n sets s) (ap (λ (l : Line). is_present l.state) (empty-at n))
 
 pub none-taken : (sets b : ℕ) → frames_taken (closed empty_lines) sets b ≡ 0
 unfolding frames_taken

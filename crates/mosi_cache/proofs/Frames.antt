@@ -1,5 +1,6 @@
 -- What the map from blocks is after each change of the frames and of what they keep.
-use Rattle.std.proofs.Common.{◌≡◌, ℕ, ◌*◌, ◌<◌, ◌≤◌, Bool, true, false, cond, List, length, get_or, set, replicate, Option, Some, None, refl, sym, ap, ◌∙◌, arith, ⊎_elim, length-set}
+use Rattle.std.proofs.Common.{◌≡◌, ℕ, ◌*◌, ◌<◌, ◌≤◌, Bool, true, false, cond, List, length, get_or, set, replicate, Option, Some, None}
+use Rattle.std.proofs.Common.{refl, sym, ap, ◌∙◌, arith, ⊎_elim, length-set}
 use Rattle.std.specs.Prelude.{nat_eq, if◌then◌else◌}
 use Rattle.std.proofs.lemmas.Bool.{cases_eq, cases_lt}
 use Rattle.std.proofs.lemmas.Bool.Decides.{nat_tests}
@@ -19,7 +20,8 @@ pub line-at : (d : FrameSlots) (ks : List FrameLine) (b : ℕ) → b < block_cou
 unfolding lines_of
 line-at d ks b h = get_or-map-range_with_len (line_in d ks) 0 block_count b b no_line h (omega arith)
 
-lines_all : (d : FrameSlots) (ks : List FrameLine) (ls : List Line) → length ls ≡ block_count → ((b : ℕ) → b < block_count → line_at ls b ≡ line_in d ks b) → ls ≡ lines_of d ks
+lines_all : (d : FrameSlots) (ks : List FrameLine) (ls : List Line) → length ls ≡ block_count →
+    ((b : ℕ) → b < block_count → line_at ls b ≡ line_in d ks b) → ls ≡ lines_of d ks
 unfolding lines_of
 lines_all d ks ls n h = fill_by_all (line_in d ks) ls block_count no_line n h
 
@@ -51,11 +53,13 @@ unfolding empty_lines
 length_empty = length-replicate block_count no_line
 
 pub lines-none : (sets ways : ℕ) (ks : List FrameLine) → lines_of (all_free sets ways) ks ≡ empty_lines
-lines-none sets ways ks = sym (lines_all (all_free sets ways) ks empty_lines length_empty (λ b l. empty-at b ∙ sym (none_in sets ways ks b)))
+lines-none sets ways ks =
+    sym (lines_all (all_free sets ways) ks empty_lines length_empty (λ b l. empty-at b ∙ sym (none_in sets ways ks b)))
 
 -- one line is another
 
-changed_at : (d e : FrameSlots) (ks ms : List FrameLine) (x : ℕ) (l : Line) → ((b : ℕ) → line_in e ms b ≡ (if nat_eq x b then l else line_in d ks b)) → x < block_count →
+changed_at : (d e : FrameSlots) (ks ms : List FrameLine) (x : ℕ) (l : Line) →
+    ((b : ℕ) → line_in e ms b ≡ (if nat_eq x b then l else line_in d ks b)) → x < block_count →
     (b : ℕ) → b < block_count → line_at (set (lines_of d ks) x l) b ≡ line_in e ms b
 changed_at d e ks ms x l h n b m =
     ⊎_elim
@@ -67,14 +71,16 @@ changed_at d e ks ms x l h n b m =
     (cases_eq x b)
 
 -- where frames give one block another line, the map has that line there
-pub lines-changed : (d e : FrameSlots) (ks ms : List FrameLine) (x : ℕ) (l : Line) → ((b : ℕ) → line_in e ms b ≡ (if nat_eq x b then l else line_in d ks b)) → x < block_count →
+pub lines-changed : (d e : FrameSlots) (ks ms : List FrameLine) (x : ℕ) (l : Line) →
+    ((b : ℕ) → line_in e ms b ≡ (if nat_eq x b then l else line_in d ks b)) → x < block_count →
     lines_of e ms ≡ set (lines_of d ks) x l
 lines-changed d e ks ms x l h n =
     sym (lines_all e ms (set (lines_of d ks) x l) (length-set (lines_of d ks) x l ∙ length-lines d ks) (changed_at d e ks ms x l h n))
 
 -- what a frame keeps is written
 
-same_frame : (ks : List FrameLine) (f : ℕ) (k : FrameLine) (o : Option ℕ) → (o ≡ Some f → ⊥) → line_in_frame (set ks f k) o ≡ line_in_frame ks o
+same_frame : (ks : List FrameLine) (f : ℕ) (k : FrameLine) (o : Option ℕ) → (o ≡ Some f → ⊥) →
+    line_in_frame (set ks f k) o ≡ line_in_frame ks o
 same_frame ks f k None h = refl
 same_frame ks f k (Some g) h =
     ap line_kept (get_or-set_other ks f g k _ (λ (i : g ≡ f). h (ap (λ (n : ℕ). let s : Option ℕ = Some n in s) i)))
@@ -93,12 +99,14 @@ line-written d ks f x k h l b =
 
 -- a block takes a free frame
 
-after_taken : (ks : List FrameLine) (f : ℕ) (k : FrameLine) (c : Bool) (o p : Option ℕ) → o ≡ cond c (Some f) p → f < length ks → (p ≡ Some f → ⊥) →
+after_taken : (ks : List FrameLine) (f : ℕ) (k : FrameLine) (c : Bool) (o p : Option ℕ) → o ≡ cond c (Some f) p → f < length ks →
+    (p ≡ Some f → ⊥) →
     line_in_frame (set ks f k) o ≡ (if c then line_kept k else line_in_frame ks p)
 after_taken ks f k true o p e l n = ap (line_in_frame (set ks f k)) e ∙ written ks f k l
 after_taken ks f k false o p e l n = ap (line_in_frame (set ks f k)) e ∙ same_frame ks f k p n
 
-pub line-taken : (d : FrameSlots) (ks : List FrameLine) (f x : ℕ) (k : FrameLine) → AreSlots d → frame_of d x ≡ None → block_at d f ≡ None → IsOfSet d f x → f < length ks →
+pub line-taken : (d : FrameSlots) (ks : List FrameLine) (f x : ℕ) (k : FrameLine) → AreSlots d → frame_of d x ≡ None → block_at d f ≡ None →
+    IsOfSet d f x → f < length ks →
     (b : ℕ) → line_in (taken d f x) (set ks f k) b ≡ (if nat_eq x b then line_kept k else line_in d ks b)
 line-taken d ks f x k h n z i l b =
     after_taken ks f k (nat_eq x b) (frame_of (taken d f x) b) (frame_of d b) (frame-taken d f x b h n z i) l
@@ -106,7 +114,8 @@ line-taken d ks f x k h n z i l b =
 
 -- a frame is freed
 
-after_freed : (ks : List FrameLine) (c : Bool) (o p : Option ℕ) → o ≡ cond c None p → line_in_frame ks o ≡ (if c then no_line else line_in_frame ks p)
+after_freed : (ks : List FrameLine) (c : Bool) (o p : Option ℕ) → o ≡ cond c None p →
+    line_in_frame ks o ≡ (if c then no_line else line_in_frame ks p)
 after_freed ks true o p e = ap (line_in_frame ks) e
 after_freed ks false o p e = ap (line_in_frame ks) e
 

@@ -3,7 +3,7 @@ pub mod Counts
 pub mod Taken
 pub mod Changes
 pub mod Fits
-pub mod Settled
+pub mod CompletedOrWaiting
 pub mod Probes
 pub mod Stores
 pub mod Least

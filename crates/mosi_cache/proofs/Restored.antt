@@ -1,5 +1,6 @@
 -- A cache once a recovery has begun, and once its log is unwound: just what the machine's recovery leaves.
-use Rattle.std.proofs.Common.{◌≡◌, ℕ, zero, suc, ◌+◌, ◌<◌, Bool, true, false, ◌||◌, List, [], ◌∷◌, length, Option, Some, None, refl, sym, ap, ◌∙◌, subst, arith}
+use Rattle.std.proofs.Common.{◌≡◌, ℕ, zero, suc, ◌+◌, ◌<◌, Bool, true, false, ◌||◌, List, [], ◌∷◌, length, Option, Some, None, refl, sym}
+use Rattle.std.proofs.Common.{ap, ◌∙◌, subst, arith}
 use Rattle.std.specs.Prelude.{map, unwrap_or}
 use Rattle.std.proofs.Math.ListN.{get_or-map, length-map}
 use Rattle.std.proofs.lemmas.List.{ext_get_or}
@@ -15,7 +16,8 @@ use Rattle.sn_model.specs.Cuts.{owned_content, held_by}
 use Rattle.sn_model.specs.PointEvents.{restored_line, restored_lines, restored_cache}
 use Rattle.mosi_cache.specs.Frames.{line_at}
 use Rattle.mosi_cache.specs.Controller.{CacheData, FitsSets}
-use Rattle.mosi_cache.specs.Restored.{begun_line, begun_restore, old_of, held_of, line_holding, lines_holding, cache_holding, HeldFits, AreBegun, StaysAsItIs}
+use Rattle.mosi_cache.specs.Restored.{begun_line, begun_restore, old_of, held_of, line_holding, lines_holding, cache_holding, HeldFits}
+use Rattle.mosi_cache.specs.Restored.{HasOnlyModified, StaysAsItIs}
 use Rattle.mosi_cache.specs.PartsFit.{fits-within, holding-at}
 
 -- the lines once a recovery has begun
@@ -30,12 +32,13 @@ restored_again : (o : Option (List ℕ)) → begun_line (restored_line o) ≡ re
 restored_again None = refl
 restored_again (Some content) = refl
 
-begun_again : (c : CacheData) → AreBegun (begun c).cache
+begun_again : (c : CacheData) → HasOnlyModified (begun c).cache
 begun_again c b =
     let l = line_of c.cache b in
     ap begun_line (begun-at c.cache.lines b) ∙ restored_again (owned_content l l.state) ∙ sym (begun-at c.cache.lines b)
 
-begun_present : (s : LineState) (x : List ℕ) → is_present (begun_line (record { state = s; content = x })).state ≡ true → is_present s ≡ true
+begun_present : (s : LineState) (x : List ℕ) → is_present (begun_line (record { state = s; content = x })).state ≡ true →
+    is_present s ≡ true
 begun_present Absent x h = h
 begun_present Shared x h = refl
 begun_present InOwned x h = refl
@@ -50,7 +53,8 @@ pub fits-begun : (c : Cache) (sets ways : ℕ) → FitsSets c sets ways → Fits
 fits-begun c sets ways f =
     fits-within (begun_restore c) c sets ways
     (λ b l t. drop_open (is_present (line_at (map begun_line c.lines) b).state) (is_present (line_of c b).state) (misses_on c.miss b)
-    (λ p. begun_present (line_of c b).state (line_of c b).content (subst (λ (m : Line). is_present m.state ≡ true) (begun-at c.lines b) p)) t) f
+    (λ p. begun_present (line_of c b).state (line_of c b).content
+    (subst (λ (m : Line). is_present m.state ≡ true) (begun-at c.lines b) p)) t) f
 
 -- what is held, as a content
 
@@ -82,7 +86,8 @@ unwound_content l (Some (WasHome content)) h e = refl
 unwound_content l (Some (WasCache node)) h e = refl
 
 -- the content that a block has after the unwinding, by the line that it had before the recovery
-content_then : (c : CacheData) (log : List LogEntry) (k b : ℕ) → content_of (unwound log false k (held_of (begun c)) b) ≡ held_by (old_at log false b k) (line_of c.cache b)
+content_then : (c : CacheData) (log : List LogEntry) (k b : ℕ) →
+    content_of (unwound log false k (held_of (begun c)) b) ≡ held_by (old_at log false b k) (line_of c.cache b)
 content_then c log k b = unwound_content (line_of c.cache b) (old_at log false b k) (held_of (begun c) b) (held-begun c b)
 
 -- the machine's lines after a recovery
@@ -91,19 +96,21 @@ length_restored : (log : List LogEntry) (k s : ℕ) (ls : List Line) → length 
 length_restored log k s [] = refl
 length_restored log k s (l ∷ ls) = omega (arith, length_restored log k (s + 1) ls)
 
-restored_at : (log : List LogEntry) (k s i b : ℕ) (ls : List Line) → i < length ls → s + i ≡ b → line_at (restored_lines log k s ls) i ≡ restored_line (held_by (old_at log false b k) (line_at ls i))
+restored_at : (log : List LogEntry) (k s i b : ℕ) (ls : List Line) → i < length ls → s + i ≡ b →
+    line_at (restored_lines log k s ls) i ≡ restored_line (held_by (old_at log false b k) (line_at ls i))
 restored_at log k s i b [] h e = absurd (omega arith)
 restored_at log k s zero b (l ∷ ls) h e = let q : s ≡ b = omega arith in ap (λ (n : ℕ). restored_line (held_by (old_at log false n k) l)) q
 restored_at log k s (suc i) b (l ∷ ls) h e = restored_at log k (s + 1) i b ls (omega arith) (omega arith)
 
 -- the lines after the unwinding
 
-line_then : (e : CacheData) (b : ℕ) → AreBegun e.cache → line_of e.cache b ≡ restored_line (content_of (held_of e b))
+line_then : (e : CacheData) (b : ℕ) → HasOnlyModified e.cache → line_of e.cache b ≡ restored_line (content_of (held_of e b))
 line_then e b h =
     let l = line_of e.cache b in
     sym (h b) ∙ ap restored_line (sym (content_old (owned_content l l.state)))
 
-lines_then : (c e : CacheData) (log : List LogEntry) (k : ℕ) → ((b : ℕ) → held_of e b ≡ unwound log false k (held_of (begun c)) b) → StaysAsItIs (begun c) e → e.cache.lines ≡ restored_lines log k 0 c.cache.lines
+lines_then : (c e : CacheData) (log : List LogEntry) (k : ℕ) → ((b : ℕ) → held_of e b ≡ unwound log false k (held_of (begun c)) b) →
+    StaysAsItIs (begun c) e → e.cache.lines ≡ restored_lines log k 0 c.cache.lines
 lines_then c e log k h s =
     let n : length e.cache.lines ≡ length c.cache.lines = s.blocks ∙ length-map c.cache.lines begun_line in
     ext_get_or no_line e.cache.lines (restored_lines log k 0 c.cache.lines) (n ∙ sym (length_restored log k 0 c.cache.lines))
@@ -113,7 +120,8 @@ lines_then c e log k h s =
     ∙ ap restored_line (content_then c log k b)
     ∙ sym (restored_at log k 0 b b c.cache.lines (omega (arith, n)) (omega arith)))
 
-same_parts : (c e : CacheData) (x : Cache) → e.node ≡ c.node → e.nodes ≡ c.nodes → e.sets ≡ c.sets → e.ways ≡ c.ways → e.cache.lines ≡ x.lines → e.cache.miss ≡ x.miss → e.cache.put ≡ x.put → e ≡ record c { cache = x }
+same_parts : (c e : CacheData) (x : Cache) → e.node ≡ c.node → e.nodes ≡ c.nodes → e.sets ≡ c.sets → e.ways ≡ c.ways →
+    e.cache.lines ≡ x.lines → e.cache.miss ≡ x.miss → e.cache.put ≡ x.put → e ≡ record c { cache = x }
 same_parts c e x n m s w l i p =
     ap (λ (y : ℕ). record e { node = y }) n
     ∙ ap (λ (y : ℕ). record e { node = c.node; nodes = y }) m
@@ -124,9 +132,12 @@ same_parts c e x n m s w l i p =
     ∙ ap (λ (y : _). record c { cache = record x { put = y } }) p
 
 -- what is left after the beginning and the unwinding is what the machine's recovery leaves
-pub unwound-restored : (c d e : CacheData) (log : List LogEntry) (k : ℕ) → d ≡ begun c → ((b : ℕ) → held_of e b ≡ unwound log false k (held_of d) b) → StaysAsItIs d e → e ≡ record c { cache = restored_cache log k c.cache }
+pub unwound-restored : (c d e : CacheData) (log : List LogEntry) (k : ℕ) → d ≡ begun c →
+    ((b : ℕ) → held_of e b ≡ unwound log false k (held_of d) b) → StaysAsItIs d e → e ≡ record c { cache = restored_cache log k c.cache }
 unwound-restored c d e log k q h s =
-    let i : (b : ℕ) → held_of e b ≡ unwound log false k (held_of (begun c)) b = subst (λ (x : CacheData). (b : ℕ) → held_of e b ≡ unwound log false k (held_of x) b) q h in
+    let i : (b : ℕ) → held_of e b
+    ≡ unwound log false k (held_of (begun c)) b = subst
+    (λ (x : CacheData). (b : ℕ) → held_of e b ≡ unwound log false k (held_of x) b) q h in
     let t : StaysAsItIs (begun c) e = subst (λ (x : CacheData). StaysAsItIs x e) q s in
     same_parts c e (restored_cache log k c.cache) t.node t.nodes t.sets t.ways (lines_then c e log k i t) t.miss t.put
 
@@ -143,7 +154,8 @@ holding-restored (Some x) (WasHome content) = refl
 holding-restored (Some x) (WasCache node) = refl
 
 line_wanted : (c : CacheData) (log : List LogEntry) (k b : ℕ) → b < block_count → length c.cache.lines ≡ block_count →
-    line_at (lines_holding (map begun_line c.cache.lines) (unwound log false k (held_of (begun c)))) b ≡ line_at (restored_lines log k 0 c.cache.lines) b
+    line_at (lines_holding (map begun_line c.cache.lines) (unwound log false k (held_of (begun c)))) b
+    ≡ line_at (restored_lines log k 0 c.cache.lines) b
 line_wanted c log k b l n =
     let x = line_of c.cache b in
     let m = unwound log false k (held_of (begun c)) in
@@ -153,7 +165,8 @@ line_wanted c log k b l n =
     ∙ ap restored_line (content_then c log k b)
     ∙ sym (restored_at log k 0 b b c.cache.lines (omega (arith, n)) (omega arith))
 
-pub fits-unwound : (c d : CacheData) (log : List LogEntry) (k : ℕ) → d ≡ begun c → length c.cache.lines ≡ block_count → FitsSets (restored_cache log k c.cache) c.sets c.ways → HeldFits d (unwound log false k (held_of d))
+pub fits-unwound : (c d : CacheData) (log : List LogEntry) (k : ℕ) → d ≡ begun c → length c.cache.lines ≡ block_count →
+    FitsSets (restored_cache log k c.cache) c.sets c.ways → HeldFits d (unwound log false k (held_of d))
 fits-unwound c d log k q n f =
     subst (λ (x : CacheData). HeldFits x (unwound log false k (held_of x))) (sym q)
     (fits-within (cache_holding (begun c).cache (unwound log false k (held_of (begun c)))) (restored_cache log k c.cache) c.sets c.ways

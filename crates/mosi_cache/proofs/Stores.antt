@@ -11,7 +11,7 @@ use Rattle.sn_model.specs.Caches.{Line, no_line, is_present}
 use Rattle.sn_model.specs.Access.{written_in}
 use Rattle.mosi_cache.specs.Frames.{LinesData, line_at}
 use Rattle.mosi_cache.specs.Probe.{stored}
-use Rattle.mosi_cache.proofs.Settled.{data_by}
+use Rattle.mosi_cache.proofs.CompletedOrWaiting.{data_by}
 
 absent : is_present no_line.state ≡ true → ⊥
 absent h = cc
@@ -33,12 +33,15 @@ stored-lines ls b l w h =
     set-set ls b l (rewritten (line_at (set ls b l) b) w)
     ∙ ap (λ (m : Line). set ls b (rewritten m w)) (get_or-set_same ls b l no_line (is_inside ls b h))
 
-pub store-done : (node nodes : ℕ) (need : Need) (a b : LinesData) (o : Open) (w : Write) (x : ℕ) (content : List ℕ) → b ≡ record a { lines = set a.lines x (record { state = Modified; content = content }) } →
-    x ≡ block_of w.address → content ≡ written_in (line_at a.lines x).content w → is_present (line_at a.lines x).state ≡ true → data_by node nodes need b o ≡ stored (data_by node nodes need a o) w
+pub store-done : (node nodes : ℕ) (need : Need) (a b : LinesData) (o : Open) (w : Write) (x : ℕ) (content : List ℕ) →
+    b ≡ record a { lines = set a.lines x (record { state = Modified; content = content }) } →
+    x ≡ block_of w.address → content ≡ written_in (line_at a.lines x).content w → is_present (line_at a.lines x).state ≡ true →
+    data_by node nodes need b o ≡ stored (data_by node nodes need a o) w
 store-done node nodes need a b o w x content e f g h =
     ap (λ (c : LinesData). data_by node nodes need c o) e
     ∙ ap (λ (k : List ℕ). data_by node nodes need (record a { lines = set a.lines x (record { state = Modified; content = k }) }) o) g
-    ∙ ap (λ (ls : List Line). data_by node nodes need (record a { lines = ls }) o) (sym (stored-lines a.lines x (record { state = Modified; content = (line_at a.lines x).content }) w h))
+    ∙ ap (λ (ls : List Line). data_by node nodes need (record a { lines = ls }) o)
+    (sym (stored-lines a.lines x (record { state = Modified; content = (line_at a.lines x).content }) w h))
     ∙ ap (λ (y : ℕ). data_by node nodes need (record a {
       lines = set (set a.lines y (record { state = Modified; content = (line_at a.lines y).content })) y
           (rewritten (line_at (set a.lines y (record { state = Modified; content = (line_at a.lines y).content })) y) w);

@@ -1,5 +1,6 @@
 -- How many frames of a set are taken, after a change of the cache.
-use Rattle.std.proofs.Common.{◌≡◌, ℕ, zero, suc, ◌+◌, ◌<◌, ◌≤◌, ◌%◌, Bool, true, false, ◌&&◌, ◌||◌, List, length, set, sym, subst, arith, ⊎_elim}
+use Rattle.std.proofs.Common.{◌≡◌, ℕ, zero, suc, ◌+◌, ◌<◌, ◌≤◌, ◌%◌, Bool, true, false, ◌&&◌, ◌||◌, List, length, set, sym, subst, arith}
+use Rattle.std.proofs.Common.{⊎_elim}
 use Rattle.std.specs.Prelude.{nat_eq, if◌then◌else◌}
 use Rattle.std.proofs.lemmas.Bool.{cases_eq, cases_lt}
 use Rattle.std.proofs.lemmas.Bool.Decides.{nat_tests}
@@ -17,7 +18,8 @@ fewer_step i j s t u h k = grind arith
 fewer_below : (n : ℕ) (c d : Cache) (sets s : ℕ) → TakesFewer c d → frames_below n c sets s ≤ frames_below n d sets s
 fewer_below zero c d sets s h = omega arith
 fewer_below (suc n) c d sets s h =
-    fewer_step (frames_below n c sets s) (frames_below n d sets s) (nat_eq (n % sets) s) (takes_frame c n) (takes_frame d n) (fewer_below n c d sets s h) (h n)
+    fewer_step (frames_below n c sets s) (frames_below n d sets s) (nat_eq (n % sets) s) (takes_frame c n) (takes_frame d n)
+    (fewer_below n c d sets s h) (h n)
 
 pub taken-fewer : (c d : Cache) (sets y : ℕ) → TakesFewer c d → frames_taken c sets y ≤ frames_taken d sets y
 unfolding frames_taken
@@ -28,8 +30,10 @@ taken-same c d sets y h k = omega (arith, taken-fewer c d sets y h, taken-fewer 
 
 -- but for one block
 
-more_step : (n x sets s i j : ℕ) (t u : Bool) → i ≤ j + (if nat_eq (x % sets) s then 1 else 0) → (n ≤ x → i ≤ j) → (t ≡ true → (u || nat_eq x n) ≡ true) →
-    i + (if nat_eq (n % sets) s && t then 1 else 0) ≤ (j + (if nat_eq (n % sets) s && u then 1 else 0)) + (if nat_eq (x % sets) s then 1 else 0)
+more_step : (n x sets s i j : ℕ) (t u : Bool) → i ≤ j + (if nat_eq (x % sets) s then 1 else 0) → (n ≤ x → i ≤ j) →
+    (t ≡ true → (u || nat_eq x n) ≡ true) →
+    i + (if nat_eq (n % sets) s && t then 1 else 0) ≤ (j + (if nat_eq (n % sets) s && u then 1 else 0)) + (if nat_eq (x % sets) s then 1
+    else 0)
 more_step n x sets s i j t u h l k = ⊎_elim
     (λ (e : x ≡ n). rw e (let m : i ≤ j = l (omega arith) in grind arith))
     (λ (e : x ≡ n → ⊥). let f : nat_eq x n ≡ false = grind (arith, nat_tests) in grind arith)
@@ -38,10 +42,12 @@ more_step n x sets s i j t u h l k = ⊎_elim
 below_step : (n x : ℕ) (u : Bool) → suc n ≤ x → (u || nat_eq x n) ≡ true → u ≡ true
 below_step n x u l h = grind (arith, nat_tests)
 
-few_below : (n : ℕ) (c d : Cache) (sets s x : ℕ) → ((b : ℕ) → takes_frame c b ≡ true → (takes_frame d b || nat_eq x b) ≡ true) → n ≤ x → frames_below n c sets s ≤ frames_below n d sets s
+few_below : (n : ℕ) (c d : Cache) (sets s x : ℕ) → ((b : ℕ) → takes_frame c b ≡ true → (takes_frame d b || nat_eq x b) ≡ true) → n ≤ x →
+    frames_below n c sets s ≤ frames_below n d sets s
 few_below zero c d sets s x h l = omega arith
 few_below (suc n) c d sets s x h l =
-    fewer_step (frames_below n c sets s) (frames_below n d sets s) (nat_eq (n % sets) s) (takes_frame c n) (takes_frame d n) (few_below n c d sets s x h (omega arith))
+    fewer_step (frames_below n c sets s) (frames_below n d sets s) (nat_eq (n % sets) s) (takes_frame c n) (takes_frame d n)
+    (few_below n c d sets s x h (omega arith))
     (λ t. below_step n x (takes_frame d n) l (h n t))
 
 more_below : (n : ℕ) (c d : Cache) (sets s x : ℕ) → ((b : ℕ) → takes_frame c b ≡ true → (takes_frame d b || nat_eq x b) ≡ true) →
@@ -58,14 +64,16 @@ taken-more c d sets x y h = more_below block_count c d sets (y % sets) x h
 
 -- a block that only the other takes
 
-pub strict_step : (n x sets i j : ℕ) (t u : Bool) → i ≤ j → (x < n → i + 1 ≤ j) → x < suc n → (t ≡ true → u ≡ true) → (n ≡ x → u ≡ true) → (n ≡ x → t ≡ false) →
+pub strict_step : (n x sets i j : ℕ) (t u : Bool) → i ≤ j → (x < n → i + 1 ≤ j) → x < suc n → (t ≡ true → u ≡ true) → (n ≡ x → u ≡ true) →
+    (n ≡ x → t ≡ false) →
     (i + (if nat_eq (n % sets) (x % sets) && t then 1 else 0)) + 1 ≤ j + (if nat_eq (n % sets) (x % sets) && u then 1 else 0)
 strict_step n x sets i j t u h l m k v w = ⊎_elim
     (λ (e : n ≡ x). rw (e, w e, v e) (let q : nat_eq (x % sets) (x % sets) ≡ true = grind (arith, nat_tests) in rw q (omega arith)))
     (λ (e : n ≡ x → ⊥). let o : i + 1 ≤ j = l (omega arith) in grind arith)
     (cases_eq n x)
 
-strict_below : (n : ℕ) (c d : Cache) (sets x : ℕ) → TakesFewer c d → takes_frame d x ≡ true → takes_frame c x ≡ false → x < n → frames_below n c sets (x % sets) + 1 ≤ frames_below n d sets (x % sets)
+strict_below : (n : ℕ) (c d : Cache) (sets x : ℕ) → TakesFewer c d → takes_frame d x ≡ true → takes_frame c x ≡ false → x < n →
+    frames_below n c sets (x % sets) + 1 ≤ frames_below n d sets (x % sets)
 strict_below zero c d sets x h v w l = omega arith
 strict_below (suc n) c d sets x h v w l =
     strict_step n x sets (frames_below n c sets (x % sets)) (frames_below n d sets (x % sets)) (takes_frame c n) (takes_frame d n)
@@ -75,20 +83,24 @@ strict_below (suc n) c d sets x h v w l =
     (λ e. subst (λ (b : ℕ). takes_frame d b ≡ true) (sym e) v)
     (λ e. subst (λ (b : ℕ). takes_frame c b ≡ false) (sym e) w)
 
-strict_lt : (n : ℕ) (c d : Cache) (sets x : ℕ) → TakesFewer c d → takes_frame d x ≡ true → takes_frame c x ≡ false → x < n → frames_below n c sets (x % sets) < frames_below n d sets (x % sets)
+strict_lt : (n : ℕ) (c d : Cache) (sets x : ℕ) → TakesFewer c d → takes_frame d x ≡ true → takes_frame c x ≡ false → x < n →
+    frames_below n c sets (x % sets) < frames_below n d sets (x % sets)
 strict_lt n c d sets x h v w l = omega (arith, strict_below n c d sets x h v w l)
 
-pub taken-strictly : (c d : Cache) (sets x : ℕ) → TakesFewer c d → takes_frame d x ≡ true → takes_frame c x ≡ false → x < block_count → frames_taken c sets x < frames_taken d sets x
+pub taken-strictly : (c d : Cache) (sets x : ℕ) → TakesFewer c d → takes_frame d x ≡ true → takes_frame c x ≡ false → x < block_count →
+    frames_taken c sets x < frames_taken d sets x
 unfolding frames_taken
 taken-strictly c d sets x h v w l = strict_lt block_count c d sets x h v w l
 
 -- what a change of one line means for a block
 
-present_step : (ls : List Line) (x b : ℕ) (l : Line) → is_present (line_at (set ls x l) b).state ≡ true → (is_present (line_at ls b).state || (nat_eq x b && is_present l.state)) ≡ true
+present_step : (ls : List Line) (x b : ℕ) (l : Line) → is_present (line_at (set ls x l) b).state ≡ true →
+    (is_present (line_at ls b).state || (nat_eq x b && is_present l.state)) ≡ true
 present_step ls x b l h = ⊎_elim
     (λ (e : x ≡ b). ⊎_elim
     (λ (i : x < length ls). let q : line_at (set ls x l) x ≡ l = get_or-set_same ls x l no_line i in
-    let h2 : is_present (line_at (set ls x l) x).state ≡ true = subst (λ (y : ℕ). is_present (line_at (set ls x l) y).state ≡ true) (sym e) h in
+    let h2 : is_present (line_at (set ls x l) x).state
+    ≡ true = subst (λ (y : ℕ). is_present (line_at (set ls x l) y).state ≡ true) (sym e) h in
     let r : is_present l.state ≡ true = subst (λ (m : Line). is_present m.state ≡ true) q h2 in
     let t : nat_eq x b ≡ true = grind (arith, nat_tests) in grind arith)
     (λ (i : length ls ≤ x). let q : set ls x l ≡ ls = set_past ls x l i in
@@ -105,11 +117,14 @@ either : (p e g m : Bool) → (p || (e && g)) ≡ true → (e ≡ true → g ≡
 either p e g m h u = grind arith
 
 -- a changed line takes a frame only where the block has one, and the miss is on no other block: no other frame is taken
-pub fewer-set : (c d : Cache) (x : ℕ) (l : Line) → c.lines ≡ set d.lines x l → ((b : ℕ) → misses_on c.miss b ≡ true → takes_frame d b ≡ true) → (is_present l.state ≡ true → takes_frame d x ≡ true) → TakesFewer c d
+pub fewer-set : (c d : Cache) (x : ℕ) (l : Line) → c.lines ≡ set d.lines x l →
+    ((b : ℕ) → misses_on c.miss b ≡ true → takes_frame d b ≡ true) → (is_present l.state ≡ true → takes_frame d x ≡ true) → TakesFewer c d
 fewer-set c d x l e m t b h =
     misses_step (is_present (line_at c.lines b).state) (is_present (line_at d.lines b).state) (misses_on c.miss b) (misses_on d.miss b) h
-    (λ p. let q : is_present (line_at (set d.lines x l) b).state ≡ true = subst (λ (ls : List Line). is_present (line_at ls b).state ≡ true) e p in
+    (λ p. let q : is_present (line_at (set d.lines x l) b).state
+    ≡ true = subst (λ (ls : List Line). is_present (line_at ls b).state ≡ true) e p in
     let r = present_step d.lines x b l q in
-    let u : nat_eq x b ≡ true → is_present l.state ≡ true → takes_frame d b ≡ true = λ f g. let i : x ≡ b = grind (arith, nat_tests) in subst (λ (y : ℕ). takes_frame d y ≡ true) i (t g) in
+    let u : nat_eq x b ≡ true → is_present l.state ≡ true → takes_frame d b ≡ true = λ f g. let i : x ≡ b = grind (arith, nat_tests) in
+    subst (λ (y : ℕ). takes_frame d y ≡ true) i (t g) in
     either (is_present (line_at d.lines b).state) (nat_eq x b) (is_present l.state) (misses_on d.miss b) r u)
     (m b)

@@ -1,5 +1,6 @@
 -- Which line each block has once the Shared ones are freed and the rest are Modified.
-use Rattle.std.proofs.Common.{◌≡◌, ℕ, ◌+◌, ◌*◌, ◌<◌, true, List, [], length, get_or, set, Option, Some, None, ◌⊎◌, inl, inr, refl, sym, ap, ◌∙◌, subst, arith, ⊎_elim}
+use Rattle.std.proofs.Common.{◌≡◌, ℕ, ◌+◌, ◌*◌, ◌<◌, true, List, [], length, get_or, set, Option, Some, None, ◌⊎◌, inl, inr, refl, sym, ap}
+use Rattle.std.proofs.Common.{◌∙◌, subst, arith, ⊎_elim}
 use Rattle.std.specs.Prelude.{map}
 use Rattle.std.proofs.Math.ListN.{get_or-map, length-map}
 use Rattle.std.proofs.lemmas.Bool.{cases_eq}
@@ -31,17 +32,21 @@ unshared-none Exclusive = refl
 
 -- one more frame
 
-done_step : (d e f : FrameSlots) (ks : List FrameLine) (n g : ℕ) → AreUnshared d e ks n → n < length e.slots → f ≡ record e { slots = set e.slots n (unshared (kept_at ks n).state (block_at e n)) } → g < n + 1 →
+done_step : (d e f : FrameSlots) (ks : List FrameLine) (n g : ℕ) → AreUnshared d e ks n → n < length e.slots →
+    f ≡ record e { slots = set e.slots n (unshared (kept_at ks n).state (block_at e n)) } → g < n + 1 →
     block_at f g ≡ unshared (kept_at ks g).state (block_at d g)
 done_step d e f ks n g h l i m =
     ap (λ (x : FrameSlots). block_at x g) i
     ∙ ⊎_elim
-    (λ (j : g ≡ n). subst (λ (k : ℕ). get_or (set e.slots n (unshared (kept_at ks n).state (block_at e n))) k None ≡ unshared (kept_at ks k).state (block_at d k)) (sym j)
-    (get_or-set_same e.slots n (unshared (kept_at ks n).state (block_at e n)) None l ∙ ap (unshared (kept_at ks n).state) (h.rest n (omega arith))))
+    (λ (j : g ≡ n). subst (λ (k : ℕ). get_or (set e.slots n (unshared (kept_at ks n).state (block_at e n))) k None
+    ≡ unshared (kept_at ks k).state (block_at d k)) (sym j)
+    (get_or-set_same e.slots n (unshared (kept_at ks n).state (block_at e n)) None l
+    ∙ ap (unshared (kept_at ks n).state) (h.rest n (omega arith))))
     (λ (j : g ≡ n → ⊥). get_or-set_other e.slots n g (unshared (kept_at ks n).state (block_at e n)) None j ∙ h.done g (omega arith))
     (cases_eq g n)
 
-pub unshared-more : (d e f : FrameSlots) (ks : List FrameLine) (n : ℕ) → AreUnshared d e ks n → n < length e.slots → f ≡ record e { slots = set e.slots n (unshared (kept_at ks n).state (block_at e n)) } → AreSlots f → AreUnshared d f ks (n + 1)
+pub unshared-more : (d e f : FrameSlots) (ks : List FrameLine) (n : ℕ) → AreUnshared d e ks n → n < length e.slots →
+    f ≡ record e { slots = set e.slots n (unshared (kept_at ks n).state (block_at e n)) } → AreSlots f → AreUnshared d f ks (n + 1)
 unshared-more d e f ks n h l i s = record {
   slots = s;
   sets = ap (λ (x : FrameSlots). x.sets) i ∙ h.sets;
@@ -68,14 +73,16 @@ pub record IsBegun (d e : FrameSlots) (ks ms : List FrameLine) : Type 0 where
   pub whole : length ms ≡ length ks
   pub kept : (f : ℕ) → f < length ks → kept_at ms f ≡ modified (kept_at ks f)
 
-pub kept-begun : (ks ms : List FrameLine) → ((f : ℕ) (x : FrameLine) → f < length ks → get_or ms f x ≡ modified (get_or ks f x)) → (f : ℕ) → f < length ks → kept_at ms f ≡ modified (kept_at ks f)
+pub kept-begun : (ks ms : List FrameLine) → ((f : ℕ) (x : FrameLine) → f < length ks → get_or ms f x ≡ modified (get_or ks f x)) → (f : ℕ) →
+    f < length ks → kept_at ms f ≡ modified (kept_at ks f)
 kept-begun ks ms h f l = h f (record { state = Absent; content = [] }) l
 
 same_length : (d e : FrameSlots) (ks : List FrameLine) → AreLines d ks → AreUnshared d e ks (length ks) → length ks ≡ length e.slots
 same_length d e ks h u =
     h.whole ∙ h.slots.whole ∙ ap (λ (n : ℕ). n * d.ways) (sym u.sets) ∙ ap (λ (n : ℕ). e.sets * n) (sym u.ways) ∙ sym u.slots.whole
 
-was_at : (d e : FrameSlots) (ks ms : List FrameLine) (f b : ℕ) → IsBegun d e ks ms → block_at e f ≡ Some b → (f < length ks) × (block_at d f ≡ Some b) × ((kept_at ks f).state ≡ Shared → ⊥)
+was_at : (d e : FrameSlots) (ks ms : List FrameLine) (f b : ℕ) → IsBegun d e ks ms → block_at e f ≡ Some b →
+    (f < length ks) × (block_at d f ≡ Some b) × ((kept_at ks f).state ≡ Shared → ⊥)
 was_at d e ks ms f b h i =
     let l : f < length ks = omega (arith, at-inside e f b i, same_length d e ks h.old h.unshared) in
     let s = still (kept_at ks f).state (block_at d f) b (sym (h.unshared.done f l) ∙ i) in
@@ -95,7 +102,9 @@ absent : is_present Absent ≡ true → ⊥
 absent h = cc
 
 -- a line that is there is Shared, or becomes Modified and keeps its frame
-shared_or_owned : (s : LineState) (x : List ℕ) → is_present s ≡ true → (s ≡ Shared) ⊎ ((begun_line (record { state = s; content = x }) ≡ record { state = Modified; content = x }) × ((o : Option ℕ) → unshared s o ≡ o))
+shared_or_owned : (s : LineState) (x : List ℕ) → is_present s ≡ true →
+    (s ≡ Shared) ⊎ ((begun_line (record { state = s; content = x }) ≡ record { state = Modified; content = x })
+    × ((o : Option ℕ) → unshared s o ≡ o))
 shared_or_owned Absent x h = absurd (absent h)
 shared_or_owned Shared x h = inl refl
 shared_or_owned Owned x h = inr (refl, λ o. refl)
@@ -109,7 +118,8 @@ none_left Owned x h = cc
 none_left Modified x h = cc
 none_left Exclusive x h = cc
 
-line_step : (d e : FrameSlots) (ks ms : List FrameLine) (b : ℕ) (o : Option ℕ) → IsBegun d e ks ms → frame_of d b ≡ o → line_in e ms b ≡ begun_line (line_in_frame ks o)
+line_step : (d e : FrameSlots) (ks ms : List FrameLine) (b : ℕ) (o : Option ℕ) → IsBegun d e ks ms → frame_of d b ≡ o →
+    line_in e ms b ≡ begun_line (line_in_frame ks o)
 line_step d e ks ms b None h i = ap (line_in_frame ms) (frame-none e b (λ f j. none-at d f b i (was_at d e ks ms f b h j).1))
 line_step d e ks ms b (Some f) h i =
     let a = found-at d f b i in
@@ -120,7 +130,8 @@ line_step d e ks ms b (Some f) h i =
     let w = was_at d e ks ms g b h j in
     w.2 (sym (ap (λ (n : ℕ). (kept_at ks n).state) (h.old.slots.apart f g b a w.1)) ∙ s)))
     ∙ sym (none_left (kept_at ks f).state (kept_at ks f).content s))
-    (λ (s : (begun_line (line_kept (kept_at ks f)) ≡ record { state = Modified; content = (kept_at ks f).content }) × ((p : Option ℕ) → unshared (kept_at ks f).state p ≡ p)).
+    (λ (s : (begun_line (line_kept (kept_at ks f)) ≡ record { state = Modified; content = (kept_at ks f).content })
+    × ((p : Option ℕ) → unshared (kept_at ks f).state p ≡ p)).
     ap (line_in_frame ms) (frame-found e f b h.unshared.slots (h.unshared.done f l ∙ s.1 (block_at d f) ∙ a))
     ∙ ap line_kept (h.kept f l)
     ∙ sym s.0)
@@ -128,7 +139,8 @@ line_step d e ks ms b (Some f) h i =
 
 pub map-begun : (d e : FrameSlots) (ks ms : List FrameLine) → IsBegun d e ks ms → lines_of e ms ≡ map begun_line (lines_of d ks)
 map-begun d e ks ms h =
-    ext_get_or no_line (lines_of e ms) (map begun_line (lines_of d ks)) (length-lines e ms ∙ sym (length-map (lines_of d ks) begun_line ∙ length-lines d ks))
+    ext_get_or no_line (lines_of e ms) (map begun_line (lines_of d ks))
+    (length-lines e ms ∙ sym (length-map (lines_of d ks) begun_line ∙ length-lines d ks))
     (λ b l.
     let m : b < block_count = omega (arith, length-lines e ms) in
     line-at e ms b m

@@ -19,7 +19,8 @@ pub record CacheData : Type 0 where
 -- the open miss of a transaction, with what is needed of the block
 abbrev pub miss_of : Need → Option Txn → Option Miss
 miss_of need None = None
-miss_of need (Some t) = Some (record { block = t.block; need = need; issued = t.issued; fixed = t.fixed; due = t.acks_due; acks = t.acks_in })
+miss_of need (Some t) =
+    Some (record { block = t.block; need = need; issued = t.issued; fixed = t.fixed; due = t.acks_due; acks = t.acks_in })
 
 abbrev pub put_of : Option Txn → Option Put
 put_of None = None

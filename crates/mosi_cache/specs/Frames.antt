@@ -1,5 +1,6 @@
 -- The lines of a cache by their frames: what each frame keeps, and the map from blocks that the frames stand for.
-use Rattle.std.specs.Prelude.{◌≡◌, ℕ, ◌<◌, ◌≤◌, ◌%◌, Bool, true, false, not, ◌&&◌, nat_eq, min, if◌then◌else◌, List, [], length, map, slice_index_or, Option, Some, None}
+use Rattle.std.specs.Prelude.{◌≡◌, ℕ, ◌<◌, ◌≤◌, ◌%◌, Bool, true, false, not, ◌&&◌, nat_eq, min, if◌then◌else◌, List, [], length, map}
+use Rattle.std.specs.Prelude.{slice_index_or, Option, Some, None}
 use Rattle.std.specs.List.{range_with_len}
 use Rattle.cache_array.specs.Slots.{FrameSlots, AreSlots, block_at, frame_of}
 use Rattle.sn_model.specs.declared.cache.LineState.{LineState}
@@ -25,7 +26,8 @@ closed lines = record { lines = lines; miss = None; put = None }
 
 -- a block of memory has a line, or its set has a frame for one
 abbrev pub HasRoom : LinesData → ℕ → Type 0
-HasRoom d block = block < block_count → is_present (line_at d.lines block).state ≡ false → frames_taken (closed d.lines) d.sets block < d.ways
+HasRoom d block =
+    block < block_count → is_present (line_at d.lines block).state ≡ false → frames_taken (closed d.lines) d.sets block < d.ways
 
 -- a line when the miss on its block is complete
 abbrev pub completed : Line → Need → Line

@@ -10,7 +10,8 @@ use Rattle.sn_model.specs.Fabric.{Fabric, Moved, node_at, with_node, home_node, 
 use Rattle.sn_model.specs.Net.{sending, is_full}
 use Rattle.sn_model.specs.NodeEvents.{drops_copy, with_put}
 use Rattle.mosi_cache.specs.declared.step.Probe1.{Probe1}
-use Rattle.mosi_cache.specs.declared.step.Probe1.TheVariants.{Ready, Waits as HasToWait, Miss, NeedsEvict as HasNoFrame, LogFull as HasNoRoom}
+use Rattle.mosi_cache.specs.declared.step.Probe1.TheVariants.{Ready, Waits as HasToWait, Miss, NeedsEvict as HasNoFrame}
+use Rattle.mosi_cache.specs.declared.step.Probe1.TheVariants.{LogFull as HasNoRoom}
 use Rattle.mosi_cache.specs.Controller.{CacheData}
 
 -- the controller of a node, and its log

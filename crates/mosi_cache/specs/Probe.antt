@@ -1,5 +1,6 @@
 -- What a controller says of an access and of an eviction, and what it does then. The network's room is not its business.
-use Rattle.std.specs.Prelude.{ℕ, ◌%◌, Bool, true, false, not, ◌&&◌, nat_eq, nat_lt, nat_le, min, if◌then◌else◌, List, length, Option, Some, None}
+use Rattle.std.specs.Prelude.{ℕ, ◌%◌, Bool, true, false, not, ◌&&◌, nat_eq, nat_lt, nat_le, min, if◌then◌else◌, List, length, Option, Some}
+use Rattle.std.specs.Prelude.{None}
 use Rattle.sn_base.specs.declared.block.Write.{Write}
 use Rattle.sn_base.specs.declared.event.Answer.{Answer}
 use Rattle.sn_base.specs.declared.event.Answer.TheVariants.{Evicted, PutBegun, NotCached, PutOpen, MissOpen}
@@ -46,7 +47,8 @@ with_miss c block need now = record c { cache = record c.cache { miss = Some (ne
 
 -- the cache after a write to a line that may be written
 abbrev pub stored : CacheData → Write → CacheData
-stored c w = record c { cache = written_to (with_line c.cache (block_of w.address) Modified (line_of c.cache (block_of w.address)).content) w }
+stored c w =
+    record c { cache = written_to (with_line c.cache (block_of w.address) Modified (line_of c.cache (block_of w.address)).content) w }
 
 -- an eviction
 

@@ -56,8 +56,8 @@ abbrev pub HeldFits : CacheData → (ℕ → Old) → Type 0
 HeldFits c held = FitsSets (cache_holding c.cache held) c.sets c.ways
 
 -- each line is as the beginning of a recovery leaves it: Modified, or not there
-abbrev pub AreBegun : Cache → Type 0
-AreBegun cache = (block : ℕ) → begun_line (line_of cache block) ≡ line_of cache block
+abbrev pub HasOnlyModified : Cache → Type 0
+HasOnlyModified cache = (block : ℕ) → begun_line (line_of cache block) ≡ line_of cache block
 
 -- what an unwinding leaves of a controller as it is: all but its lines, and of these that each is Modified or not there
 pub record StaysAsItIs (before after : CacheData) : Type 0 where
@@ -68,4 +68,4 @@ pub record StaysAsItIs (before after : CacheData) : Type 0 where
   pub blocks : length after.cache.lines ≡ length before.cache.lines
   pub miss : after.cache.miss ≡ before.cache.miss
   pub put : after.cache.put ≡ before.cache.put
-  pub begun : AreBegun before.cache → AreBegun after.cache
+  pub begun : HasOnlyModified before.cache → HasOnlyModified after.cache

@@ -3,10 +3,13 @@ use Rattle.std.specs.Prelude.{◌≡◌, ℕ, ◌+◌, ◌≤◌, ◌%◌, Bool,
 use Rattle.sn_base.specs.declared.log.LogEntry.{LogEntry}
 use Rattle.sn_msg.specs.declared.Message.{Message}
 use Rattle.sn_msg.specs.declared.Body.{Body}
-use Rattle.sn_msg.specs.declared.Body.TheVariants.{GetS, GetM, FwdGetS, FwdGetM, Inv, DataS, DataM, DataE, UpgOk, InvAck, Unblock, PutReq, PutGo, PutData, PutDone, Ready, Advance}
+use Rattle.sn_msg.specs.declared.Body.TheVariants.{GetS, GetM, FwdGetS, FwdGetM, Inv, DataS, DataM, DataE, UpgOk, InvAck, Unblock, PutReq}
+use Rattle.sn_msg.specs.declared.Body.TheVariants.{PutGo, PutData, PutDone, Ready, Advance}
 use Rattle.log_buffer.specs.Log.{LogData, logged_to}
 use Rattle.sn_model.specs.declared.cache.Out.{Out}
-use Rattle.sn_model.specs.CacheRows.{Logged, CacheReply, forward_read, forward_write, invalidate, data_shared, data_modified, upgrade_granted, acknowledge, put_go, put_done, data_exclusive, MayForward, MayTakeCopy, MayTakeOwnership, MayUpgrade, MayCount, MayGiveBack, MayClosePut}
+use Rattle.sn_model.specs.CacheRows.{Logged, CacheReply, forward_read, forward_write, invalidate, data_shared, data_modified}
+use Rattle.sn_model.specs.CacheRows.{upgrade_granted, acknowledge, put_go, put_done, data_exclusive, MayForward, MayTakeCopy}
+use Rattle.sn_model.specs.CacheRows.{MayTakeOwnership, MayUpgrade, MayCount, MayGiveBack, MayClosePut}
 use Rattle.mosi_cache.specs.declared.step.CacheStep.{CacheStep}
 use Rattle.mosi_cache.specs.declared.step.CacheStep.TheVariants.{Took, LogFull}
 use Rattle.sn_model.specs.declared.look.Look.{Look}

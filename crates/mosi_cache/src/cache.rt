@@ -5,7 +5,7 @@ ghost use Rattle.std.specs.Prelude.{◌≡◌, ℕ, ◌+◌, ◌<◌, ◌≤◌,
 ghost use Rattle.sn_base.specs.Config.{config_fits};
 ghost use Rattle.sn_base.specs.declared.log.LogEntry.{LogEntry};
 ghost use Rattle.sn_model.specs.Caches.{empty_cache};
-ghost use Rattle.sn_model.specs.CacheRows.{Logged, fixed_at, acknowledged, settled};
+ghost use Rattle.sn_model.specs.CacheRows.{Logged, fixed_at, acknowledged, completed_or_waiting};
 ghost use Rattle.mosi_cache.specs.Controller.{CacheData, logged};
 ghost use Rattle.mosi_cache.specs.Rows.{row_by, row_of, MeetsRow, NotesLast, noted_in, is_over, step_by, look_by, cache_by, log_by, IsDone};
 
@@ -42,7 +42,13 @@ impl Model for Cache {
 
     ghost Value = { CacheData };
 
-    ghost view = { λ c. record { node = c.node; nodes = c.nodes; sets = c.lines.sets; ways = c.lines.ways; cache = cache_of c.need c.lines c.transactions } };
+    ghost view = { λ c. record {
+      node = c.node;
+      nodes = c.nodes;
+      sets = c.lines.sets;
+      ways = c.lines.ways;
+      cache = cache_of c.need c.lines c.transactions;
+    } };
 
     ghost invariant = { λ c. (1 ≤ c.nodes) × (c.nodes ≤ 16) × FitsSets (cache_of c.need c.lines c.transactions) c.lines.sets c.lines.ways };
 }
@@ -62,7 +68,8 @@ impl Cache {
     /// A cache without a line, for a node of a machine of this configuration.
     pub fn new(alloc: Global, node: NodeId, config: &Config) -> Result<Cache, Memory>
         requires { config_fits config.now ≡ true }
-        ensures { IfOk result (λ c. c ≡ record { node = node; nodes = config.now.nodes; sets = config.now.sets; ways = config.now.ways; cache = empty_cache }) }
+        ensures { IfOk result (λ c. c
+            ≡ record { node = node; nodes = config.now.nodes; sets = config.now.sets; ways = config.now.ways; cache = empty_cache }) }
     {
         let lines = Lines::new(alloc, config.sets, config.ways)?;
         Ok(Cache {
@@ -135,7 +142,8 @@ impl Cache {
 
     /// How many messages the row of the message sends.
     fn sends(&self, message: &Message) -> u8
-        ensures { (entries : List LogEntry) (home now : ℕ) → result ≡ length (row_by (logged self.now entries) home message.now.block now message.now.tag message.now.body).sends }
+        ensures { (entries : List LogEntry) (home now : ℕ) →
+            result ≡ length (row_by (logged self.now entries) home message.now.block now message.now.tag message.now.body).sends }
     {
         match message.body {
             Body::FwdGetS(_) | Body::FwdGetM(_, _) | Body::Inv(_) | Body::PutGo => 1,
@@ -147,7 +155,8 @@ impl Cache {
     }
 
     fn sends_when_answered(&self, due: u8) -> u8
-        ensures { (at : Logged) (home tag : ℕ) → result ≡ length (settled at home (fixed_at self.now.cache.miss tag due)).sends }
+        ensures { (at : Logged) (home tag : ℕ) →
+            result ≡ length (completed_or_waiting at home (fixed_at self.now.cache.miss tag due)).sends }
     {
         match self.transactions.miss() {
             Some(miss) if miss.acks_in == due => 1,
@@ -156,7 +165,7 @@ impl Cache {
     }
 
     fn sends_when_acknowledged(&self) -> u8
-        ensures { (at : Logged) (home : ℕ) → result ≡ length (settled at home (acknowledged self.now.cache.miss)).sends }
+        ensures { (at : Logged) (home : ℕ) → result ≡ length (completed_or_waiting at home (acknowledged self.now.cache.miss)).sends }
     {
         match self.transactions.miss() {
             Some(miss)

@@ -20,12 +20,15 @@ ghost use Rattle.mosi_cache.specs.Restored.{begun_restore, held_of, HeldFits, St
 
 /// A message that has a row comes to just what its delivery in the machine comes to.
 pub fn row_is_the_machines()
-    ensures { (config : Config) (s : Fabric) (m : Message) → MeetsRow (logged_at s m.to) m.block m.body → outcome_of s m m.body ≡ AtCache (row_of (controller_at config s m.to) (log_at config s m.to) (node_at s m.to).now m) }
+    ensures { (config : Config) (s : Fabric) (m : Message) → MeetsRow (logged_at s m.to) m.block m.body →
+        outcome_of s m m.body ≡ AtCache (row_of (controller_at config s m.to) (log_at config s m.to) (node_at s m.to).now m) }
 {}
 
 /// The answer to a probe says what an access comes to, but for want of room in the network.
 pub fn probe_is_the_machines()
-    ensures { (config : Config) (s : Fabric) (n block : ℕ) (need : Need) → accesses config s n block need ≡ access_by_probe s (missed s n block need) (probe_by (controller_at config s n) (log_at config s n) block (node_at s n).now need) }
+    ensures { (config : Config) (s : Fabric) (n block : ℕ) (need : Need) →
+        accesses config s n block need
+        ≡ access_by_probe s (missed s n block need) (probe_by (controller_at config s n) (log_at config s n) block (node_at s n).now need) }
 {}
 
 /// The answer to an eviction says what it comes to, but for want of room in the network.
@@ -35,20 +38,29 @@ pub fn eviction_is_the_machines()
 
 /// What an access and an eviction leave in a cache is what they leave in the machine's.
 pub fn changes_are_the_machines()
-    ensures miss { (config : Config) (s : Fabric) (n block : ℕ) (need : Need) → (with_miss (controller_at config s n) block need (node_at s n).now).cache ≡ (missing (node_at s n) block need).cache }
-    ensures write { (config : Config) (s : Fabric) (n : ℕ) (w : Write) → (stored (controller_at config s n) w).cache ≡ (with_write (node_at s n) w).cache }
-    ensures note { (config : Config) (s : Fabric) (n block : ℕ) → log_with (controller_at config s n) (node_at s n).log block (node_at s n).now ≡ (prepared (node_at s n) block).log }
-    ensures put { (config : Config) (s : Fabric) (n block : ℕ) → (with_put (controller_at config s n) block (node_at s n).now).cache ≡ (putting (node_at s n) block).cache }
+    ensures miss { (config : Config) (s : Fabric) (n block : ℕ) (need : Need) →
+        (with_miss (controller_at config s n) block need (node_at s n).now).cache ≡ (missing (node_at s n) block need).cache }
+    ensures write { (config : Config) (s : Fabric) (n : ℕ) (w : Write) →
+        (stored (controller_at config s n) w).cache ≡ (with_write (node_at s n) w).cache }
+    ensures note { (config : Config) (s : Fabric) (n block : ℕ) →
+        log_with (controller_at config s n) (node_at s n).log block (node_at s n).now ≡ (prepared (node_at s n) block).log }
+    ensures put { (config : Config) (s : Fabric) (n block : ℕ) →
+        (with_put (controller_at config s n) block (node_at s n).now).cache ≡ (putting (node_at s n) block).cache }
 {}
 
 /// What a controller has open counts in a report as the machine's definitions say.
 pub fn least_open_is_the_machines()
-    ensures { (now : ℕ) (miss : Option Miss) (put : Option Put) → put_issued_by (issued_by now miss) put ≡ at_most now (least_open_of miss put) }
+    ensures { (now : ℕ) (miss : Option Miss) (put : Option Put) →
+        put_issued_by (issued_by now miss) put ≡ at_most now (least_open_of miss put) }
 {}
 
 /// What begin_restore and the unwinding of the log to checkpoint k leave of a controller is what a recovery leaves of its cache;
 /// and the unwinding may be done where that cache fits.
 pub fn restore_is_the_machines()
-    ensures cache { (c d e : CacheData) (log : List LogEntry) (k : ℕ) → d ≡ record c { cache = begun_restore c.cache } → ((b : ℕ) → held_of e b ≡ unwound log false k (held_of d) b) → StaysAsItIs d e → e ≡ record c { cache = restored_cache log k c.cache } }
-    ensures fits { (c d : CacheData) (log : List LogEntry) (k : ℕ) → d ≡ record c { cache = begun_restore c.cache } → length c.cache.lines ≡ block_count → FitsSets (restored_cache log k c.cache) c.sets c.ways → HeldFits d (unwound log false k (held_of d)) }
+    ensures cache { (c d e : CacheData) (log : List LogEntry) (k : ℕ) → d ≡ record c { cache = begun_restore c.cache } →
+        ((b : ℕ) → held_of e b ≡ unwound log false k (held_of d) b) → StaysAsItIs d e →
+        e ≡ record c { cache = restored_cache log k c.cache } }
+    ensures fits { (c d : CacheData) (log : List LogEntry) (k : ℕ) → d ≡ record c { cache = begun_restore c.cache } →
+        length c.cache.lines ≡ block_count → FitsSets (restored_cache log k c.cache) c.sets c.ways →
+        HeldFits d (unwound log false k (held_of d)) }
 {}

@@ -3,10 +3,11 @@
 //! A block has a frame exactly where it has a line, and the frame keeps the line's state and content. Every question about a
 //! block, and every change of its line, looks at the frames of its set alone. The layer above sees the line of each block,
 //! and how many frames of a set the lines take. A line never finds its set full: who adds one asks before.
-ghost use Rattle.std.specs.Prelude.{◌≡◌, ℕ, ◌*◌, ◌+◌, ◌<◌, ◌≤◌, ◌%◌, ◌&&◌, true, false, nat_le, length, slice_set, IfOk, IfSome, IsNone, not, Some};
-ghost use Rattle.cache_array.specs.Slots.{FrameSlots};
+ghost use Rattle.std.specs.Prelude.{◌≡◌, ℕ, ◌*◌, ◌+◌, ◌<◌, ◌≤◌, ◌%◌, ◌&&◌, true, false, nat_le, length, slice_set, IfOk, IfSome, IsNone};
+ghost use Rattle.std.specs.Prelude.{not, Some};
 ghost use Rattle.sn_model.specs.Caches.{no_line, empty_lines, is_present, block_count, frames_taken};
-ghost use Rattle.mosi_cache.specs.Frames.{LinesData, HasRoom, closed, line_at, line_kept, completed, is_spared, may_leave, leaves, lesser_of, leaving_at, IsLeastLeaving};
+ghost use Rattle.mosi_cache.specs.Frames.{LinesData, HasRoom, closed, line_at, line_kept, completed, is_spared, may_leave, leaves};
+ghost use Rattle.mosi_cache.specs.Frames.{lesser_of, leaving_at, IsLeastLeaving};
 
 mod restore;
 
@@ -163,7 +164,8 @@ impl Lines {
     pub fn put(&mut self, block: BlockNo, state: LineState, content: Block)
         requires line { is_present state ≡ true }
         requires room { HasRoom self.old block }
-        ensures lines { self.new ≡ record self.old { lines = slice_set self.old.lines block (record { state = state; content = content }) } }
+        ensures lines { self.new
+            ≡ record self.old { lines = slice_set self.old.lines block (record { state = state; content = content }) } }
         ensures read { line_at self.new.lines block ≡ record { state = state; content = content } }
     {
         let line = FrameLine { state, content };
@@ -208,8 +210,12 @@ impl Lines {
     /// The least block with a line in the set of a block that may leave: a Shared line, or, where that is asked for, one
     /// that owns its block; but not the line of the block that is spared.
     pub fn least(&self, block: BlockNo, spared: Option<BlockNo>, owned_too: bool) -> Option<BlockNo>
-        ensures none { IsNone result → (k : ℕ) → k < block_count → leaves self.now.sets (block % self.now.sets) spared owned_too k (line_at self.now.lines k).state ≡ false }
-        ensures some { IfSome result (λ b. (leaves self.now.sets (block % self.now.sets) spared owned_too b (line_at self.now.lines b).state ≡ true) × ((k : ℕ) → k < b → leaves self.now.sets (block % self.now.sets) spared owned_too k (line_at self.now.lines k).state ≡ false)) }
+        ensures none { IsNone result → (k : ℕ) → k < block_count →
+            leaves self.now.sets (block % self.now.sets) spared owned_too k (line_at self.now.lines k).state ≡ false }
+        ensures some { IfSome result
+            (λ b. (leaves self.now.sets (block % self.now.sets) spared owned_too b (line_at self.now.lines b).state ≡ true)
+            × ((k : ℕ) → k < b → leaves self.now.sets (block % self.now.sets) spared owned_too k (line_at self.now.lines k).state
+            ≡ false)) }
     {
         let ways = usize::from(self.ways);
         let first = usize::from(block.number() % self.sets) * ways;

@@ -1,7 +1,9 @@
 -- Texts of comments: a script that goes on after them is read as if they weren't there. A summary that is marked is such a text.
-use Rattle.std.proofs.Common.{◌≡◌, ℕ, zero, suc, ◌+◌, ◌-◌, ◌/◌, ◌%◌, ◌≤◌, List, [], ◌∷◌, ◌++◌, length, take, drop, refl, ap, sym, subst, ◌∙◌, append_assoc, append-nil, arith}
+use Rattle.std.proofs.Common.{◌≡◌, ℕ, zero, suc, ◌+◌, ◌-◌, ◌/◌, ◌%◌, ◌≤◌, List, [], ◌∷◌, ◌++◌, length, take, drop, refl, ap, sym, subst}
+use Rattle.std.proofs.Common.{◌∙◌, append_assoc, append-nil, arith}
 use Rattle.std.proofs.lemmas.Bool.Decides.{nat_tests}
-use Rattle.std.specs.Prelude.{Bool, true, false, ◌&&◌, ◌==◌, nat_eq, nat_lt, nat_le, if◌then◌else◌, slice_index, Option, Some, None, Ok, codes, decimal}
+use Rattle.std.specs.Prelude.{Bool, true, false, ◌&&◌, ◌==◌, nat_eq, nat_lt, nat_le, if◌then◌else◌, slice_index, Option, Some, None, Ok}
+use Rattle.std.specs.Prelude.{codes, decimal}
 use Rattle.std.specs.Fmt.{digit_glyph, digits_onto, digits}
 use Rattle.sn_base.specs.Image.{ImageData}
 use Rattle.sn_base.specs.declared.config.Config.{Config}
@@ -10,13 +12,15 @@ use Rattle.rv_core.specs.declared.state.CoreState.{CoreState}
 use Rattle.rv_core.specs.declared.state.End.{End}
 use Rattle.rv_core.specs.declared.state.End.TheVariants.{Running, Exited, Trapped}
 use Rattle.rv_core.specs.declared.state.Cause.{Cause}
-use Rattle.rv_core.specs.declared.state.Cause.TheVariants.{Illegal, FetchFault, MisalignedTarget, MisalignedAccess, AccessFault, UnknownCall, Break}
+use Rattle.rv_core.specs.declared.state.Cause.TheVariants.{Illegal, FetchFault, MisalignedTarget, MisalignedAccess, AccessFault}
+use Rattle.rv_core.specs.declared.state.Cause.TheVariants.{UnknownCall, Break}
 use Rattle.rv_core.specs.Flat.{FlatState, core_at, word_at}
 use Rattle.sn_model.specs.Machine.{State}
 use Rattle.text_lines.specs.Lines.{without_return, lines_from}
 use Rattle.sn_text.specs.Items.{is_skipped, items_from}
 use Rattle.sn_text.specs.Script.{event_of}
-use Rattle.sn_text.specs.Text.{named_number, word_text, cause_text, end_text, register_text, registers_text, core_line, count_line, watch_line, probe_line}
+use Rattle.sn_text.specs.Text.{named_number, word_text, cause_text, end_text, register_text, registers_text, core_line, count_line}
+use Rattle.sn_text.specs.Text.{watch_line, probe_line}
 use Rattle.sn_text.proofs.Printed.{From, from-append, from-lower, from-word}
 use Rattle.sink_pieces.specs.Pieces.{report_text}
 use Rattle.script_replay.specs.Pieces.{flat_at, core_lines, watch_lines, cut_lines, summary_of, tally_lines, tally_pieces, summary_pieces}
@@ -45,7 +49,8 @@ from-digits zero n acc h = h
 from-digits (suc k) n acc h =
     by_test (n / 10 == 0) (from-digits k (n / 10) (digit_glyph false (n % 10) ∷ acc) (from-glyph (n % 10), h))
   where
-    by_test : (b : Bool) → From 32 (digits_onto k 10 false (n / 10) (digit_glyph false (n % 10) ∷ acc)) → From 32 (if b then digit_glyph false (n % 10) ∷ acc else digits_onto k 10 false (n / 10) (digit_glyph false (n % 10) ∷ acc))
+    by_test : (b : Bool) → From 32 (digits_onto k 10 false (n / 10) (digit_glyph false (n % 10) ∷ acc)) →
+        From 32 (if b then digit_glyph false (n % 10) ∷ acc else digits_onto k 10 false (n / 10) (digit_glyph false (n % 10) ∷ acc))
     by_test true more = (from-glyph (n % 10), h)
     by_test false more = more
 
@@ -82,7 +87,8 @@ from-register number value =
 from-registers : (number : ℕ) (values : List ℕ) → From 32 (registers_text number values)
 from-registers number [] = tt
 from-registers number (value ∷ values) =
-    from-append 32 (if nat_eq value 0 then [] else register_text number value) (registers_text (number + 1) values) (by_test (nat_eq value 0)) (from-registers (number + 1) values)
+    from-append 32 (if nat_eq value 0 then [] else register_text number value) (registers_text (number + 1) values)
+    (by_test (nat_eq value 0)) (from-registers (number + 1) values)
   where
     by_test : (b : Bool) → From 32 (if b then [] else register_text number value)
     by_test true = tt
@@ -90,7 +96,8 @@ from-registers number (value ∷ values) =
 
 -- a comment is skipped
 
-line_ends : (begun line rest : List ℕ) → From 32 line → lines_from begun (line ++ 10 ∷ rest) ≡ without_return (begun ++ line) ∷ lines_from [] rest
+line_ends : (begun line rest : List ℕ) → From 32 line →
+    lines_from begun (line ++ 10 ∷ rest) ≡ without_return (begun ++ line) ∷ lines_from [] rest
 unfolding lines_from
 line_ends begun [] rest a = ap (λ t. without_return t ∷ lines_from [] rest) (sym (append-nil begun))
 line_ends begun (x ∷ xs) rest a =

@@ -19,7 +19,8 @@ use Rattle.node_run.specs.declared.job.RunShowing.{RunShowing}
 use Rattle.node_run.specs.Reported.{script_now, report_by_kind, report_now, HaveNumbers}
 
 -- the turns, one after another
-journal_pieces-drop : (journal : List Entry) (i : ℕ) (entry : Entry) → i < length journal → entry ≡ get_or journal i entry → journal_pieces (drop i journal) ≡ Report (entry_lines entry) ∷ journal_pieces (drop (i + 1) journal)
+journal_pieces-drop : (journal : List Entry) (i : ℕ) (entry : Entry) → i < length journal → entry ≡ get_or journal i entry →
+    journal_pieces (drop i journal) ≡ Report (entry_lines entry) ∷ journal_pieces (drop (i + 1) journal)
 unfolding journal_pieces
 journal_pieces-drop journal i entry below is =
     ap journal_pieces (drop_more journal i entry below) ∙ ap (λ e. Report (entry_lines e) ∷ journal_pieces (drop (i + 1) journal)) (sym is)
@@ -28,30 +29,40 @@ journal_pieces-end : (journal : List Entry) (i : ℕ) → length journal ≡ i �
 unfolding journal_pieces
 journal_pieces-end journal i e = rw (drop_all i journal (omega arith))
 
-pub turn-next : (journal : List Entry) (i : ℕ) (entry : Entry) (line bytes : List ℕ) (a b d : Ends) → i < length journal → entry ≡ get_or journal i entry → line ≡ entry_lines entry → bytes ≡ line → SoFar (journal_pieces journal) (journal_pieces (drop i journal)) a b → d ≡ after b (Report bytes ∷ []) → SoFar (journal_pieces journal) (journal_pieces (drop (i + 1) journal)) a d
+pub turn-next : (journal : List Entry) (i : ℕ) (entry : Entry) (line bytes : List ℕ) (a b d : Ends) → i < length journal →
+    entry ≡ get_or journal i entry → line ≡ entry_lines entry → bytes ≡ line →
+    SoFar (journal_pieces journal) (journal_pieces (drop i journal)) a b → d ≡ after b (Report bytes ∷ []) →
+    SoFar (journal_pieces journal) (journal_pieces (drop (i + 1) journal)) a d
 turn-next journal i entry line bytes a b d below is put same h more =
     SoFar-more (journal_pieces journal) (Report (entry_lines entry) ∷ []) _ a b d
     (subst (λ (t : List Piece). SoFar (journal_pieces journal) t a b) (journal_pieces-drop journal i entry below is) h)
     (more ∙ ap (λ t. after b (Report t ∷ [])) (same ∙ put))
 
-pub turn-breaks : (journal : List Entry) (i : ℕ) (entry : Entry) (line bytes : List ℕ) (a b d : Ends) → i < length journal → entry ≡ get_or journal i entry → line ≡ entry_lines entry → bytes ≡ line → SoFar (journal_pieces journal) (journal_pieces (drop i journal)) a b → Breaks (Report bytes ∷ []) b d → Breaks (journal_pieces journal) a d
+pub turn-breaks : (journal : List Entry) (i : ℕ) (entry : Entry) (line bytes : List ℕ) (a b d : Ends) → i < length journal →
+    entry ≡ get_or journal i entry → line ≡ entry_lines entry → bytes ≡ line →
+    SoFar (journal_pieces journal) (journal_pieces (drop i journal)) a b → Breaks (Report bytes ∷ []) b d →
+    Breaks (journal_pieces journal) a d
 turn-breaks journal i entry line bytes a b d below is put same h broken =
     SoFar-breaks (journal_pieces journal) (Report (entry_lines entry) ∷ []) _ a b d
     (subst (λ (t : List Piece). SoFar (journal_pieces journal) t a b) (journal_pieces-drop journal i entry below is) h)
     (subst (λ (t : List ℕ). Breaks (Report t ∷ []) b d) (same ∙ put) broken)
 
-pub turns-whole : (journal : List Entry) (i : ℕ) (a b : Ends) → length journal ≡ i → SoFar (journal_pieces journal) (journal_pieces (drop i journal)) a b → b ≡ after a (journal_pieces journal)
+pub turns-whole : (journal : List Entry) (i : ℕ) (a b : Ends) → length journal ≡ i →
+    SoFar (journal_pieces journal) (journal_pieces (drop i journal)) a b → b ≡ after a (journal_pieces journal)
 turns-whole journal i a b e h =
-    SoFar-whole (journal_pieces journal) [] a b b (subst (λ (t : List Piece). SoFar (journal_pieces journal) t a b) (journal_pieces-end journal i e) h) (sym (after-nil b))
+    SoFar-whole (journal_pieces journal) [] a b b
+    (subst (λ (t : List Piece). SoFar (journal_pieces journal) t a b) (journal_pieces-end journal i e) h) (sym (after-nil b))
 
 -- their numbers
 pub numbers-none : (journal : List Entry) → HaveNumbers (take 0 journal)
 numbers-none journal = All-nil (λ (e : Entry). HasNumbers e.event)
 
-pub numbers-next : (journal : List Entry) (i : ℕ) (entry : Entry) → i < length journal → entry ≡ get_or journal i entry → HasNumbers entry.event → HaveNumbers (take i journal) → HaveNumbers (take (i + 1) journal)
+pub numbers-next : (journal : List Entry) (i : ℕ) (entry : Entry) → i < length journal → entry ≡ get_or journal i entry →
+    HasNumbers entry.event → HaveNumbers (take i journal) → HaveNumbers (take (i + 1) journal)
 numbers-next journal i entry below is here before =
     subst (λ (l : List Entry). HaveNumbers l) (sym (take_more journal i entry below))
-    (All-push (λ (e : Entry). HasNumbers e.event) (take i journal) (get_or journal i entry) before (subst (λ (e : Entry). HasNumbers e.event) is here))
+    (All-push (λ (e : Entry). HasNumbers e.event) (take i journal) (get_or journal i entry) before
+    (subst (λ (e : Entry). HasNumbers e.event) is here))
 
 pub numbers-all : (journal : List Entry) (i : ℕ) → length journal ≡ i → HaveNumbers (take i journal) → HaveNumbers journal
 numbers-all journal i e h = subst (λ (l : List Entry). HaveNumbers l) (take_all i journal (omega (arith, e))) h
@@ -74,16 +85,20 @@ module _ (m : MachineData) (journal : List Entry) (showing : RunShowing) (tallie
   abbrev BreaksIn : List Piece → Type 0
   BreaksIn pieces = OnErr r ((c : Option (List ℕ)) → Breaks pieces (ends c before) (ends c behind))
 
-  of_kind : (kind : RunReport) → showing.report ≡ kind → BreaksIn (report_by_kind kind m journal showing tallies) → BreaksIn (report_now m journal showing tallies)
+  of_kind : (kind : RunReport) → showing.report ≡ kind → BreaksIn (report_by_kind kind m journal showing tallies) →
+      BreaksIn (report_now m journal showing tallies)
   of_kind kind is h = subst (λ (k : RunReport). BreaksIn (report_by_kind k m journal showing tallies)) (sym is) h
 
-  pub summary-breaks : showing.report ≡ Summary → BreaksIn (summed_up [] m showing.watch tallies) → BreaksIn (report_now m journal showing tallies)
+  pub summary-breaks : showing.report ≡ Summary → BreaksIn (summed_up [] m showing.watch tallies) →
+      BreaksIn (report_now m journal showing tallies)
   summary-breaks is h = of_kind Summary is h
 
-  pub trace-breaks : showing.report ≡ Trace → BreaksIn (end_now m (record { report = replayed.Trace; watch = showing.watch }) tallies) → BreaksIn (report_now m journal showing tallies)
+  pub trace-breaks : showing.report ≡ Trace → BreaksIn (end_now m (record { report = replayed.Trace; watch = showing.watch }) tallies) →
+      BreaksIn (report_now m journal showing tallies)
   trace-breaks is h = of_kind Trace is h
 
-  pub script-breaks : showing.report ≡ Journal → BreaksIn (script_now m journal showing.watch tallies) → BreaksIn (report_now m journal showing tallies)
+  pub script-breaks : showing.report ≡ Journal → BreaksIn (script_now m journal showing.watch tallies) →
+      BreaksIn (report_now m journal showing tallies)
   script-breaks is h = of_kind Journal is h
 
 -- the numbers of a journal that was put where it was asked for

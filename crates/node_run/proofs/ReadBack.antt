@@ -1,5 +1,6 @@
 -- The text of a journal, with a marked summary behind it, is read as the journal's events.
-use Rattle.std.proofs.Common.{◌≡◌, ℕ, suc, ◌+◌, ◌<◌, ◌≤◌, List, [], ◌∷◌, ◌++◌, length, All, refl, ap, sym, subst, ◌∙◌, append_assoc, append-nil, arith}
+use Rattle.std.proofs.Common.{◌≡◌, ℕ, suc, ◌+◌, ◌<◌, ◌≤◌, List, [], ◌∷◌, ◌++◌, length, All, refl, ap, sym, subst, ◌∙◌, append_assoc}
+use Rattle.std.proofs.Common.{append-nil, arith}
 use Rattle.std.proofs.lemmas.Bool.Decides.{nat_tests}
 use Rattle.std.specs.Prelude.{true, false, nat_le, Ok, codes}
 use Rattle.sn_base.specs.Events.{event_fits}
@@ -22,8 +23,10 @@ says [] a = absurd a
 says (x ∷ xs) a = grind (arith, nat_tests, a.0)
 
 module _ (nodes : ℕ) (small : nodes ≤ 16) where
-  read-one : (line count : ℕ) (text : List ℕ) (lines : List (List ℕ)) (event : Event) (events : List Event) → is_skipped text ≡ false → event_of nodes text ≡ Ok event → count < most_items →
-      items_from (event_of nodes) (line + 1) (count + 1) lines ≡ Ok events → items_from (event_of nodes) line count (text ∷ lines) ≡ Ok (event ∷ events)
+  read-one : (line count : ℕ) (text : List ℕ) (lines : List (List ℕ)) (event : Event) (events : List Event) → is_skipped text ≡ false →
+      event_of nodes text ≡ Ok event → count < most_items →
+      items_from (event_of nodes) (line + 1) (count + 1) lines ≡ Ok events →
+      items_from (event_of nodes) line count (text ∷ lines) ≡ Ok (event ∷ events)
   unfolding items_from
   read-one line count text lines event events said back few h =
       let room : nat_le most_items count ≡ false = grind (arith, nat_tests, few) in
@@ -33,33 +36,40 @@ module _ (nodes : ℕ) (small : nodes ≤ 16) where
   unfolding items_from lines_from
   read-nothing count = λ line. refl
 
-  read-event : (count : ℕ) (event : Event) (rest : List ℕ) (events : List Event) → event_fits nodes event ≡ true → HasNumbers event → count < most_items →
+  read-event : (count : ℕ) (event : Event) (rest : List ℕ) (events : List Event) → event_fits nodes event ≡ true → HasNumbers event →
+      count < most_items →
       Reads nodes (count + 1) rest events → Reads nodes count (script_line event ++ rest) (event ∷ events)
   unfolding script_line
   read-event count event rest events fits numbers few h = λ line.
       let is_line : IsLine (event_text event) = event-line nodes event small fits numbers in
       ap (λ t. items_from (event_of nodes) line count (lines_from [] t)) (append_assoc (event_text event) (10 ∷ []) rest)
       ∙ ap (items_from (event_of nodes) line count) (line-first (event_text event) rest is_line)
-      ∙ read-one line count (event_text event) (lines_from [] rest) event events (says (event_text event) is_line) (event-back nodes event small fits numbers) few (h (line + 1))
+      ∙ read-one line count (event_text event) (lines_from [] rest) event events (says (event_text event) is_line)
+      (event-back nodes event small fits numbers) few (h (line + 1))
 
-  read-entry : (count : ℕ) (entry : Entry) (rest : List ℕ) (events : List Event) → event_fits nodes entry.event ≡ true → HasNumbers entry.event → count < most_items →
+  read-entry : (count : ℕ) (entry : Entry) (rest : List ℕ) (events : List Event) → event_fits nodes entry.event ≡ true →
+      HasNumbers entry.event → count < most_items →
       Reads nodes (count + 1) rest events → Reads nodes count (entry_lines entry ++ rest) (entry.event ∷ events)
   unfolding entry_lines
   read-entry count entry rest events fits numbers few h =
       subst (λ (t : List ℕ). Reads nodes count t (entry.event ∷ events)) (sym (append_assoc (count_line (codes "# ") (codes "worker") entry.worker) (script_line entry.event) rest))
       (skips-count nodes (codes "worker") entry.worker refl count (script_line entry.event ++ rest) (entry.event ∷ events) (read-event count entry.event rest events fits numbers few h))
 
-  read-journal : (count : ℕ) (journal : List Entry) (summary : List ℕ) → All (λ e. event_fits nodes e.event ≡ true) journal → HaveNumbers journal → count + length journal ≤ most_items →
+  read-journal : (count : ℕ) (journal : List Entry) (summary : List ℕ) → All (λ e. event_fits nodes e.event ≡ true) journal →
+      HaveNumbers journal → count + length journal ≤ most_items →
       Skips nodes summary → Reads nodes count (journal_text journal ++ summary) (events_of journal)
   read-journal count [] summary fits numbers few h =
       subst (λ (t : List ℕ). Reads nodes count t []) (append-nil summary) (h count [] [] (read-nothing count))
   read-journal count (entry ∷ entries) summary fits numbers few h =
       let more_fit : All (λ e. event_fits nodes e.event ≡ true) entries = λ k d l. fits (suc k) d (omega (arith, l)) in
       let more_numbers : HaveNumbers entries = λ k d l. numbers (suc k) d (omega (arith, l)) in
-      subst (λ (t : List ℕ). Reads nodes count t (events_of (entry ∷ entries))) (sym (append_assoc (entry_lines entry) (journal_text entries) summary))
-      (read-entry count entry (journal_text entries ++ summary) (events_of entries) (fits 0 entry (omega arith)) (numbers 0 entry (omega arith)) (omega (arith, few))
+      subst (λ (t : List ℕ). Reads nodes count t (events_of (entry ∷ entries)))
+      (sym (append_assoc (entry_lines entry) (journal_text entries) summary))
+      (read-entry count entry (journal_text entries ++ summary) (events_of entries) (fits 0 entry (omega arith))
+      (numbers 0 entry (omega arith)) (omega (arith, few))
       (read-journal (count + 1) entries summary more_fit more_numbers (omega (arith, few)) h))
 
-  pub journal-read : (journal : List Entry) (summary : List ℕ) → All (λ e. event_fits nodes e.event ≡ true) journal → HaveNumbers journal → length journal ≤ most_items →
+  pub journal-read : (journal : List Entry) (summary : List ℕ) → All (λ e. event_fits nodes e.event ≡ true) journal → HaveNumbers journal →
+      length journal ≤ most_items →
       Skips nodes summary → script_of nodes (journal_text journal ++ summary) ≡ Ok (events_of journal)
   journal-read journal summary fits numbers few h = read-journal 0 journal summary fits numbers (omega (arith, few)) h 1

@@ -14,7 +14,8 @@ use Rattle.sink_pieces.proofs.PieceLaws.{console_text-append, report_text-append
 use Rattle.sink_pieces.proofs.Begun.{report_text-piece}
 use Rattle.script_replay.specs.declared.job.Showing.{Showing}
 use Rattle.script_replay.specs.declared.job.ReportKind.TheVariants.{Summary}
-use Rattle.script_replay.specs.Pieces.{group_of, group_pieces, summary_pieces, last_pieces, end_pieces, turn_pieces, turns_from, pieces_from, pieces_of}
+use Rattle.script_replay.specs.Pieces.{group_of, group_pieces, summary_pieces, last_pieces, end_pieces, turn_pieces, turns_from}
+use Rattle.script_replay.specs.Pieces.{pieces_from, pieces_of}
 use Rattle.script_replay.specs.Probed.{answered, told_all as told_by_replay}
 use Rattle.script_replay.specs.Shown.{pieces_due}
 use Rattle.script_replay.proofs.Shown.{console_text-turn, console_text-turns}
@@ -27,13 +28,15 @@ use Rattle.node_run.specs.Pieces.{begins, replay_of, tallies_by, summary_by}
 use Rattle.node_run.specs.Shown.{IsReplayedSo, output_by}
 
 -- what its probes are told
-told-answered : (image : ImageData) (config : Config) (s : State) (journal : List Entry) → told_in journal (map (λ step. step.answer) (run_of image config s (events_of journal))) ≡ answered image config s (events_of journal)
+told-answered : (image : ImageData) (config : Config) (s : State) (journal : List Entry) →
+    told_in journal (map (λ step. step.answer) (run_of image config s (events_of journal))) ≡ answered image config s (events_of journal)
 told-answered image config s [] = refl
 told-answered image config s (e ∷ journal) =
     ap (λ t. record { event = e.event; answer = (step_of image config s e.event).answer } ∷ t)
     (told-answered image config (step_of image config s e.event).state journal)
 
-pub told-replayed : (r : Run) (journal : List Entry) (answers : List Answer) (probes : List Meter) → answers ≡ answers_of (begins r) journal → told_all journal answers probes ≡ told_by_replay (replay_of r journal) probes
+pub told-replayed : (r : Run) (journal : List Entry) (answers : List Answer) (probes : List Meter) →
+    answers ≡ answers_of (begins r) journal → told_all journal answers probes ≡ told_by_replay (replay_of r journal) probes
 unfolding answers_of
 told-replayed r journal answers probes are =
     ap (λ a. told_all journal a probes) are
@@ -41,23 +44,31 @@ told-replayed r journal answers probes are =
 
 module _ (image : ImageData) (config : Config) (showing : Showing) where
   -- what its events put to the console
-  fresh : (place : ℕ) (s : State) (event : Event) → (step_of image config s event).state.released ≡ s.released ++ console_text (turn_pieces image config showing place s event)
+  fresh : (place : ℕ) (s : State) (event : Event) →
+      (step_of image config s event).state.released ≡ s.released ++ console_text (turn_pieces image config showing place s event)
   fresh place s event =
       let grows = released-grows image config s event in
       grows.is ∙ ap (λ t. s.released ++ t)
-      (sym (console_text-turn image config showing place s event ∙ ap (drop (length s.released)) grows.is ∙ drop_at s.released grows.more (length s.released) refl))
+      (sym (console_text-turn image config showing place s event ∙ ap (drop (length s.released)) grows.is
+      ∙ drop_at s.released grows.more (length s.released) refl))
 
-  released-replayed : (done : ℕ) (s : State) (events : List Event) → (state_after image config s events).released ≡ s.released ++ console_text (turns_from image config showing done s events)
+  released-replayed : (done : ℕ) (s : State) (events : List Event) →
+      (state_after image config s events).released ≡ s.released ++ console_text (turns_from image config showing done s events)
   unfolding turns_from
   released-replayed done s [] = sym (append-nil s.released)
   released-replayed done s (event ∷ events) =
       let next : State = (step_of image config s event).state in
       released-replayed (done + 1) next events
       ∙ ap (λ t. t ++ console_text (turns_from image config showing (done + 1) next events)) (fresh (done + 1) s event)
-      ∙ append_assoc s.released (console_text (turn_pieces image config showing (done + 1) s event)) (console_text (turns_from image config showing (done + 1) next events))
-      ∙ ap (λ t. s.released ++ t) (sym (console_text-append (turn_pieces image config showing (done + 1) s event) (turns_from image config showing (done + 1) next events)))
+      ∙ append_assoc s.released (console_text (turn_pieces image config showing (done + 1) s event))
+      (console_text (turns_from image config showing (done + 1) next events))
+      ∙ ap (λ t. s.released ++ t)
+      (sym (console_text-append (turn_pieces image config showing (done + 1) s event)
+      (turns_from image config showing (done + 1) next events)))
 
-  console-replayed : (tallies : List (List ℕ)) (events : List Event) → console_text (pieces_of image config showing tallies events) ≡ (state_after image config (start_of image config.nodes) events).released
+  console-replayed : (tallies : List (List ℕ)) (events : List Event) →
+      console_text (pieces_of image config showing tallies events)
+      ≡ (state_after image config (start_of image config.nodes) events).released
   unfolding pieces_of
   console-replayed tallies events =
       console_text-turns image config showing tallies 0 (start_of image config.nodes) events
@@ -74,7 +85,9 @@ module _ (image : ImageData) (config : Config) (watch : Option ℕ) (tallies : L
       let more : List ℕ = drop (length s.released) (step_of image config s event).state.released in
       report_text-append (console_piece more) [] ∙ append-nil (report_text (console_piece more)) ∙ report_text-piece more
 
-  report_text-events : (done : ℕ) (s : State) (events : List Event) → report_text (pieces_from image config summed tallies done s events) ≡ report_text (summary_pieces [] image config watch tallies (done + length events) (state_after image config s events))
+  report_text-events : (done : ℕ) (s : State) (events : List Event) →
+      report_text (pieces_from image config summed tallies done s events)
+      ≡ report_text (summary_pieces [] image config watch tallies (done + length events) (state_after image config s events))
   unfolding pieces_from end_pieces
   report_text-events done s [] =
       let same : done ≡ done + 0 = omega arith in
@@ -82,21 +95,28 @@ module _ (image : ImageData) (config : Config) (watch : Option ℕ) (tallies : L
   report_text-events done s (event ∷ events) =
       let next : State = (step_of image config s event).state in
       let same : done + 1 + length events ≡ done + length (event ∷ events) = omega arith in
-      report_text-append (turn_pieces image config summed (done + 1) s event) (pieces_from image config summed tallies (done + 1) next events)
+      report_text-append (turn_pieces image config summed (done + 1) s event)
+      (pieces_from image config summed tallies (done + 1) next events)
       ∙ ap (λ t. t ++ report_text (pieces_from image config summed tallies (done + 1) next events)) (report_text-event (done + 1) s event)
       ∙ report_text-events (done + 1) next events
       ∙ ap (λ n. report_text (summary_pieces [] image config watch tallies n (state_after image config next events))) same
 
-  report-replayed : (events : List Event) (count : ℕ) → length events ≡ count → report_text (pieces_of image config summed tallies events) ≡ report_text (summary_pieces [] image config watch tallies count (state_after image config (start_of image config.nodes) events))
+  report-replayed : (events : List Event) (count : ℕ) → length events ≡ count →
+      report_text (pieces_of image config summed tallies events)
+      ≡ report_text (summary_pieces [] image config watch tallies count (state_after image config (start_of image config.nodes) events))
   unfolding pieces_of
   report-replayed events count many =
       let same : 0 + length events ≡ count = omega (arith, many) in
       report_text-events 0 (start_of image config.nodes) events
-      ∙ ap (λ n. report_text (summary_pieces [] image config watch tallies n (state_after image config (start_of image config.nodes) events))) same
+      ∙ ap (λ n. report_text (summary_pieces [] image config watch tallies n
+      (state_after image config (start_of image config.nodes) events))) same
 
-pub replayed-so : (r : Run) (probes : List Meter) (journal : List Entry) → (state_of (begins r) journal).released ≡ output_by r journal → IsReplayedSo r probes journal
+pub replayed-so : (r : Run) (probes : List Meter) (journal : List Entry) → (state_of (begins r) journal).released ≡ output_by r journal →
+    IsReplayedSo r probes journal
 unfolding state_of
 replayed-so r probes journal output = record {
   console = console-replayed r.program r.config (replay_of r journal).showing (tallies_by r probes journal) (events_of journal) ∙ output;
-  report = report-replayed r.program r.config r.showing.watch (tallies_by r probes journal) (events_of journal) (length journal) (length-map journal (λ (e : Entry). e.event));
+  report =
+      report-replayed r.program r.config r.showing.watch (tallies_by r probes journal) (events_of journal) (length journal)
+      (length-map journal (λ (e : Entry). e.event));
 }

@@ -31,9 +31,11 @@ use Rattle.node_run.specs.declared.job.RunReport.{RunReport}
 use Rattle.node_run.specs.declared.job.RunReport.TheVariants.{Summary, Trace, Journal}
 use Rattle.node_run.specs.declared.job.RunShowing.{RunShowing}
 use Rattle.node_run.specs.Endings.{ending_by, flat_after, ending_of}
-use Rattle.node_run.specs.Pieces.{begins, replay_of, tallies_by, entry_lines, journal_text, journal_pieces, summary_by, report_by, run_pieces}
+use Rattle.node_run.specs.Pieces.{begins, replay_of, tallies_by, entry_lines, journal_text, journal_pieces, summary_by, report_by}
+use Rattle.node_run.specs.Pieces.{run_pieces}
 use Rattle.node_run.specs.Reported.{report_by_kind, report_now, HaveNumbers}
-use Rattle.node_run.specs.Shown.{MayBegin, IsJournal, IsLawful, IsTrace, IsScript, IsShown, IsShownInPart, IsStopped, IsRun, IsCutShort, IsDone, IsBrokenOff, KnowAll, output_by}
+use Rattle.node_run.specs.Shown.{MayBegin, IsJournal, IsLawful, IsTrace, IsScript, IsShown, IsShownInPart, IsStopped, IsRun, IsCutShort}
+use Rattle.node_run.specs.Shown.{IsDone, IsBrokenOff, KnowAll, output_by}
 use Rattle.node_run.proofs.Comments.{skips-summary}
 use Rattle.node_run.proofs.ReadBack.{journal-read}
 use Rattle.node_run.proofs.Replays.{told-replayed, replayed-so}
@@ -57,7 +59,9 @@ stopped-by nodes m finish.Stopped e = refl
 abbrev IsEnded : Began → List Entry → Finish → List ℕ → Option (List ℕ) → Option (List ℕ) → Type 0
 IsEnded began journal found released before after_ = IsWritten [] released before after_ × (finish_by began journal ≡ Some found)
 
-ended-by : (nodes : ℕ) (m : MachineData) (began : Began) (journal : List Entry) (found : Finish) (ending : Ending) (released : List ℕ) (before after_ : Option (List ℕ)) (was is : ℕ) → ending_by nodes (flat_of m) found ≡ Some ending → EndsSo began journal found released before after_ was is → IsEnded began journal found released before after_
+ended-by : (nodes : ℕ) (m : MachineData) (began : Began) (journal : List Entry) (found : Finish) (ending : Ending) (released : List ℕ)
+    (before after_ : Option (List ℕ)) (was is : ℕ) → ending_by nodes (flat_of m) found ≡ Some ending →
+    EndsSo began journal found released before after_ was is → IsEnded began journal found released before after_
 ended-by nodes m began journal finish.Over ending released before after_ was is e h = h
 ended-by nodes m began journal (finish.CutOff a b) ending released before after_ was is e h = h
 ended-by nodes m began journal finish.Budget ending released before after_ was is e h = h
@@ -93,15 +97,19 @@ module _ (r : Run) (began : Began) (m : MachineData) (journal : List Entry) (ans
 
   -- the report
 
-  summary-is : (mark : List ℕ) (probes : List Meter) (tallies : List (List ℕ)) → tallies ≡ tallies_by r probes journal → summed_up mark m r.showing.watch tallies ≡ summary_by mark r probes journal
+  summary-is : (mark : List ℕ) (probes : List Meter) (tallies : List (List ℕ)) → tallies ≡ tallies_by r probes journal →
+      summed_up mark m r.showing.watch tallies ≡ summary_by mark r probes journal
   summary-is mark probes tallies are =
       ap (λ (i : ImageData). summed_up mark (record m { image = i }) r.showing.watch tallies) by_run.image
       ∙ ap (λ (c : Config). summed_up mark (record m { image = r.program; config = c }) r.showing.watch tallies) by_run.config
-      ∙ ap (λ (s : State). summed_up mark (record m { image = r.program; config = r.config; state = s }) r.showing.watch tallies) by_run.state
+      ∙ ap (λ (s : State). summed_up mark
+      (record m { image = r.program; config = r.config; state = s }) r.showing.watch tallies) by_run.state
       ∙ ap (λ (n : ℕ). summary_pieces mark r.program r.config r.showing.watch tallies n (state_of (begins r) journal)) by_run.applied
-      ∙ ap (λ (t : List (List ℕ)). summary_pieces mark r.program r.config r.showing.watch t (length journal) (state_of (begins r) journal)) are
+      ∙ ap (λ (t : List (List ℕ)). summary_pieces mark r.program r.config r.showing.watch t (length journal)
+      (state_of (begins r) journal)) are
 
-  report-by_kind : (kind : RunReport) (probes : List Meter) (tallies : List (List ℕ)) → tallies ≡ tallies_by r probes journal → report_by_kind kind m journal r.showing tallies ≡ report_by kind r probes journal
+  report-by_kind : (kind : RunReport) (probes : List Meter) (tallies : List (List ℕ)) → tallies ≡ tallies_by r probes journal →
+      report_by_kind kind m journal r.showing tallies ≡ report_by kind r probes journal
   unfolding end_pieces
   report-by_kind Summary probes tallies are = summary-is [] probes tallies are
   report-by_kind Trace probes tallies are =
@@ -109,11 +117,14 @@ module _ (r : Run) (began : Began) (m : MachineData) (journal : List Entry) (ans
       ∙ ap (λ (t : List Piece). trace_pieces (state_of (begins r) journal).committed ++ t) (summary-is (codes "# ") probes tallies are)
   report-by_kind Journal probes tallies are = ap (λ (t : List Piece). journal_pieces journal ++ t) (summary-is (codes "# ") probes tallies are)
 
-  report-is : (probes told : List Meter) → told ≡ told_all journal answers probes → report_now m journal r.showing (tallies_of told) ≡ report_by r.showing.report r probes journal
-  report-is probes told are = report-by_kind r.showing.report probes (tallies_of told) (ap (λ (t : List Meter). tallies_of t) (knows-all probes told are))
+  report-is : (probes told : List Meter) → told ≡ told_all journal answers probes →
+      report_now m journal r.showing (tallies_of told) ≡ report_by r.showing.report r probes journal
+  report-is probes told are =
+      report-by_kind r.showing.report probes (tallies_of told) (ap (λ (t : List Meter). tallies_of t) (knows-all probes told are))
 
   -- as a trace, and as a script
-  is-trace : (probes : List Meter) (before behind : Option (List ℕ)) → r.showing.report ≡ Trace → behind ≡ followed_by before (report_text (report_by r.showing.report r probes journal)) → IsTrace r probes journal before behind
+  is-trace : (probes : List Meter) (before behind : Option (List ℕ)) → r.showing.report ≡ Trace →
+      behind ≡ followed_by before (report_text (report_by r.showing.report r probes journal)) → IsTrace r probes journal before behind
   is-trace probes before behind kind put = record {
     execution = lawful.1.execution;
     written = put ∙ ap (λ (k : RunReport). followed_by before (report_text (report_by k r probes journal))) kind
@@ -121,13 +132,15 @@ module _ (r : Run) (began : Began) (m : MachineData) (journal : List Entry) (ans
         ∙ ap (λ t. t ++ report_text (summary_by (codes "# ") r probes journal)) (report_text-trace (state_of (begins r) journal).committed));
   }
 
-  is-script : (probes : List Meter) (before behind : Option (List ℕ)) → HaveNumbers journal → r.showing.report ≡ Journal → behind ≡ followed_by before (report_text (report_by r.showing.report r probes journal)) → IsScript r probes journal before behind
+  is-script : (probes : List Meter) (before behind : Option (List ℕ)) → HaveNumbers journal → r.showing.report ≡ Journal →
+      behind ≡ followed_by before (report_text (report_by r.showing.report r probes journal)) → IsScript r probes journal before behind
   is-script probes before behind numbers kind put = record {
     written = put ∙ ap (λ (k : RunReport). followed_by before (report_text (report_by k r probes journal))) kind
         ∙ ap (followed_by before) (report_text-append (journal_pieces journal) (summary_by (codes "# ") r probes journal)
         ∙ ap (λ t. t ++ report_text (summary_by (codes "# ") r probes journal)) (report_text-journal journal));
     read = journal-read r.config.nodes may.ruled.few journal (report_text (summary_by (codes "# ") r probes journal)) (by_run.fit may.ruled) numbers (omega (arith, by_run.few, may.few))
-        (skips-summary r.config.nodes r.program r.config r.showing.watch (tallies_by r probes journal) (length journal) (state_of (begins r) journal));
+        (skips-summary r.config.nodes r.program r.config r.showing.watch (tallies_by r probes journal) (length journal)
+        (state_of (begins r) journal));
   }
 
   -- where the run ended
@@ -137,7 +150,8 @@ module _ (r : Run) (began : Began) (m : MachineData) (journal : List Entry) (ans
 
     its-ending : ending_of (begins r) journal ≡ Some ending
     its-ending =
-        ap (λ (o : Option Finish). option_and_then (ending_by r.config.nodes (flat_after (begins r) journal)) o) (ap (λ (b : Began). finish_by b journal) (sym same) ∙ ended.1)
+        ap (λ (o : Option Finish). option_and_then (ending_by r.config.nodes (flat_after (begins r) journal)) o)
+        (ap (λ (b : Began). finish_by b journal) (sym same) ∙ ended.1)
         ∙ ap (λ t. ending_by r.config.nodes t found) (sym flat-is)
         ∙ ap (λ (c : Config). ending_by c.nodes (flat_of m) found) (sym by_run.config) ∙ is-ending
 
@@ -148,18 +162,26 @@ module _ (r : Run) (began : Began) (m : MachineData) (journal : List Entry) (ans
     output-is = all-released ∙ ap (followed_by console) released-is
 
     console-put : ends written report ≡ after (ends console report) (console_piece (state_of (begins r) journal).released)
-    console-put = after-console_piece console written report (state_of (begins r) journal).released (all-released ∙ ap (λ (s : State). followed_by console s.released) by_run.state)
+    console-put =
+        after-console_piece console written report (state_of (begins r) journal).released
+        (all-released ∙ ap (λ (s : State). followed_by console s.released) by_run.state)
 
-    pub run-done : (listed : List Entry) → listed ≡ journal → (r.showing.report ≡ Journal → HaveNumbers listed) → ((c : Option (List ℕ)) → ends c shown ≡ after (ends c report) (report_now m listed r.showing (tallies_of told))) → IsDone r probes ending (ends console report) (ends written shown) told
+    pub run-done : (listed : List Entry) → listed ≡ journal → (r.showing.report ≡ Journal → HaveNumbers listed) →
+        ((c : Option (List ℕ)) → ends c shown ≡ after (ends c report) (report_now m listed r.showing (tallies_of told))) →
+        IsDone r probes ending (ends console report) (ends written shown) told
     run-done listed all numbers put =
-        let whole : ends written shown ≡ after (ends written report) (report_by r.showing.report r probes journal) = put written ∙ ap (λ (l : List Entry). after (ends written report) (report_now m l r.showing (tallies_of told))) all ∙ ap (after (ends written report)) (report-is probes told are) in
-        let text : shown ≡ followed_by report (report_text (report_by r.showing.report r probes journal)) = report-after (ends written report) (ends written shown) (report_by r.showing.report r probes journal) whole in (
+        let whole : ends written shown ≡ after (ends written report) (report_by r.showing.report r probes journal) = put written
+        ∙ ap (λ (l : List Entry). after (ends written report) (report_now m l r.showing (tallies_of told))) all
+        ∙ ap (after (ends written report)) (report-is probes told are) in
+        let text : shown ≡ followed_by report (report_text (report_by r.showing.report r probes journal)) = report-after
+        (ends written report) (ends written shown) (report_by r.showing.report r probes journal) whole in (
           journal,
           record {
             journal_is = its-journal;
             ended = its-ending;
             put = whole ∙ ap (λ (e : Ends). after e (report_by r.showing.report r probes journal)) console-put
-                ∙ after-append (ends console report) (console_piece (state_of (begins r) journal).released) (report_by r.showing.report r probes journal);
+                ∙ after-append (ends console report) (console_piece (state_of (begins r) journal).released)
+                (report_by r.showing.report r probes journal);
             shown = record {
               lawful = lawful;
               output = output-is;
@@ -171,10 +193,13 @@ module _ (r : Run) (began : Began) (m : MachineData) (journal : List Entry) (ans
           knows-all probes told are,
         )
 
-    pub run-cut_short : (listed : List Entry) → listed ≡ journal → ((c : Option (List ℕ)) → Breaks (report_now m listed r.showing (tallies_of told)) (ends c report) (ends c shown)) → IsBrokenOff r probes (ends console report) (ends written shown) told
+    pub run-cut_short : (listed : List Entry) → listed ≡ journal →
+        ((c : Option (List ℕ)) → Breaks (report_now m listed r.showing (tallies_of told)) (ends c report) (ends c shown)) →
+        IsBrokenOff r probes (ends console report) (ends written shown) told
     run-cut_short listed all put =
         let part : Breaks (report_by r.showing.report r probes journal) (ends written report) (ends written shown) =
-        subst (λ (t : List Piece). Breaks t (ends written report) (ends written shown)) (ap (λ (l : List Entry). report_now m l r.showing (tallies_of told)) all ∙ report-is probes told are) (put written) in (
+        subst (λ (t : List Piece). Breaks t (ends written report) (ends written shown))
+        (ap (λ (l : List Entry). report_now m l r.showing (tallies_of told)) all ∙ report-is probes told are) (put written) in (
           journal,
           knows-all probes told are,
           inr (
@@ -182,12 +207,16 @@ module _ (r : Run) (began : Began) (m : MachineData) (journal : List Entry) (ans
             record {
               journal_is = its-journal;
               ended = its-ending;
-              broken = Breaks-after (console_piece (state_of (begins r) journal).released) (report_by r.showing.report r probes journal) (ends console report) (ends written shown)
+              broken =
+                  Breaks-after (console_piece (state_of (begins r) journal).released) (report_by r.showing.report r probes journal)
+                  (ends console report) (ends written shown)
                   (subst (λ (e : Ends). Breaks (report_by r.showing.report r probes journal) e (ends written shown)) console-put part);
               shown = record {
                 lawful = lawful;
                 output = output-is;
-                report = report-begun (report_by r.showing.report r probes journal) part.whole part.rest part.piece part.count (ends written report) (ends written shown) part.all part.put;
+                report =
+                    report-begun (report_by r.showing.report r probes journal) part.whole part.rest part.piece part.count
+                    (ends written report) (ends written shown) part.all part.put;
                 replayed = replayed-so r probes journal lawful.1.output;
               };
             },
@@ -197,7 +226,9 @@ module _ (r : Run) (began : Began) (m : MachineData) (journal : List Entry) (ans
   -- where the console failed
   module _ (found : Finish) (was is : ℕ) (console written report : Option (List ℕ)) (probes told : List Meter) (result : Option Ending) (says : result ≡ ending_by m.config.nodes (flat_of m) found) (none : (ending : Ending) → result ≡ Some ending → ⊥) (so : EndsSo began journal found m.state.released console written was is) where
     stopped : IsBegun [] m.state.released console written × Rose was is
-    stopped = subst (λ (f : Finish). EndsSo began journal f m.state.released console written was is) (stopped-by m.config.nodes m found (sym says ∙ none-of result none)) so
+    stopped =
+        subst (λ (f : Finish). EndsSo began journal f m.state.released console written was is)
+        (stopped-by m.config.nodes m found (sym says ∙ none-of result none)) so
 
     pub run-stopped : told ≡ told_all journal answers probes → IsBrokenOff r probes (ends console report) (ends written report) told
     run-stopped are = (
@@ -206,7 +237,13 @@ module _ (r : Run) (began : Began) (m : MachineData) (journal : List Entry) (ans
       inl (record {
         journal_is = its-journal;
         lawful = lawful;
-        output = record { put = stopped.0.more; left = stopped.0.begun.rest; whole = stopped.0.begun.whole ∙ released-is; written = stopped.0.put };
+        output =
+            record {
+              put = stopped.0.more;
+              left = stopped.0.begun.rest;
+              whole = stopped.0.begun.whole ∙ released-is;
+              written = stopped.0.put;
+            };
         report = refl;
       }),
     )

@@ -107,7 +107,8 @@ KnowAll r journal probes told = told ≡ told_all (replay_of r journal) probes
 
 -- what a run comes to that puts all, and one that a sink broke
 abbrev pub IsDone : Run → List Meter → Ending → Ends → Ends → List Meter → Type 0
-IsDone r probes ending before behind told = (journal : List Entry) × IsRun r probes ending journal before behind × KnowAll r journal probes told
+IsDone r probes ending before behind told =
+    (journal : List Entry) × IsRun r probes ending journal before behind × KnowAll r journal probes told
 
 abbrev pub IsBrokenOff : Run → List Meter → Ends → Ends → List Meter → Type 0
 IsBrokenOff r probes before behind told = (journal : List Entry) × KnowAll r journal probes told × (

@@ -45,7 +45,8 @@ fn shared_for(
     requires sizes { config_fits config ≡ true }
     requires ruled { AreRules rules config.nodes }
     requires few { budget ≤ 1000000 }
-    ensures { IfSome result (λ s. begins_with s ≡ record { image = program; config = config; rules = rules; seed = seed; budget = budget }) }
+    ensures { IfSome result
+        (λ s. begins_with s ≡ record { image = program; config = config; rules = rules; seed = seed; budget = budget }) }
 {
     let nodes = config.nodes;
     let Ok(machine) = Machine::new(alloc, program, config) else {

@@ -1,5 +1,6 @@
 -- What a console has after one writing and another.
-use Rattle.std.proofs.Common.{◌≡◌, ℕ, ◌+◌, ◌≤◌, ◌^◌, ◌-◌, min, List, [], ◌++◌, Option, Some, None, Result, Ok, Err, Bool, true, false, is_err, OnOk, OnErr, refl, sym, ap, ◌∙◌, arith, append_assoc, append-nil}
+use Rattle.std.proofs.Common.{◌≡◌, ℕ, ◌+◌, ◌≤◌, ◌^◌, ◌-◌, min, List, [], ◌++◌, Option, Some, None, Result, Ok, Err, Bool, true, false}
+use Rattle.std.proofs.Common.{is_err, OnOk, OnErr, refl, sym, ap, ◌∙◌, arith, append_assoc, append-nil}
 use Rattle.sn_io.specs.declared.outside.Failed.{Failed}
 use Rattle.sn_io.specs.Outside.{followed_by, raised, Rose}
 use Rattle.sn_console.specs.Handed.{IsFirstOf, IsWritten, IsBegun}
@@ -45,12 +46,14 @@ pub rose-before : (a b d : ℕ) → Rose a b → b ≤ d → Rose a d
 rose-before a b d rose l = omega (arith, l, rose)
 
 -- bytes that are the first of a text, where the sink failed
-pub put-first : (r : Result (Unit {0}) Failed) (taken text : List ℕ) (before after : Option (List ℕ)) (was is : ℕ) → is_err r ≡ true → IsFirstOf taken text → Put r taken before after was is → Put r text before after was is
+pub put-first : (r : Result (Unit {0}) Failed) (taken text : List ℕ) (before after : Option (List ℕ)) (was is : ℕ) → is_err r ≡ true →
+    IsFirstOf taken text → Put r taken before after was is → Put r text before after was is
 put-first (Ok done) taken text before after was is failed first put = absurd cc
 put-first (Err e) taken text before after was is failed first put = (begun-first [] taken text before after put.0 first, put.1)
 
 -- and one writing after another that was whole
-pub put-then : (d r : Result (Unit {0}) Failed) (taken text : List ℕ) (before between after : Option (List ℕ)) (was mid is : ℕ) → is_err d ≡ false →
+pub put-then : (d r : Result (Unit {0}) Failed) (taken text : List ℕ) (before between after : Option (List ℕ)) (was mid is : ℕ) →
+    is_err d ≡ false →
     OnOk r (IsWritten taken text between after) → OnErr r (IsBegun taken text between after) → mid ≤ is → OnErr r (Rose mid is) →
     Put d taken before between was mid → Put r text before after was is
 put-then (Err e) r taken text before between after was mid is sound whole part later cause put = absurd cc

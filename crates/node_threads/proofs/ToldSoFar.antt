@@ -14,16 +14,20 @@ left journal answers place = told_in (drop place journal) (drop place answers)
 
 -- the first entries were told: told of what is left, the probes know all
 abbrev pub IsToldUpTo : List Entry → List Answer → ℕ → List Meter → List Meter → Type 0
-IsToldUpTo journal answers place before now_ = map (told_from (place + 1) (left journal answers place)) now_ ≡ told_all journal answers before
+IsToldUpTo journal answers place before now_ =
+    map (told_from (place + 1) (left journal answers place)) now_ ≡ told_all journal answers before
 
-left-more : (journal : List Entry) (answers : List Answer) (place : ℕ) (e : Entry) (a : Answer) → place < length journal → place < length answers →
-    left journal answers place ≡ record { event = (get_or journal place e).event; answer = get_or answers place a } ∷ left journal answers (place + 1)
+left-more : (journal : List Entry) (answers : List Answer) (place : ℕ) (e : Entry) (a : Answer) → place < length journal →
+    place < length answers →
+    left journal answers place ≡ record { event = (get_or journal place e).event; answer = get_or answers place a }
+    ∷ left journal answers (place + 1)
 left-more journal answers place e a there answered =
     ap (λ l. told_in l (drop place answers)) (drop_more journal place e there)
     ∙ ap (λ l. told_in (get_or journal place e ∷ drop (place + 1) journal) l) (drop_more answers place a answered)
 
 -- one more is told
-pub told-next : (journal : List Entry) (answers : List Answer) (place number : ℕ) (e : Entry) (a : Answer) (before now_ behind : List Meter) → place < length journal → place < length answers →
+pub told-next : (journal : List Entry) (answers : List Answer) (place number : ℕ) (e : Entry) (a : Answer)
+    (before now_ behind : List Meter) → place < length journal → place < length answers →
     e ≡ get_or journal place e → a ≡ get_or answers place a → number ≡ place + 1 → behind ≡ map (told_of number e.event a) now_ →
     IsToldUpTo journal answers place before now_ → IsToldUpTo journal answers (place + 1) before behind
 told-next journal answers place number e a before now_ behind there answered is_entry is_answer is_number told h =
@@ -38,6 +42,7 @@ told-next journal answers place number e a before now_ behind there answered is_
     ∙ sym (ap (λ l. map (told_from (place + 1) l) now_) split) ∙ h
 
 -- nothing is left
-pub told-all : (journal : List Entry) (answers : List Answer) (place : ℕ) (before now_ : List Meter) → length journal ≤ place → IsToldUpTo journal answers place before now_ → now_ ≡ told_all journal answers before
+pub told-all : (journal : List Entry) (answers : List Answer) (place : ℕ) (before now_ : List Meter) → length journal ≤ place →
+    IsToldUpTo journal answers place before now_ → now_ ≡ told_all journal answers before
 told-all journal answers place before now_ e h =
     sym (map-id now_) ∙ sym (ap (λ l. map (told_from (place + 1) (told_in l (drop place answers))) now_) (drop_all place journal e)) ∙ h

@@ -20,7 +20,8 @@ pub(crate) fn close<L: RunName>(
     requires nodes { 0 < L.began.config.nodes }
     requires part { 0 < all.old.parts }
     ensures parts { all.new.parts ≡ all.old.parts }
-    ensures finish { IsOk drained.now → refusal_of locked.new.driver locked.new.machine (nat_le locked.new.budget (length locked.new.journal)) ≡ Some result }
+    ensures finish { IsOk drained.now →
+        refusal_of locked.new.driver locked.new.machine (nat_le locked.new.budget (length locked.new.journal)) ≡ Some result }
 {
     if drained.is_err() {
         return Finish::Stopped;

@@ -39,7 +39,8 @@ fn turns<L: RunName + Send + Sync, T: Threads + Wait + Sync, C: Sink + Send, G: 
 ) -> Result<(), Failed>
     requires { 0 < length slots.old }
     ensures end { SameInbox inbox.old inbox.new }
-    ensures put { taken inbox.old ≡ [] → Put result (taken inbox.new) (C.written console.old) (C.written console.new) (C.faults console.old) (C.faults console.new) }
+    ensures put { taken inbox.old ≡ [] →
+        Put result (taken inbox.new) (C.written console.old) (C.written console.new) (C.faults console.old) (C.faults console.new) }
     ensures later { C.faults console.old ≤ C.faults console.new }
 {
     let bell = Bell::new();
@@ -75,8 +76,10 @@ fn finish<L: RunName, C: Sink>(
     requires parts { (0 < all.parts) × (all.parts ≡ L.parts) }
     requires ends { (outbox : Outbox) → L.of_ring outbox → AreEnds outbox inbox }
     ensures run { IsRunOf L.began result.machine result.journal.items result.answers.items }
-    ensures ends { (before : Option (List ℕ)) (was : ℕ) → Put drained (taken inbox) before (C.written console.old) was (C.faults console.old)
-        → Ends L.began result.journal.items result.finish result.machine.state.released before (C.written console.new) was (C.faults console.new) }
+    ensures ends { (before : Option (List ℕ)) (was : ℕ) →
+        Put drained (taken inbox) before (C.written console.old) was (C.faults console.old)
+        → Ends L.began result.journal.items result.finish result.machine.state.released before (C.written console.new) was
+        (C.faults console.new) }
     ensures later { C.faults console.old ≤ C.faults console.new }
 {
     let mut locked = locked;

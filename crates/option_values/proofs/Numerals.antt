@@ -1,5 +1,6 @@
 -- Digits as a test, and what the reader of std makes of them.
-use Rattle.std.proofs.Common.{◌≡◌, ◌==◌, ◌&&◌, ◌<◌, ◌^◌, ℕ, Bool, cond, true, false, refl, sym, subst, arith, List, [], ◌∷◌, drop, slice_index, Some, None, Result, Ok, Err, nat_lt}
+use Rattle.std.proofs.Common.{◌≡◌, ◌==◌, ◌&&◌, ◌<◌, ◌^◌, ℕ, Bool, cond, true, false, refl, sym, subst, arith, List, [], ◌∷◌, drop}
+use Rattle.std.proofs.Common.{slice_index, Some, None, Result, Ok, Err, nat_lt}
 use Rattle.std.proofs.lemmas.Bool.Decides.{nat_tests}
 use Rattle.std.specs.Char.{is_digit}
 use Rattle.std.specs.List.{list_all}
@@ -29,9 +30,11 @@ module _ {E : Type 0} (radix : ℕ) (text : List ℕ) where
   read (Ok n) h = rw (are-digits radix text h.0.0) grind (arith, nat_tests, h.0.1, h.1)
   read (Err e) h = go (are_digits radix text && nat_lt (digits_value radix text) (2 ^ 64)) refl
     where
-      go : (b : Bool) → (are_digits radix text && nat_lt (digits_value radix text) (2 ^ 64)) ≡ b → None ≡ cond b (Some (digits_value radix text)) None
+      go : (b : Bool) → (are_digits radix text && nat_lt (digits_value radix text) (2 ^ 64)) ≡ b →
+          None ≡ cond b (Some (digits_value radix text)) None
       go false is = refl
       go true is = absurd (h (is-numeral radix text (grind (arith, nat_tests, is)), grind (arith, nat_tests, is)))
 
-  pub read_as : (r : Result ℕ E) → false ≡ (slice_index text 0 == 43) → ParsesUnsigned 64 radix text r → result_ok r ≡ number_below (2 ^ 64) radix text
+  pub read_as : (r : Result ℕ E) → false ≡ (slice_index text 0 == 43) → ParsesUnsigned 64 radix text r →
+      result_ok r ≡ number_below (2 ^ 64) radix text
   read_as r plain h = read r (subst (λ t. Reads r (drop (cond t 1 0) text)) (sym plain) h)

@@ -1,5 +1,6 @@
 -- What the texts of a run's own options mean.
-use Rattle.std.specs.Prelude.{ℕ, ◌+◌, ◌*◌, ◌-◌, ◌^◌, ◌==◌, Bool, true, ◌&&◌, nat_eq, nat_le, nat_lt, if◌then◌else◌, [], ◌∷◌, length, slice_index, Option, Some, None, option_map, option_and_then}
+use Rattle.std.specs.Prelude.{ℕ, ◌+◌, ◌*◌, ◌-◌, ◌^◌, ◌==◌, Bool, true, ◌&&◌, nat_eq, nat_le, nat_lt, if◌then◌else◌, [], ◌∷◌, length}
+use Rattle.std.specs.Prelude.{slice_index, Option, Some, None, option_map, option_and_then}
 use Rattle.std.specs.List.{before_first, after_first}
 use Rattle.std.specs.Option.{option_map_or}
 use Rattle.sn_base.specs.Config.{lies_in}
@@ -50,7 +51,8 @@ abbrev pub run_rules_by : ℕ → Option Text → Option Text → Option Text �
 run_rules_by nodes interval wait lose_every kill budget seed =
     option_and_then (λ i. option_and_then (λ w. option_and_then (λ l. option_and_then (λ k. option_and_then (λ b. option_map (λ s.
     record { interval = i; wait = w; lose_every = l; kill = k; budget = b; seed = s })
-    (number_by seed_rule seed)) (number_by budget_rule budget)) (kill_by nodes kill)) (number_by lose_rule lose_every)) (number_by wait_rule wait))
+    (number_by seed_rule seed)) (number_by budget_rule budget)) (kill_by nodes kill)) (number_by lose_rule lose_every))
+    (number_by wait_rule wait))
     (number_by interval_rule interval)
 
 -- whether a switch that dies is one of so many nodes

@@ -1,5 +1,6 @@
 -- What the texts of option values mean.
-use Rattle.std.specs.Prelude.{ℕ, ◌%◌, ◌+◌, ◌-◌, Bool, ◌&&◌, nat_eq, nat_le, nat_lt, if◌then◌else◌, List, length, Option, Some, None, option_map, option_and_then}
+use Rattle.std.specs.Prelude.{ℕ, ◌%◌, ◌+◌, ◌-◌, Bool, ◌&&◌, nat_eq, nat_le, nat_lt, if◌then◌else◌, List, length, Option, Some, None}
+use Rattle.std.specs.Prelude.{option_map, option_and_then}
 use Rattle.std.specs.Char.{is_digit}
 use Rattle.std.specs.List.{list_all}
 use Rattle.std.specs.Str.Parse.{digits_value}
@@ -17,12 +18,14 @@ are_digits radix text = nat_lt 0 (length text) && list_all (λ c. is_digit c rad
 
 -- the number that such a text writes, where it is below a limit
 abbrev pub number_below : ℕ → ℕ → Text → Option ℕ
-number_below limit radix text = if are_digits radix text && nat_lt (digits_value radix text) limit then Some (digits_value radix text) else None
+number_below limit radix text =
+    if are_digits radix text && nat_lt (digits_value radix text) limit then Some (digits_value radix text) else None
 
 -- a number of a range, in at most 20 decimal digits, of which the first may be zeros
 abbrev pub number_in : ℕ → ℕ → Text → Option ℕ
 number_in least greatest text =
-    if nat_le (length text) 20 && are_digits 10 text && lies_in least greatest (digits_value 10 text) then Some (digits_value 10 text) else None
+    if nat_le (length text) 20 && are_digits 10 text && lies_in least greatest (digits_value 10 text) then Some (digits_value 10 text)
+    else None
 
 -- the number of an option that is given or isn't
 abbrev pub number_by : NumberRule → Option Text → Option ℕ

@@ -2,7 +2,8 @@
 ghost use Rattle.std.specs.Prelude.{◌≡◌, ◌*◌, ◌<◌, ◌≤◌, ◌&&◌, nat_eq, nat_lt, true, IfSome, option_map, length, slice_index};
 ghost use Rattle.option_values.specs.Values.{number_by};
 ghost use Rattle.sn_base.specs.Config.{lies_in};
-ghost use Rattle.option_values.specs.Runs.{interval_rule, wait_rule, budget_rule, lose_rule, node_in, switch_in, kill_in, kill_by, run_rules_by, kill_fits, run_rules_fit};
+ghost use Rattle.option_values.specs.Runs.{interval_rule, wait_rule, budget_rule, lose_rule, node_in, switch_in, kill_in, kill_by};
+ghost use Rattle.option_values.specs.Runs.{run_rules_by, kill_fits, run_rules_fit};
 
 use crate::digits::number_in_radix;
 use crate::number::{BUDGET, INTERVAL, LOSE_EVERY, SEED, WAIT, read_events};
@@ -129,7 +130,8 @@ impl RunWords<'_> {
     /// nodes, as `a0` or `b12`, then `@`, and a number of events up to 1,000,000.
     pub fn rules(&self, nodes: u8) -> Option<RunRules>
         requires few { nodes ≤ 16 }
-        ensures rules { result ≡ run_rules_by nodes (option_map (λ text. text.now) self.now.interval) (option_map (λ text. text.now) self.now.wait)
+        ensures rules { result ≡
+            run_rules_by nodes (option_map (λ text. text.now) self.now.interval) (option_map (λ text. text.now) self.now.wait)
             (option_map (λ text. text.now) self.now.lose_every) (option_map (λ text. text.now) self.now.kill)
             (option_map (λ text. text.now) self.now.budget) (option_map (λ text. text.now) self.now.seed) }
         ensures fits { IfSome result (λ rules. run_rules_fit nodes rules ≡ true) }

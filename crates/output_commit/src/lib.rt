@@ -51,14 +51,20 @@ impl OutBuffer {
     /// Holds a byte that was put out in this interval.
     pub fn put(&mut self, interval: Interval, byte: u8)
         requires { 0 < self.old.room }
-        ensures { self.new ≡ record self.old { held = self.old.held ++ record { interval = interval; entry = byte } ∷ []; room = self.old.room - 1 } }
+        ensures { self.new ≡ record self.old {
+          held = self.old.held ++ record { interval = interval; entry = byte } ∷ [];
+          room = self.old.room - 1;
+        } }
     {
         self.bytes.add(interval, byte);
     }
 
     /// Releases the bytes of the intervals below k, once checkpoint k is validated.
     pub fn release_below(&mut self, k: Interval)
-        ensures { self.new ≡ record self.old { held = waiting_from k self.old.held; released = self.old.released ++ entries_below k self.old.held } }
+        ensures { self.new ≡ record self.old {
+          held = waiting_from k self.old.held;
+          released = self.old.released ++ entries_below k self.old.held;
+        } }
     {
         self.bytes.commit_below(k);
     }

@@ -6,7 +6,8 @@ use Rattle.rv_core.specs.declared.step.Record.{Record}
 use Rattle.rv_core.specs.Core.{bare}
 use Rattle.sn_consistency.specs.Entries.{Entry}
 use Rattle.sn_consistency.specs.Words.{block}
-use Rattle.sn_consistency.specs.Projections.{Replays, core_step, core_after, CoreGood, entries, BlockState, block_step, BlockLegal, BlockGood}
+use Rattle.sn_consistency.specs.Projections.{Replays, core_step, core_after, CoreGood, entries, BlockState, block_step, BlockLegal}
+use Rattle.sn_consistency.specs.Projections.{BlockGood}
 
 -- a block after a list of entries
 abbrev pub block_after : ImageData → ℕ → BlockState → List Entry → BlockState

@@ -23,8 +23,11 @@ module _ (image : ImageData) where
   block_fewer b v c [] (suc k) m l g = tt
   block_fewer b v c (r ∷ rs) zero m l g = tt
   block_fewer b v c (r ∷ rs) (suc k) zero l g = absurd (omega (arith, l))
-  block_fewer b v c (r ∷ rs) (suc k) (suc m) l g =
-      (g.0, block_fewer b (block_step image b v (record { found = bare (c r.core); did = r })) (λ n. core_step image n (c n) r) rs k m (omega (arith, l)) g.1)
+  block_fewer b v c (r ∷ rs) (suc k) (suc m) l g = (
+    g.0,
+    block_fewer b (block_step image b v (record { found = bare (c r.core); did = r })) (λ n. core_step image n (c n) r) rs k m
+        (omega (arith, l)) g.1,
+  )
 
 -- two together
 pub passes_both : (A B : ℕ → Type 0) → HoldsOfFewer A → HoldsOfFewer B → (limit p q : ℕ) →

@@ -83,7 +83,8 @@ pub fn unwind<E: Entries, T: Restore>(log: &E, k: Interval, target: &mut T) -> u
 
 fn forget_all<E: Entries, T: Restore>(log: &E, k: Interval, target: &mut T)
     ensures held { (b : ℕ) → T.holds target.new b ≡ all_forgotten (E.entries log.now) T.home_side k (T.holds target.old) b }
-    ensures fits { (i : ℕ) (d : LogEntry) → i < length (E.entries log.now) → k ≤ (slice_index_or (E.entries log.now) i d).interval → T.fits target.new (T.holds target.new) }
+    ensures fits { (i : ℕ) (d : LogEntry) → i < length (E.entries log.now) → k ≤ (slice_index_or (E.entries log.now) i d).interval →
+        T.fits target.new (T.holds target.new) }
     ensures room { (map : ℕ → Old) → T.fits target.old map → T.fits target.new map }
     ensures stays { T.stays target.old target.new }
 {
@@ -97,8 +98,10 @@ fn forget_all<E: Entries, T: Restore>(log: &E, k: Interval, target: &mut T)
 
 fn put_back_oldest<E: Entries, T: Restore>(log: &E, k: Interval, target: &mut T)
     requires growing { IsGrowing (E.entries log.now) }
-    requires gone { (b : ℕ) → is_changed (E.entries log.now) T.home_side b k ≡ true → left T.home_side (T.holds target.old b) ≡ T.holds target.old b }
-    requires fits { (i : ℕ) (d : LogEntry) → i < length (E.entries log.now) → k ≤ (slice_index_or (E.entries log.now) i d).interval → T.fits target.old (T.holds target.old) }
+    requires gone { (b : ℕ) → is_changed (E.entries log.now) T.home_side b k ≡ true →
+        left T.home_side (T.holds target.old b) ≡ T.holds target.old b }
+    requires fits { (i : ℕ) (d : LogEntry) → i < length (E.entries log.now) → k ≤ (slice_index_or (E.entries log.now) i d).interval →
+        T.fits target.old (T.holds target.old) }
     requires last { T.fits target.old (unwound (E.entries log.now) T.home_side k (T.holds target.old)) }
     ensures held { (b : ℕ) → T.holds target.new b ≡ unwound (E.entries log.now) T.home_side k (T.holds target.old) b }
     ensures room { (map : ℕ → Old) → T.fits target.old map → T.fits target.new map }

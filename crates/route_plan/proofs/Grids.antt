@@ -1,5 +1,6 @@
 -- how many rows and columns there are, and that each step along a ring leads to a switch that is there
-use Rattle.std.proofs.Common.{◌≡◌, ℕ, zero, suc, ◌+◌, ◌-◌, ◌*◌, ◌/◌, ◌%◌, ◌<◌, ◌≤◌, Bool, true, false, cond, ◌&&◌, eqb, [], ◌∷◌, refl, ap, arith}
+use Rattle.std.proofs.Common.{◌≡◌, ℕ, zero, suc, ◌+◌, ◌-◌, ◌*◌, ◌/◌, ◌%◌, ◌<◌, ◌≤◌, Bool, true, false, cond, ◌&&◌, eqb, [], ◌∷◌, refl, ap}
+use Rattle.std.proofs.Common.{arith}
 use Rattle.std.proofs.lemmas.Bool.Decides.{nat_tests}
 use Rattle.std.proofs.lemmas.Nat.{mul-add-lt, div_below, mod_below, div-add-mod'}
 use Rattle.route_plan.specs.Grid.{greatest_divisor, row_count, column_count, after, before, along, partner, is_a}
@@ -100,14 +101,17 @@ unfolding partner
 partner-b s e = rw e refl
 
 pub neighbours-a : (n rows columns s : ℕ) → IsGrid n rows columns → s % 2 ≡ 0 →
-    2 * (s / 2 / columns * columns + after columns (s / 2 % columns)) ∷ 2 * (s / 2 / columns * columns + before columns (s / 2 % columns)) ∷ (s + 1) ∷ [] ≡
+    2 * (s / 2 / columns * columns + after columns (s / 2 % columns)) ∷ 2 * (s / 2 / columns * columns + before columns (s / 2 % columns))
+    ∷ (s + 1) ∷ [] ≡
     along after n s ∷ along before n s ∷ partner s ∷ []
 neighbours-a n rows columns s g e = rw (along-row after n rows columns s g e, along-row before n rows columns s g e, partner-a s e) refl
 
 pub neighbours-b : (n rows columns s : ℕ) → IsGrid n rows columns → s % 2 ≡ 1 →
-    (2 * (after rows (s / 2 / columns) * columns + s / 2 % columns) + 1) ∷ (2 * (before rows (s / 2 / columns) * columns + s / 2 % columns) + 1) ∷ (s - 1) ∷ [] ≡
+    (2 * (after rows (s / 2 / columns) * columns + s / 2 % columns) + 1)
+    ∷ (2 * (before rows (s / 2 / columns) * columns + s / 2 % columns) + 1) ∷ (s - 1) ∷ [] ≡
     along after n s ∷ along before n s ∷ partner s ∷ []
-neighbours-b n rows columns s g e = rw (along-column after n rows columns s g e, along-column before n rows columns s g e, partner-b s e) refl
+neighbours-b n rows columns s g e =
+    rw (along-column after n rows columns s g e, along-column before n rows columns s g e, partner-b s e) refl
 
 pub grid_of : (n : ℕ) → 1 ≤ n → n ≤ 16 → IsGrid n (row_count n) (n / row_count n)
 grid_of n l m = grid_made n (row_count n) l m refl

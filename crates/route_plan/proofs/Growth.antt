@@ -1,5 +1,6 @@
 -- a level's table while it is filled, switch by switch
-use Rattle.std.proofs.Common.{◌≡◌, ℕ, ◌+◌, ◌*◌, ◌/◌, ◌<◌, ◌≤◌, ◌≢◌, Bool, true, false, not, ◌&&◌, cond, eqb, ltb, inl, inr, List, length, get_or, set, refl, sym, ◌∙◌, arith}
+use Rattle.std.proofs.Common.{◌≡◌, ℕ, ◌+◌, ◌*◌, ◌/◌, ◌<◌, ◌≤◌, ◌≢◌, Bool, true, false, not, ◌&&◌, cond, eqb, ltb, inl, inr, List, length}
+use Rattle.std.proofs.Common.{get_or, set, refl, sym, ◌∙◌, arith}
 use Rattle.std.proofs.lemmas.Bool.{cases_eq, ne_eqb, eq-eqb, lt-ltb, and_right}
 use Rattle.std.proofs.lemmas.Grind.{common_steps}
 use Rattle.route_plan.specs.Distances.{Switches, is_dead, is_living}
@@ -44,10 +45,13 @@ pub first_table : (m : Switches) (to s : ℕ) (base : List ℕ) → length base 
 unfolding is_living
 first_table m to s base long all few there l =
     elim (cases_eq s (2 * to)) [
-      | inl i ↦ rw i (at_first (cond (is_dead m.dead (2 * to)) 32 0) (cond (is_dead m.dead (2 * to + 1)) 32 0) ∙ here (2 * to) m.nodes to (is_dead m.dead (2 * to)) (omega arith) (omega arith))
+      | inl i ↦ rw i (at_first (cond (is_dead m.dead (2 * to)) 32 0) (cond (is_dead m.dead (2 * to + 1)) 32 0)
+          ∙ here (2 * to) m.nodes to (is_dead m.dead (2 * to)) (omega arith) (omega arith))
       | inr i ↦ elim (cases_eq s (2 * to + 1)) [
-        | inl j ↦ rw j (at_second (cond (is_dead m.dead (2 * to)) 32 0) (cond (is_dead m.dead (2 * to + 1)) 32 0) ∙ here (2 * to + 1) m.nodes to (is_dead m.dead (2 * to + 1)) (omega arith) (omega arith))
-        | inr j ↦ at_other i j (cond (is_dead m.dead (2 * to)) 32 0) (cond (is_dead m.dead (2 * to + 1)) 32 0) ∙ sym (elsewhere s to (ltb s (2 * m.nodes) && not (is_dead m.dead s)) (λ e. absurd (omega arith)))
+        | inl j ↦ rw j (at_second (cond (is_dead m.dead (2 * to)) 32 0) (cond (is_dead m.dead (2 * to + 1)) 32 0)
+            ∙ here (2 * to + 1) m.nodes to (is_dead m.dead (2 * to + 1)) (omega arith) (omega arith))
+        | inr j ↦ at_other i j (cond (is_dead m.dead (2 * to)) 32 0) (cond (is_dead m.dead (2 * to + 1)) 32 0)
+            ∙ sym (elsewhere s to (ltb s (2 * m.nodes) && not (is_dead m.dead s)) (λ e. absurd (omega arith)))
       ]
     ]
   where

@@ -1,6 +1,8 @@
 -- which nodes are joined, and what the routes are where all are
-use Rattle.std.proofs.Common.{◌≡◌, ℕ, ◌+◌, ◌*◌, ◌%◌, ◌<◌, ◌≤◌, ◌≢◌, Bool, true, false, ◌&&◌, eqb, leb, ltb, ◌⊎◌, inl, inr, ◌∷◌, length, Option, Some, None, refl, sym, ap, ◌∙◌, arith}
-use Rattle.std.proofs.lemmas.Bool.{cases_eq, cases_lt, and_parts, and_cases, eqb-true, eqb-false, ltb-true, ltb-false, lt-ltb, le-ltb, le-leb, lt-leb, leb-true}
+use Rattle.std.proofs.Common.{◌≡◌, ℕ, ◌+◌, ◌*◌, ◌%◌, ◌<◌, ◌≤◌, ◌≢◌, Bool, true, false, ◌&&◌, eqb, leb, ltb, ◌⊎◌, inl, inr, ◌∷◌, length}
+use Rattle.std.proofs.Common.{Option, Some, None, refl, sym, ap, ◌∙◌, arith}
+use Rattle.std.proofs.lemmas.Bool.{cases_eq, cases_lt, and_parts, and_cases, eqb-true, eqb-false, ltb-true, ltb-false, lt-ltb, le-ltb}
+use Rattle.std.proofs.lemmas.Bool.{le-leb, lt-leb, leb-true}
 use Rattle.route_plan.specs.Grid.{node_of, partner}
 use Rattle.route_plan.specs.Distances.{Switches, is_living, least_below, distance}
 use Rattle.route_plan.specs.Routes.{enter_of, is_cut_off, cut_off_from, first_cut_off}
@@ -19,13 +21,16 @@ own_switch : (s a : ℕ) → node_of s ≡ a → (s ≡ 2 * a) ⊎ (s ≡ 2 * a 
 own_switch s a e = elim (cases_eq s (2 * a)) [ inl h ↦ inl h | inr d ↦ inr (omega arith) ]
 
 near_joined : (m : Switches) (a b s : ℕ) → node_of s ≡ a → distance m b s < 32 → AreJoined m a b
-near_joined m a b s e l = let w = walk-from m b (distance m b s) s refl l in record { first = s; others = w.others; begins = e; leads = w.leads }
+near_joined m a b s e l =
+    let w = walk-from m b (distance m b s) s refl l in record { first = s; others = w.others; begins = e; leads = w.leads }
 
 pub not_cut-joined : (m : Switches) (a b : ℕ) → is_cut_off m a b ≡ false → AreJoined m a b
 unfolding is_cut_off
 not_cut-joined m a b e = elim (and_cases (eqb (distance m b (2 * a)) 32) (eqb (distance m b (2 * a + 1)) 32) e) [
-  | inl h ↦ (let d = eqb-false (distance m b (2 * a)) 32 h in let l : distance m b (2 * a) ≤ 32 = distance-most m b (2 * a) in near_joined m a b (2 * a) (omega arith) (below _ d l))
-  | inr h ↦ (let d = eqb-false (distance m b (2 * a + 1)) 32 h in let l : distance m b (2 * a + 1) ≤ 32 = distance-most m b (2 * a + 1) in near_joined m a b (2 * a + 1) (omega arith) (below _ d l))
+  | inl h ↦ (let d = eqb-false (distance m b (2 * a)) 32 h in let l : distance m b (2 * a) ≤ 32 = distance-most m b (2 * a) in
+      near_joined m a b (2 * a) (omega arith) (below _ d l))
+  | inr h ↦ (let d = eqb-false (distance m b (2 * a + 1)) 32 h in let l : distance m b (2 * a + 1) ≤ 32 = distance-most m b (2 * a + 1) in
+      near_joined m a b (2 * a + 1) (omega arith) (below _ d l))
 ]
   where
     below : (x : ℕ) → (x ≡ 32 → ⊥) → x ≤ 32 → x < 32
@@ -37,7 +42,8 @@ cut-apart m a b z e j =
     let p = and_parts (eqb (distance m b (2 * a)) 32) (eqb (distance m b (2 * a + 1)) 32) e in
     let f : distance m b (2 * a) ≡ 32 = eqb-true (distance m b (2 * a)) 32 p.0 in
     let g : distance m b (2 * a + 1) ≡ 32 = eqb-true (distance m b (2 * a + 1)) 32 p.1 in
-    let l : distance m b j.first < 32 = leads-distance m b j.first j.others z (living-there m j.first (path-first m j.first j.others j.leads.path)) j.leads in
+    let l : distance m b j.first < 32 = leads-distance m b j.first j.others z
+    (living-there m j.first (path-first m j.first j.others j.leads.path)) j.leads in
     elim (own_switch j.first a j.begins) [
       | inl h ↦ (let i : distance m b j.first ≡ distance m b (2 * a) = ap (λ s. distance m b s) h in absurd (omega arith))
       | inr h ↦ (let i : distance m b j.first ≡ distance m b (2 * a + 1) = ap (λ s. distance m b s) h in absurd (omega arith))
@@ -53,7 +59,8 @@ none_from m a b l o i =
 
 before_found : (m : Switches) (a b : ℕ) → b < cut_off_from m a → a ≤ b → is_cut_off m a b ≡ false
 unfolding cut_off_from
-before_found m a b l o = other (leb a b) (is_cut_off m a b) (least_below-before m.nodes (λ b. leb a b && is_cut_off m a b) b l) (le-leb a b o)
+before_found m a b l o =
+    other (leb a b) (is_cut_off m a b) (least_below-before m.nodes (λ b. leb a b && is_cut_off m a b) b l) (le-leb a b o)
   where
     other : (x y : Bool) → (x && y) ≡ false → x ≡ true → y ≡ false
     other x y e f = grind arith
@@ -95,7 +102,8 @@ pair_by m =
       })
     ]
 
-all_joined : (m : Switches) → IsSized m → ((c : ℕ) → c < m.nodes → m.nodes ≤ cut_off_from m c) → (a b : ℕ) → a < m.nodes → b < m.nodes → AreJoined m a b
+all_joined : (m : Switches) → IsSized m → ((c : ℕ) → c < m.nodes → m.nodes ≤ cut_off_from m c) → (a b : ℕ) → a < m.nodes → b < m.nodes →
+    AreJoined m a b
 all_joined m z h a b l i = elim (cases_lt b a) [
   | inl o ↦ joined-back m b a z (not_cut-joined m b a (none_from m b a (h b i) (omega arith) l))
   | inr o ↦ not_cut-joined m a b (none_from m a b (h a l) o i)
@@ -111,8 +119,10 @@ none-joined m z e = by_pair (pair_by m)
     by_pair (inl p) = absurd (clash _ _ (sym p.is ∙ e))
     by_pair (inr n) = all_joined m z n.all
 
-all_none : (m : Switches) → IsSized m → ((a b : ℕ) → a < m.nodes → b < m.nodes → AreJoined m a b) → PairFound m ⊎ PairNone m → first_cut_off m ≡ None
-all_none m z h (inl p) = absurd (cut-apart m p.a (cut_off_from m p.a) z (found_cut m p.a p.cut).1 (h p.a (cut_off_from m p.a) p.there p.cut))
+all_none : (m : Switches) → IsSized m → ((a b : ℕ) → a < m.nodes → b < m.nodes → AreJoined m a b) → PairFound m ⊎ PairNone m →
+    first_cut_off m ≡ None
+all_none m z h (inl p) =
+    absurd (cut-apart m p.a (cut_off_from m p.a) z (found_cut m p.a p.cut).1 (h p.a (cut_off_from m p.a) p.there p.cut))
 all_none m z h (inr n) = n.is
 
 pub joined-none : (m : Switches) → IsSized m → ((a b : ℕ) → a < m.nodes → b < m.nodes → AreJoined m a b) → first_cut_off m ≡ None
@@ -153,18 +163,22 @@ first-pair m a b z e = first_by m a b z e (pair_by m)
 partner_of : (m : Switches) (s t : ℕ) → node_of s ≡ node_of t → s ≢ t → s ≡ partner t
 partner_of m s t e d = elim (cases_eq (t % 2) 0) [ inl h ↦ omega (arith, partner-a t h) | inr h ↦ omega (arith, partner-b t (omega arith)) ]
 
-pub living-near : (m : Switches) (to s : ℕ) → IsSized m → first_cut_off m ≡ None → to < m.nodes → is_living m s ≡ true → distance m to s < 32
+pub living-near : (m : Switches) (to s : ℕ) → IsSized m → first_cut_off m ≡ None → to < m.nodes → is_living m s ≡ true →
+    distance m to s < 32
 living-near m to s z e l f =
     let there : s < 2 * m.nodes = living-there m s f in
     let j = none-joined m z e (node_of s) to (omega arith) l in
     elim (cases_eq j.first s) [
-      | inl h ↦ rw (← h) (leads-distance m to j.first j.others z (living-there m j.first (path-first m j.first j.others j.leads.path)) j.leads)
+      | inl h ↦ rw (← h) (leads-distance m to j.first j.others z
+          (living-there m j.first (path-first m j.first j.others j.leads.path)) j.leads)
       | inr d ↦ leads-distance m to s (j.first ∷ j.others) z there
-          (leads-on m to s j.first j.others f (linked-is m.nodes s j.first (λ h. d (sym h)) (inr (inr (partner_of m j.first s j.begins d)))) j.leads)
+          (leads-on m to s j.first j.others f
+          (linked-is m.nodes s j.first (λ h. d (sym h)) (inr (inr (partner_of m j.first s j.begins d)))) j.leads)
     ]
 
 -- the entry is the nearer of the two switches
-some_near : (m : Switches) (from to : ℕ) → IsSized m → AreJoined m from to → (distance m to (2 * from) < 32) ⊎ (distance m to (2 * from + 1) < 32)
+some_near : (m : Switches) (from to : ℕ) → IsSized m → AreJoined m from to →
+    (distance m to (2 * from) < 32) ⊎ (distance m to (2 * from + 1) < 32)
 some_near m from to z j =
     let l = leads-distance m to j.first j.others z (living-there m j.first (path-first m j.first j.others j.leads.path)) j.leads in
     elim (own_switch j.first from j.begins) [
@@ -176,7 +190,8 @@ least_near : (x y s : ℕ) → s ≤ x → s ≤ y → (x < 32) ⊎ (y < 32) →
 least_near x y s l n (inl h) = omega arith
 least_near x y s l n (inr h) = omega arith
 
-either_way : (m : Switches) (from to t d : ℕ) → node_of t ≡ from → d ≤ distance m to (2 * from) → d ≤ distance m to (2 * from + 1) → d ≤ distance m to t
+either_way : (m : Switches) (from to t d : ℕ) → node_of t ≡ from → d ≤ distance m to (2 * from) → d ≤ distance m to (2 * from + 1) →
+    d ≤ distance m to t
 either_way m from to t d e l n = elim (own_switch t from e) [
   | inl h ↦ (let f : distance m to t ≡ distance m to (2 * from) = ap (λ s. distance m to s) h in omega arith)
   | inr h ↦ (let f : distance m to t ≡ distance m to (2 * from + 1) = ap (λ s. distance m to s) h in omega arith)
@@ -212,12 +227,14 @@ pub entry-first : (m : Switches) (from to : ℕ) → IsSized m → first_cut_off
     distance m to (2 * from) ≤ distance m to (2 * from + 1) → Entry m from to (2 * from)
 entry-first m from to z e l n o =
     entry m from to (2 * from) (enter_first m from to o)
-    (least_near (distance m to (2 * from)) (distance m to (2 * from + 1)) _ (omega arith) o (some_near m from to z (none-joined m z e from to l n)))
+    (least_near (distance m to (2 * from)) (distance m to (2 * from + 1)) _ (omega arith) o
+    (some_near m from to z (none-joined m z e from to l n)))
     (omega arith) o (λ h. absurd (omega arith))
 
 pub entry-second : (m : Switches) (from to : ℕ) → IsSized m → first_cut_off m ≡ None → from < m.nodes → to < m.nodes →
     distance m to (2 * from + 1) < distance m to (2 * from) → Entry m from to (2 * from + 1)
 entry-second m from to z e l n o =
     entry m from to (2 * from + 1) (enter_second m from to o)
-    (least_near (distance m to (2 * from)) (distance m to (2 * from + 1)) _ (omega arith) (omega arith) (some_near m from to z (none-joined m z e from to l n)))
+    (least_near (distance m to (2 * from)) (distance m to (2 * from + 1)) _ (omega arith) (omega arith)
+    (some_near m from to z (none-joined m z e from to l n)))
     (omega arith) (omega arith) (λ h. o)

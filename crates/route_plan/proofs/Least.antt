@@ -12,7 +12,8 @@ unfolding least_below
 least_below-le zero p = omega arith
 least_below-le (suc n) p = le_step (p 0) _ n (least_below-le n (λ k. p (suc k)))
 
-before_step : (p : ℕ → Bool) (l : ℕ) → ((j : ℕ) → j < l → p (suc j) ≡ false) → (b : Bool) → p 0 ≡ b → (j : ℕ) → j < cond b 0 (suc l) → p j ≡ false
+before_step : (p : ℕ → Bool) (l : ℕ) → ((j : ℕ) → j < l → p (suc j) ≡ false) → (b : Bool) → p 0 ≡ b → (j : ℕ) → j < cond b 0 (suc l) →
+    p j ≡ false
 before_step p l h true e j m = absurd (omega arith)
 before_step p l h false e zero m = e
 before_step p l h false e (suc j) m = h j (omega arith)
@@ -23,7 +24,8 @@ unfolding least_below
 least_below-before zero p j l = absurd (omega arith)
 least_below-before (suc n) p j l = before_step p _ (least_below-before n (λ k. p (suc k))) (p 0) refl j l
 
-passes_step : (p : ℕ → Bool) (l n : ℕ) → (l < n → p (suc l) ≡ true) → (b : Bool) → p 0 ≡ b → cond b 0 (suc l) < suc n → p (cond b 0 (suc l)) ≡ true
+passes_step : (p : ℕ → Bool) (l n : ℕ) → (l < n → p (suc l) ≡ true) → (b : Bool) → p 0 ≡ b → cond b 0 (suc l) < suc n →
+    p (cond b 0 (suc l)) ≡ true
 passes_step p l n h true e m = e
 passes_step p l n h false e m = h (omega arith)
 
@@ -47,7 +49,8 @@ is_step n k l p m before at before' at' m' (inr (inr h)) = absurd (false≢true 
 -- the only one that all this holds of
 pub least_below-is : (n : ℕ) (p : ℕ → Bool) (k : ℕ) → k ≤ n → ((j : ℕ) → j < k → p j ≡ false) → (k < n → p k ≡ true) → least_below n p ≡ k
 least_below-is n p k m before at =
-    is_step n k (least_below n p) p m before at (least_below-before n p) (least_below-passes n p) (least_below-le n p) (cases_order (least_below n p) k)
+    is_step n k (least_below n p) p m before at (least_below-before n p) (least_below-passes n p) (least_below-le n p)
+    (cases_order (least_below n p) k)
 
 pub some_below-true : (n : ℕ) (p : ℕ → Bool) (k : ℕ) → k < n → p k ≡ true → some_below n p ≡ true
 unfolding some_below
@@ -66,7 +69,9 @@ some_below-found n p e =
 
 pub some_below-none : (n : ℕ) (p : ℕ → Bool) → ((k : ℕ) → k < n → p k ≡ false) → some_below n p ≡ false
 unfolding some_below
-some_below-none n p h = let e : least_below n p ≡ n = least_below-is n p n (omega arith) h (λ l. absurd (omega arith)) in le-ltb (least_below n p) n (omega arith)
+some_below-none n p h =
+    let e : least_below n p ≡ n = least_below-is n p n (omega arith) h (λ l. absurd (omega arith)) in
+    le-ltb (least_below n p) n (omega arith)
 
 none_step : (n : ℕ) (p : ℕ → Bool) (k : ℕ) → k < n → some_below n p ≡ false → (p k ≡ true) ⊎ (p k ≡ false) → p k ≡ false
 none_step n p k l e (inl h) = absurd (false≢true (sym e ∙ some_below-true n p k l h))

@@ -1,5 +1,6 @@
 -- levels of a search that goes out from a node, and the distances that they give
-use Rattle.std.proofs.Common.{◌≡◌, ℕ, zero, suc, ◌+◌, ◌*◌, ◌/◌, ◌<◌, ◌≤◌, ◌≢◌, Bool, true, false, cond, not, ◌&&◌, ◌||◌, eqb, leb, ◌⊎◌, inl, inr, List, get_or, refl, sym, ap, ◌∙◌, add-one, arith}
+use Rattle.std.proofs.Common.{◌≡◌, ℕ, zero, suc, ◌+◌, ◌*◌, ◌/◌, ◌<◌, ◌≤◌, ◌≢◌, Bool, true, false, cond, not, ◌&&◌, ◌||◌, eqb, leb, ◌⊎◌, inl}
+use Rattle.std.proofs.Common.{inr, List, get_or, refl, sym, ap, ◌∙◌, add-one, arith}
 use Rattle.std.proofs.lemmas.Bool.Decides.{nat_tests}
 use Rattle.std.proofs.lemmas.Bool.{false≢true, cases_eq, and_parts, and_from, or_cases, eqb-true, ne_eqb, le-leb, lt-leb}
 use Rattle.route_plan.specs.Grid.{is_linked, along, after, before, partner}
@@ -36,13 +37,16 @@ pub distance-le : (m : Switches) (to s k : ℕ) → comes m to k s ≡ true → 
 unfolding distance
 distance-le m to s k e = least_below-at 32 (λ k. comes m to k s) k e
 
-pub distance-first : (m : Switches) (to s k : ℕ) → comes m to k s ≡ false → comes m to (suc k) s ≡ true → suc k < 32 → distance m to s ≡ suc k
+pub distance-first : (m : Switches) (to s k : ℕ) → comes m to k s ≡ false → comes m to (suc k) s ≡ true → suc k < 32 →
+    distance m to s ≡ suc k
 unfolding distance
-distance-first m to s k e f l = least_below-is 32 (λ k. comes m to k s) (suc k) (omega arith) (λ j n. comes-fewer m to s k j e (omega arith)) (λ n. f)
+distance-first m to s k e f l =
+    least_below-is 32 (λ k. comes m to k s) (suc k) (omega arith) (λ j n. comes-fewer m to s k j e (omega arith)) (λ n. f)
 
 pub distance-none : (m : Switches) (to s : ℕ) → comes m to 31 s ≡ false → distance m to s ≡ 32
 unfolding distance
-distance-none m to s e = least_below-is 32 (λ k. comes m to k s) 32 (omega arith) (λ j n. comes-fewer m to s 31 j e (omega arith)) (λ n. absurd (omega arith))
+distance-none m to s e =
+    least_below-is 32 (λ k. comes m to k s) 32 (omega arith) (λ j n. comes-fewer m to s 31 j e (omega arith)) (λ n. absurd (omega arith))
 
 pub distance-comes : (m : Switches) (to s : ℕ) → distance m to s < 32 → comes m to (distance m to s) s ≡ true
 unfolding distance
@@ -107,7 +111,8 @@ of_neighbour m s t P a b p (inr (inr e)) = rw e p
 
 pub linked-there : (m : Switches) (s t : ℕ) → IsSized m → s < 2 * m.nodes → is_linked m.nodes s t ≡ true → t < 2 * m.nodes
 linked-there m s t z l e =
-    of_neighbour m s t (λ t. t < 2 * m.nodes) (after-there m.nodes s z.some z.few l) (before-there m.nodes s z.some z.few l) (partner-there s m.nodes l)
+    of_neighbour m s t (λ t. t < 2 * m.nodes) (after-there m.nodes s z.some z.few l) (before-there m.nodes s z.some z.few l)
+    (partner-there s m.nodes l)
     (linked-from m.nodes s t e)
 
 -- some neighbour comes over at most k links
@@ -136,7 +141,8 @@ linked-near : (m : Switches) (to k s t : ℕ) → comes m to k s ≡ false → t
     (t ≡ along after m.nodes s) ⊎ ((t ≡ along before m.nodes s) ⊎ (t ≡ partner s)) →
     some_below (2 * m.nodes) (λ t. is_linked m.nodes s t && comes m to k t) ≡ true
 linked-near m to k s t e l f h =
-    some_below-true (2 * m.nodes) _ t l (and_from (is_linked m.nodes s t) (comes m to k t) (linked-is m.nodes s t (comes_other m to k s t e f) h) f)
+    some_below-true (2 * m.nodes) _ t l
+    (and_from (is_linked m.nodes s t) (comes m to k t) (linked-is m.nodes s t (comes_other m to k s t e f) h) f)
 
 or_three : (x y z : Bool) → (x || y || z) ≡ true → (x ≡ true) ⊎ ((y ≡ true) ⊎ (z ≡ true))
 or_three true y z e = inl refl
@@ -164,7 +170,8 @@ some_nearby m to k s z l e true f = is_near_by m to k s z l e (or_three _ _ _ f)
 some_nearby m to k s z l e false f =
     let h = none_three (comes m to k (along after m.nodes s)) (comes m to k (along before m.nodes s)) (comes m to k (partner s)) f in
     some_below-none (2 * m.nodes) _
-    (λ t n. far_step (is_linked m.nodes s t) (comes m to k t) (λ g. of_neighbour m s t (λ t. comes m to k t ≡ false) h.0 h.1 h.2 (linked-from m.nodes s t g)))
+    (λ t n. far_step (is_linked m.nodes s t) (comes m to k t)
+    (λ g. of_neighbour m s t (λ t. comes m to k t ≡ false) h.0 h.1 h.2 (linked-from m.nodes s t g)))
 
 -- whether a switch that doesn't come over k links comes over k + 1
 pub comes-step : (m : Switches) (to k s : ℕ) → IsSized m → s < 2 * m.nodes → comes m to k s ≡ false →
@@ -184,14 +191,16 @@ grown_yes : (m : Switches) (k s : ℕ) (table : List ℕ) → is_next m k table 
 unfolding grown
 grown_yes m k s table e = rw e refl
 
-next_far : (m : Switches) (to k s : ℕ) (table : List ℕ) → IsSized m → IsLevel m to k table → k < 31 → s < 2 * m.nodes → comes m to k s ≡ false →
+next_far : (m : Switches) (to k s : ℕ) (table : List ℕ) → IsSized m → IsLevel m to k table → k < 31 → s < 2 * m.nodes →
+    comes m to k s ≡ false →
     is_next m k table s ≡ comes m to (suc k) s
 unfolding is_next
 next_far m to k s table z h l n e =
     let i : get_or table s 0 ≡ 32 = h s n ∙ level-out m to k s e in
     rw (i, near-level m to k s table z h (omega arith) n, comes-step m to k s z n e) refl
 
-grown_far : (m : Switches) (to k s : ℕ) (table : List ℕ) → IsSized m → IsLevel m to k table → k < 31 → s < 2 * m.nodes → comes m to k s ≡ false →
+grown_far : (m : Switches) (to k s : ℕ) (table : List ℕ) → IsSized m → IsLevel m to k table → k < 31 → s < 2 * m.nodes →
+    comes m to k s ≡ false →
     (b : Bool) → comes m to (suc k) s ≡ b → grown m k table s ≡ level m to (suc k) s
 grown_far m to k s table z h l n e true f =
     grown_yes m k s table (next_far m to k s table z h l n e ∙ f) ∙
@@ -235,7 +244,8 @@ some_still m to k n s z l h =
     ) refl
 
 still_step : (m : Switches) (to k n s : ℕ) → IsSized m → IsStill m to k → s < 2 * m.nodes → k ≤ suc n →
-    (k ≤ n → (t : ℕ) → t < 2 * m.nodes → comes m to n t ≡ comes m to k t) → (suc n ≡ k) ⊎ (suc n ≡ k → ⊥) → comes m to (suc n) s ≡ comes m to k s
+    (k ≤ n → (t : ℕ) → t < 2 * m.nodes → comes m to n t ≡ comes m to k t) → (suc n ≡ k) ⊎ (suc n ≡ k → ⊥) →
+    comes m to (suc n) s ≡ comes m to k s
 still_step m to k n s z w l i h (inl e) = rw e refl
 still_step m to k n s z w l i h (inr e) = some_still m to k n s z l (h (omega arith)) ∙ w s l
 
@@ -255,15 +265,18 @@ level-still m to k s z w i l = still_last m to k s z w i l (comes m to k s) refl
 
 -- a table that didn't grow is that of a level that is still
 pub still-table : (m : Switches) (to k : ℕ) (old new : List ℕ) → IsSized m → IsLevel m to k old → k < 31 →
-    ((s : ℕ) → s < 2 * m.nodes → get_or new s 0 ≡ grown m k old s) → ((s : ℕ) → s < 2 * m.nodes → get_or new s 0 ≡ get_or old s 0) → IsStill m to k
+    ((s : ℕ) → s < 2 * m.nodes → get_or new s 0 ≡ grown m k old s) → ((s : ℕ) → s < 2 * m.nodes → get_or new s 0 ≡ get_or old s 0) →
+    IsStill m to k
 still-table m to k old new z h l g e s n =
-    let same : level m to (suc k) s ≡ level m to k s = sym (grown_by m to k s old z h l n (comes m to k s) refl) ∙ (sym (g s n) ∙ (e s n ∙ h s n)) in
+    let same : level m to (suc k) s ≡ level m to k s = sym (grown_by m to k s old z h l n (comes m to k s) refl)
+    ∙ (sym (g s n) ∙ (e s n ∙ h s n)) in
     still_by (comes m to k s) refl same
   where
     still_by : (b : Bool) → comes m to k s ≡ b → level m to (suc k) s ≡ level m to k s → comes m to (suc k) s ≡ comes m to k s
     still_by true f i = comes-more m to k s f ∙ sym f
     still_by false f i =
-        sym (reached m to (suc k) s (omega arith)) ∙ (ap (λ x. leb x (suc k)) (i ∙ level-out m to k s f) ∙ (lt-leb 32 (suc k) (omega arith) ∙ sym f))
+        sym (reached m to (suc k) s (omega arith))
+        ∙ (ap (λ x. leb x (suc k)) (i ∙ level-out m to k s f) ∙ (lt-leb 32 (suc k) (omega arith) ∙ sym f))
 
 first_choice : (m : Switches) (to s : ℕ) → (b : Bool) → comes m to 0 s ≡ b → level m to 0 s ≡ cond b 0 32
 first_choice m to s true e = level-in m to 0 s e ∙ (let h : distance m to s ≤ 0 = distance-le m to s 0 e in omega arith)

@@ -1,5 +1,6 @@
 -- a search of 31 levels reaches all that any path reaches
-use Rattle.std.proofs.Common.{◌≡◌, ℕ, zero, suc, ◌+◌, ◌*◌, ◌<◌, ◌≤◌, Bool, true, false, cond, not, ◌&&◌, ◌||◌, ◌⊎◌, inl, inr, List, length, refl, sym, ap, ◌∙◌, arith}
+use Rattle.std.proofs.Common.{◌≡◌, ℕ, zero, suc, ◌+◌, ◌*◌, ◌<◌, ◌≤◌, Bool, true, false, cond, not, ◌&&◌, ◌||◌, ◌⊎◌, inl, inr, List, length}
+use Rattle.std.proofs.Common.{refl, sym, ap, ◌∙◌, arith}
 use Rattle.std.proofs.lemmas.Bool.{false≢true, cases_Bool, cases_eq, cases_lt, and_parts, and_right, not-true}
 use Rattle.route_plan.specs.Distances.{Switches, is_living, some_below, comes, distance}
 use Rattle.route_plan.specs.Paths.{Leads}
@@ -55,7 +56,8 @@ new_step : (b c : Bool) (h i : ℕ) → b ≡ false → c ≡ true → h ≤ i �
 new_step b c h i e f l = rw (e, f) (omega arith)
 
 -- one more, where one passes that didn't
-how_many-one : (n : ℕ) (p q : ℕ → Bool) (k : ℕ) → ((k : ℕ) → p k ≡ true → q k ≡ true) → k < n → p k ≡ false → q k ≡ true → how_many n p < how_many n q
+how_many-one : (n : ℕ) (p q : ℕ → Bool) (k : ℕ) → ((k : ℕ) → p k ≡ true → q k ≡ true) → k < n → p k ≡ false → q k ≡ true →
+    how_many n p < how_many n q
 unfolding how_many
 how_many-one zero p q k h l e f = absurd (omega arith)
 how_many-one (suc n) p q k h l e f =
@@ -66,7 +68,8 @@ how_many-one (suc n) p q k h l e f =
 
 -- one at least, where one passes
 how_many-some : (n : ℕ) (q : ℕ → Bool) (k : ℕ) → k < n → q k ≡ true → 1 ≤ how_many n q
-how_many-some n q k l e = let h : how_many n (λ k. false) < how_many n q = how_many-one n (λ k. false) q k (λ k f. absurd (false≢true f)) l refl e in omega arith
+how_many-some n q k l e =
+    let h : how_many n (λ k. false) < how_many n q = how_many-one n (λ k. false) q k (λ k f. absurd (false≢true f)) l refl e in omega arith
 
 -- either a level is still, or it has more switches than levels came before
 abbrev Counted : Switches → ℕ → ℕ → Type 0
@@ -90,19 +93,22 @@ empty_still : (m : Switches) (to : ℕ) → IsSized m → some_below (2 * m.node
 unfolding nearby
 empty_still m to z e s l =
     comes-step m to 0 s z l (none s l) ∙
-    (empty_step (is_living m s) _ _ _ (none _ (after-there m.nodes s z.some z.few l)) (none _ (before-there m.nodes s z.some z.few l)) (none _ (partner-there s m.nodes l)) ∙ sym (none s l))
+    (empty_step (is_living m s) _ _ _ (none _ (after-there m.nodes s z.some z.few l)) (none _ (before-there m.nodes s z.some z.few l))
+    (none _ (partner-there s m.nodes l)) ∙ sym (none s l))
   where
     none : (t : ℕ) → t < 2 * m.nodes → comes m to 0 t ≡ false
     none t i = some_below-false (2 * m.nodes) (λ s. comes m to 0 s) t i e
 
 first_counted : (m : Switches) (to : ℕ) → IsSized m → Counted m to 0
 first_counted m to z = elim (cases_Bool (some_below (2 * m.nodes) (λ s. comes m to 0 s))) [
-  | inl e ↦ (let f = some_below-found (2 * m.nodes) (λ s. comes m to 0 s) e in inr (how_many-some (2 * m.nodes) (λ s. comes m to 0 s) f.at f.below f.passes))
+  | inl e ↦ (let f = some_below-found (2 * m.nodes) (λ s. comes m to 0 s) e in
+      inr (how_many-some (2 * m.nodes) (λ s. comes m to 0 s) f.at f.below f.passes))
   | inr e ↦ inl (empty_still m to z e)
 ]
 
 later_counted : (m : Switches) (to k : ℕ) → IsSized m → Counted m to k → Counted m to (suc k)
-later_counted m to k z (inl w) = inl (λ s l. comes-still m to k (suc (suc k)) s z w (omega arith) l ∙ sym (comes-still m to k (suc k) s z w (omega arith) l))
+later_counted m to k z (inl w) =
+    inl (λ s l. comes-still m to k (suc (suc k)) s z w (omega arith) l ∙ sym (comes-still m to k (suc k) s z w (omega arith) l))
 later_counted m to k z (inr h) = elim (cases_Bool (some_below (2 * m.nodes) (λ s. comes m to (suc k) s && not (comes m to k s)))) [
   | inl e ↦ (
       let f = some_below-found (2 * m.nodes) (λ s. comes m to (suc k) s && not (comes m to k s)) e in
@@ -110,7 +116,8 @@ later_counted m to k z (inr h) = elim (cases_Bool (some_below (2 * m.nodes) (λ 
       let g : how_many (2 * m.nodes) (λ s. comes m to k s) < how_many (2 * m.nodes) (λ s. comes m to (suc k) s) =
       how_many-one (2 * m.nodes) (λ s. comes m to k s) (λ s. comes m to (suc k) s) f.at (comes-more m to k) f.below (not-true _ p.1) p.0 in
       inr (omega arith))
-  | inr e ↦ (let w = still_at m to k e in inl (λ s l. comes-still m to k (suc (suc k)) s z w (omega arith) l ∙ sym (comes-still m to k (suc k) s z w (omega arith) l)))
+  | inr e ↦ (let w = still_at m to k e in
+      inl (λ s l. comes-still m to k (suc (suc k)) s z w (omega arith) l ∙ sym (comes-still m to k (suc k) s z w (omega arith) l)))
 ]
 
 counted : (m : Switches) (to k : ℕ) → IsSized m → Counted m to k
@@ -123,7 +130,8 @@ still_end m to z (inr h) =
     let l : 2 * m.nodes ≤ how_many (2 * m.nodes) (λ s. comes m to 31 s) = omega (arith, z.few) in
     λ s i. (let e = how_many-all (2 * m.nodes) (λ s. comes m to 31 s) l s i in comes-more m to 31 s e ∙ sym e)
 
-reach_step : (m : Switches) (to n s : ℕ) → IsSized m → s < 2 * m.nodes → comes m to n s ≡ true → (31 ≤ n) ⊎ (n < 31) → comes m to 31 s ≡ false → comes m to 31 s ≡ true
+reach_step : (m : Switches) (to n s : ℕ) → IsSized m → s < 2 * m.nodes → comes m to n s ≡ true → (31 ≤ n) ⊎ (n < 31) →
+    comes m to 31 s ≡ false → comes m to 31 s ≡ true
 reach_step m to n s z l e (inl h) f = sym (comes-still m to 31 n s z (still_end m to z (counted m to 31 z)) h l) ∙ e
 reach_step m to n s z l e (inr h) f = absurd (false≢true (sym (comes-fewer m to s 31 n f (omega arith)) ∙ e))
 
@@ -137,4 +145,5 @@ reach m to n s z l e = elim (cases_Bool (comes m to 31 s)) [ inl h ↦ h | inr h
 -- a switch that any path leads from has a distance
 pub leads-distance : (m : Switches) (to s : ℕ) (others : List ℕ) → IsSized m → s < 2 * m.nodes → Leads m to s others → distance m to s < 32
 leads-distance m to s others z l p =
-    let h : distance m to s ≤ 31 = distance-le m to s 31 (reach m to (length others) s z l (path-comes m to s others p.path p.ends)) in omega arith
+    let h : distance m to s ≤ 31 = distance-le m to s 31 (reach m to (length others) s z l (path-comes m to s others p.path p.ends)) in
+    omega arith

@@ -1,5 +1,6 @@
 -- where a message goes on to, by the distances of three neighbours
-use Rattle.std.proofs.Common.{◌≡◌, ℕ, ◌+◌, ◌*◌, ◌<◌, ◌≤◌, ◌≢◌, min, Bool, true, false, cond, ◌&&◌, eqb, leb, ltb, ◌⊎◌, inl, inr, List, [], ◌∷◌, get_or, Some, None, refl, sym, ap, arith}
+use Rattle.std.proofs.Common.{◌≡◌, ℕ, ◌+◌, ◌*◌, ◌<◌, ◌≤◌, ◌≢◌, min, Bool, true, false, cond, ◌&&◌, eqb, leb, ltb, ◌⊎◌, inl, inr, List, []}
+use Rattle.std.proofs.Common.{◌∷◌, get_or, Some, None, refl, sym, ap, arith}
 use Rattle.std.proofs.lemmas.Bool.{and_from, eqb-true, le-leb, le-ltb, lt-ltb}
 use Rattle.route_plan.specs.Grid.{is_linked, along, after, before, partner}
 use Rattle.route_plan.specs.Distances.{Switches, least_below, distance}
@@ -69,14 +70,16 @@ nearest-is m to s z l = least_below-is (2 * m.nodes) _ (nearest m to s) (omega (
       ]
     ])
 
-    at : nearest m to s < 2 * m.nodes → (is_linked m.nodes s (nearest m to s) && eqb (distance m to (nearest m to s) + 1) (distance m to s)) ≡ true
-    at i = elim (one_of_three (nearer m to s (along after m.nodes s)) (nearer m to s (along before m.nodes s)) (nearer m to s (partner s))) [
-      | inl h ↦ chosen m to s (nearest m to s) (along after m.nodes s) h i (λ t e. inl e)
-      | inr h ↦ elim h [
-        | inl g ↦ chosen m to s (nearest m to s) (along before m.nodes s) g i (λ t e. inr (inl e))
-        | inr g ↦ chosen m to s (nearest m to s) (partner s) g i (λ t e. inr (inr e))
-      ]
-    ]
+    at : nearest m to s < 2 * m.nodes →
+        (is_linked m.nodes s (nearest m to s) && eqb (distance m to (nearest m to s) + 1) (distance m to s)) ≡ true
+    at i =
+        elim (one_of_three (nearer m to s (along after m.nodes s)) (nearer m to s (along before m.nodes s)) (nearer m to s (partner s))) [
+          | inl h ↦ chosen m to s (nearest m to s) (along after m.nodes s) h i (λ t e. inl e)
+          | inr h ↦ elim h [
+            | inl g ↦ chosen m to s (nearest m to s) (along before m.nodes s) g i (λ t e. inr (inl e))
+            | inr g ↦ chosen m to s (nearest m to s) (partner s) g i (λ t e. inr (inr e))
+          ]
+        ]
 
 -- the least of three answers, as the code takes it
 pub nearest-by : (m : Switches) (to s grid links x y z a b : ℕ) (r : List ℕ) → grid ≡ m.nodes → links ≡ distance m to s →
@@ -96,7 +99,8 @@ unfolding next_of
 next-none m to s k z l e i = rw (nearest-is m to s z l, ← e, le-ltb k (2 * m.nodes) i) refl
 
 -- the first that is cut off from a
-pub cut_off-found : (m : Switches) (a b : ℕ) → a ≤ b → b < m.nodes → ((c : ℕ) → c < b → (leb a c && is_cut_off m a c) ≡ false) → is_cut_off m a b ≡ true →
+pub cut_off-found : (m : Switches) (a b : ℕ) → a ≤ b → b < m.nodes → ((c : ℕ) → c < b → (leb a c && is_cut_off m a c) ≡ false) →
+    is_cut_off m a b ≡ true →
     b ≡ cut_off_from m a
 unfolding cut_off_from
 cut_off-found m a b o l h e = sym (least_below-is m.nodes _ b (omega arith) h (λ i. and_from (leb a b) (is_cut_off m a b) (le-leb a b o) e))
@@ -105,12 +109,14 @@ pub cut_off-none : (m : Switches) (a : ℕ) → ((c : ℕ) → c < m.nodes → (
 unfolding cut_off_from
 cut_off-none m a h = least_below-is m.nodes _ m.nodes (omega arith) h (λ i. absurd (omega arith))
 
-pub pair-found : (m : Switches) (a b : ℕ) → a < m.nodes → b < m.nodes → ((c : ℕ) → c < a → cut_off_from m c ≡ m.nodes) → b ≡ cut_off_from m a →
+pub pair-found : (m : Switches) (a b : ℕ) → a < m.nodes → b < m.nodes → ((c : ℕ) → c < a → cut_off_from m c ≡ m.nodes) →
+    b ≡ cut_off_from m a →
     Some (a, b) ≡ first_cut_off m
 unfolding first_cut_off
 pair-found m a b l i h e =
     let f : least_below m.nodes (λ a. ltb (cut_off_from m a) m.nodes) ≡ a =
-    least_below-is m.nodes _ a (omega arith) (λ c n. rw (h c n) (le-ltb m.nodes m.nodes (omega arith))) (λ n. rw (← e) (lt-ltb b m.nodes i)) in
+    least_below-is m.nodes _ a (omega arith) (λ c n. rw (h c n) (le-ltb m.nodes m.nodes (omega arith)))
+    (λ n. rw (← e) (lt-ltb b m.nodes i)) in
     rw (f, lt-ltb a m.nodes l, ← e) refl
 
 pub pair-none : (m : Switches) → ((c : ℕ) → c < m.nodes → cut_off_from m c ≡ m.nodes) → None ≡ first_cut_off m

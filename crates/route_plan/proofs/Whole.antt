@@ -1,5 +1,6 @@
 -- with no switch dead every node is joined with every other
-use Rattle.std.proofs.Common.{◌≡◌, ℕ, zero, suc, ◌+◌, ◌-◌, ◌*◌, ◌/◌, ◌%◌, ◌<◌, ◌≢◌, true, false, not, ◌⊎◌, inl, inr, List, [], ◌∷◌, replicate, get_or, None, sym, ap, ◌∙◌, subst, arith}
+use Rattle.std.proofs.Common.{◌≡◌, ℕ, zero, suc, ◌+◌, ◌-◌, ◌*◌, ◌/◌, ◌%◌, ◌<◌, ◌≢◌, true, false, not, ◌⊎◌, inl, inr, List, [], ◌∷◌}
+use Rattle.std.proofs.Common.{replicate, get_or, None, sym, ap, ◌∙◌, subst, arith}
 use Rattle.std.proofs.lemmas.Bool.{cases_eq, and_from, lt-ltb}
 use Rattle.std.proofs.lemmas.List.{get_or-replicate}
 use Rattle.std.proofs.lemmas.Nat.{mul-add-lt, mod_below, div_below, div-add-mod', same_from_place}
@@ -46,7 +47,8 @@ record Reaches (m : Switches) (to s : ℕ) : Type 0 where
   others : List ℕ
   leads : Leads m to s others
 
-reaches-on : (m : Switches) (to s t : ℕ) → AllLive m → s < 2 * m.nodes → s ≢ t → (t ≡ along after m.nodes s) ⊎ ((t ≡ along before m.nodes s) ⊎ (t ≡ partner s)) →
+reaches-on : (m : Switches) (to s t : ℕ) → AllLive m → s < 2 * m.nodes → s ≢ t →
+    (t ≡ along after m.nodes s) ⊎ ((t ≡ along before m.nodes s) ⊎ (t ≡ partner s)) →
     Reaches m to t → Reaches m to s
 reaches-on m to s t a l d h r =
     record { others = t ∷ r.others; leads = leads-on m to s t r.others (a.each s l) (linked-is m.nodes s t d h) r.leads }
@@ -58,7 +60,8 @@ switch_there n rows columns r c g l i = omega (arith, mul-add-lt r columns c row
 row-reaches : (m : Switches) (to rows columns : ℕ) → AllLive m → IsGrid m.nodes rows columns → to < m.nodes →
     (c : ℕ) → c < columns → Reaches m to (2 * (to / columns * columns + c))
 row-reaches m to rows columns a g l =
-    around columns (to % columns) (λ c. Reaches m to (2 * (to / columns * columns + c))) (record { back = back }) (mod_below to columns g.some_columns) here
+    around columns (to % columns) (λ c. Reaches m to (2 * (to / columns * columns + c))) (record { back = back })
+    (mod_below to columns g.some_columns) here
   where
     row : to / columns < rows
     row = div_below to columns rows g.some_columns (omega (arith, g.filled))
@@ -69,7 +72,8 @@ row-reaches m to rows columns a g l =
     here : Reaches m to (2 * (to / columns * columns + to % columns))
     here = record { others = []; leads = record { path = a.each _ (omega (arith, own)); ends = omega (arith, own) } }
 
-    back : (c : ℕ) → c < columns → after columns c ≢ c → Reaches m to (2 * (to / columns * columns + after columns c)) → Reaches m to (2 * (to / columns * columns + c))
+    back : (c : ℕ) → c < columns → after columns c ≢ c → Reaches m to (2 * (to / columns * columns + after columns c)) →
+        Reaches m to (2 * (to / columns * columns + c))
     back c i d r =
         reaches-on m to (2 * (to / columns * columns + c)) (2 * (to / columns * columns + after columns c)) a
         (omega (arith, switch_there m.nodes rows columns (to / columns) c g row i)) (λ e. d (omega arith))
@@ -86,12 +90,14 @@ column-reaches m to rows columns a g l c i =
 
     here : Reaches m to (2 * (to / columns * columns + c) + 1)
     here =
-        let p : partner (2 * (to / columns * columns + c) + 1) ≡ 2 * (to / columns * columns + c) + 1 - 1 = partner-b (2 * (to / columns * columns + c) + 1) (omega arith) in
+        let p : partner (2 * (to / columns * columns + c) + 1)
+        ≡ 2 * (to / columns * columns + c) + 1 - 1 = partner-b (2 * (to / columns * columns + c) + 1) (omega arith) in
         reaches-on m to (2 * (to / columns * columns + c) + 1) (2 * (to / columns * columns + c)) a
         (omega (arith, switch_there m.nodes rows columns (to / columns) c g row i)) (λ e. absurd (omega arith)) (inr (inr (omega arith)))
         (row-reaches m to rows columns a g l c i)
 
-    back : (r : ℕ) → r < rows → after rows r ≢ r → Reaches m to (2 * (after rows r * columns + c) + 1) → Reaches m to (2 * (r * columns + c) + 1)
+    back : (r : ℕ) → r < rows → after rows r ≢ r → Reaches m to (2 * (after rows r * columns + c) + 1) →
+        Reaches m to (2 * (r * columns + c) + 1)
     back r j d h =
         reaches-on m to (2 * (r * columns + c) + 1) (2 * (after rows r * columns + c) + 1) a
         (omega (arith, switch_there m.nodes rows columns r c g j i)) (λ e. d (same_row r (after rows r) columns c i e))

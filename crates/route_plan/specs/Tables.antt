@@ -1,5 +1,6 @@
 -- Tables of distances, as the code fills them: the distance of switch s at place s.
-use Rattle.std.specs.Prelude.{◌≡◌, ℕ, ◌+◌, ◌*◌, ◌<◌, ◌≤◌, Bool, ◌&&◌, ◌||◌, nat_eq, nat_le, if◌then◌else◌, List, [], slice_index, slice_index_or}
+use Rattle.std.specs.Prelude.{◌≡◌, ℕ, ◌+◌, ◌*◌, ◌<◌, ◌≤◌, Bool, ◌&&◌, ◌||◌, nat_eq, nat_le, if◌then◌else◌, List, [], slice_index}
+use Rattle.std.specs.Prelude.{slice_index_or}
 use Rattle.route_plan.specs.Grid.{after, before, along, partner}
 use Rattle.route_plan.specs.Distances.{Switches, is_living, comes, distance}
 

@@ -59,7 +59,8 @@ fn is_next(grid: &Grid, dead: Dead, table: &[u8; 32], switch: u8, links: u8) -> 
 fn grow(grid: &Grid, dead: Dead, table: &mut [u8; 32], links: u8) -> bool
     requires few { grid.now ≤ 16 }
     requires links { links < 31 }
-    ensures grown { (s : ℕ) → s < 2 * grid.now → slice_index table.new s ≡ grown (record { nodes = grid.now; dead = dead }) links table.old s }
+    ensures grown { (s : ℕ) → s < 2 * grid.now →
+        slice_index table.new s ≡ grown (record { nodes = grid.now; dead = dead }) links table.old s }
     ensures still { result ≡ false → (s : ℕ) → s < 2 * grid.now → slice_index table.new s ≡ slice_index table.old s }
 {
     let before = *table;

@@ -1,6 +1,6 @@
 //! The grid that the nodes stand in, and the links between their switches.
 ghost use Rattle.std.specs.Prelude.{◌≡◌, ℕ, ◌*◌, ◌<◌, ◌≤◌, List, [], ◌∷◌};
-ghost use Rattle.route_plan.specs.Grid.{row_count, column_count, after, before, along, partner};
+ghost use Rattle.route_plan.specs.Grid.{row_count, after, before, along, partner};
 
 use std::marker::Model;
 

@@ -1,7 +1,8 @@
 //! The routes of a machine.
-ghost use Rattle.std.specs.Prelude.{◌≡◌, ℕ, ◌+◌, ◌*◌, ◌<◌, ◌≤◌, ◌↔◌, Bool, true, false, if◌then◌else◌, nat_le, replicate, Option, Some, None, Ok, Err, IsNone, IfNone, IfSome, IsOk, OnErr, IfOk, IfErr, MatchResult};
+ghost use Rattle.std.specs.Prelude.{◌≡◌, ℕ, ◌+◌, ◌*◌, ◌<◌, ◌≤◌, ◌↔◌, Bool, true, false, if◌then◌else◌, nat_le, replicate, Option, Some};
+ghost use Rattle.std.specs.Prelude.{None, Ok, Err, IsNone, IfNone, IfSome, IsOk, OnErr, IfOk, IfErr, MatchResult};
 ghost use Rattle.route_plan.specs.Grid.{node_of};
-ghost use Rattle.route_plan.specs.Distances.{Switches, is_living, is_dead, distance};
+ghost use Rattle.route_plan.specs.Distances.{Switches, is_living};
 ghost use Rattle.route_plan.specs.Routes.{next_of, enter_of, first_cut_off};
 ghost use Rattle.route_plan.specs.Paths.{AreJoined, IsFirstCutOff, IsStep, IsShortestWalk, IsShortestEntry};
 ghost use Rattle.route_plan.specs.Tables.{IsSized};
@@ -47,7 +48,8 @@ pub fn plan(alloc: Global, nodes: u8, dead: Dead) -> Result<Routes, PlanFault>
     requires few { nodes ≤ 16 }
     ensures routes { IfOk result (λ r. r ≡ record { nodes = nodes; dead = dead }) }
     ensures cut_off { IfSome (first_cut_off (record { nodes = nodes; dead = dead })) (λ p. result ≡ Err (PlanFault.CutOff p.0 p.1)) }
-    ensures joined { IsNone (first_cut_off (record { nodes = nodes; dead = dead })) → MatchResult result (λ r. r ≡ record { nodes = nodes; dead = dead }) (λ e. e ≡ PlanFault.Memory) }
+    ensures joined { IsNone (first_cut_off (record { nodes = nodes; dead = dead })) →
+        MatchResult result (λ r. r ≡ record { nodes = nodes; dead = dead }) (λ e. e ≡ PlanFault.Memory) }
     ensures all_living { dead ≡ replicate 32 false → IfErr result (λ e. e ≡ PlanFault.Memory) }
 {
     let distances = Distances::find(nodes, dead);

@@ -22,30 +22,37 @@ goes_on : (first : Option Event) (rest more : Event → List Event) (event : Eve
 goes_on None rest more event n P step full at = absurd (omega (arith, full))
 goes_on (Some e) rest more event n P step full at = ap (λ (l : List Event). e ∷ l) (step e (omega (arith, full)) at)
 
-events_due-snoc : (rules : Rules) (image : ImageData) (config : Config) (draw : Draw) (event : Event) (s : State) (x : Numbers) (draws : List Draw) →
+events_due-snoc : (rules : Rules) (image : ImageData) (config : Config) (draw : Draw) (event : Event) (s : State) (x : Numbers)
+    (draws : List Draw) →
     length (events_due rules image config s x draws) ≡ length draws →
-    due_of rules image config (state_after image config s (events_due rules image config s x draws)) (numbers_along image config s x (events_due rules image config s x draws)) draw.worker draw.pick ≡ Some event →
+    due_of rules image config (state_after image config s (events_due rules image config s x draws))
+    (numbers_along image config s x (events_due rules image config s x draws)) draw.worker draw.pick ≡ Some event →
     events_due rules image config s x (draws ++ draw ∷ []) ≡ events_due rules image config s x draws ++ event ∷ []
 events_due-snoc rules image config draw event s x [] full due =
     ap (λ (o : Option Event). then_others o (λ e. [])) due
 events_due-snoc rules image config draw event s x (d ∷ draws) full due =
     goes_on (due_of rules image config s x d.worker d.pick)
     (λ e. events_due rules image config (step_of image config s e).state (numbers_after x e (step_of image config s e).answer) draws)
-    (λ e. events_due rules image config (step_of image config s e).state (numbers_after x e (step_of image config s e).answer) (draws ++ draw ∷ []))
+    (λ e. events_due rules image config (step_of image config s e).state (numbers_after x e (step_of image config s e).answer)
+    (draws ++ draw ∷ []))
     event (length draws)
     (λ l. due_of rules image config (state_after image config s l) (numbers_along image config s x l) draw.worker draw.pick ≡ Some event)
-    (λ e here at. events_due-snoc rules image config draw event (step_of image config s e).state (numbers_after x e (step_of image config s e).answer) draws here at)
+    (λ e here at. events_due-snoc rules image config draw event (step_of image config s e).state
+    (numbers_after x e (step_of image config s e).answer) draws here at)
     full due
 
 pub IsDue-snoc : (began : Began) (journal : List Entry) (worker : ℕ) (event : Event) → IsDue began journal →
-    due_of began.rules began.image began.config (state_of began journal) (numbers_of began journal) worker (next_pick began.seed journal worker) ≡ Some event →
+    due_of began.rules began.image began.config (state_of began journal) (numbers_of began journal) worker
+    (next_pick began.seed journal worker) ≡ Some event →
     IsDue began (journal ++ entry_of worker event ∷ [])
 unfolding IsDue state_of numbers_of
 IsDue-snoc began journal worker event due next =
     let E : List Draw → List Event = events_due began.rules began.image began.config (start began) first_numbers in
-    let N : List Event → Type 0 = λ l. due_of began.rules began.image began.config (state_after began.image began.config (start began) l) (numbers_along began.image began.config (start began) first_numbers l) worker (next_pick began.seed journal worker) ≡ Some event in
+    let N : List Event → Type 0 = λ l. due_of began.rules began.image began.config (state_after began.image began.config (start began) l)
+    (numbers_along began.image began.config (start began) first_numbers l) worker (next_pick began.seed journal worker) ≡ Some event in
     ap E (draws_of-snoc began.seed journal (entry_of worker event))
-    ∙ events_due-snoc began.rules began.image began.config (next_draw began.seed journal worker) event (start began) first_numbers (draws_of began.seed journal)
+    ∙ events_due-snoc began.rules began.image began.config (next_draw began.seed journal worker) event (start began) first_numbers
+    (draws_of began.seed journal)
     (ap (λ (l : List Event). length l) due ∙ length-map journal (λ (e : Entry). e.event) ∙ sym (length-draws_of began.seed journal))
     (subst N (sym due) next)
     ∙ ap (λ (l : List Event). l ++ event ∷ []) due

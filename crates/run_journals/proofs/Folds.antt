@@ -21,7 +21,8 @@ state_after-snoc image config s [] event = refl
 state_after-snoc image config s (first ∷ events) event = state_after-snoc image config (step_of image config s first).state events event
 
 run_of-snoc : (image : ImageData) (config : Config) (s : State) (events : List Event) (event : Event) →
-    run_of image config s (events ++ event ∷ []) ≡ run_of image config s events ++ step_of image config (state_after image config s events) event ∷ []
+    run_of image config s (events ++ event ∷ []) ≡ run_of image config s events
+    ++ step_of image config (state_after image config s events) event ∷ []
 run_of-snoc image config s [] event = refl
 run_of-snoc image config s (first ∷ events) event =
     ap (λ (l : List Stepped). step_of image config s first ∷ l) (run_of-snoc image config (step_of image config s first).state events event)
@@ -31,33 +32,42 @@ numbers_along-snoc : (image : ImageData) (config : Config) (s : State) (x : Numb
     ≡ numbers_after (numbers_along image config s x events) event (step_of image config (state_after image config s events) event).answer
 numbers_along-snoc image config s x [] event = refl
 numbers_along-snoc image config s x (first ∷ events) event =
-    numbers_along-snoc image config (step_of image config s first).state (numbers_after x first (step_of image config s first).answer) events event
+    numbers_along-snoc image config (step_of image config s first).state
+    (numbers_after x first (step_of image config s first).answer) events event
 
 module _ (began : Began) (journal : List Entry) (worker : ℕ) (event : Event) where
   abbrev entries : List Entry
   entries = journal ++ entry_of worker event ∷ []
 
-  pub state_of-snoc : state_of began (journal ++ entry_of worker event ∷ []) ≡ (step_of began.image began.config (state_of began journal) event).state
+  pub state_of-snoc : state_of began (journal ++ entry_of worker event ∷ [])
+      ≡ (step_of began.image began.config (state_of began journal) event).state
   unfolding state_of
   state_of-snoc =
       ap (λ (l : List Event). state_after began.image began.config (start began) l) (events_of-snoc journal (entry_of worker event))
       ∙ state_after-snoc began.image began.config (start began) (events_of journal) event
 
-  pub answers_of-snoc : answers_of began (journal ++ entry_of worker event ∷ []) ≡ answers_of began journal ++ (step_of began.image began.config (state_of began journal) event).answer ∷ []
+  pub answers_of-snoc : answers_of began (journal ++ entry_of worker event ∷ []) ≡ answers_of began journal
+      ++ (step_of began.image began.config (state_of began journal) event).answer ∷ []
   unfolding state_of answers_of
   answers_of-snoc =
-      ap (λ (l : List Event). map (λ (t : Stepped). t.answer) (run_of began.image began.config (start began) l)) (events_of-snoc journal (entry_of worker event))
-      ∙ ap (λ (l : List Stepped). map (λ (t : Stepped). t.answer) l) (run_of-snoc began.image began.config (start began) (events_of journal) event)
-      ∙ map-append (λ (t : Stepped). t.answer) (run_of began.image began.config (start began) (events_of journal)) (step_of began.image began.config (state_after began.image began.config (start began) (events_of journal)) event ∷ [])
+      ap (λ (l : List Event). map (λ (t : Stepped). t.answer) (run_of began.image began.config (start began) l))
+      (events_of-snoc journal (entry_of worker event))
+      ∙ ap (λ (l : List Stepped). map (λ (t : Stepped). t.answer) l)
+      (run_of-snoc began.image began.config (start began) (events_of journal) event)
+      ∙ map-append (λ (t : Stepped). t.answer) (run_of began.image began.config (start began) (events_of journal))
+      (step_of began.image began.config (state_after began.image began.config (start began) (events_of journal)) event ∷ [])
 
-  pub numbers_of-snoc : numbers_of began (journal ++ entry_of worker event ∷ []) ≡ numbers_after (numbers_of began journal) event (step_of began.image began.config (state_of began journal) event).answer
+  pub numbers_of-snoc : numbers_of began (journal ++ entry_of worker event ∷ [])
+      ≡ numbers_after (numbers_of began journal) event (step_of began.image began.config (state_of began journal) event).answer
   unfolding state_of numbers_of
   numbers_of-snoc =
-      ap (λ (l : List Event). numbers_along began.image began.config (start began) first_numbers l) (events_of-snoc journal (entry_of worker event))
+      ap (λ (l : List Event). numbers_along began.image began.config (start began) first_numbers l)
+      (events_of-snoc journal (entry_of worker event))
       ∙ numbers_along-snoc began.image began.config (start began) first_numbers (events_of journal) event
 
 -- each event has one answer
-length-run_of : (image : ImageData) (config : Config) (s : State) (events : List Event) → length (run_of image config s events) ≡ length events
+length-run_of : (image : ImageData) (config : Config) (s : State) (events : List Event) →
+    length (run_of image config s events) ≡ length events
 length-run_of image config s [] = refl
 length-run_of image config s (first ∷ events) = ap (λ n. suc n) (length-run_of image config (step_of image config s first).state events)
 

@@ -19,7 +19,8 @@ use Rattle.sn_model.specs.NetEvents.{delivered}
 use Rattle.sn_model.specs.PointEvents.{advanced, recovered}
 use Rattle.sn_model.specs.Machine.{State, processor_at, with_processor}
 use Rattle.sn_model.specs.Instructions.{Stepped, retired, carried, is_retired, accessing, takes_input, next_byte, step_wanting, stepped}
-use Rattle.sn_model.specs.MachineEvents.{heard, with_rest, is_edged, with_checkpoint, is_validated, committed_next, validates, unready_node, is_recovered, restored_rest, restores}
+use Rattle.sn_model.specs.MachineEvents.{heard, with_rest, is_edged, with_checkpoint, is_validated, committed_next, validates, unready_node}
+use Rattle.sn_model.specs.MachineEvents.{is_recovered, restored_rest, restores}
 use Rattle.sn_model.specs.Step.{step_of}
 use Rattle.sn_consistency.specs.Committed.{Begins}
 
@@ -54,7 +55,8 @@ module _ (image : ImageData) (config : Config) (s : State) where
   wanting n (want.Store address) = with_access n address ToWrite
   wanting n (want.Amo address) = with_access n address ToWrite
   wanting n (want.Sc address) =
-      either (is_reserved (processor_at s n).core.reservation (block_of address)) (accessing image config s n address ToWrite) (retired image s n) (with_access n address ToWrite) same
+      either (is_reserved (processor_at s n).core.reservation (block_of address)) (accessing image config s n address ToWrite)
+      (retired image s n) (with_access n address ToWrite) same
 
   hears : (x : Option Told) (moved : Moved) → Grows (carried (heard s x) moved)
   hears None moved = same
@@ -85,7 +87,8 @@ module _ (image : ImageData) (config : Config) (s : State) where
   unfolding step_of
   released-grows (event.Step n) = stepping n
   released-grows (event.Evict n block) = let moved = evicted s.fabric n block in hears moved.told moved
-  released-grows (event.Edge n) = let moved = edged s.fabric n in rest (is_edged moved.answer) (with_processor s n (with_checkpoint (processor_at s n))) moved same
+  released-grows (event.Edge n) =
+      let moved = edged s.fabric n in rest (is_edged moved.answer) (with_processor s n (with_checkpoint (processor_at s n))) moved same
   released-grows (event.Hop id) = same
   released-grows (event.Deliver id) = let moved = delivered config s.fabric id in hears moved.told moved
   released-grows (event.Lose id) = same

@@ -1,5 +1,6 @@
 -- The words of a text, or the first cause why there are none.
-use Rattle.std.specs.Prelude.{◌≡◌, ℕ, ◌+◌, ◌*◌, nat_le, if◌then◌else◌, pos, ◌-ℤ◌, List, [], ◌∷◌, ◌++◌, length, Option, Some, None, Result, Ok, Err}
+use Rattle.std.specs.Prelude.{◌≡◌, ℕ, ◌+◌, ◌*◌, nat_le, if◌then◌else◌, pos, ◌-ℤ◌, List, [], ◌∷◌, ◌++◌, length, Option, Some, None, Result}
+use Rattle.std.specs.Prelude.{Ok, Err}
 use Rattle.std.specs.Str.{bytes_eq}
 use Rattle.rv_decode.specs.declared.instr.Instr.{Instr}
 use Rattle.rv_asm.specs.declared.fault.AsmCause.{AsmCause}
@@ -23,7 +24,8 @@ pub record Listing : Type 0 where
 -- one more word, where there is room for it
 abbrev pub with_item : ℕ → Listing → Item → Result Listing AsmCause
 with_item number listing item =
-    if nat_le 1048576 (length listing.items) then Err (TooManyWords number) else Ok (record { items = listing.items ++ item ∷ []; places = listing.places })
+    if nat_le 1048576 (length listing.items) then Err (TooManyWords number)
+    else Ok (record { items = listing.items ++ item ∷ []; places = listing.places })
 
 abbrev pub with_operation : ℕ → Listing → Read → Result Listing AsmCause
 with_operation number listing (fixed None) = Err (OutOfRange number)
@@ -37,7 +39,8 @@ with_place places name place other = if bytes_eq name other then Some place else
 -- one more label, unless it stands already; a word's place is four times its number
 abbrev pub with_label : ℕ → Listing → List ℕ → Option ℕ → Result Listing AsmCause
 with_label number listing name (Some place) = Err (LabelTwice number)
-with_label number listing name None = Ok (record { items = listing.items; places = with_place listing.places name (4 * length listing.items) })
+with_label number listing name None =
+    Ok (record { items = listing.items; places = with_place listing.places name (4 * length listing.items) })
 
 -- one more line, by its number
 abbrev pub with_line : ℕ → Listing → Statement → Result Listing AsmCause

@@ -3,8 +3,9 @@ ghost use Rattle.std.specs.Prelude.{◌≡◌, ℕ, map, ◌+◌, ◌*◌, ◌<�
 ghost use Rattle.text_lines.specs.Lines.{lines_of};
 ghost use Rattle.rv_statement.specs.Reading.{statement_of};
 ghost use Rattle.rv_statement.specs.Lines.{bare};
-ghost use Rattle.rv_statement.specs.Seen.{operation_seen, line_seen};
-ghost use Rattle.rv_asm.specs.Assembly.{asm_of, IsRefusedAs, with_item, with_operation, with_line, with_label, with_place, item_word, led_word, words_from, listed_from, nothing_listed};
+ghost use Rattle.rv_statement.specs.Seen.{operation_seen};
+ghost use Rattle.rv_asm.specs.Assembly.{asm_of, IsRefusedAs, with_item, with_operation, with_line, with_label, with_place, item_word};
+ghost use Rattle.rv_asm.specs.Assembly.{led_word, words_from, listed_from, nothing_listed};
 ghost use Rattle.rv_asm.specs.Kept.{item_seen, place_in, listing_of};
 
 use crate::fault::{AsmCause, AsmFault};
@@ -35,7 +36,8 @@ fn note<'a>(
     name: &'a [u8],
     place: u64,
 ) -> Result<(), AsmFault>
-    ensures noted { OnOk result ((other : List ℕ) → place_in labels.new other ≡ with_place (place_in labels.old) name.entry.now place other) }
+    ensures noted { OnOk result
+        ((other : List ℕ) → place_in labels.new other ≡ with_place (place_in labels.old) name.entry.now place other) }
     ensures memory { IfErr result (λ fault. fault ≡ AsmFault.Memory) }
 {
     labels.insert(name, place)?;
@@ -45,8 +47,11 @@ fn note<'a>(
 fn add_item<'a>(items: &mut Vec<Item<'a>>, number: u64, item: Item<'a>) -> Result<(), AsmFault>
     requires { vec_len items.old ≤ 1048576 }
     ensures few { vec_len items.new ≤ 1048576 }
-    ensures ok { OnOk result ((labels : _) → with_item number (listing_of items.old.items labels) (item_seen item.entry) ≡ Ok (listing_of items.new.items labels)) }
-    ensures refused { IfErr result (λ fault. (labels : _) → IsRefusedAs (with_item number (listing_of items.old.items labels) (item_seen item.entry)) fault) }
+    ensures ok { OnOk result
+        ((labels : _) → with_item number (listing_of items.old.items labels) (item_seen item.entry)
+        ≡ Ok (listing_of items.new.items labels)) }
+    ensures refused { IfErr result
+        (λ fault. (labels : _) → IsRefusedAs (with_item number (listing_of items.old.items labels) (item_seen item.entry)) fault) }
 {
     if items.len() >= MOST_WORDS {
         return Err(AsmFault::Refused(AsmCause::TooManyWords(number)));
@@ -62,8 +67,12 @@ fn add_operation<'a>(
 ) -> Result<(), AsmFault>
     requires { vec_len items.old ≤ 1048576 }
     ensures few { vec_len items.new ≤ 1048576 }
-    ensures ok { OnOk result ((labels : _) → with_operation number (listing_of items.old.items labels) (operation_seen operation.entry) ≡ Ok (listing_of items.new.items labels)) }
-    ensures refused { IfErr result (λ fault. (labels : _) → IsRefusedAs (with_operation number (listing_of items.old.items labels) (operation_seen operation.entry)) fault) }
+    ensures ok { OnOk result
+        ((labels : _) → with_operation number (listing_of items.old.items labels) (operation_seen operation.entry)
+        ≡ Ok (listing_of items.new.items labels)) }
+    ensures refused { IfErr result
+        (λ fault. (labels : _) →
+        IsRefusedAs (with_operation number (listing_of items.old.items labels) (operation_seen operation.entry)) fault) }
 {
     match operation {
         Operation::Coded(None) => Err(AsmFault::Refused(AsmCause::OutOfRange(number))),
@@ -79,8 +88,12 @@ fn add_label<'a>(
     name: &'a [u8],
 ) -> Result<(), AsmFault>
     requires { vec_len items.now ≤ 1048576 }
-    ensures ok { OnOk result (with_label number (listing_of items.now.items labels.old) name.entry.now (place_in labels.old name.entry.now) ≡ Ok (listing_of items.now.items labels.new)) }
-    ensures refused { IfErr result (λ fault. IsRefusedAs (with_label number (listing_of items.now.items labels.old) name.entry.now (place_in labels.old name.entry.now)) fault) }
+    ensures ok { OnOk result
+        (with_label number (listing_of items.now.items labels.old) name.entry.now (place_in labels.old name.entry.now)
+        ≡ Ok (listing_of items.now.items labels.new)) }
+    ensures refused { IfErr result
+        (λ fault. IsRefusedAs (with_label number (listing_of items.now.items labels.old) name.entry.now
+        (place_in labels.old name.entry.now)) fault) }
 {
     match place_in(labels, name) {
         Some(_) => Err(AsmFault::Refused(AsmCause::LabelTwice(number))),
@@ -96,8 +109,11 @@ fn add_line<'a>(
 ) -> Result<(), AsmFault>
     requires { vec_len items.old ≤ 1048576 }
     ensures few { vec_len items.new ≤ 1048576 }
-    ensures ok { OnOk result (with_line number (listing_of items.old.items labels.old) (statement_of (bare line.entry.now)) ≡ Ok (listing_of items.new.items labels.new)) }
-    ensures refused { IfErr result (λ fault. IsRefusedAs (with_line number (listing_of items.old.items labels.old) (statement_of (bare line.entry.now))) fault) }
+    ensures ok { OnOk result
+        (with_line number (listing_of items.old.items labels.old) (statement_of (bare line.entry.now))
+        ≡ Ok (listing_of items.new.items labels.new)) }
+    ensures refused { IfErr result
+        (λ fault. IsRefusedAs (with_line number (listing_of items.old.items labels.old) (statement_of (bare line.entry.now))) fault) }
 {
     match line_of(line) {
         Line::Nothing => Ok(()),
@@ -112,7 +128,8 @@ fn listed<'a>(
     alloc: Global,
     text: &'a [u8],
 ) -> Result<(Vec<Item<'a>>, BTreeMap<&'a [u8], u64>), AsmFault>
-    ensures ok { IfOk result (λ listing. listed_from 1 nothing_listed (lines_of text.entry.now) ≡ Ok (listing_of listing.0.items listing.1)) }
+    ensures ok { IfOk result
+        (λ listing. listed_from 1 nothing_listed (lines_of text.entry.now) ≡ Ok (listing_of listing.0.items listing.1)) }
     ensures few { IfOk result (λ listing. vec_len listing.0 ≤ 1048576) }
     ensures refused { IfErr result (λ fault. IsRefusedAs (listed_from 1 nothing_listed (lines_of text.entry.now)) fault) }
 {

@@ -1,7 +1,8 @@
 //! From words to text.
 ghost use Rattle.std.specs.Prelude.{◌≡◌, ◌+◌, ◌<◌, ◌/◌, ◌++◌, codes, decimal, IfOk, OnOk};
 ghost use Rattle.std.specs.Fmt.{signed_decimal};
-ghost use Rattle.rv_asm.specs.Text.{register_text, listed, address_text, place_text, operands_text, instr_text, hex_digit, digits_text, word_text, written, dis_of};
+ghost use Rattle.rv_asm.specs.Text.{register_text, listed, address_text, place_text, operands_text, instr_text, hex_digit, digits_text};
+ghost use Rattle.rv_asm.specs.Text.{word_text, written, dis_of};
 
 use itoa::Buffer;
 use rv_decode::{Instr, decode, encode};

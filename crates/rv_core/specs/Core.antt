@@ -1,5 +1,6 @@
 -- A core, and the words by which the flat machine and the caches speak of what it wants.
-use Rattle.std.specs.Prelude.{ℕ, ◌-◌, ◌/◌, Bool, true, false, nat_eq, if◌then◌else◌, List, slice_index, slice_set, replicate, Option, Some, None}
+use Rattle.std.specs.Prelude.{ℕ, ◌-◌, ◌/◌, Bool, true, false, nat_eq, if◌then◌else◌, List, slice_index, slice_set, replicate, Option, Some}
+use Rattle.std.specs.Prelude.{None}
 use Rattle.sn_base.specs.Blocks.{ram_start}
 use Rattle.rv_core.specs.declared.state.CoreState.{CoreState}
 use Rattle.rv_core.specs.declared.state.End.{End}

@@ -1,6 +1,7 @@
 -- The flat machine: one memory and one core per node. It has no cache, message, interval or log. A record is one
 -- instruction of one core, done at once.
-use Rattle.std.specs.Prelude.{◌≡◌, ℕ, zero, suc, ◌-◌, ◌*◌, ◌/◌, ◌<◌, true, if◌then◌else◌, List, [], ◌∷◌, ◌++◌, map, length, drop, get_or, slice_set, Option, Some, None, is_some}
+use Rattle.std.specs.Prelude.{◌≡◌, ℕ, zero, suc, ◌-◌, ◌*◌, ◌/◌, ◌<◌, true, if◌then◌else◌, List, [], ◌∷◌, ◌++◌, map, length, drop, get_or}
+use Rattle.std.specs.Prelude.{slice_set, Option, Some, None, is_some}
 use Rattle.byteorder.specs.Endian.{little_number, little_bytes}
 use Rattle.sn_base.specs.Blocks.{ram_start, ram_size, bytes_of, stored_in}
 use Rattle.sn_base.specs.Image.{ImageData, bytes_from}

@@ -1,18 +1,21 @@
 -- A core's step: what the next instruction wants, and the next core with what the instruction does outside. Sums are
 -- modulo 2^32. (RISC-V Unprivileged ISA, "RV32I Base Integer Instruction Set" and "A" Standard Extension.)
-use Rattle.std.specs.Prelude.{ℕ, ◌+◌, ◌*◌, ◌/◌, ◌%◌, ◌^◌, Bool, true, false, nat_eq, if◌then◌else◌, Option, Some, None, Result, Ok, Err, ok_or, unwrap_or}
+use Rattle.std.specs.Prelude.{ℕ, ◌+◌, ◌*◌, ◌/◌, ◌%◌, ◌^◌, Bool, true, false, nat_eq, if◌then◌else◌, Option, Some, None, Result, Ok, Err}
+use Rattle.std.specs.Prelude.{ok_or, unwrap_or}
 use Rattle.sn_base.specs.Image.{ImageData, fetched}
 use Rattle.sn_base.specs.declared.block.Width.{Width}
 use Rattle.sn_base.specs.declared.block.Width.TheVariants.{Word}
 use Rattle.rv_decode.specs.declared.instr.Instr.{Instr}
-use Rattle.rv_decode.specs.declared.instr.Instr.TheVariants.{Lui, Auipc, Jal, Jalr, Branch, Load, Store, OpImm, Op, Fence, Ecall, Ebreak, Lr, Sc, Amo}
+use Rattle.rv_decode.specs.declared.instr.Instr.TheVariants.{Lui, Auipc, Jal, Jalr, Branch, Load, Store, OpImm, Op, Fence, Ecall, Ebreak}
+use Rattle.rv_decode.specs.declared.instr.Instr.TheVariants.{Lr, Sc, Amo}
 use Rattle.rv_decode.specs.Decoded.{decoded}
 use Rattle.rv_core.specs.declared.state.CoreState.{CoreState}
 use Rattle.rv_core.specs.declared.state.End.TheVariants.{Exited}
 use Rattle.rv_core.specs.declared.state.Cause.{Cause}
 use Rattle.rv_core.specs.declared.state.Cause.TheVariants.{Illegal, FetchFault, MisalignedTarget, UnknownCall, Break}
 use Rattle.rv_core.specs.declared.step.Want.{Want}
-use Rattle.rv_core.specs.declared.step.Want.TheVariants.{Nothing, Load as LoadAt, Store as StoreAt, Amo as AmoAt, Lr as LrAt, Sc as ScAt, Input}
+use Rattle.rv_core.specs.declared.step.Want.TheVariants.{Nothing, Load as LoadAt, Store as StoreAt, Amo as AmoAt, Lr as LrAt, Sc as ScAt}
+use Rattle.rv_core.specs.declared.step.Want.TheVariants.{Input}
 use Rattle.rv_core.specs.declared.step.Effect.{Effect}
 use Rattle.rv_core.specs.Core.{register, with_register, trapped, block_of}
 use Rattle.rv_core.specs.Arithmetic.{sum, as_word, is_taken, imm_result, reg_result, amo_result, loaded}
@@ -32,7 +35,8 @@ becomes core = record { core = core; effect = quiet }
 
 -- the core changes and writes memory
 abbrev pub writing : CoreState → ℕ → Width → ℕ → Next
-writing core address width value = record { core = core; effect = record { write = Some (record { address = address; width = width; value = value }); out = None } }
+writing core address width value =
+    record { core = core; effect = record { write = Some (record { address = address; width = width; value = value }); out = None } }
 
 -- the address of the next instruction in order
 abbrev pub after : CoreState → ℕ
@@ -50,7 +54,8 @@ abbrev pub branches : CoreState → ℕ → CoreState
 branches core target = if nat_eq (target % 4) 0 then record core { pc = target } else trapped core MisalignedTarget
 
 abbrev pub jumps : CoreState → ℕ → ℕ → CoreState
-jumps core rd target = if nat_eq (target % 4) 0 then record core { pc = target; x = with_register core rd (after core) } else trapped core MisalignedTarget
+jumps core rd target =
+    if nat_eq (target % 4) 0 then record core { pc = target; x = with_register core rd (after core) } else trapped core MisalignedTarget
 
 -- the address of an access, and a jump's target without its lowest bit
 abbrev pub address_in : CoreState → ℕ → ℕ → ℕ
@@ -138,8 +143,10 @@ wants_unless None want = want
 wants_unless (Some cause) want = Nothing
 
 abbrev pub wants : ImageData → Instr → CoreState → Want
-wants image (Load op rd rs1 imm) core = wants_unless (fault_of image (width_of op) false (address_in core rs1 (as_word imm))) (LoadAt (address_in core rs1 (as_word imm)))
-wants image (Store width rs1 rs2 imm) core = wants_unless (fault_of image width true (address_in core rs1 (as_word imm))) (StoreAt (address_in core rs1 (as_word imm)))
+wants image (Load op rd rs1 imm) core =
+    wants_unless (fault_of image (width_of op) false (address_in core rs1 (as_word imm))) (LoadAt (address_in core rs1 (as_word imm)))
+wants image (Store width rs1 rs2 imm) core =
+    wants_unless (fault_of image width true (address_in core rs1 (as_word imm))) (StoreAt (address_in core rs1 (as_word imm)))
 wants image Ecall core = if nat_eq (register core 17) 2 then Input else Nothing
 wants image (Lr rd rs1) core = wants_unless (fault_of image Word false (register core rs1)) (LrAt (register core rs1))
 wants image (Sc rd rs1 rs2) core = wants_unless (fault_of image Word true (register core rs1)) (ScAt (register core rs1))

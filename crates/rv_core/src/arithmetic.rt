@@ -1,7 +1,8 @@
 //! The arithmetic of registers ("Integer Computational Instructions", "Conditional Branches", "Load and Store
 //! Instructions" and "Atomic Memory Operations" of the RISC-V Unprivileged ISA manual).
 ghost use Rattle.std.specs.Prelude.{◌≡◌, ◌<◌, ◌*◌, ◌≤◌, ◌^◌};
-ghost use Rattle.rv_core.specs.Arithmetic.{less_with_sign, one_if, shifted_left, shifted_right, shifted_with_sign, is_taken, imm_result, reg_result, amo_result, sign_extended, loaded};
+ghost use Rattle.rv_core.specs.Arithmetic.{less_with_sign, shifted_left, shifted_right, shifted_with_sign, is_taken, imm_result};
+ghost use Rattle.rv_core.specs.Arithmetic.{reg_result, amo_result, sign_extended, loaded};
 
 use rv_decode::{AmoOp, BranchOp, ImmOp, LoadOp, RegOp};
 

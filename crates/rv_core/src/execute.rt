@@ -4,7 +4,8 @@ ghost use Rattle.rv_decode.specs.Table.{instr_fits};
 ghost use Rattle.rv_core.specs.Core.{register, with_register, trapped};
 ghost use Rattle.rv_core.specs.Arithmetic.{as_word, loaded, amo_result};
 ghost use Rattle.rv_core.specs.Access.{fault_of, width_of};
-ghost use Rattle.rv_core.specs.Step.{does, becomes, writing, passed, gets, branches, jumps, address_in, even, reserves, conditionally, called, unless_fault};
+ghost use Rattle.rv_core.specs.Step.{does, becomes, writing, passed, gets, branches, jumps, address_in, reserves, conditionally};
+ghost use Rattle.rv_core.specs.Step.{called, unless_fault};
 
 use crate::access::{fault, width_of};
 use crate::arithmetic::{amo_result, imm_result, is_taken, loaded, reg_result};
@@ -184,7 +185,9 @@ impl CoreState {
 
     fn load(&mut self, image: &Image, op: LoadOp, rd: u8, address: u32, seen: u32) -> Effect
         requires { rd < 32 }
-        ensures core { self.new ≡ (unless_fault (fault_of image.now (width_of op) false address) self.old (becomes (gets self.old rd (loaded op address seen)))).core }
+        ensures core { self.new
+            ≡ (unless_fault (fault_of image.now (width_of op) false address) self.old
+            (becomes (gets self.old rd (loaded op address seen)))).core }
         ensures effect { result ≡ (becomes self.old).effect }
     {
         match fault(image, width_of(op), false, address) {
@@ -194,8 +197,10 @@ impl CoreState {
     }
 
     fn store(&mut self, image: &Image, width: Width, address: u32, value: u32) -> Effect
-        ensures core { self.new ≡ (unless_fault (fault_of image.now width true address) self.old (writing (passed self.old) address width value)).core }
-        ensures effect { result ≡ (unless_fault (fault_of image.now width true address) self.old (writing (passed self.old) address width value)).effect }
+        ensures core { self.new
+            ≡ (unless_fault (fault_of image.now width true address) self.old (writing (passed self.old) address width value)).core }
+        ensures effect { result
+            ≡ (unless_fault (fault_of image.now width true address) self.old (writing (passed self.old) address width value)).effect }
     {
         if let Some(cause) = fault(image, width, true, address) {
             return self.trap(cause);
@@ -206,7 +211,8 @@ impl CoreState {
 
     fn load_reserved(&mut self, image: &Image, rd: u8, address: u32, seen: u32) -> Effect
         requires { rd < 32 }
-        ensures core { self.new ≡ (unless_fault (fault_of image.now Width.Word false address) self.old (becomes (reserves self.old rd address seen))).core }
+        ensures core { self.new
+            ≡ (unless_fault (fault_of image.now Width.Word false address) self.old (becomes (reserves self.old rd address seen))).core }
         ensures effect { result ≡ (becomes self.old).effect }
     {
         if let Some(cause) = fault(image, Width::Word, false, address) {
@@ -225,8 +231,10 @@ impl CoreState {
         done: bool,
     ) -> Effect
         requires { rd < 32 }
-        ensures core { self.new ≡ (unless_fault (fault_of image.now Width.Word true address) self.old (conditionally done self.old rd address value)).core }
-        ensures effect { result ≡ (unless_fault (fault_of image.now Width.Word true address) self.old (conditionally done self.old rd address value)).effect }
+        ensures core { self.new
+            ≡ (unless_fault (fault_of image.now Width.Word true address) self.old (conditionally done self.old rd address value)).core }
+        ensures effect { result
+            ≡ (unless_fault (fault_of image.now Width.Word true address) self.old (conditionally done self.old rd address value)).effect }
     {
         if let Some(cause) = fault(image, Width::Word, true, address) {
             return self.trap(cause);
@@ -250,8 +258,12 @@ impl CoreState {
         seen: u32,
     ) -> Effect
         requires { rd < 32 }
-        ensures core { self.new ≡ (unless_fault (fault_of image.now Width.Word true address) self.old (writing (gets self.old rd seen) address Width.Word (amo_result op seen value))).core }
-        ensures effect { result ≡ (unless_fault (fault_of image.now Width.Word true address) self.old (writing (gets self.old rd seen) address Width.Word (amo_result op seen value))).effect }
+        ensures core { self.new
+            ≡ (unless_fault (fault_of image.now Width.Word true address) self.old
+            (writing (gets self.old rd seen) address Width.Word (amo_result op seen value))).core }
+        ensures effect { result
+            ≡ (unless_fault (fault_of image.now Width.Word true address) self.old
+            (writing (gets self.old rd seen) address Width.Word (amo_result op seen value))).effect }
     {
         if let Some(cause) = fault(image, Width::Word, true, address) {
             return self.trap(cause);

@@ -29,8 +29,11 @@ moved size low high n = ap (λ p. high * p + n) (pow-add 2 size low) ∙ ap (λ 
 
 Reads-above : (cells : List Cell) (high word : ℕ) → Reads cells word → Reads cells (high * 2 ^ width cells + word)
 Reads-above [] high word h = tt
-Reads-above (bits n value ∷ cells) high word h =
-    (part-above (width cells) n high word ∙ h.0, subst (Reads cells) (sym (moved n (width cells) high word)) (Reads-above cells (high * 2 ^ n) word h.1))
+Reads-above (bits n value ∷ cells) high word h = (
+  part-above (width cells) n high word
+      ∙ h.0,
+  subst (Reads cells) (sym (moved n (width cells) high word)) (Reads-above cells (high * 2 ^ n) word h.1),
+)
 Reads-above (free n value ∷ cells) high word h =
     subst (Reads cells) (sym (moved n (width cells) high word)) (Reads-above cells (high * 2 ^ n) word h)
 
@@ -47,6 +50,8 @@ part-placed n value low rest v r = ap (λ m. m % 2 ^ n) (shr_high value low rest
 
 pub Reads-placed : (cells : List Cell) → HasRoom cells → Reads cells (placed cells)
 Reads-placed [] h = tt
-Reads-placed (bits n value ∷ cells) h =
-    (part-placed n value (width cells) (placed cells) h.0 (placed-lt cells h.1), Reads-above cells value (placed cells) (Reads-placed cells h.1))
+Reads-placed (bits n value ∷ cells) h = (
+  part-placed n value (width cells) (placed cells) h.0 (placed-lt cells h.1),
+  Reads-above cells value (placed cells) (Reads-placed cells h.1),
+)
 Reads-placed (free n value ∷ cells) h = Reads-above cells value (placed cells) (Reads-placed cells h.1)

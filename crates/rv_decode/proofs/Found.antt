@@ -13,9 +13,11 @@ use Rattle.rv_decode.specs.declared.operations.RegOp.{RegOp}
 use Rattle.rv_decode.specs.declared.operations.RegOp.TheVariants.{Add, Sll, Slt, Sltu, Xor, Srl, Or, And, Sub, Sra}
 use Rattle.rv_decode.specs.declared.operations.AmoOp.{AmoOp}
 use Rattle.rv_decode.specs.declared.operations.AmoOp.TheVariants.{Amoswap, Amoadd, Amoxor, Amoand, Amoor, Amomin, Amomax, Amominu, Amomaxu}
-use Rattle.rv_decode.specs.Codes.{branch_code, branch_op, load_code, load_op, store_code, store_op, imm_code, is_shift, shift_top, imm_op, reg_code, reg_top, reg_op, amo_code, amo_op}
+use Rattle.rv_decode.specs.Codes.{branch_code, branch_op, load_code, load_op, store_code, store_op, imm_code, is_shift, shift_top, imm_op}
+use Rattle.rv_decode.specs.Codes.{reg_code, reg_top, reg_op, amo_code, amo_op}
 
-found-here : {X : Type 0} (test : X → Bool) (x : X) (b : Bool) (rest : Option X) → test x ≡ b → IfSome rest (λ y. test y ≡ true) → IfSome (cond b (Some x) rest) (λ y. test y ≡ true)
+found-here : {X : Type 0} (test : X → Bool) (x : X) (b : Bool) (rest : Option X) → test x ≡ b → IfSome rest (λ y. test y ≡ true) →
+    IfSome (cond b (Some x) rest) (λ y. test y ≡ true)
 found-here test x true rest e h = e
 found-here test x false rest e h = h
 

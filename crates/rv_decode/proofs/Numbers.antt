@@ -17,13 +17,17 @@ signed-above half n l h s = grind (arith, nat_tests)
 
 -- modulo twice the half nothing is lost
 twos-signed-2048 : (n : ℕ) → n < 4096 → twos (signed 2048 n) % 4096 ≡ n
-twos-signed-2048 n h = ⊎_elim (λ l. omega (arith, signed-below 2048 n l)) (λ l. omega (arith, signed-above 2048 n l h (omega arith))) (cases_lt n 2048)
+twos-signed-2048 n h =
+    ⊎_elim (λ l. omega (arith, signed-below 2048 n l)) (λ l. omega (arith, signed-above 2048 n l h (omega arith))) (cases_lt n 2048)
 
 twos-signed-4096 : (n : ℕ) → n < 8192 → twos (signed 4096 n) % 8192 ≡ n
-twos-signed-4096 n h = ⊎_elim (λ l. omega (arith, signed-below 4096 n l)) (λ l. omega (arith, signed-above 4096 n l h (omega arith))) (cases_lt n 4096)
+twos-signed-4096 n h =
+    ⊎_elim (λ l. omega (arith, signed-below 4096 n l)) (λ l. omega (arith, signed-above 4096 n l h (omega arith))) (cases_lt n 4096)
 
 twos-signed-1048576 : (n : ℕ) → n < 2097152 → twos (signed 1048576 n) % 2097152 ≡ n
-twos-signed-1048576 n h = ⊎_elim (λ l. omega (arith, signed-below 1048576 n l)) (λ l. omega (arith, signed-above 1048576 n l h (omega arith))) (cases_lt n 1048576)
+twos-signed-1048576 n h =
+    ⊎_elim (λ l. omega (arith, signed-below 1048576 n l)) (λ l. omega (arith, signed-above 1048576 n l h (omega arith)))
+    (cases_lt n 1048576)
 
 -- ---- to a word: a signed number is what its two's complement reads as
 
@@ -45,7 +49,8 @@ i-part : (n : ℕ) → n < 4096 → part 0 12 (twos (signed 2048 n)) ≡ n
 i-part n h = omega (arith, twos-signed-2048 n h)
 
 s-parts : (a b : ℕ) → a < 128 → b < 32 → (part 5 7 (twos (signed 2048 (a * 32 + b))) ≡ a) × (part 0 5 (twos (signed 2048 (a * 32 + b))) ≡ b)
-s-parts a b p q = let e : twos (signed 2048 (a * 32 + b)) % 4096 ≡ a * 32 + b = twos-signed-2048 (a * 32 + b) (omega arith) in (omega arith, omega arith)
+s-parts a b p q =
+    let e : twos (signed 2048 (a * 32 + b)) % 4096 ≡ a * 32 + b = twos-signed-2048 (a * 32 + b) (omega arith) in (omega arith, omega arith)
 
 pub record BranchParts (number : ℕ) (a b c d : ℕ) : Type 0 where
   pub top : part 12 1 number ≡ a
@@ -55,7 +60,8 @@ pub record BranchParts (number : ℕ) (a b c d : ℕ) : Type 0 where
 
 b-parts : (a b c d : ℕ) → a < 2 → b < 2 → c < 64 → d < 16 → BranchParts (twos (signed 4096 (a * 4096 + b * 2048 + c * 32 + d * 2))) a b c d
 b-parts a b c d p q r s =
-    let e : twos (signed 4096 (a * 4096 + b * 2048 + c * 32 + d * 2)) % 8192 ≡ a * 4096 + b * 2048 + c * 32 + d * 2 = twos-signed-4096 (a * 4096 + b * 2048 + c * 32 + d * 2) (omega arith) in
+    let e : twos (signed 4096 (a * 4096 + b * 2048 + c * 32 + d * 2)) % 8192
+    ≡ a * 4096 + b * 2048 + c * 32 + d * 2 = twos-signed-4096 (a * 4096 + b * 2048 + c * 32 + d * 2) (omega arith) in
     record { top = omega arith; next = omega arith; upper = omega arith; lower = omega arith }
 
 pub record JumpParts (number : ℕ) (a b c d : ℕ) : Type 0 where
@@ -64,9 +70,11 @@ pub record JumpParts (number : ℕ) (a b c d : ℕ) : Type 0 where
   pub next : part 11 1 number ≡ c
   pub lower : part 1 10 number ≡ d
 
-j-parts : (a b c d : ℕ) → a < 2 → b < 256 → c < 2 → d < 1024 → JumpParts (twos (signed 1048576 (a * 1048576 + b * 4096 + c * 2048 + d * 2))) a b c d
+j-parts : (a b c d : ℕ) → a < 2 → b < 256 → c < 2 → d < 1024 →
+    JumpParts (twos (signed 1048576 (a * 1048576 + b * 4096 + c * 2048 + d * 2))) a b c d
 j-parts a b c d p q r s =
-    let e : twos (signed 1048576 (a * 1048576 + b * 4096 + c * 2048 + d * 2)) % 2097152 ≡ a * 1048576 + b * 4096 + c * 2048 + d * 2 = twos-signed-1048576 (a * 1048576 + b * 4096 + c * 2048 + d * 2) (omega arith) in
+    let e : twos (signed 1048576 (a * 1048576 + b * 4096 + c * 2048 + d * 2)) % 2097152
+    ≡ a * 1048576 + b * 4096 + c * 2048 + d * 2 = twos-signed-1048576 (a * 1048576 + b * 4096 + c * 2048 + d * 2) (omega arith) in
     record { top = omega arith; upper = omega arith; next = omega arith; lower = omega arith }
 
 -- the parts of a word are those of its immediate
@@ -77,16 +85,21 @@ pub s-reads : (word : ℕ) → (part 25 7 word ≡ part 5 7 (twos (s_imm word)))
 s-reads word = let h : _ = s-parts (part 25 7 word) (part 7 5 word) (part-lt 25 7 word) (part-lt 7 5 word) in (sym h.0, sym h.1)
 
 pub b-reads : (word : ℕ) → BranchParts (twos (b_imm word)) (part 31 1 word) (part 7 1 word) (part 25 6 word) (part 8 4 word)
-b-reads word = b-parts (part 31 1 word) (part 7 1 word) (part 25 6 word) (part 8 4 word) (part-lt 31 1 word) (part-lt 7 1 word) (part-lt 25 6 word) (part-lt 8 4 word)
+b-reads word =
+    b-parts (part 31 1 word) (part 7 1 word) (part 25 6 word) (part 8 4 word) (part-lt 31 1 word) (part-lt 7 1 word) (part-lt 25 6 word)
+    (part-lt 8 4 word)
 
 pub j-reads : (word : ℕ) → JumpParts (twos (j_imm word)) (part 31 1 word) (part 12 8 word) (part 20 1 word) (part 21 10 word)
-j-reads word = j-parts (part 31 1 word) (part 12 8 word) (part 20 1 word) (part 21 10 word) (part-lt 31 1 word) (part-lt 12 8 word) (part-lt 20 1 word) (part-lt 21 10 word)
+j-reads word =
+    j-parts (part 31 1 word) (part 12 8 word) (part 20 1 word) (part 21 10 word) (part-lt 31 1 word) (part-lt 12 8 word) (part-lt 20 1 word)
+    (part-lt 21 10 word)
 
 -- a word with the parts of an immediate has that immediate
 pub i-is : (word : ℕ) (z : ℤ) → is_signed 2048 z ≡ true → part 20 12 word ≡ part 0 12 (twos z) → i_imm word ≡ z
 i-is word z h e = ap (signed 2048) (omega (arith, e)) ∙ signed-twos-2048 z h
 
-pub s-is : (word : ℕ) (z : ℤ) → is_signed 2048 z ≡ true → part 25 7 word ≡ part 5 7 (twos z) → part 7 5 word ≡ part 0 5 (twos z) → s_imm word ≡ z
+pub s-is : (word : ℕ) (z : ℤ) → is_signed 2048 z ≡ true → part 25 7 word ≡ part 5 7 (twos z) → part 7 5 word ≡ part 0 5 (twos z) →
+    s_imm word ≡ z
 s-is word z h e f = ap (signed 2048) (omega (arith, e, f)) ∙ signed-twos-2048 z h
 
 signed-of-target : (half : ℕ) (z : ℤ) → is_target half z ≡ true → is_signed half z ≡ true
@@ -102,11 +115,16 @@ b-sum n h = omega arith
 j-sum : (n : ℕ) → n % 2 ≡ 0 → part 20 1 n * 1048576 + part 12 8 n * 4096 + part 11 1 n * 2048 + part 1 10 n * 2 ≡ n % 2097152
 j-sum n h = omega arith
 
-pub b-is : (word : ℕ) (z : ℤ) → is_target 4096 z ≡ true → BranchParts (twos z) (part 31 1 word) (part 7 1 word) (part 25 6 word) (part 8 4 word) → b_imm word ≡ z
-b-is word z h e = ap (signed 4096) (omega (arith, e, b-sum (twos z) (even-of-target 4096 z h))) ∙ signed-twos-4096 z (signed-of-target 4096 z h)
+pub b-is : (word : ℕ) (z : ℤ) → is_target 4096 z ≡ true →
+    BranchParts (twos z) (part 31 1 word) (part 7 1 word) (part 25 6 word) (part 8 4 word) → b_imm word ≡ z
+b-is word z h e =
+    ap (signed 4096) (omega (arith, e, b-sum (twos z) (even-of-target 4096 z h))) ∙ signed-twos-4096 z (signed-of-target 4096 z h)
 
-pub j-is : (word : ℕ) (z : ℤ) → is_target 1048576 z ≡ true → JumpParts (twos z) (part 31 1 word) (part 12 8 word) (part 20 1 word) (part 21 10 word) → j_imm word ≡ z
-j-is word z h e = ap (signed 1048576) (omega (arith, e, j-sum (twos z) (even-of-target 1048576 z h))) ∙ signed-twos-1048576 z (signed-of-target 1048576 z h)
+pub j-is : (word : ℕ) (z : ℤ) → is_target 1048576 z ≡ true →
+    JumpParts (twos z) (part 31 1 word) (part 12 8 word) (part 20 1 word) (part 21 10 word) → j_imm word ≡ z
+j-is word z h e =
+    ap (signed 1048576) (omega (arith, e, j-sum (twos z) (even-of-target 1048576 z h)))
+    ∙ signed-twos-1048576 z (signed-of-target 1048576 z h)
 
 pub u-is : (word imm : ℕ) → imm < 2 ^ 32 → imm % 4096 ≡ 0 → part 12 20 word ≡ part 12 20 imm → u_imm word ≡ imm
 u-is word imm l m e = omega (arith, e)
@@ -141,18 +159,25 @@ s-fits word = signed-fits-2048 (part 25 7 word * 32 + part 7 5 word) (omega (ari
 b-number-fits : (a b c d : ℕ) → a < 2 → b < 2 → c < 64 → d < 16 → is_target 4096 (signed 4096 (a * 4096 + b * 2048 + c * 32 + d * 2)) ≡ true
 b-number-fits a b c d p q r s =
     let n : ℕ = a * 4096 + b * 2048 + c * 32 + d * 2 in
-    both (is_signed 4096 (signed 4096 n)) (nat_eq (unsigned_abs (signed 4096 n) % 2) 0) (signed-fits-4096 n (omega arith)) (even-signed 4096 n (omega arith) (omega arith))
+    both (is_signed 4096 (signed 4096 n)) (nat_eq (unsigned_abs (signed 4096 n) % 2) 0) (signed-fits-4096 n (omega arith))
+    (even-signed 4096 n (omega arith) (omega arith))
 
-j-number-fits : (a b c d : ℕ) → a < 2 → b < 256 → c < 2 → d < 1024 → is_target 1048576 (signed 1048576 (a * 1048576 + b * 4096 + c * 2048 + d * 2)) ≡ true
+j-number-fits : (a b c d : ℕ) → a < 2 → b < 256 → c < 2 → d < 1024 →
+    is_target 1048576 (signed 1048576 (a * 1048576 + b * 4096 + c * 2048 + d * 2)) ≡ true
 j-number-fits a b c d p q r s =
     let n : ℕ = a * 1048576 + b * 4096 + c * 2048 + d * 2 in
-    both (is_signed 1048576 (signed 1048576 n)) (nat_eq (unsigned_abs (signed 1048576 n) % 2) 0) (signed-fits-1048576 n (omega arith)) (even-signed 1048576 n (omega arith) (omega arith))
+    both (is_signed 1048576 (signed 1048576 n)) (nat_eq (unsigned_abs (signed 1048576 n) % 2) 0) (signed-fits-1048576 n (omega arith))
+    (even-signed 1048576 n (omega arith) (omega arith))
 
 pub b-fits : (word : ℕ) → is_target 4096 (b_imm word) ≡ true
-b-fits word = b-number-fits (part 31 1 word) (part 7 1 word) (part 25 6 word) (part 8 4 word) (part-lt 31 1 word) (part-lt 7 1 word) (part-lt 25 6 word) (part-lt 8 4 word)
+b-fits word =
+    b-number-fits (part 31 1 word) (part 7 1 word) (part 25 6 word) (part 8 4 word) (part-lt 31 1 word) (part-lt 7 1 word)
+    (part-lt 25 6 word) (part-lt 8 4 word)
 
 pub j-fits : (word : ℕ) → is_target 1048576 (j_imm word) ≡ true
-j-fits word = j-number-fits (part 31 1 word) (part 12 8 word) (part 20 1 word) (part 21 10 word) (part-lt 31 1 word) (part-lt 12 8 word) (part-lt 20 1 word) (part-lt 21 10 word)
+j-fits word =
+    j-number-fits (part 31 1 word) (part 12 8 word) (part 20 1 word) (part 21 10 word) (part-lt 31 1 word) (part-lt 12 8 word)
+    (part-lt 20 1 word) (part-lt 21 10 word)
 
 upper-number-fits : (n : ℕ) → n < 1048576 → is_upper (n * 4096) ≡ true
 upper-number-fits n l = grind (arith, nat_tests)

@@ -5,13 +5,16 @@ use Rattle.std.proofs.lemmas.Bool.Decides.{nat_tests}
 use Rattle.rv_decode.specs.declared.operations.ImmOp.{ImmOp}
 use Rattle.rv_decode.specs.declared.instr.Illegal.{Illegal}
 use Rattle.rv_decode.specs.declared.instr.Instr.{Instr}
-use Rattle.rv_decode.specs.declared.instr.Instr.TheVariants.{Lui, Auipc, Jal, Jalr, Branch, Load, Store, OpImm, Op, Fence, Ecall, Ebreak, Lr, Sc, Amo}
+use Rattle.rv_decode.specs.declared.instr.Instr.TheVariants.{Lui, Auipc, Jal, Jalr, Branch, Load, Store, OpImm, Op, Fence, Ecall, Ebreak}
+use Rattle.rv_decode.specs.declared.instr.Instr.TheVariants.{Lr, Sc, Amo}
 use Rattle.rv_decode.specs.Parts.{twos}
 use Rattle.rv_decode.specs.Codes.{jalr, load, op_imm, op, load_code, imm_code, is_shift, shift_top, reg_code, reg_top, amo_code}
-use Rattle.rv_decode.specs.Table.{IsWordOf, layout, width, placed, word_of, instr_fits, is_signed, is_target, is_operand, is_register, is_upper, r_form, i_form, amo_form}
+use Rattle.rv_decode.specs.Table.{IsWordOf, layout, width, placed, word_of, instr_fits, is_signed, is_target, is_operand, is_register}
+use Rattle.rv_decode.specs.Table.{is_upper, r_form, i_form, amo_form}
 use Rattle.rv_decode.specs.Decoded.{decoded}
 use Rattle.rv_decode.proofs.Cells.{HasRoom, part-lt, placed-lt, Reads-placed}
-use Rattle.rv_decode.proofs.Found.{branch_code-lt, load_code-lt, store_code-lt, imm_code-lt, shift_top-lt, reg_code-lt, reg_top-lt, amo_code-lt}
+use Rattle.rv_decode.proofs.Found.{branch_code-lt, load_code-lt, store_code-lt, imm_code-lt, shift_top-lt, reg_code-lt, reg_top-lt}
+use Rattle.rv_decode.proofs.Found.{amo_code-lt}
 use Rattle.rv_decode.proofs.Complete.{decoded-complete}
 use Rattle.rv_decode.proofs.Sound.{decoded-sound}
 
@@ -30,7 +33,8 @@ two-lt a b h = (grind (arith, nat_tests), grind (arith, nat_tests))
 three-lt : (a b c : ℕ) → (is_register a && is_register b && is_register c) ≡ true → (a < 32) × (b < 32) × (c < 32)
 three-lt a b c h = (grind (arith, nat_tests), grind (arith, nat_tests), grind (arith, nat_tests))
 
-r-room : (top rs2 rs1 code rd opcode : ℕ) → top < 128 → rs2 < 32 → rs1 < 32 → code < 8 → rd < 32 → opcode < 128 → HasRoom (r_form top rs2 rs1 code rd opcode)
+r-room : (top rs2 rs1 code rd opcode : ℕ) → top < 128 → rs2 < 32 → rs1 < 32 → code < 8 → rd < 32 → opcode < 128 →
+    HasRoom (r_form top rs2 rs1 code rd opcode)
 r-room top rs2 rs1 code rd opcode a b c d e f = (a, (b, (c, (d, (e, (f, tt))))))
 
 i-room : (imm : ℤ) (rs1 code rd opcode : ℕ) → rs1 < 32 → code < 8 → rd < 32 → opcode < 128 → HasRoom (i_form imm rs1 code rd opcode)
@@ -45,7 +49,8 @@ amount-lt (negsuc n) h = grind (arith, nat_tests)
 
 op_imm-room : (shift : Bool) (o : ImmOp) (rd rs1 : ℕ) (imm : ℤ) → rd < 32 → rs1 < 32 → is_operand shift imm ≡ true
     → HasRoom (if shift then r_form (shift_top o) (twos imm) rs1 (imm_code o) rd op_imm else i_form imm rs1 (imm_code o) rd op_imm)
-op_imm-room true o rd rs1 imm d s h = r-room (shift_top o) (twos imm) rs1 (imm_code o) rd op_imm (shift_top-lt o) (amount-lt imm h) s (imm_code-lt o) d (omega arith)
+op_imm-room true o rd rs1 imm d s h =
+    r-room (shift_top o) (twos imm) rs1 (imm_code o) rd op_imm (shift_top-lt o) (amount-lt imm h) s (imm_code-lt o) d (omega arith)
 op_imm-room false o rd rs1 imm d s h = i-room imm rs1 (imm_code o) rd op_imm s (imm_code-lt o) d (omega arith)
 
 has-room : (instr : Instr) → instr_fits instr ≡ true → HasRoom (layout instr)
@@ -54,17 +59,22 @@ has-room (Auipc rd imm) h = (part-lt 12 20 imm, (one-lt rd (is_upper imm) h, (om
 has-room (Jal rd offset) h =
     let t : ℕ = twos offset in
     (part-lt 20 1 t, (part-lt 1 10 t, (part-lt 11 1 t, (part-lt 12 8 t, (one-lt rd (is_target 1048576 offset) h, (omega arith, tt))))))
-has-room (Jalr rd rs1 imm) h = let r : _ = pair-lt rd rs1 (is_signed 2048 imm) h in i-room imm rs1 0 rd jalr r.1 (omega arith) r.0 (omega arith)
+has-room (Jalr rd rs1 imm) h =
+    let r : _ = pair-lt rd rs1 (is_signed 2048 imm) h in i-room imm rs1 0 rd jalr r.1 (omega arith) r.0 (omega arith)
 has-room (Branch o rs1 rs2 offset) h =
     let r : _ = pair-lt rs1 rs2 (is_target 4096 offset) h in
     let t : ℕ = twos offset in
     (part-lt 12 1 t, (part-lt 5 6 t, (r.1, (r.0, (branch_code-lt o, (part-lt 1 4 t, (part-lt 11 1 t, (omega arith, tt))))))))
-has-room (Load o rd rs1 imm) h = let r : _ = pair-lt rd rs1 (is_signed 2048 imm) h in i-room imm rs1 (load_code o) rd load r.1 (load_code-lt o) r.0 (omega arith)
+has-room (Load o rd rs1 imm) h =
+    let r : _ = pair-lt rd rs1 (is_signed 2048 imm) h in i-room imm rs1 (load_code o) rd load r.1 (load_code-lt o) r.0 (omega arith)
 has-room (Store o rs1 rs2 imm) h =
     let r : _ = pair-lt rs1 rs2 (is_signed 2048 imm) h in
     (part-lt 5 7 (twos imm), (r.1, (r.0, (store_code-lt o, (part-lt 0 5 (twos imm), (omega arith, tt))))))
-has-room (OpImm o rd rs1 imm) h = let r : _ = pair-lt rd rs1 (is_operand (is_shift o) imm) h in op_imm-room (is_shift o) o rd rs1 imm r.0 r.1 r.2
-has-room (Op o rd rs1 rs2) h = let r : _ = three-lt rd rs1 rs2 h in r-room (reg_top o) rs2 rs1 (reg_code o) rd op (reg_top-lt o) r.2 r.1 (reg_code-lt o) r.0 (omega arith)
+has-room (OpImm o rd rs1 imm) h =
+    let r : _ = pair-lt rd rs1 (is_operand (is_shift o) imm) h in op_imm-room (is_shift o) o rd rs1 imm r.0 r.1 r.2
+has-room (Op o rd rs1 rs2) h =
+    let r : _ = three-lt rd rs1 rs2 h in
+    r-room (reg_top o) rs2 rs1 (reg_code o) rd op (reg_top-lt o) r.2 r.1 (reg_code-lt o) r.0 (omega arith)
 has-room Fence h = (omega arith, (omega arith, (omega arith, (omega arith, (omega arith, tt)))))
 has-room Ecall h = (omega arith, (omega arith, (omega arith, (omega arith, (omega arith, tt)))))
 has-room Ebreak h = (omega arith, (omega arith, (omega arith, (omega arith, (omega arith, tt)))))
@@ -72,7 +82,8 @@ has-room (Lr rd rs1) h = let r : _ = two-lt rd rs1 h in amo-room 0b00010 0 rs1 r
 has-room (Sc rd rs1 rs2) h = let r : _ = three-lt rd rs1 rs2 h in amo-room 0b00011 rs2 rs1 rd (omega arith) r.2 r.1 r.0
 has-room (Amo o rd rs1 rs2) h = let r : _ = three-lt rd rs1 rs2 h in amo-room (amo_code o) rs2 rs1 rd (amo_code-lt o) r.2 r.1 r.0
 
-op_imm-width : (shift : Bool) (top amount imm rs1 code rd : ℕ) (z : ℤ) → width (if shift then r_form top amount rs1 code rd op_imm else i_form z rs1 code rd op_imm) ≡ 32
+op_imm-width : (shift : Bool) (top amount imm rs1 code rd : ℕ) (z : ℤ) →
+    width (if shift then r_form top amount rs1 code rd op_imm else i_form z rs1 code rd op_imm) ≡ 32
 op_imm-width true top amount imm rs1 code rd z = refl
 op_imm-width false top amount imm rs1 code rd z = refl
 
@@ -108,39 +119,50 @@ word_of-right instr h = record { fits = h; reads = Reads-placed (layout instr) (
 pub decoded-word_of : (instr : Instr) → instr_fits instr ≡ true → decoded (word_of instr) ≡ Some instr
 decoded-word_of instr h = decoded-complete instr (word_of instr) (word_of-lt instr h) (word_of-right instr h)
 
-right-of : (word : ℕ) (found : Option Instr) (illegal : Illegal) (instr : Instr) → IfSome found (λ i. IsWordOf i word) → ok_or found illegal ≡ Ok instr → IsWordOf instr word
+right-of : (word : ℕ) (found : Option Instr) (illegal : Illegal) (instr : Instr) → IfSome found (λ i. IsWordOf i word) →
+    ok_or found illegal ≡ Ok instr → IsWordOf instr word
 right-of word None illegal instr h e = cc
 right-of word (Some i) illegal instr h e = let f : i ≡ instr = cc in subst (λ j. IsWordOf j word) f h
 
 -- decoding gives an instruction exactly where the word is one of its words
-pub decode-exact : (word : ℕ) → word < 2 ^ 32 → (illegal : Illegal) (instr : Instr) → (ok_or (decoded word) illegal ≡ Ok instr) ↔ IsWordOf instr word
-decode-exact word l illegal instr =
-    (right-of word (decoded word) illegal instr (decoded-sound word), λ h. ap (λ found. ok_or found illegal) (decoded-complete instr word l h))
+pub decode-exact : (word : ℕ) → word < 2 ^ 32 → (illegal : Illegal) (instr : Instr) →
+    (ok_or (decoded word) illegal ≡ Ok instr) ↔ IsWordOf instr word
+decode-exact word l illegal instr = (
+  right-of word (decoded word) illegal instr (decoded-sound word),
+  λ h. ap (λ found. ok_or found illegal) (decoded-complete instr word l h),
+)
 
-none-of : (word : ℕ) (found : Option Instr) (illegal : Illegal) → IfSome found (λ i. IsWordOf i word) → ((instr : Instr) → IsWordOf instr word → ⊥) → IsErr (ok_or found illegal)
+none-of : (word : ℕ) (found : Option Instr) (illegal : Illegal) → IfSome found (λ i. IsWordOf i word) →
+    ((instr : Instr) → IsWordOf instr word → ⊥) → IsErr (ok_or found illegal)
 none-of word None illegal h f = refl
 none-of word (Some i) illegal h f = absurd (f i h)
 
 -- and none exactly where the word is no instruction's
-pub decode-illegal : (word : ℕ) → word < 2 ^ 32 → (illegal : Illegal) → IsErr (ok_or (decoded word) illegal) ↔ ((instr : Instr) → IsWordOf instr word → ⊥)
+pub decode-illegal : (word : ℕ) → word < 2 ^ 32 → (illegal : Illegal) →
+    IsErr (ok_or (decoded word) illegal) ↔ ((instr : Instr) → IsWordOf instr word → ⊥)
 decode-illegal word l illegal = (
-  λ e instr h. let p : IsErr (ok_or (Some instr) illegal) = subst (λ found. IsErr (ok_or found illegal)) (decoded-complete instr word l h) e in cc,
+  λ e instr h. let p : IsErr (ok_or (Some instr) illegal) =
+      subst (λ found. IsErr (ok_or found illegal)) (decoded-complete instr word l h) e in cc,
   none-of word (decoded word) illegal (decoded-sound word),
 )
 
 -- no word is two instructions'
 pub one-instruction : (word : ℕ) → word < 2 ^ 32 → (i j : Instr) → IsWordOf i word → IsWordOf j word → i ≡ j
-one-instruction word l i j h k = let e : decoded word ≡ Some i = decoded-complete i word l h in let f : decoded word ≡ Some j = decoded-complete j word l k in cc
+one-instruction word l i j h k =
+    let e : decoded word ≡ Some i = decoded-complete i word l h in let f : decoded word ≡ Some j = decoded-complete j word l k in cc
 
 -- an answer tells what was decoded, and that it fits
-decode-tells-of : (found : Option Instr) (illegal : Illegal) → MatchResult (ok_or found illegal) (λ instr. found ≡ Some instr) (λ _. found ≡ None)
+decode-tells-of : (found : Option Instr) (illegal : Illegal) →
+    MatchResult (ok_or found illegal) (λ instr. found ≡ Some instr) (λ _. found ≡ None)
 decode-tells-of None illegal = refl
 decode-tells-of (Some instr) illegal = refl
 
-pub decode-tells : (word : ℕ) (illegal : Illegal) → MatchResult (ok_or (decoded word) illegal) (λ instr. decoded word ≡ Some instr) (λ _. decoded word ≡ None)
+pub decode-tells : (word : ℕ) (illegal : Illegal) →
+    MatchResult (ok_or (decoded word) illegal) (λ instr. decoded word ≡ Some instr) (λ _. decoded word ≡ None)
 decode-tells word illegal = decode-tells-of (decoded word) illegal
 
-decode-fits-of : (word : ℕ) (found : Option Instr) (illegal : Illegal) → IfSome found (λ instr. IsWordOf instr word) → IfOk (ok_or found illegal) (λ instr. instr_fits instr ≡ true)
+decode-fits-of : (word : ℕ) (found : Option Instr) (illegal : Illegal) → IfSome found (λ instr. IsWordOf instr word) →
+    IfOk (ok_or found illegal) (λ instr. instr_fits instr ≡ true)
 decode-fits-of word None illegal h = tt
 decode-fits-of word (Some instr) illegal h = h.fits
 

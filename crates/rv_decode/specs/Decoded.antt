@@ -2,9 +2,11 @@
 use Rattle.std.specs.Prelude.{ℕ, nat_eq, if◌then◌else◌, ℤ, pos, Option, Some, None, option_map}
 use Rattle.rv_decode.specs.declared.operations.ImmOp.{ImmOp}
 use Rattle.rv_decode.specs.declared.instr.Instr.{Instr}
-use Rattle.rv_decode.specs.declared.instr.Instr.TheVariants.{Lui, Auipc, Jal, Jalr, Branch, Load, Store, OpImm, Op, Fence, Ecall, Ebreak, Lr, Sc, Amo}
+use Rattle.rv_decode.specs.declared.instr.Instr.TheVariants.{Lui, Auipc, Jal, Jalr, Branch, Load, Store, OpImm, Op, Fence, Ecall, Ebreak}
+use Rattle.rv_decode.specs.declared.instr.Instr.TheVariants.{Lr, Sc, Amo}
 use Rattle.rv_decode.specs.Parts.{opcode, rd_of, funct3, rs1_of, rs2_of, funct7, funct5, i_imm, s_imm, b_imm, u_imm, j_imm}
-use Rattle.rv_decode.specs.Codes.{lui, auipc, jal, jalr, branch, load, store, op_imm, op, misc_mem, system, amo, is_shift, branch_op, load_op, store_op, imm_op, reg_op, amo_op}
+use Rattle.rv_decode.specs.Codes.{lui, auipc, jal, jalr, branch, load, store, op_imm, op, misc_mem, system, amo, is_shift, branch_op}
+use Rattle.rv_decode.specs.Codes.{load_op, store_op, imm_op, reg_op, amo_op}
 
 abbrev pub jalr_of : ℕ → Option Instr
 jalr_of word = if nat_eq (funct3 word) 0b000 then Some (Jalr (rd_of word) (rs1_of word) (i_imm word)) else None

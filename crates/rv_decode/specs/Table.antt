@@ -1,9 +1,12 @@
 -- The table of instructions: the words of each (RISC-V Unprivileged ISA, "RV32/64G Instruction Set Listings").
-use Rattle.std.specs.Prelude.{◌≡◌, ℕ, ◌+◌, ◌*◌, ◌%◌, ◌^◌, Bool, true, ◌&&◌, nat_eq, nat_lt, if◌then◌else◌, List, [], ◌∷◌, ℤ, pos, neg_ℤ, int_le, int_lt, unsigned_abs, ⊤}
+use Rattle.std.specs.Prelude.{◌≡◌, ℕ, ◌+◌, ◌*◌, ◌%◌, ◌^◌, Bool, true, ◌&&◌, nat_eq, nat_lt, if◌then◌else◌, List, [], ◌∷◌, ℤ, pos, neg_ℤ}
+use Rattle.std.specs.Prelude.{int_le, int_lt, unsigned_abs, ⊤}
 use Rattle.rv_decode.specs.declared.instr.Instr.{Instr}
-use Rattle.rv_decode.specs.declared.instr.Instr.TheVariants.{Lui, Auipc, Jal, Jalr, Branch, Load, Store, OpImm, Op, Fence, Ecall, Ebreak, Lr, Sc, Amo}
+use Rattle.rv_decode.specs.declared.instr.Instr.TheVariants.{Lui, Auipc, Jal, Jalr, Branch, Load, Store, OpImm, Op, Fence, Ecall, Ebreak}
+use Rattle.rv_decode.specs.declared.instr.Instr.TheVariants.{Lr, Sc, Amo}
 use Rattle.rv_decode.specs.Parts.{part, twos}
-use Rattle.rv_decode.specs.Codes.{lui, auipc, jal, jalr, branch, load, store, op_imm, op, misc_mem, system, amo, branch_code, load_code, store_code, imm_code, is_shift, shift_top, reg_code, reg_top, amo_code}
+use Rattle.rv_decode.specs.Codes.{lui, auipc, jal, jalr, branch, load, store, op_imm, op, misc_mem, system, amo, branch_code, load_code}
+use Rattle.rv_decode.specs.Codes.{store_code, imm_code, is_shift, shift_top, reg_code, reg_top, amo_code}
 
 -- some neighbouring bits of a word: how many they are, and their value; free bits may have any, and are written so
 pub data Cell : Type 0 where
@@ -18,7 +21,8 @@ abbrev pub i_form : ℤ → ℕ → ℕ → ℕ → ℕ → List Cell
 i_form imm rs1 funct3 rd opcode = bits 12 (part 0 12 (twos imm)) ∷ bits 5 rs1 ∷ bits 3 funct3 ∷ bits 5 rd ∷ bits 7 opcode ∷ []
 
 abbrev pub s_form : ℤ → ℕ → ℕ → ℕ → ℕ → List Cell
-s_form imm rs2 rs1 funct3 opcode = bits 7 (part 5 7 (twos imm)) ∷ bits 5 rs2 ∷ bits 5 rs1 ∷ bits 3 funct3 ∷ bits 5 (part 0 5 (twos imm)) ∷ bits 7 opcode ∷ []
+s_form imm rs2 rs1 funct3 opcode =
+    bits 7 (part 5 7 (twos imm)) ∷ bits 5 rs2 ∷ bits 5 rs1 ∷ bits 3 funct3 ∷ bits 5 (part 0 5 (twos imm)) ∷ bits 7 opcode ∷ []
 
 abbrev pub b_form : ℤ → ℕ → ℕ → ℕ → ℕ → List Cell
 b_form offset rs2 rs1 funct3 opcode =
@@ -30,7 +34,8 @@ u_form imm rd opcode = bits 20 (part 12 20 imm) ∷ bits 5 rd ∷ bits 7 opcode 
 
 abbrev pub j_form : ℤ → ℕ → ℕ → List Cell
 j_form offset rd opcode =
-    bits 1 (part 20 1 (twos offset)) ∷ bits 10 (part 1 10 (twos offset)) ∷ bits 1 (part 11 1 (twos offset)) ∷ bits 8 (part 12 8 (twos offset))
+    bits 1 (part 20 1 (twos offset)) ∷ bits 10 (part 1 10 (twos offset)) ∷ bits 1 (part 11 1 (twos offset))
+    ∷ bits 8 (part 12 8 (twos offset))
     ∷ bits 5 rd ∷ bits 7 opcode ∷ []
 
 -- the R form with the acquire and release bits in the place of funct7's lower two, and the width of a word
@@ -46,7 +51,8 @@ layout (Jalr rd rs1 imm) = i_form imm rs1 0b000 rd jalr
 layout (Branch o rs1 rs2 offset) = b_form offset rs2 rs1 (branch_code o) branch
 layout (Load o rd rs1 imm) = i_form imm rs1 (load_code o) rd load
 layout (Store o rs1 rs2 imm) = s_form imm rs2 rs1 (store_code o) store
-layout (OpImm o rd rs1 imm) = if is_shift o then r_form (shift_top o) (twos imm) rs1 (imm_code o) rd op_imm else i_form imm rs1 (imm_code o) rd op_imm
+layout (OpImm o rd rs1 imm) =
+    if is_shift o then r_form (shift_top o) (twos imm) rs1 (imm_code o) rd op_imm else i_form imm rs1 (imm_code o) rd op_imm
 layout (Op o rd rs1 rs2) = r_form (reg_top o) rs2 rs1 (reg_code o) rd op
 layout Fence = free 12 0x0ff ∷ free 5 0 ∷ bits 3 0b000 ∷ free 5 0 ∷ bits 7 misc_mem ∷ []
 layout Ecall = bits 12 0 ∷ bits 5 0 ∷ bits 3 0b000 ∷ bits 5 0 ∷ bits 7 system ∷ []

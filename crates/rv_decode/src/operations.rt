@@ -1,6 +1,7 @@
 //! The operations of each opcode, and the numbers that tell them apart.
 ghost use Rattle.std.specs.Prelude.{◌≡◌, ◌<◌, ◌^◌};
-ghost use Rattle.rv_decode.specs.Codes.{branch_code, load_code, store_code, imm_code, is_shift, shift_top, reg_code, reg_top, amo_code, branch_op, load_op, store_op, imm_op, reg_op, amo_op};
+ghost use Rattle.rv_decode.specs.Codes.{branch_code, load_code, store_code, imm_code, is_shift, shift_top, reg_code, reg_top, amo_code};
+ghost use Rattle.rv_decode.specs.Codes.{branch_op, load_op, store_op, imm_op, reg_op, amo_op};
 
 use sn_base::Width;
 

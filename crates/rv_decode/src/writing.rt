@@ -1,6 +1,7 @@
 //! From instructions to words.
 ghost use Rattle.std.specs.Prelude.{◌≡◌, ◌<◌, ◌^◌, ◌+◌, ◌*◌, true};
-ghost use Rattle.rv_decode.specs.Table.{IsWordOf, word_of, instr_fits, placed, r_form, i_form, s_form, b_form, u_form, j_form, amo_form, is_upper};
+ghost use Rattle.rv_decode.specs.Table.{IsWordOf, word_of, instr_fits, placed, r_form, i_form, s_form, b_form, u_form, j_form, amo_form};
+ghost use Rattle.rv_decode.specs.Table.{is_upper};
 ghost use Rattle.rv_decode.specs.Decoded.{decoded};
 
 use crate::instr::Instr;

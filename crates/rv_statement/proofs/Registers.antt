@@ -4,10 +4,13 @@ use Rattle.std.proofs.lemmas.List.{drop_more}
 use Rattle.std.specs.Str.{bytes_eq}
 use Rattle.rv_statement.specs.Operands.{register_names, is_named, register_from, register_of}
 
-pub register_from-found : (rows : List (List ℕ × List ℕ)) (number : ℕ) (text : List ℕ) → number < length rows → is_named text (get_or rows number ([], [])) ≡ true → register_from number (drop number rows) text ≡ Some number
+pub register_from-found : (rows : List (List ℕ × List ℕ)) (number : ℕ) (text : List ℕ) → number < length rows →
+    is_named text (get_or rows number ([], [])) ≡ true → register_from number (drop number rows) text ≡ Some number
 register_from-found rows number text inside named = rw (drop_more rows number ([], []) inside, named)
 
-pub register_from-next : (rows : List (List ℕ × List ℕ)) (number : ℕ) (text : List ℕ) → number < length rows → is_named text (get_or rows number ([], [])) ≡ false → register_from number (drop number rows) text ≡ register_from (number + 1) (drop (number + 1) rows) text
+pub register_from-next : (rows : List (List ℕ × List ℕ)) (number : ℕ) (text : List ℕ) → number < length rows →
+    is_named text (get_or rows number ([], [])) ≡ false →
+    register_from number (drop number rows) text ≡ register_from (number + 1) (drop (number + 1) rows) text
 register_from-next rows number text inside other = rw (drop_more rows number ([], []) inside, other)
 
 pub register_of-found : (number : ℕ) (text : List ℕ) → number < 32 → bytes_eq text (codes "fp") ≡ false → is_named text (get_or register_names number ([], [])) ≡ true → register_from number (drop number register_names) text ≡ register_from 0 register_names text → Some number ≡ register_of text

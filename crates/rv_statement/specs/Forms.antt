@@ -10,7 +10,8 @@ chained (Some a) next = next a
 
 -- a register before a comma, and what follows the comma
 unfoldable pub register_then : List ℕ → Option (ℕ × List ℕ)
-register_then text = chained (cut (λ byte. nat_eq byte 44) text) (λ parts. option_map (λ number. (number, trimmed parts.1)) (register_of (trimmed parts.0)))
+register_then text =
+    chained (cut (λ byte. nat_eq byte 44) text) (λ parts. option_map (λ number. (number, trimmed parts.1)) (register_of (trimmed parts.0)))
 
 -- REGISTER, REGISTER, REGISTER
 unfoldable pub registers_of : List ℕ → Option (ℕ × ℕ × ℕ)
@@ -26,7 +27,8 @@ upper_of text = chained (register_then text) (λ a. option_map (λ n. (a.0, n)) 
 
 -- REGISTER)
 unfoldable pub closed_of : List ℕ → Option ℕ
-closed_of text = chained (cut (λ byte. nat_eq byte 41) text) (λ parts. if nat_eq (length parts.1) 0 then register_of (trimmed parts.0) else None)
+closed_of text =
+    chained (cut (λ byte. nat_eq byte 41) text) (λ parts. if nat_eq (length parts.1) 0 then register_of (trimmed parts.0) else None)
 
 -- NUMBER(REGISTER), where the number may be of another kind
 unfoldable pub based_of : List ℕ → Option (List ℕ × ℕ)
@@ -46,7 +48,8 @@ reserved_of text = chained (register_then text) (λ a. option_map (λ base. (a.0
 
 -- REGISTER, REGISTER, (REGISTER)
 unfoldable pub atomic_of : List ℕ → Option (ℕ × ℕ × ℕ)
-atomic_of text = chained (register_then text) (λ a. chained (register_then a.1) (λ b. option_map (λ base. (a.0, b.0, base)) (address_of b.1)))
+atomic_of text =
+    chained (register_then text) (λ a. chained (register_then a.1) (λ b. option_map (λ base. (a.0, b.0, base)) (address_of b.1)))
 
 -- REGISTER, REGISTER, TARGET
 unfoldable pub compared_of : List ℕ → Option (ℕ × ℕ × List ℕ)

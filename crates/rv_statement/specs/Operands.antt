@@ -1,5 +1,6 @@
 -- Registers and numbers as they are written.
-use Rattle.std.specs.Prelude.{ℕ, ◌+◌, ◌-◌, ◌*◌, Bool, true, false, ◌&&◌, ◌||◌, nat_eq, nat_le, nat_lt, if◌then◌else◌, ℤ, pos, neg_ℤ, List, [], ◌∷◌, length, take, drop, codes, Option, Some, None, option_map}
+use Rattle.std.specs.Prelude.{ℕ, ◌+◌, ◌-◌, ◌*◌, Bool, true, false, ◌&&◌, ◌||◌, nat_eq, nat_le, nat_lt, if◌then◌else◌, ℤ, pos, neg_ℤ, List}
+use Rattle.std.specs.Prelude.{[], ◌∷◌, length, take, drop, codes, Option, Some, None, option_map}
 use Rattle.std.specs.Str.{bytes_eq}
 
 -- the two names of a register, from x0 up

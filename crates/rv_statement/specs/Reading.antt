@@ -1,5 +1,6 @@
 -- What a line says.
-use Rattle.std.specs.Prelude.{ℕ, ◌-◌, ◌*◌, ◌^◌, Bool, ◌&&◌, nat_eq, if◌then◌else◌, ℤ, pos, int_le, int_lt, unsigned_abs, List, [], ◌∷◌, length, take, codes, Option, Some, None, option_map, find, slice_index}
+use Rattle.std.specs.Prelude.{ℕ, ◌-◌, ◌*◌, ◌^◌, Bool, ◌&&◌, nat_eq, if◌then◌else◌, ℤ, pos, int_le, int_lt, unsigned_abs, List, [], ◌∷◌}
+use Rattle.std.specs.Prelude.{length, take, codes, Option, Some, None, option_map, find, slice_index}
 use Rattle.std.specs.Str.{bytes_eq}
 use Rattle.sn_base.specs.declared.block.Width.TheVariants.{Byte, Half, Word}
 use Rattle.rv_decode.specs.declared.operations.BranchOp.TheVariants.{Beq, Bne, Blt, Bge, Bltu, Bgeu}
@@ -8,23 +9,28 @@ use Rattle.rv_decode.specs.declared.operations.ImmOp.TheVariants.{Addi, Slti, Sl
 use Rattle.rv_decode.specs.declared.operations.RegOp.TheVariants.{Add, Sll, Slt, Sltu, Xor, Srl, Or, And, Sub, Sra}
 use Rattle.rv_decode.specs.declared.operations.AmoOp.TheVariants.{Amoswap, Amoadd, Amoxor, Amoand, Amoor, Amomin, Amomax, Amominu, Amomaxu}
 use Rattle.rv_decode.specs.declared.instr.Instr.{Instr}
-use Rattle.rv_decode.specs.declared.instr.Instr.TheVariants.{Lui, Auipc, Jal, Jalr, Branch, Load, Store, OpImm, Op, Fence, Ecall, Ebreak, Lr, Sc, Amo}
+use Rattle.rv_decode.specs.declared.instr.Instr.TheVariants.{Lui, Auipc, Jal, Jalr, Branch, Load, Store, OpImm, Op, Fence, Ecall, Ebreak}
+use Rattle.rv_decode.specs.declared.instr.Instr.TheVariants.{Lr, Sc, Amo}
 use Rattle.rv_decode.specs.Table.{word_of, instr_fits}
 use Rattle.rv_statement.specs.Names.{mnemonic}
 use Rattle.rv_statement.specs.Lines.{is_blank, trimmed, cut}
 use Rattle.rv_statement.specs.Operands.{number_of, is_name}
-use Rattle.rv_statement.specs.Forms.{chained, register_then, registers_of, numbered_of, upper_of, placed_of, reserved_of, atomic_of, compared_of}
+use Rattle.rv_statement.specs.Forms.{chained, register_then, registers_of, numbered_of, upper_of, placed_of, reserved_of, atomic_of}
+use Rattle.rv_statement.specs.Forms.{compared_of}
 
 -- the rows of the table: each instruction, with its operands 0
 abbrev pub rows : List Instr
 rows =
     Lui 0 0 ∷ Auipc 0 0 ∷ Jal 0 (pos 0) ∷ Jalr 0 0 (pos 0)
-    ∷ Branch Beq 0 0 (pos 0) ∷ Branch Bne 0 0 (pos 0) ∷ Branch Blt 0 0 (pos 0) ∷ Branch Bge 0 0 (pos 0) ∷ Branch Bltu 0 0 (pos 0) ∷ Branch Bgeu 0 0 (pos 0)
+    ∷ Branch Beq 0 0 (pos 0) ∷ Branch Bne 0 0 (pos 0) ∷ Branch Blt 0 0 (pos 0) ∷ Branch Bge 0 0 (pos 0) ∷ Branch Bltu 0 0 (pos 0)
+    ∷ Branch Bgeu 0 0 (pos 0)
     ∷ Load Lb 0 0 (pos 0) ∷ Load Lh 0 0 (pos 0) ∷ Load Lw 0 0 (pos 0) ∷ Load Lbu 0 0 (pos 0) ∷ Load Lhu 0 0 (pos 0)
     ∷ Store Byte 0 0 (pos 0) ∷ Store Half 0 0 (pos 0) ∷ Store Word 0 0 (pos 0)
-    ∷ OpImm Addi 0 0 (pos 0) ∷ OpImm Slti 0 0 (pos 0) ∷ OpImm Sltiu 0 0 (pos 0) ∷ OpImm Xori 0 0 (pos 0) ∷ OpImm Ori 0 0 (pos 0) ∷ OpImm Andi 0 0 (pos 0)
+    ∷ OpImm Addi 0 0 (pos 0) ∷ OpImm Slti 0 0 (pos 0) ∷ OpImm Sltiu 0 0 (pos 0) ∷ OpImm Xori 0 0 (pos 0) ∷ OpImm Ori 0 0 (pos 0)
+    ∷ OpImm Andi 0 0 (pos 0)
     ∷ OpImm Slli 0 0 (pos 0) ∷ OpImm Srli 0 0 (pos 0) ∷ OpImm Srai 0 0 (pos 0)
-    ∷ Op Add 0 0 0 ∷ Op Sll 0 0 0 ∷ Op Slt 0 0 0 ∷ Op Sltu 0 0 0 ∷ Op Xor 0 0 0 ∷ Op Srl 0 0 0 ∷ Op Or 0 0 0 ∷ Op And 0 0 0 ∷ Op Sub 0 0 0 ∷ Op Sra 0 0 0
+    ∷ Op Add 0 0 0 ∷ Op Sll 0 0 0 ∷ Op Slt 0 0 0 ∷ Op Sltu 0 0 0 ∷ Op Xor 0 0 0 ∷ Op Srl 0 0 0 ∷ Op Or 0 0 0 ∷ Op And 0 0 0 ∷ Op Sub 0 0 0
+    ∷ Op Sra 0 0 0
     ∷ Fence ∷ Ecall ∷ Ebreak ∷ Lr 0 0 ∷ Sc 0 0 0
     ∷ Amo Amoswap 0 0 0 ∷ Amo Amoadd 0 0 0 ∷ Amo Amoxor 0 0 0 ∷ Amo Amoand 0 0 0 ∷ Amo Amoor 0 0 0
     ∷ Amo Amomin 0 0 0 ∷ Amo Amomax 0 0 0 ∷ Amo Amominu 0 0 0 ∷ Amo Amomaxu 0 0 0 ∷ []

@@ -1,6 +1,7 @@
 //! The forms of operands.
 ghost use Rattle.std.specs.Prelude.{◌≡◌, ℕ, ◌<◌, option_map, IfSome};
-ghost use Rattle.rv_statement.specs.Forms.{register_then, registers_of, numbered_of, upper_of, closed_of, based_of, address_of, placed_of, reserved_of, atomic_of, compared_of};
+ghost use Rattle.rv_statement.specs.Forms.{register_then, registers_of, numbered_of, upper_of, closed_of, based_of, address_of, placed_of};
+ghost use Rattle.rv_statement.specs.Forms.{reserved_of, atomic_of, compared_of};
 
 use crate::line::{cut, trimmed};
 use crate::operands::{number_of, register_of};

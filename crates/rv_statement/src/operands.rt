@@ -1,7 +1,8 @@
 //! Registers and numbers as they are written.
 ghost use Rattle.std.specs.Prelude.{◌≡◌, ℕ, ◌<◌, ◌≤◌, ◌^◌, ◌*◌, ◌<ℤ◌, pos, neg_ℤ, IfSome, slice_index_or, [], codes};
 ghost use Rattle.std.specs.Str.{bytes_eq};
-ghost use Rattle.rv_statement.specs.Operands.{register_names, is_named, register_of, digit_value, digits_from, digits_of, number_of, begins_name, in_name, all_in_name, is_name};
+ghost use Rattle.rv_statement.specs.Operands.{register_names, is_named, register_of, digit_value, digits_of, number_of};
+ghost use Rattle.rv_statement.specs.Operands.{begins_name, in_name, all_in_name, is_name};
 
 /// The two names of a register.
 fn names(number: u8) -> (&'static str, &'static str)

@@ -2,8 +2,10 @@
 ghost use Rattle.std.specs.Prelude.{◌≡◌, option_map, codes};
 ghost use Rattle.std.specs.Str.{bytes_eq};
 ghost use Rattle.rv_decode.specs.declared.instr.Instr.{Instr};
-ghost use Rattle.rv_statement.specs.Reading.{fixed, whole, read_of, upper, target, alone, named_as, word_in, operation_of, instruction_of, statement_of, label_or};
-ghost use Rattle.rv_statement.specs.Forms.{chained, register_then, registers_of, numbered_of, upper_of, placed_of, reserved_of, atomic_of, compared_of};
+ghost use Rattle.rv_statement.specs.Reading.{fixed, whole, read_of, upper, target, alone, named_as, word_in, operation_of, instruction_of};
+ghost use Rattle.rv_statement.specs.Reading.{statement_of, label_or};
+ghost use Rattle.rv_statement.specs.Forms.{chained, register_then, registers_of, numbered_of, upper_of, placed_of, reserved_of, atomic_of};
+ghost use Rattle.rv_statement.specs.Forms.{compared_of};
 ghost use Rattle.rv_statement.specs.Lines.{bare};
 ghost use Rattle.rv_statement.specs.Operands.{number_of};
 ghost use Rattle.rv_statement.specs.Seen.{operation_seen, line_seen};
@@ -37,14 +39,16 @@ pub enum Line<'a> {
 }
 
 fn read_lui<'a>(text: &'a [u8]) -> Option<Operation<'a>>
-    ensures { option_map operation_seen result ≡ option_map read_of (option_map (λ a. upper (Instr.Lui a.0) a.1) (upper_of text.entry.now)) }
+    ensures { option_map operation_seen result
+        ≡ option_map read_of (option_map (λ a. upper (Instr.Lui a.0) a.1) (upper_of text.entry.now)) }
 {
     let (rd, number) = upper_of(text)?;
     Some(Operation::Coded(lui(rd, number)))
 }
 
 fn read_auipc<'a>(text: &'a [u8]) -> Option<Operation<'a>>
-    ensures { option_map operation_seen result ≡ option_map read_of (option_map (λ a. upper (Instr.Auipc a.0) a.1) (upper_of text.entry.now)) }
+    ensures { option_map operation_seen result
+        ≡ option_map read_of (option_map (λ a. upper (Instr.Auipc a.0) a.1) (upper_of text.entry.now)) }
 {
     let (rd, number) = upper_of(text)?;
     Some(Operation::Coded(auipc(rd, number)))
@@ -61,7 +65,8 @@ fn aimed_jal<'a>(rd: u8, text: &'a [u8]) -> Option<Operation<'a>>
 }
 
 fn read_jal<'a>(text: &'a [u8]) -> Option<Operation<'a>>
-    ensures { option_map operation_seen result ≡ option_map read_of (chained (register_then text.entry.now) (λ a. target (Instr.Jal a.0) a.1)) }
+    ensures { option_map operation_seen result
+        ≡ option_map read_of (chained (register_then text.entry.now) (λ a. target (Instr.Jal a.0) a.1)) }
 {
     let (rd, rest) = register_then(text)?;
     aimed_jal(rd, rest)
@@ -87,42 +92,48 @@ fn aimed_branch<'a>(op: BranchOp, rs1: u8, rs2: u8, text: &'a [u8]) -> Option<Op
 }
 
 fn read_branch<'a>(op: BranchOp, text: &'a [u8]) -> Option<Operation<'a>>
-    ensures { option_map operation_seen result ≡ option_map read_of (chained (compared_of text.entry.now) (λ a. target (Instr.Branch op a.0 a.1) a.2)) }
+    ensures { option_map operation_seen result
+        ≡ option_map read_of (chained (compared_of text.entry.now) (λ a. target (Instr.Branch op a.0 a.1) a.2)) }
 {
     let (rs1, rs2, rest) = compared_of(text)?;
     aimed_branch(op, rs1, rs2, rest)
 }
 
 fn read_jalr<'a>(text: &'a [u8]) -> Option<Operation<'a>>
-    ensures { option_map operation_seen result ≡ option_map read_of (option_map (λ a. whole (Instr.Jalr a.0 a.2 a.1)) (placed_of text.entry.now)) }
+    ensures { option_map operation_seen result
+        ≡ option_map read_of (option_map (λ a. whole (Instr.Jalr a.0 a.2 a.1)) (placed_of text.entry.now)) }
 {
     let (rd, number, rs1) = placed_of(text)?;
     Some(Operation::Coded(jalr(rd, rs1, number)))
 }
 
 fn read_load<'a>(op: LoadOp, text: &'a [u8]) -> Option<Operation<'a>>
-    ensures { option_map operation_seen result ≡ option_map read_of (option_map (λ a. whole (Instr.Load op a.0 a.2 a.1)) (placed_of text.entry.now)) }
+    ensures { option_map operation_seen result
+        ≡ option_map read_of (option_map (λ a. whole (Instr.Load op a.0 a.2 a.1)) (placed_of text.entry.now)) }
 {
     let (rd, number, rs1) = placed_of(text)?;
     Some(Operation::Coded(load(op, rd, rs1, number)))
 }
 
 fn read_store<'a>(op: Width, text: &'a [u8]) -> Option<Operation<'a>>
-    ensures { option_map operation_seen result ≡ option_map read_of (option_map (λ a. whole (Instr.Store op a.2 a.0 a.1)) (placed_of text.entry.now)) }
+    ensures { option_map operation_seen result
+        ≡ option_map read_of (option_map (λ a. whole (Instr.Store op a.2 a.0 a.1)) (placed_of text.entry.now)) }
 {
     let (rs2, number, rs1) = placed_of(text)?;
     Some(Operation::Coded(store(op, rs1, rs2, number)))
 }
 
 fn read_with_immediate<'a>(op: ImmOp, text: &'a [u8]) -> Option<Operation<'a>>
-    ensures { option_map operation_seen result ≡ option_map read_of (option_map (λ a. whole (Instr.OpImm op a.0 a.1 a.2)) (numbered_of text.entry.now)) }
+    ensures { option_map operation_seen result
+        ≡ option_map read_of (option_map (λ a. whole (Instr.OpImm op a.0 a.1 a.2)) (numbered_of text.entry.now)) }
 {
     let (rd, rs1, number) = numbered_of(text)?;
     Some(Operation::Coded(with_immediate(op, rd, rs1, number)))
 }
 
 fn read_on_registers<'a>(op: RegOp, text: &'a [u8]) -> Option<Operation<'a>>
-    ensures { option_map operation_seen result ≡ option_map read_of (option_map (λ a. whole (Instr.Op op a.0 a.1 a.2)) (registers_of text.entry.now)) }
+    ensures { option_map operation_seen result
+        ≡ option_map read_of (option_map (λ a. whole (Instr.Op op a.0 a.1 a.2)) (registers_of text.entry.now)) }
 {
     let (rd, rs1, rs2) = registers_of(text)?;
     Some(Operation::Coded(coded(&Instr::Op { op, rd, rs1, rs2 })))
@@ -139,21 +150,24 @@ fn read_alone<'a>(instr: Instr, text: &'a [u8]) -> Option<Operation<'a>>
 }
 
 fn read_lr<'a>(text: &'a [u8]) -> Option<Operation<'a>>
-    ensures { option_map operation_seen result ≡ option_map read_of (option_map (λ a. whole (Instr.Lr a.0 a.1)) (reserved_of text.entry.now)) }
+    ensures { option_map operation_seen result
+        ≡ option_map read_of (option_map (λ a. whole (Instr.Lr a.0 a.1)) (reserved_of text.entry.now)) }
 {
     let (rd, rs1) = reserved_of(text)?;
     Some(Operation::Coded(coded(&Instr::Lr { rd, rs1 })))
 }
 
 fn read_sc<'a>(text: &'a [u8]) -> Option<Operation<'a>>
-    ensures { option_map operation_seen result ≡ option_map read_of (option_map (λ a. whole (Instr.Sc a.0 a.2 a.1)) (atomic_of text.entry.now)) }
+    ensures { option_map operation_seen result
+        ≡ option_map read_of (option_map (λ a. whole (Instr.Sc a.0 a.2 a.1)) (atomic_of text.entry.now)) }
 {
     let (rd, rs2, rs1) = atomic_of(text)?;
     Some(Operation::Coded(coded(&Instr::Sc { rd, rs1, rs2 })))
 }
 
 fn read_amo<'a>(op: AmoOp, text: &'a [u8]) -> Option<Operation<'a>>
-    ensures { option_map operation_seen result ≡ option_map read_of (option_map (λ a. whole (Instr.Amo op a.0 a.2 a.1)) (atomic_of text.entry.now)) }
+    ensures { option_map operation_seen result
+        ≡ option_map read_of (option_map (λ a. whole (Instr.Amo op a.0 a.2 a.1)) (atomic_of text.entry.now)) }
 {
     let (rd, rs2, rs1) = atomic_of(text)?;
     Some(Operation::Coded(coded(&Instr::Amo { op, rd, rs1, rs2 })))

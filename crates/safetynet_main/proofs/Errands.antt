@@ -21,9 +21,11 @@ use Rattle.option_values.specs.declared.run.RunRules.{RunRules}
 use Rattle.script_replay.specs.declared.job.Showing.{Showing}
 use Rattle.asm_texts.specs.Texts.{words_text}
 use Rattle.counting_program.specs.Program.{counting_words}
-use Rattle.safetynet_main.specs.Files.{program_limit, script_limit, if_loaded, program_of, if_read, events_of, records_of, if_assembled, assembly_of, listing_of}
+use Rattle.safetynet_main.specs.Files.{program_limit, script_limit, if_loaded, program_of, if_read, events_of, records_of, if_assembled}
+use Rattle.safetynet_main.specs.Files.{assembly_of, listing_of}
 use Rattle.safetynet_main.specs.Errand.{Errand, Due, Fetch, due_by, Loads}
-use Rattle.safetynet_main.specs.Call.{Fetches, report_of, job_with, run_with, check_with, text_job, script_errand, trace_errand, generated_job, errand_of}
+use Rattle.safetynet_main.specs.Call.{Fetches, report_of, job_with, run_with, check_with, text_job, script_errand, trace_errand}
+use Rattle.safetynet_main.specs.Call.{generated_job, errand_of}
 use Rattle.safetynet_main.specs.declared.job.Job.{Job}
 use Rattle.safetynet_main.specs.declared.status.ProgramCause.TheVariants.{TooLong as ProgramTooLong}
 use Rattle.safetynet_main.specs.declared.status.Status.{Status}
@@ -36,7 +38,8 @@ IsOfBytes due = (due ≡ Err StoreFault → ⊥) × (due ≡ Err Usage → ⊥)
 -- an errand in which a file that isn't there is the store's fault, and nothing else is
 abbrev pub IsPlain : Errand → Type 0
 IsPlain (Due job) = IsOfBytes job
-IsPlain (Fetch name limit next) = (next Missing ≡ Due (Err StoreFault)) × IsPlain (next TooLong) × ((bytes : List ℕ) → IsPlain (next (File bytes)))
+IsPlain (Fetch name limit next) =
+    (next Missing ≡ Due (Err StoreFault)) × IsPlain (next TooLong) × ((bytes : List ℕ) → IsPlain (next (File bytes)))
 
 -- the same, or at once the words' fault
 abbrev pub IsOfWords : Errand → Type 0
@@ -45,7 +48,8 @@ IsOfWords (Fetch name limit next) = IsPlain (Fetch name limit next)
 
 -- the errands of the commands
 
-refused : {A : Type 0} (status : Status) → (status ≡ StoreFault → ⊥) → (status ≡ Usage → ⊥) → IsOfBytes (let r : Result A Status = Err status in r)
+refused : {A : Type 0} (status : Status) → (status ≡ StoreFault → ⊥) → (status ≡ Usage → ⊥) →
+    IsOfBytes (let r : Result A Status = Err status in r)
 refused status s u = (λ e. s cc, λ e. u cc)
 
 given : {A : Type 0} (value : A) → IsOfBytes (let r : Result A Status = Ok value in r)
@@ -66,15 +70,18 @@ assembled r true = (λ e. cc, λ e. cc)
 assembled (Ok words) false = (λ e. cc, λ e. cc)
 assembled (Err cause) false = (λ e. cc, λ e. cc)
 
-plain-job : (config : Config) (showing : Showing) (image : ImageData) (events : Result (List Event) Status) → IsOfBytes events → IsOfBytes (job_with config showing image events)
+plain-job : (config : Config) (showing : Showing) (image : ImageData) (events : Result (List Event) Status) → IsOfBytes events →
+    IsOfBytes (job_with config showing image events)
 plain-job config showing image (Ok events) h = (λ e. cc, λ e. cc)
 plain-job config showing image (Err status) h = (λ e. h.0 cc, λ e. h.1 cc)
 
-plain-check : (nodes : ℕ) (image : ImageData) (records : Result (List Record) Status) → IsOfBytes records → IsOfBytes (check_with nodes image records)
+plain-check : (nodes : ℕ) (image : ImageData) (records : Result (List Record) Status) → IsOfBytes records →
+    IsOfBytes (check_with nodes image records)
 plain-check nodes image (Ok records) h = (λ e. cc, λ e. cc)
 plain-check nodes image (Err status) h = (λ e. h.0 cc, λ e. h.1 cc)
 
-plain-run : (config : Config) (rules : RunRules) (report : RunReport) (watch : Option ℕ) (program : Result ImageData Status) → IsOfBytes program → IsOfBytes (run_with config rules report watch program)
+plain-run : (config : Config) (rules : RunRules) (report : RunReport) (watch : Option ℕ) (program : Result ImageData Status) →
+    IsOfBytes program → IsOfBytes (run_with config rules report watch program)
 plain-run config rules report watch (Ok image) h = (λ e. cc, λ e. cc)
 plain-run config rules report watch (Err status) h = (λ e. h.0 cc, λ e. h.1 cc)
 
@@ -86,15 +93,18 @@ plain-listing : (program : Result ImageData Status) → IsOfBytes program → Is
 plain-listing (Ok image) h = (λ e. cc, λ e. cc)
 plain-listing (Err status) h = (λ e. h.0 cc, λ e. h.1 cc)
 
-plain-script : (config : Config) (showing : Showing) (script : List ℕ) (program : Result ImageData Status) → IsOfBytes program → IsPlain (script_errand config showing script program)
+plain-script : (config : Config) (showing : Showing) (script : List ℕ) (program : Result ImageData Status) → IsOfBytes program →
+    IsPlain (script_errand config showing script program)
 plain-script config showing script (Err status) h = (λ e. h.0 cc, λ e. h.1 cc)
 plain-script config showing script (Ok image) h = (
   refl,
   plain-job config showing image (Err (BadScript ScriptTooLong)) (λ e. cc, λ e. cc),
-  λ bytes. plain-job config showing image (events_of config.nodes bytes) (read (script_of config.nodes bytes) (nat_lt script_limit (length bytes))),
+  λ bytes. plain-job config showing image (events_of config.nodes bytes)
+      (read (script_of config.nodes bytes) (nat_lt script_limit (length bytes))),
 )
 
-plain-trace : (nodes : ℕ) (trace : List ℕ) (program : Result ImageData Status) → IsOfBytes program → IsPlain (trace_errand nodes trace program)
+plain-trace : (nodes : ℕ) (trace : List ℕ) (program : Result ImageData Status) → IsOfBytes program →
+    IsPlain (trace_errand nodes trace program)
 plain-trace nodes trace (Err status) h = (λ e. h.0 cc, λ e. h.1 cc)
 plain-trace nodes trace (Ok image) h = (
   refl,
@@ -116,7 +126,8 @@ errand-of_words (Some (Check nodes program trace)) = (
   plain-trace nodes trace (Err (BadProgram ProgramTooLong)) (λ e. cc, λ e. cc),
   λ bytes. plain-trace nodes trace (program_of bytes) (program-of_bytes bytes),
 )
-errand-of_words (Some (Demo size)) = inr (plain-generated size (program_of (words_text counting_words)) (program-of_bytes (words_text counting_words)))
+errand-of_words (Some (Demo size)) =
+    inr (plain-generated size (program_of (words_text counting_words)) (program-of_bytes (words_text counting_words)))
 errand-of_words (Some (Replay config trace watch program script)) =
     let showing : Showing = record { report = report_of trace; watch = watch } in (
       refl,
@@ -153,7 +164,8 @@ Rose-before a b d h r = omega arith
 
 module _ {S : Type 0} (files : S → Option (List ℕ → Option (List ℕ))) (sure : S → Type 0) (faults : S → ℕ) (gave : S → List ℕ → Found → S → Type 0) where
   -- over a sure store a file is found as it is held
-  fetches-sure : (old new : S) (name : List ℕ) (limit : ℕ) (held : List ℕ → Option (List ℕ)) (found : Found) → Fetches files sure faults gave old name limit found new → sure old → files old ≡ Some held → found ≡ found_in (held name) limit
+  fetches-sure : (old new : S) (name : List ℕ) (limit : ℕ) (held : List ℕ → Option (List ℕ)) (found : Found) →
+      Fetches files sure faults gave old name limit found new → sure old → files old ≡ Some held → found ≡ found_in (held name) limit
   fetches-sure old new name limit held Missing h s e =
       let lacks = if_some-at (files old) held (λ t. Missing ≡ Missing → t name ≡ None) e (h.lacking s) refl in
       rw lacks
@@ -163,35 +175,44 @@ module _ {S : Type 0} (files : S → Option (List ℕ → Option (List ℕ))) (s
       if_some-at (files old) held (λ t. (File bytes ≡ Missing → ⊥) → File bytes ≡ found_in (t name) limit) e h.told (λ no. cc)
 
   -- over a sure store all files are found as they are held
-  pub loads-sure : (errand : Errand) (job : Result Job Status) (old new : S) (held : List ℕ → Option (List ℕ)) → Loads (Fetches files sure faults gave) errand job old new → sure old → files old ≡ Some held → job ≡ due_by held errand
+  pub loads-sure : (errand : Errand) (job : Result Job Status) (old new : S) (held : List ℕ → Option (List ℕ)) →
+      Loads (Fetches files sure faults gave) errand job old new → sure old → files old ≡ Some held → job ≡ due_by held errand
   loads-sure (Due due) job old new held h s e = h.0
   loads-sure (Fetch name limit next) job old new held h s e =
       loads-sure (next h.0) job h.1 new held h.3 (h.2.stays_sure s) (h.2.same_files ∙ e)
       ∙ ap (λ f. due_by held (next f)) (fetches-sure old h.1 name limit held h.0 h.2 s e)
 
   -- what is there is found as it is held, also where the store isn't sure
-  fetches-told : (old new : S) (name : List ℕ) (limit : ℕ) (held : List ℕ → Option (List ℕ)) (found : Found) → Fetches files sure faults gave old name limit found new → files old ≡ Some held → (found ≡ Missing → ⊥) → found ≡ found_in (held name) limit
+  fetches-told : (old new : S) (name : List ℕ) (limit : ℕ) (held : List ℕ → Option (List ℕ)) (found : Found) →
+      Fetches files sure faults gave old name limit found new → files old ≡ Some held → (found ≡ Missing → ⊥) →
+      found ≡ found_in (held name) limit
   fetches-told old new name limit held found h e there =
       if_some-at (files old) held (λ t. (found ≡ Missing → ⊥) → found ≡ found_in (t name) limit) e h.told there
 
   -- where nothing more is fetched
-  loads-due : (errand : Errand) (due job : Result Job Status) (old new : S) → errand ≡ Due due → Loads (Fetches files sure faults gave) errand job old new → job ≡ due
+  loads-due : (errand : Errand) (due job : Result Job Status) (old new : S) → errand ≡ Due due →
+      Loads (Fetches files sure faults gave) errand job old new → job ≡ due
   loads-due errand due job old new is h = (subst (λ t. Loads (Fetches files sure faults gave) t job old new) is h).0
 
-  loads-stays : (errand : Errand) (due job : Result Job Status) (old new : S) → errand ≡ Due due → Loads (Fetches files sure faults gave) errand job old new → new ≡ old
+  loads-stays : (errand : Errand) (due job : Result Job Status) (old new : S) → errand ≡ Due due →
+      Loads (Fetches files sure faults gave) errand job old new → new ≡ old
   loads-stays errand due job old new is h = (subst (λ t. Loads (Fetches files sure faults gave) t job old new) is h).1
 
   -- where no file was found missing, the others were found as they are held
-  told-plain : (errand : Errand) (job : Result Job Status) (old new : S) (held : List ℕ → Option (List ℕ)) → IsPlain errand → Loads (Fetches files sure faults gave) errand job old new → files old ≡ Some held → (job ≡ Err StoreFault → ⊥) → job ≡ due_by held errand
+  told-plain : (errand : Errand) (job : Result Job Status) (old new : S) (held : List ℕ → Option (List ℕ)) → IsPlain errand →
+      Loads (Fetches files sure faults gave) errand job old new → files old ≡ Some held → (job ≡ Err StoreFault → ⊥) →
+      job ≡ due_by held errand
   told-plain (Due due) job old new held plain h e fine = h.0
   told-plain (Fetch name limit next) job old new held plain h e fine =
       by_found h.0 h.2 h.3
       (λ l. told-plain (next TooLong) job h.1 new held plain.1 l (h.2.same_files ∙ e) fine)
       (λ bytes l. told-plain (next (File bytes)) job h.1 new held (plain.2 bytes) l (h.2.same_files ∙ e) fine)
     where
-      by_found : (found : Found) → Fetches files sure faults gave old name limit found h.1 → Loads (Fetches files sure faults gave) (next found) job h.1 new
+      by_found : (found : Found) → Fetches files sure faults gave old name limit found h.1 →
+          Loads (Fetches files sure faults gave) (next found) job h.1 new
           → (Loads (Fetches files sure faults gave) (next TooLong) job h.1 new → job ≡ due_by held (next TooLong))
-          → ((bytes : List ℕ) → Loads (Fetches files sure faults gave) (next (File bytes)) job h.1 new → job ≡ due_by held (next (File bytes)))
+          → ((bytes : List ℕ) → Loads (Fetches files sure faults gave) (next (File bytes)) job h.1 new →
+          job ≡ due_by held (next (File bytes)))
           → job ≡ due_by held (Fetch name limit next)
       by_found Missing f l long whole = absurd (fine (loads-due (next Missing) (Err StoreFault) job h.1 new plain.0 l))
       by_found TooLong f l long whole =
@@ -199,19 +220,23 @@ module _ {S : Type 0} (files : S → Option (List ℕ → Option (List ℕ))) (s
       by_found (File bytes) f l long whole =
           whole bytes l ∙ ap (λ t. due_by held (next t)) (fetches-told old h.1 name limit held (File bytes) f e (λ no. cc))
 
-  pub loads-told : (errand : Errand) (job : Result Job Status) (old new : S) (held : List ℕ → Option (List ℕ)) → IsOfWords errand → Loads (Fetches files sure faults gave) errand job old new → files old ≡ Some held → (job ≡ Err StoreFault → ⊥) → job ≡ due_by held errand
+  pub loads-told : (errand : Errand) (job : Result Job Status) (old new : S) (held : List ℕ → Option (List ℕ)) → IsOfWords errand →
+      Loads (Fetches files sure faults gave) errand job old new → files old ≡ Some held → (job ≡ Err StoreFault → ⊥) →
+      job ≡ due_by held errand
   loads-told (Due due) job old new held good h e fine = h.0
   loads-told (Fetch name limit next) job old new held good h e fine = told-plain (Fetch name limit next) job old new held good h e fine
 
   -- a store's fault was one
-  rose-plain : (errand : Errand) (job : Result Job Status) (old new : S) → IsPlain errand → Loads (Fetches files sure faults gave) errand job old new → job ≡ Err StoreFault → Rose (faults old) (faults new)
+  rose-plain : (errand : Errand) (job : Result Job Status) (old new : S) → IsPlain errand →
+      Loads (Fetches files sure faults gave) errand job old new → job ≡ Err StoreFault → Rose (faults old) (faults new)
   rose-plain (Due due) job old new plain h e = absurd (plain.0 (sym h.0 ∙ e))
   rose-plain (Fetch name limit next) job old new plain h e =
       by_found h.0 h.2 h.3
       (λ l. rose-plain (next TooLong) job h.1 new plain.1 l e)
       (λ bytes l. rose-plain (next (File bytes)) job h.1 new (plain.2 bytes) l e)
     where
-      by_found : (found : Found) → Fetches files sure faults gave old name limit found h.1 → Loads (Fetches files sure faults gave) (next found) job h.1 new
+      by_found : (found : Found) → Fetches files sure faults gave old name limit found h.1 →
+          Loads (Fetches files sure faults gave) (next found) job h.1 new
           → (Loads (Fetches files sure faults gave) (next TooLong) job h.1 new → Rose (faults h.1) (faults new))
           → ((bytes : List ℕ) → Loads (Fetches files sure faults gave) (next (File bytes)) job h.1 new → Rose (faults h.1) (faults new))
           → Rose (faults old) (faults new)
@@ -220,13 +245,15 @@ module _ {S : Type 0} (files : S → Option (List ℕ → Option (List ℕ))) (s
       by_found TooLong f l long whole = Rose-before (faults old) (faults h.1) (faults new) f.later (long l)
       by_found (File bytes) f l long whole = Rose-before (faults old) (faults h.1) (faults new) f.later (whole bytes l)
 
-  pub loads-rose : (errand : Errand) (job : Result Job Status) (old new : S) → IsOfWords errand → Loads (Fetches files sure faults gave) errand job old new → job ≡ Err StoreFault → Rose (faults old) (faults new)
+  pub loads-rose : (errand : Errand) (job : Result Job Status) (old new : S) → IsOfWords errand →
+      Loads (Fetches files sure faults gave) errand job old new → job ≡ Err StoreFault → Rose (faults old) (faults new)
   loads-rose (Due due) job old new (inl words) h e = absurd cc
   loads-rose (Due due) job old new (inr plain) h e = absurd (plain.0 (sym h.0 ∙ e))
   loads-rose (Fetch name limit next) job old new good h e = rose-plain (Fetch name limit next) job old new good h e
 
   -- the words' fault is no file's
-  no_usage-plain : (errand : Errand) (job : Result Job Status) (old new : S) → IsPlain errand → Loads (Fetches files sure faults gave) errand job old new → job ≡ Err Usage → ⊥
+  no_usage-plain : (errand : Errand) (job : Result Job Status) (old new : S) → IsPlain errand →
+      Loads (Fetches files sure faults gave) errand job old new → job ≡ Err Usage → ⊥
   no_usage-plain (Due due) job old new plain h e = plain.1 (sym h.0 ∙ e)
   no_usage-plain (Fetch name limit next) job old new plain h e =
       by_found h.0 h.3
@@ -236,11 +263,13 @@ module _ {S : Type 0} (files : S → Option (List ℕ → Option (List ℕ))) (s
       by_found : (found : Found) → Loads (Fetches files sure faults gave) (next found) job h.1 new
           → (Loads (Fetches files sure faults gave) (next TooLong) job h.1 new → ⊥)
           → ((bytes : List ℕ) → Loads (Fetches files sure faults gave) (next (File bytes)) job h.1 new → ⊥) → ⊥
-      by_found Missing l long whole = let same : job ≡ Err StoreFault = loads-due (next Missing) (Err StoreFault) job h.1 new plain.0 l in cc
+      by_found Missing l long whole =
+          let same : job ≡ Err StoreFault = loads-due (next Missing) (Err StoreFault) job h.1 new plain.0 l in cc
       by_found TooLong l long whole = long l
       by_found (File bytes) l long whole = whole bytes l
 
-  pub loads-usage : (errand : Errand) (job : Result Job Status) (old new : S) → IsOfWords errand → Loads (Fetches files sure faults gave) errand job old new → job ≡ Err Usage → errand ≡ Due (Err Usage)
+  pub loads-usage : (errand : Errand) (job : Result Job Status) (old new : S) → IsOfWords errand →
+      Loads (Fetches files sure faults gave) errand job old new → job ≡ Err Usage → errand ≡ Due (Err Usage)
   loads-usage (Due due) job old new good h e = ap Due (sym h.0 ∙ e)
   loads-usage (Fetch name limit next) job old new good h e = absurd (no_usage-plain (Fetch name limit next) job old new good h e)
 

@@ -25,7 +25,8 @@ module _ {S : Type 0} (fetches : S → List ℕ → ℕ → Found → S → Type
       (h.0, mid, h.1, subst (λ (r : Result ImageData Status). Loads fetches (rest r) job mid new) h.2 l)
 
   -- a replay's files, by the names that the request has
-  pub loads-replay : (config : Config) (showing : Showing) (events : Result (List Event) Status) (program script asked_program asked_script : List ℕ)
+  pub loads-replay : (config : Config) (showing : Showing) (events : Result (List Event) Status)
+      (program script asked_program asked_script : List ℕ)
       → program ≡ asked_program → script ≡ asked_script
       → (found : Found) × fetches old program program_limit found mid × (Ok image ≡ program_in found)
       → (found : Found) × fetches mid script script_limit found new × (events ≡ script_in config.nodes found)
@@ -49,9 +50,11 @@ module _ {S : Type 0} (fetches : S → List ℕ → ℕ → Found → S → Type
       (k.0, new, k.1, (ap (check_with nodes image) k.2, refl))))
 
   -- a run's
-  pub loads-run : (config : Config) (rules : RunRules) (report : RunReport) (watch : Option ℕ) (program asked_program : List ℕ) → program ≡ asked_program
+  pub loads-run : (config : Config) (rules : RunRules) (report : RunReport) (watch : Option ℕ) (program asked_program : List ℕ) →
+      program ≡ asked_program
       → (found : Found) × fetches old program program_limit found mid × (Ok image ≡ program_in found)
       → Loads fetches (run_errand config rules report watch asked_program) (run_with config rules report watch (Ok image)) old mid
   loads-run config rules report watch program asked_program p h =
-      subst (λ (t : List ℕ). Loads fetches (run_errand config rules report watch t) (run_with config rules report watch (Ok image)) old mid) p
+      subst (λ (t : List ℕ). Loads fetches (run_errand config rules report watch t)
+      (run_with config rules report watch (Ok image)) old mid) p
       (h.0, mid, h.1, (ap (run_with config rules report watch) h.2, refl))

@@ -1,5 +1,6 @@
 -- The events of a script fit: the blocks that they name are of memory.
-use Rattle.std.proofs.Common.{◌≡◌, ℕ, suc, ◌+◌, Bool, true, false, ◌&&◌, nat_lt, nat_le, if◌then◌else◌, List, [], ◌∷◌, All, Option, Some, None, refl, subst, arith}
+use Rattle.std.proofs.Common.{◌≡◌, ℕ, suc, ◌+◌, Bool, true, false, ◌&&◌, nat_lt, nat_le, if◌then◌else◌, List, [], ◌∷◌, All, Option, Some}
+use Rattle.std.proofs.Common.{None, refl, subst, arith}
 use Rattle.std.specs.Prelude.{Result, Ok, Err, codes, bytes_eq, ⊤}
 use Rattle.sn_base.specs.Events.{event_fits}
 use Rattle.sn_base.specs.declared.event.Event.{Event}
@@ -10,7 +11,8 @@ use Rattle.sn_text.specs.declared.cause.Fault.TheVariants.{NotOfForm, NotThere}
 use Rattle.sn_text.specs.declared.cause.ScriptCause.{ScriptCause}
 use Rattle.sn_text.specs.declared.cause.ScriptCause.TheVariants.{TooMany}
 use Rattle.sn_text.specs.Items.{most_items, is_skipped, followed, with_item, items_from}
-use Rattle.sn_text.specs.Script.{said, node_in, message_in, switch_in, parted, evicted_at, eviction_by, given_to, input_by, begins, after, event_of, script_of}
+use Rattle.sn_text.specs.Script.{said, node_in, message_in, switch_in, parted, evicted_at, eviction_by, given_to, input_by, begins, after}
+use Rattle.sn_text.specs.Script.{event_of, script_of}
 use Rattle.text_lines.specs.Lines.{lines_of}
 use Rattle.consistent_cuts.specs.Runs.{block_fits, AllFit}
 
@@ -75,31 +77,40 @@ abbrev AllGood : List Event → Type 0
 AllGood [] = ⊤
 AllGood (e ∷ events) = (block_fits e ≡ true) × AllGood events
 
-followed-good : (e : Event) (full : Bool) (rest : Result (List Event) ScriptCause) (events : List Event) → block_fits e ≡ true → ((others : List Event) → rest ≡ Ok others → AllGood others) → (if full then Err TooMany else followed (e ∷ []) rest) ≡ Ok events → AllGood events
+followed-good : (e : Event) (full : Bool) (rest : Result (List Event) ScriptCause) (events : List Event) → block_fits e ≡ true →
+    ((others : List Event) → rest ≡ Ok others → AllGood others) → (if full then Err TooMany else followed (e ∷ []) rest) ≡ Ok events →
+    AllGood events
 followed-good e true rest events good h is = absurd cc
 followed-good e false (Err cause) events good h is = absurd cc
 followed-good e false (Ok others) events good h is =
     let same : e ∷ others ≡ events = cc in subst AllGood same (good, h others refl)
 
-with_item-good : (line count : ℕ) (read : Result Event Fault) (rest : Result (List Event) ScriptCause) (events : List Event) → IsGood read → ((others : List Event) → rest ≡ Ok others → AllGood others) → with_item line count read rest ≡ Ok events → AllGood events
+with_item-good : (line count : ℕ) (read : Result Event Fault) (rest : Result (List Event) ScriptCause) (events : List Event) → IsGood read →
+    ((others : List Event) → rest ≡ Ok others → AllGood others) → with_item line count read rest ≡ Ok events → AllGood events
 with_item-good line count (Ok e) rest events good h is = followed-good e (nat_le most_items count) rest events (good.fits e refl) h is
 with_item-good line count (Err fault) rest events good h is = absurd cc
 
-choose-good : (skip : Bool) (x y : Result (List Event) ScriptCause) (events : List Event) → (x ≡ Ok events → AllGood events) → (y ≡ Ok events → AllGood events) → (if skip then x else y) ≡ Ok events → AllGood events
+choose-good : (skip : Bool) (x y : Result (List Event) ScriptCause) (events : List Event) → (x ≡ Ok events → AllGood events) →
+    (y ≡ Ok events → AllGood events) → (if skip then x else y) ≡ Ok events → AllGood events
 choose-good true x y events g h is = g is
 choose-good false x y events g h is = h is
 
-items-good : (nodes line count : ℕ) (lines : List (List ℕ)) (events : List Event) → items_from (event_of nodes) line count lines ≡ Ok events → AllGood events
+items-good : (nodes line count : ℕ) (lines : List (List ℕ)) (events : List Event) →
+    items_from (event_of nodes) line count lines ≡ Ok events → AllGood events
 unfolding items_from
 items-good nodes line count [] events is = let same : [] ≡ events = cc in subst AllGood same tt
 items-good nodes line count (text ∷ lines) events is =
     choose-good (is_skipped text) _ _ events (items-good nodes (line + 1) count lines events)
-    (with_item-good line count (event_of nodes text) (items_from (event_of nodes) (line + 1) (count + 1) lines) events (good-line nodes text) (items-good nodes (line + 1) (count + 1) lines)) is
+    (with_item-good line count (event_of nodes text) (items_from (event_of nodes) (line + 1) (count + 1) lines) events
+    (good-line nodes text) (items-good nodes (line + 1) (count + 1) lines)) is
 
 all-fit : (nodes : ℕ) (events : List Event) → All (λ e. event_fits nodes e ≡ true) events → AllGood events → AllFit nodes events
 all-fit nodes [] numbers good = tt
-all-fit nodes (e ∷ events) numbers good =
-    (record { numbers = numbers 0 e (omega arith); block = good.0 }, all-fit nodes events (λ k d below. numbers (suc k) d (omega (arith, below))) good.1)
+all-fit nodes (e ∷ events) numbers good = (
+  record { numbers = numbers 0 e (omega arith); block = good.0 },
+  all-fit nodes events (λ k d below. numbers (suc k) d (omega (arith, below))) good.1,
+)
 
-pub script-fits : (nodes : ℕ) (bytes : List ℕ) (events : List Event) → script_of nodes bytes ≡ Ok events → All (λ e. event_fits nodes e ≡ true) events → AllFit nodes events
+pub script-fits : (nodes : ℕ) (bytes : List ℕ) (events : List Event) → script_of nodes bytes ≡ Ok events →
+    All (λ e. event_fits nodes e ≡ true) events → AllFit nodes events
 script-fits nodes bytes events is numbers = all-fit nodes events numbers (items-good nodes 1 0 (lines_of bytes) events is)

@@ -25,21 +25,24 @@ module _ (image : ImageData) where
   }
 
   -- it has one, and the first without is among the others
-  later : (s : FlatState) (r : Record) (records : List Record) (p : ℕ) → HasStep image s r → FirstWithoutStep image (flat_step image s r) records p → FirstWithoutStep image s (r ∷ records) (suc p)
+  later : (s : FlatState) (r : Record) (records : List Record) (p : ℕ) → HasStep image s r →
+      FirstWithoutStep image (flat_step image s r) records p → FirstWithoutStep image s (r ∷ records) (suc p)
   later s r records p has f = record {
     within = let w = f.within in omega (arith, w);
     before = (has, f.before);
     none = λ q is. f.none q is;
   }
 
-  pub some_first : (s : FlatState) (records : List Record) → (Executes image s records → ⊥) → ((p : ℕ) → FirstWithoutStep image s records p → ⊥) → ⊥
+  pub some_first : (s : FlatState) (records : List Record) → (Executes image s records → ⊥) →
+      ((p : ℕ) → FirstWithoutStep image s records p → ⊥) → ⊥
   some_first s [] fails none = fails tt
   some_first s (r ∷ records) fails none =
       none 0 (at_first s r records (λ has.
       some_first (flat_step image s r) records (λ rest. fails (has, rest)) (λ p f. none (suc p) (later s r records p has f))))
 
 -- so the place of a refusal is never 0
-first-refused : (image : ImageData) (nodes : ℕ) (records : List Record) (r : Result (Unit {0}) CheckFault) (place : ℕ) → r ≡ Err (NotLegal place)
+first-refused : (image : ImageData) (nodes : ℕ) (records : List Record) (r : Result (Unit {0}) CheckFault) (place : ℕ) →
+    r ≡ Err (NotLegal place)
     → (IsDecided r → IsOk r ↔ IsExecution image nodes records)
     → ((before : ℕ) → IsDecided r → (r ≡ Err (NotLegal (before + 1))) ↔ FirstWithoutStep image (flat_start image nodes) records before)
     → (before : ℕ) × (place ≡ before + 1) × FirstWithoutStep image (flat_start image nodes) records before
@@ -56,10 +59,13 @@ first-refused image nodes records r (suc before) e legal refused =
     let one : suc before ≡ before + 1 = omega arith in
     (before, one, (refused before d).0 (e ∙ ap (λ n. Err (NotLegal n)) one))
 
-pub refused-verdict : (c : Check) (records : List Record) (r : Result (Unit {0}) CheckFault) (place : ℕ) → records ≡ c.trace → r ≡ Err (NotLegal place)
+pub refused-verdict : (c : Check) (records : List Record) (r : Result (Unit {0}) CheckFault) (place : ℕ) → records ≡ c.trace →
+    r ≡ Err (NotLegal place)
     → (IsDecided r → IsOk r ↔ IsExecution c.program c.nodes records)
-    → ((before : ℕ) → IsDecided r → (r ≡ Err (NotLegal (before + 1))) ↔ FirstWithoutStep c.program (flat_start c.program c.nodes) records before)
+    → ((before : ℕ) → IsDecided r →
+    (r ≡ Err (NotLegal (before + 1))) ↔ FirstWithoutStep c.program (flat_start c.program c.nodes) records before)
     → IsVerdict c (Refused place)
 refused-verdict c records r place same e legal refused =
-    subst (λ (t : List Record). (before : ℕ) × (place ≡ before + 1) × FirstWithoutStep c.program (flat_start c.program c.nodes) t before) same
+    subst (λ (t : List Record). (before : ℕ) × (place ≡ before + 1)
+    × FirstWithoutStep c.program (flat_start c.program c.nodes) t before) same
     (first-refused c.program c.nodes records r place e legal refused)

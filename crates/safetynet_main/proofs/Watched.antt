@@ -26,7 +26,8 @@ kill-is nodes (Some rule) e = grind (arith, nat_tests)
 kill-of_rules : (nodes : ℕ) (rules : RunRules) → run_rules_fit nodes rules ≡ true → kill_fits nodes rules.kill ≡ true
 kill-of_rules nodes rules e = grind arith
 
-pub rules_are : (config : Config) (rules : RunRules) → config_fits config ≡ true → run_rules_fit config.nodes rules ≡ true → AreRules (driver_rules rules) config.nodes
+pub rules_are : (config : Config) (rules : RunRules) → config_fits config ≡ true → run_rules_fit config.nodes rules ≡ true →
+    AreRules (driver_rules rules) config.nodes
 rules_are config rules fits ruled = record {
   some = grind (arith, nat_tests);
   few = grind (arith, nat_tests);

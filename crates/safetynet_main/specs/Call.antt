@@ -37,7 +37,8 @@ use Rattle.safetynet_main.specs.declared.job.Check.{Check as Judging}
 use Rattle.safetynet_main.specs.declared.job.Job.{Job}
 use Rattle.safetynet_main.specs.declared.job.Job.TheVariants.{Replay as ReplayJob, Run as RunJob, Check as CheckJob, Text}
 use Rattle.safetynet_main.specs.declared.files.Unread.{Unread}
-use Rattle.safetynet_main.specs.declared.files.Unread.TheVariants.{Missing as UnreadMissing, TooLong as UnreadTooLong, Memory as UnreadMemory}
+use Rattle.safetynet_main.specs.declared.files.Unread.TheVariants.{Missing as UnreadMissing, TooLong as UnreadTooLong}
+use Rattle.safetynet_main.specs.declared.files.Unread.TheVariants.{Memory as UnreadMemory}
 use Rattle.safetynet_main.specs.declared.status.Status.{Status}
 use Rattle.safetynet_main.specs.declared.status.Status.TheVariants.{Usage, SinkFault}
 
@@ -99,7 +100,8 @@ run_with config rules report watch (Err status) = Err status
 
 -- a program that is refused leaves the script alone, or the trace
 abbrev pub script_errand : Config → Showing → List ℕ → Result ImageData Status → Errand
-script_errand config showing script (Ok image) = Fetch script script_limit (λ found. Due (job_with config showing image (script_in config.nodes found)))
+script_errand config showing script (Ok image) =
+    Fetch script script_limit (λ found. Due (job_with config showing image (script_in config.nodes found)))
 script_errand config showing script (Err status) = Due (Err status)
 
 abbrev pub trace_errand : ℕ → List ℕ → Result ImageData Status → Errand
@@ -116,7 +118,8 @@ abbrev pub replay_errand : Config → Showing → List ℕ → List ℕ → Erra
 replay_errand config showing program script = Fetch program program_limit (λ found. script_errand config showing script (program_in found))
 
 abbrev pub run_errand : Config → RunRules → AskedReport → Option ℕ → List ℕ → Errand
-run_errand config rules report watch program = Fetch program program_limit (λ found. Due (run_with config rules report watch (program_in found)))
+run_errand config rules report watch program =
+    Fetch program program_limit (λ found. Due (run_with config rules report watch (program_in found)))
 
 abbrev pub check_errand : ℕ → List ℕ → List ℕ → Errand
 check_errand nodes program trace = Fetch program program_limit (λ found. trace_errand nodes trace (program_in found))
@@ -138,7 +141,8 @@ demo_errand size = Due (generated_job size (program_of (words_text counting_word
 
 -- words that aren't a command's are refused
 abbrev pub errand_of : Option Request → Errand
-errand_of (Some (Replay config trace watch program script)) = replay_errand config (record { report = report_of trace; watch = watch }) program script
+errand_of (Some (Replay config trace watch program script)) =
+    replay_errand config (record { report = report_of trace; watch = watch }) program script
 errand_of (Some (RunRequest config rules report watch program)) = run_errand config rules report watch program
 errand_of (Some (Check nodes program trace)) = check_errand nodes program trace
 errand_of (Some (Demo size)) = demo_errand size
@@ -230,7 +234,8 @@ Follows probes (Ok job) status old new =
     ((outcome : Outcome) × ComesTo probes job status old new outcome) ⊎ ((status ≡ SinkFault) × BrokeOff job old new)
 
 -- what a call comes to that is given these probes, over any store
-abbrev pub Comes : {S : Type 0} → (S → List ℕ → ℕ → Found → S → Type 0) → List Meter → Option Request → Status → S → S → Ends → Ends → Type 0
+abbrev pub Comes : {S : Type 0} → (S → List ℕ → ℕ → Found → S → Type 0) → List Meter → Option Request → Status → S → S → Ends → Ends →
+    Type 0
 Comes fetches probes ask status old new before behind =
     (job : Result Job Status) × Loads fetches (errand_of ask) job old new × Follows probes job status before behind
 

@@ -11,7 +11,8 @@ use Rattle.safetynet_main.specs.declared.job.Check.{Check}
 use Rattle.safetynet_main.specs.declared.job.Verdict.{Verdict}
 use Rattle.safetynet_main.specs.declared.job.Verdict.TheVariants.{Legal, Refused}
 use Rattle.safetynet_main.specs.declared.status.Status.{Status}
-use Rattle.safetynet_main.specs.declared.status.Status.TheVariants.{Done, Budget, CutOff as CutOffStatus, Refused as RefusedStatus, Trapped as TrappedStatus}
+use Rattle.safetynet_main.specs.declared.status.Status.TheVariants.{Done, Budget, CutOff as CutOffStatus, Refused as RefusedStatus}
+use Rattle.safetynet_main.specs.declared.status.Status.TheVariants.{Trapped as TrappedStatus}
 
 pub data Outcome : Type 0 where
   -- events were applied up to the last, or a text was put

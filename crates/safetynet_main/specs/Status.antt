@@ -2,15 +2,18 @@
 use Rattle.std.specs.Prelude.{ℕ, Bool, true, false, List, ◌++◌, codes, Option, Some, None}
 use Rattle.elf_load.specs.declared.fault.LoadCause.{LoadCause}
 use Rattle.elf_load.specs.declared.fault.LoadCause.TheVariants.{Empty, BadHexLine, TooManyWords, Truncated, WrongField, Compressed}
-use Rattle.elf_load.specs.declared.fault.LoadCause.TheVariants.{TooManySegments, FileLargerThanMemory, Outside, Overlap, WritableCode, BadEntry}
+use Rattle.elf_load.specs.declared.fault.LoadCause.TheVariants.{TooManySegments, FileLargerThanMemory, Outside, Overlap, WritableCode}
+use Rattle.elf_load.specs.declared.fault.LoadCause.TheVariants.{BadEntry}
 use Rattle.rv_asm.specs.declared.fault.AsmCause.{AsmCause}
-use Rattle.rv_asm.specs.declared.fault.AsmCause.TheVariants.{TooLong as AsmTooLong, BadLine as AsmBadLine, OutOfRange as AsmOutOfRange, LabelTwice, TooManyWords as AsmTooManyWords, NoLabel}
+use Rattle.rv_asm.specs.declared.fault.AsmCause.TheVariants.{TooLong as AsmTooLong, BadLine as AsmBadLine, OutOfRange as AsmOutOfRange}
+use Rattle.rv_asm.specs.declared.fault.AsmCause.TheVariants.{LabelTwice, TooManyWords as AsmTooManyWords, NoLabel}
 use Rattle.sn_text.specs.declared.cause.ScriptCause.{ScriptCause}
 use Rattle.sn_text.specs.declared.cause.ScriptCause.TheVariants.{TooLong as ScriptTooLong, BadLine, OutOfRange, TooMany}
 use Rattle.safetynet_main.specs.declared.status.ProgramCause.{ProgramCause}
 use Rattle.safetynet_main.specs.declared.status.ProgramCause.TheVariants.{TooLong, Load}
 use Rattle.safetynet_main.specs.declared.status.Status.{Status}
-use Rattle.safetynet_main.specs.declared.status.Status.TheVariants.{Done, Usage, StoreFault, BadProgram, BadScript, BadAsm, SinkFault, Budget, Memory, CutOff, Refused, Trapped}
+use Rattle.safetynet_main.specs.declared.status.Status.TheVariants.{Done, Usage, StoreFault, BadProgram, BadScript, BadAsm, SinkFault}
+use Rattle.safetynet_main.specs.declared.status.Status.TheVariants.{Budget, Memory, CutOff, Refused, Trapped}
 
 abbrev pub number_of : Status → ℕ
 number_of Done = 0

@@ -7,7 +7,8 @@ ghost use Rattle.command_words.specs.Request.{as_request, watch_fits, request_fi
 ghost use Rattle.option_values.specs.Runs.{run_rules_fit};
 ghost use Rattle.safetynet_main.specs.Files.{program_in, script_in, trace_in, assembly_in};
 ghost use Rattle.safetynet_main.specs.Errand.{Due, Loads};
-ghost use Rattle.safetynet_main.specs.Call.{Fetches, found_by, report_of, report_shown, driver_rules, errand_of, replay_errand, run_errand, check_errand, demo_errand, assembly_errand, listing_errand, IsRead};
+ghost use Rattle.safetynet_main.specs.Call.{Fetches, found_by, report_of, report_shown, driver_rules, errand_of, replay_errand, run_errand};
+ghost use Rattle.safetynet_main.specs.Call.{check_errand, demo_errand, assembly_errand, listing_errand, IsRead};
 
 use crate::job::{Check, Job, Text, Trace};
 use crate::reading::{
@@ -39,7 +40,8 @@ fn fetch_file<S: Store>(
     name: &str,
     limit: usize,
 ) -> Result<Vec<u8>, Unread>
-    ensures found { result ≢ Err Unread.Memory → Fetches S.files S.sure S.faults S.gave store.old name.now limit (found_by result) store.new }
+    ensures found { result ≢ Err Unread.Memory →
+        Fetches S.files S.sure S.faults S.gave store.old name.now limit (found_by result) store.new }
     ensures files { S.files store.new ≡ S.files store.old }
 {
     let mut bytes = Vec::new(alloc);
@@ -141,7 +143,8 @@ fn load_replay<S: Store>(
     requires sizes { config_fits asked.now.config ≡ true }
     requires watched { watch_fits asked.now.watch ≡ true }
     ensures loads { result ≢ Err Status.Memory → Loads (Fetches S.files S.sure S.faults S.gave)
-        (replay_errand asked.now.config (record { report = report_of asked.now.trace; watch = asked.now.watch }) (string_bytes asked.now.program) (string_bytes asked.now.script))
+        (replay_errand asked.now.config (record { report = report_of asked.now.trace; watch = asked.now.watch })
+        (string_bytes asked.now.program) (string_bytes asked.now.script))
         result store.old store.new }
     ensures read { IfOk result IsRead }
     ensures files { S.files store.new ≡ S.files store.old }

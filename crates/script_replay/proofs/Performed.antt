@@ -18,14 +18,16 @@ use Rattle.script_replay.specs.Shown.{pieces_due, IsReplayed, IsBrokenOff, Break
 use Rattle.script_replay.proofs.Shown.{shown-all, shown-part}
 
 -- what the probes are told from the start on
-ready-told : (m : MachineData) (image : ImageData) (config : Config) (events : List Event) (probes : List Meter) (room : ℕ) → IsReady m image config room → told_left m events probes ≡ told_of_run image config events probes
+ready-told : (m : MachineData) (image : ImageData) (config : Config) (events : List Event) (probes : List Meter) (room : ℕ) →
+    IsReady m image config room → told_left m events probes ≡ told_of_run image config events probes
 ready-told m image config events probes room ready =
     ap (λ n. map (told_from (n + 1) (answered m.image m.config m.state events)) probes) ready.new
     ∙ ap (λ (t : State). map (told_from 1 (answered m.image m.config t events)) probes) ready.start
     ∙ ap (λ (t : Config). map (told_from 1 (answered m.image t (start_of image config.nodes) events)) probes) ready.sizes
     ∙ ap (λ (t : ImageData). map (told_from 1 (answered t config (start_of image config.nodes) events)) probes) ready.program
 
-ready-turns : (m : MachineData) (image : ImageData) (config : Config) (showing : Showing) (events : List Event) (room : ℕ) → IsReady m image config room → turns_left m showing events ≡ turns_of image config showing events
+ready-turns : (m : MachineData) (image : ImageData) (config : Config) (showing : Showing) (events : List Event) (room : ℕ) →
+    IsReady m image config room → turns_left m showing events ≡ turns_of image config showing events
 unfolding turns_of
 ready-turns m image config showing events room ready =
     ap (λ t. turns_from m.image m.config showing m.applied t events) ready.start
@@ -33,7 +35,9 @@ ready-turns m image config showing events room ready =
     ∙ ap (λ (t : Config). turns_from m.image t showing 0 (start_of image config.nodes) events) ready.sizes
     ∙ ap (λ t. turns_from t config showing 0 (start_of image config.nodes) events) ready.program
 
-ready-pieces : (m : MachineData) (image : ImageData) (config : Config) (showing : Showing) (tallies : List (List ℕ)) (events script : List Event) (room : ℕ) → IsReady m image config room → events ≡ script → pieces_left m showing tallies events ≡ pieces_of image config showing tallies script
+ready-pieces : (m : MachineData) (image : ImageData) (config : Config) (showing : Showing) (tallies : List (List ℕ))
+    (events script : List Event) (room : ℕ) → IsReady m image config room → events ≡ script →
+    pieces_left m showing tallies events ≡ pieces_of image config showing tallies script
 unfolding pieces_of
 ready-pieces m image config showing tallies events script room ready same =
     ap (λ t. pieces_left m showing tallies t) same
@@ -42,7 +46,8 @@ ready-pieces m image config showing tallies events script room ready same =
     ∙ ap (λ (t : Config). pieces_from m.image t showing tallies 0 (start_of image config.nodes) script) ready.sizes
     ∙ ap (λ t. pieces_from t config showing tallies 0 (start_of image config.nodes) script) ready.program
 
-pub ready-fit : (m : MachineData) (image : ImageData) (config : Config) (events script : List Event) (room : ℕ) → IsReady m image config room → events ≡ script → AllFit config.nodes script → AllFit m.config.nodes events
+pub ready-fit : (m : MachineData) (image : ImageData) (config : Config) (events script : List Event) (room : ℕ) →
+    IsReady m image config room → events ≡ script → AllFit config.nodes script → AllFit m.config.nodes events
 ready-fit m image config events script room ready same fit =
     subst (λ (t : Config). AllFit t.nodes events) (sym ready.sizes) (subst (AllFit config.nodes) (sym same) fit)
 
@@ -59,14 +64,17 @@ module _ (m : MachineData) (r : Replay) (events : List Event) (room : ℕ) (prob
   performed-told now_ told = told ∙ all-told
 
 module _ (m : MachineData) (r : Replay) (events : List Event) (room : ℕ) (probes : List Meter) (before behind : Ends) (ready : IsReady m r.program r.config room) (same : events ≡ r.script) (run : IsRun r.config r.script) where
-  pub performed-all : behind ≡ after before (pieces_left m r.showing (tallies_of (told_left m events probes)) events) → IsReplayed r probes before behind
+  pub performed-all : behind ≡ after before (pieces_left m r.showing (tallies_of (told_left m events probes)) events) →
+      IsReplayed r probes before behind
   performed-all put =
       let whole : behind ≡ after before (pieces_due r probes) = put ∙ ap (after before) (pieces-due m r events room probes ready same) in
       record { put = whole; shown = shown-all r.program r.config r.showing (tallies_due r probes) r.script before behind run whole }
 
-  pub performed-part : Breaks (pieces_left m r.showing (tallies_of (told_left m events probes)) events) before behind → IsBrokenOff r probes before behind
+  pub performed-part : Breaks (pieces_left m r.showing (tallies_of (told_left m events probes)) events) before behind →
+      IsBrokenOff r probes before behind
   performed-part broken =
-      let part : Breaks (pieces_due r probes) before behind = subst (λ (t : List Piece). Breaks t before behind) (pieces-due m r events room probes ready same) broken in
+      let part : Breaks (pieces_due r probes) before behind = subst (λ (t : List Piece). Breaks t before behind)
+      (pieces-due m r events room probes ready same) broken in
       record { broken = part; shown = shown-part r.program r.config r.showing (tallies_due r probes) r.script before behind run part }
 
 -- where a sink broke
@@ -83,7 +91,9 @@ module _ (m : MachineData) (r : Replay) (events : List Event) (room : ℕ) (prob
     pieces = stops.pieces;
     are = sym (turns-first (i + 1)) ∙ stops.are ∙ ap (λ t. t ++ stops.pieces) (turns-first i);
     broken = subst (λ (t : List Piece). Breaks stops.pieces (after before t) behind) (turns-first i) stops.broken;
-    knows = stops.knows ∙ ready-told m r.program r.config (take (i + 1) events) probes room ready ∙ ap (λ t. told_of_run r.program r.config (take (i + 1) t) probes) same;
+    knows =
+        stops.knows ∙ ready-told m r.program r.config (take (i + 1) events) probes room ready
+        ∙ ap (λ t. told_of_run r.program r.config (take (i + 1) t) probes) same;
   }
 
   turns-all : turns_left m r.showing events ≡ turns_of r.program r.config r.showing r.script

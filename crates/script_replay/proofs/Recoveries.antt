@@ -25,7 +25,7 @@ use Rattle.sn_model.specs.Instructions.{Stepped, stepped, step_wanting, takes_in
 use Rattle.sn_model.specs.MachineEvents.{validates, unready_node, restores}
 use Rattle.sn_model.specs.Step.{step_of}
 use Rattle.consistent_cuts.proofs.EachEvent.{ordinary_evicted, ordinary_flight, ordinary_hops, ordinary_loses}
-use Rattle.consistent_cuts.proofs.SteppedCases.{settles}
+use Rattle.consistent_cuts.proofs.SteppedCases.{is_point_answer}
 use Rattle.script_replay.specs.Played.{IsAlone}
 
 -- whether an answer is a recovery's
@@ -36,9 +36,9 @@ goes_back _ = false
 abbrev GoesOn : Stepped → Type 0
 GoesOn step = goes_back step.answer ≡ false
 
-unsettled : (a : Answer) → settles a ≡ false → goes_back a ≡ false
-unsettled (answer.Recovered undo) e = e
-unsettled _ e = refl
+never_back : (a : Answer) → is_point_answer a ≡ false → goes_back a ≡ false
+never_back (answer.Recovered undo) e = e
+never_back _ e = refl
 
 never : (said : Answer) (undo : Undo) → goes_back said ≡ false → said ≡ answer.Recovered undo → ⊥
 never said undo on is = true≢false (sym (ap goes_back is) ∙ on)
@@ -89,18 +89,24 @@ validates_on : (s : State) (node : Option ℕ) → GoesOn (validates s node)
 validates_on s None = advanced_on s.fabric (s.fabric.point + 1)
 validates_on s (Some node) = refl
 
-restores_alone : (s : State) (pair : Option (ℕ × ℕ)) → IsAlone (restores s (recovers s.fabric s.fabric.point pair)).answer (restores s (recovers s.fabric s.fabric.point pair)).sent
+restores_alone : (s : State) (pair : Option (ℕ × ℕ)) →
+    IsAlone (restores s (recovers s.fabric s.fabric.point pair)).answer (restores s (recovers s.fabric s.fabric.point pair)).sent
 restores_alone s None = λ undo is. refl
 restores_alone s (Some pair) = λ undo is. refl
 
-pub recovery_is_alone : (image : ImageData) (config : Config) (s : State) (e : Event) → IsAlone (step_of image config s e).answer (step_of image config s e).sent
+pub recovery_is_alone : (image : ImageData) (config : Config) (s : State) (e : Event) →
+    IsAlone (step_of image config s e).answer (step_of image config s e).sent
 unfolding step_of
 recovery_is_alone image config s (event.Step n) = λ undo is. absurd (never _ undo (stepped_on image config s n) is)
-recovery_is_alone image config s (event.Evict n block) = λ undo is. absurd (never _ undo (unsettled _ (ordinary_evicted s.fabric n block)) is)
+recovery_is_alone image config s (event.Evict n block) =
+    λ undo is. absurd (never _ undo (never_back _ (ordinary_evicted s.fabric n block)) is)
 recovery_is_alone image config s (event.Edge n) = λ undo is. absurd (never _ undo (edged_on s.fabric n) is)
-recovery_is_alone image config s (event.Hop id) = λ undo is. absurd (never _ undo (unsettled _ (ordinary_hops s.fabric (flight_of s.fabric.net.flights id))) is)
-recovery_is_alone image config s (event.Deliver id) = λ undo is. absurd (never _ undo (unsettled _ (ordinary_flight config s.fabric (flight_of s.fabric.net.flights id))) is)
-recovery_is_alone image config s (event.Lose id) = λ undo is. absurd (never _ undo (unsettled _ (ordinary_loses s.fabric (flight_of s.fabric.net.flights id))) is)
+recovery_is_alone image config s (event.Hop id) =
+    λ undo is. absurd (never _ undo (never_back _ (ordinary_hops s.fabric (flight_of s.fabric.net.flights id))) is)
+recovery_is_alone image config s (event.Deliver id) =
+    λ undo is. absurd (never _ undo (never_back _ (ordinary_flight config s.fabric (flight_of s.fabric.net.flights id))) is)
+recovery_is_alone image config s (event.Lose id) =
+    λ undo is. absurd (never _ undo (never_back _ (ordinary_loses s.fabric (flight_of s.fabric.net.flights id))) is)
 recovery_is_alone image config s (event.Kill switch) = λ undo is. absurd (never _ undo (killed_on s.fabric switch) is)
 recovery_is_alone image config s (event.Report n) = λ undo is. absurd (never _ undo (reported_on s.fabric n) is)
 recovery_is_alone image config s event.Validate = λ undo is. absurd (never _ undo (validates_on s (unready_node s)) is)

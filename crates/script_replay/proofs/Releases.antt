@@ -17,9 +17,11 @@ validation-is : (a : Answer) → is_validation a ≡ true → (k : ℕ) × (a �
 validation-is (Validated k) e = (k, refl)
 validation-is _ e = absurd cc
 
-pub released-grows : (image : ImageData) (config : Config) (s : State) (event : Event) (next : Stepped) → IsStepOfRun image config s event next → (fresh : List ℕ) × (next.state.released ≡ s.released ++ fresh)
+pub released-grows : (image : ImageData) (config : Config) (s : State) (event : Event) (next : Stepped) →
+    IsStepOfRun image config s event next → (fresh : List ℕ) × (next.state.released ≡ s.released ++ fresh)
 released-grows image config s event next says = by_answer (is_validation next.answer) refl
   where
     by_answer : (b : Bool) → is_validation next.answer ≡ b → (fresh : List ℕ) × (next.state.released ≡ s.released ++ fresh)
     by_answer true e = let v = validation-is next.answer e in (_, (says.grows v.0 v.1).1)
-    by_answer false e = ([], (says.stays (λ k is. let t : is_validation next.answer ≡ true = ap is_validation is in cc)).1 ∙ sym (append-nil s.released))
+    by_answer false e =
+        ([], (says.stays (λ k is. let t : is_validation next.answer ≡ true = ap is_validation is in cc)).1 ∙ sym (append-nil s.released))

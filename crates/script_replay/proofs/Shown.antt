@@ -1,6 +1,7 @@
 -- Over a whole run the console's text is what is released, and that is the output of the committed trace; and where the trace is
 -- asked for, the report's text is that trace and the summary.
-use Rattle.std.proofs.Common.{◌≡◌, ℕ, ◌+◌, List, [], ◌∷◌, ◌++◌, take, drop, length, refl, ap, sym, subst, ◌∙◌, append_assoc, append-nil, arith}
+use Rattle.std.proofs.Common.{◌≡◌, ℕ, ◌+◌, List, [], ◌∷◌, ◌++◌, take, drop, length, refl, ap, sym, subst, ◌∙◌, append_assoc, append-nil}
+use Rattle.std.proofs.Common.{arith}
 use Rattle.std.proofs.lemmas.List.{drop_at, take-append-drop}
 use Rattle.std.specs.Prelude.{Option, codes}
 use Rattle.sn_base.specs.Image.{ImageData}
@@ -23,7 +24,8 @@ use Rattle.sink_pieces.proofs.Begun.{console_text-piece, report_text-piece, cons
 use Rattle.script_replay.specs.declared.job.Showing.{Showing}
 use Rattle.script_replay.specs.declared.job.ReportKind.{ReportKind}
 use Rattle.script_replay.specs.declared.job.ReportKind.TheVariants.{Events, Trace, Summary}
-use Rattle.script_replay.specs.Pieces.{group_of, group_pieces, trace_pieces, tally_pieces, summary_pieces, last_pieces, end_pieces, turn_pieces, turns_from, turns_of, pieces_from, pieces_of}
+use Rattle.script_replay.specs.Pieces.{group_of, group_pieces, trace_pieces, tally_pieces, summary_pieces, last_pieces, end_pieces}
+use Rattle.script_replay.specs.Pieces.{turn_pieces, turns_from, turns_of, pieces_from, pieces_of}
 use Rattle.script_replay.specs.Shown.{committed_by, output_of, IsMoment, IsTrace, IsShown, IsShownInPart}
 use Rattle.script_replay.proofs.Groups.{some-nodes, few-nodes}
 use Rattle.script_replay.proofs.Fits.{all_fit-take}
@@ -46,7 +48,8 @@ unfolding tally_pieces
 console_text-tallies before probe [] = refl
 console_text-tallies before probe (tally ∷ tallies) = console_text-tallies before (probe + 1) tallies
 
-console_text-last : (kind : ReportKind) (image : ImageData) (config : Config) (watch : Option ℕ) (tallies : List (List ℕ)) (done : ℕ) (s : State) → console_text (last_pieces kind image config watch tallies done s) ≡ []
+console_text-last : (kind : ReportKind) (image : ImageData) (config : Config) (watch : Option ℕ) (tallies : List (List ℕ)) (done : ℕ)
+    (s : State) → console_text (last_pieces kind image config watch tallies done s) ≡ []
 console_text-last Events image config watch tallies done s = console_text-tallies [] 0 tallies
 console_text-last Trace image config watch tallies done s =
     console_text-append (trace_pieces s.committed) (summary_pieces (codes "# ") image config watch tallies done s)
@@ -54,7 +57,8 @@ console_text-last Trace image config watch tallies done s =
 console_text-last Summary image config watch tallies done s = console_text-tallies [] 0 tallies
 
 -- what an event puts to the console is what it releases
-pub console_text-turn : (image : ImageData) (config : Config) (showing : Showing) (place : ℕ) (s : State) (event : Event) → console_text (turn_pieces image config showing place s event) ≡ drop (length s.released) (step_of image config s event).state.released
+pub console_text-turn : (image : ImageData) (config : Config) (showing : Showing) (place : ℕ) (s : State) (event : Event) →
+    console_text (turn_pieces image config showing place s event) ≡ drop (length s.released) (step_of image config s event).state.released
 unfolding turn_pieces
 console_text-turn image config showing place s event =
     let fresh : List ℕ = drop (length s.released) (step_of image config s event).state.released in
@@ -63,46 +67,70 @@ console_text-turn image config showing place s event =
     ∙ ap (λ t. console_text (console_piece fresh) ++ t) (console_text-group showing.report text)
     ∙ append-nil (console_text (console_piece fresh)) ∙ console_text-piece fresh
 
-released-turn : (image : ImageData) (config : Config) (showing : Showing) (place : ℕ) (s : State) (event : Event) → IsStepOfRun image config s event (step_of image config s event) → (step_of image config s event).state.released ≡ s.released ++ console_text (turn_pieces image config showing place s event)
+released-turn : (image : ImageData) (config : Config) (showing : Showing) (place : ℕ) (s : State) (event : Event) →
+    IsStepOfRun image config s event (step_of image config s event) →
+    (step_of image config s event).state.released ≡ s.released ++ console_text (turn_pieces image config showing place s event)
 released-turn image config showing place s event says =
     let more = released-grows image config s event (step_of image config s event) says in
-    more.1 ∙ ap (λ t. s.released ++ t) (sym (console_text-turn image config showing place s event ∙ ap (drop (length s.released)) more.1 ∙ drop_at s.released more.0 (length s.released) refl))
+    more.1 ∙ ap (λ t. s.released ++ t)
+    (sym (console_text-turn image config showing place s event ∙ ap (drop (length s.released)) more.1
+    ∙ drop_at s.released more.0 (length s.released) refl))
 
 -- and so do events one after another, from a state of a run
-released-turns : (image : ImageData) (config : Config) (showing : Showing) (done : ℕ) (s : State) (trace : List Entry) (events : List Event) → AllFit config.nodes events → Holds image config.nodes s trace → (state_after image config s events).released ≡ s.released ++ console_text (turns_from image config showing done s events)
+released-turns : (image : ImageData) (config : Config) (showing : Showing) (done : ℕ) (s : State) (trace : List Entry)
+    (events : List Event) → AllFit config.nodes events → Holds image config.nodes s trace →
+    (state_after image config s events).released ≡ s.released ++ console_text (turns_from image config showing done s events)
 unfolding turns_from
 released-turns image config showing done s trace [] fit holds = sym (append-nil s.released)
 released-turns image config showing done s trace (event ∷ events) fit holds =
     let next : State = (step_of image config s event).state in
-    released-turns image config showing (done + 1) next (traced image s event (step_of image config s event).answer trace) events fit.1 (step_holds image config config.nodes s trace event holds fit.0)
-    ∙ ap (λ t. t ++ console_text (turns_from image config showing (done + 1) next events)) (released-turn image config showing (done + 1) s event (holds_next image config s trace event holds fit.0))
-    ∙ append_assoc s.released (console_text (turn_pieces image config showing (done + 1) s event)) (console_text (turns_from image config showing (done + 1) next events))
-    ∙ ap (λ t. s.released ++ t) (sym (console_text-append (turn_pieces image config showing (done + 1) s event) (turns_from image config showing (done + 1) next events)))
+    released-turns image config showing (done + 1) next (traced image s event (step_of image config s event).answer trace) events fit.1
+    (step_holds image config config.nodes s trace event holds fit.0)
+    ∙ ap (λ t. t ++ console_text (turns_from image config showing (done + 1) next events))
+    (released-turn image config showing (done + 1) s event (holds_next image config s trace event holds fit.0))
+    ∙ append_assoc s.released (console_text (turn_pieces image config showing (done + 1) s event))
+    (console_text (turns_from image config showing (done + 1) next events))
+    ∙ ap (λ t. s.released ++ t)
+    (sym (console_text-append (turn_pieces image config showing (done + 1) s event)
+    (turns_from image config showing (done + 1) next events)))
 
 -- the pieces of the first events come first
 
-pieces_from-split : (image : ImageData) (config : Config) (showing : Showing) (tallies : List (List ℕ)) (done : ℕ) (s : State) (first others : List Event) → (rest : List Piece) × (turns_from image config showing done s first ++ rest ≡ pieces_from image config showing tallies done s (first ++ others))
+pieces_from-split : (image : ImageData) (config : Config) (showing : Showing) (tallies : List (List ℕ)) (done : ℕ) (s : State)
+    (first others : List Event) →
+    (rest : List Piece) × (turns_from image config showing done s first
+    ++ rest ≡ pieces_from image config showing tallies done s (first ++ others))
 unfolding turns_from pieces_from
 pieces_from-split image config showing tallies done s [] others = (pieces_from image config showing tallies done s others, refl)
 pieces_from-split image config showing tallies done s (event ∷ first) others =
-    let more = pieces_from-split image config showing tallies (done + 1) (step_of image config s event).state first others in
-    (more.0, append_assoc (turn_pieces image config showing (done + 1) s event) (turns_from image config showing (done + 1) (step_of image config s event).state first) more.0 ∙ ap (λ t. turn_pieces image config showing (done + 1) s event ++ t) more.1)
+    let more = pieces_from-split image config showing tallies (done + 1) (step_of image config s event).state first others in (
+      more.0,
+      append_assoc (turn_pieces image config showing (done + 1) s event)
+          (turns_from image config showing (done + 1) (step_of image config s event).state first) more.0
+          ∙ ap (λ t. turn_pieces image config showing (done + 1) s event ++ t) more.1,
+    )
 
-pieces_of-split : (image : ImageData) (config : Config) (showing : Showing) (tallies : List (List ℕ)) (events : List Event) (i : ℕ) → (rest : List Piece) × (turns_of image config showing (take i events) ++ rest ≡ pieces_of image config showing tallies events)
+pieces_of-split : (image : ImageData) (config : Config) (showing : Showing) (tallies : List (List ℕ)) (events : List Event) (i : ℕ) →
+    (rest : List Piece) × (turns_of image config showing (take i events) ++ rest ≡ pieces_of image config showing tallies events)
 unfolding turns_of pieces_of
 pieces_of-split image config showing tallies events i =
     let split = pieces_from-split image config showing tallies 0 (start_of image config.nodes) (take i events) (drop i events) in
     (split.0, split.1 ∙ ap (pieces_from image config showing tallies 0 (start_of image config.nodes)) (take-append-drop i events))
 
 -- what is put at the end is for the report
-pub console_text-turns : (image : ImageData) (config : Config) (showing : Showing) (tallies : List (List ℕ)) (done : ℕ) (s : State) (events : List Event) → console_text (pieces_from image config showing tallies done s events) ≡ console_text (turns_from image config showing done s events)
+pub console_text-turns : (image : ImageData) (config : Config) (showing : Showing) (tallies : List (List ℕ)) (done : ℕ) (s : State)
+    (events : List Event) →
+    console_text (pieces_from image config showing tallies done s events) ≡ console_text (turns_from image config showing done s events)
 unfolding turns_from pieces_from end_pieces
 console_text-turns image config showing tallies done s [] = console_text-last showing.report image config showing.watch tallies done s
 console_text-turns image config showing tallies done s (event ∷ events) =
     let next : State = (step_of image config s event).state in
-    console_text-append (turn_pieces image config showing (done + 1) s event) (pieces_from image config showing tallies (done + 1) next events)
-    ∙ ap (λ t. console_text (turn_pieces image config showing (done + 1) s event) ++ t) (console_text-turns image config showing tallies (done + 1) next events)
-    ∙ sym (console_text-append (turn_pieces image config showing (done + 1) s event) (turns_from image config showing (done + 1) next events))
+    console_text-append (turn_pieces image config showing (done + 1) s event)
+    (pieces_from image config showing tallies (done + 1) next events)
+    ∙ ap (λ t. console_text (turn_pieces image config showing (done + 1) s event) ++ t)
+    (console_text-turns image config showing tallies (done + 1) next events)
+    ∙ sym (console_text-append (turn_pieces image config showing (done + 1) s event)
+    (turns_from image config showing (done + 1) next events))
 
 -- at each moment
 
@@ -110,7 +138,8 @@ module _ (image : ImageData) (config : Config) (showing : Showing) (events : Lis
   console-output : console_text (turns_of image config showing events) ≡ output_of image config events
   unfolding turns_of
   console-output =
-      sym (released-turns image config showing 0 (start_of image config.nodes) [] events run.events_fit (start_holds image config.nodes (some-nodes config run.fits) (few-nodes config run.fits)))
+      sym (released-turns image config showing 0 (start_of image config.nodes) [] events run.events_fit
+      (start_holds image config.nodes (some-nodes config run.fits) (few-nodes config run.fits)))
       ∙ (reached_consistent image config events run).output
 
   console-whole : (tallies : List (List ℕ)) → console_text (pieces_of image config showing tallies events) ≡ output_of image config events
@@ -138,7 +167,8 @@ unfolding trace_pieces
 report_text-trace [] = refl
 report_text-trace (taken ∷ records) = ap (λ t. trace_line taken ++ t) (report_text-trace records)
 
-report_text-turn : (image : ImageData) (config : Config) (showing : Showing) (place : ℕ) (s : State) (event : Event) → showing.report ≡ Trace → report_text (turn_pieces image config showing place s event) ≡ []
+report_text-turn : (image : ImageData) (config : Config) (showing : Showing) (place : ℕ) (s : State) (event : Event) →
+    showing.report ≡ Trace → report_text (turn_pieces image config showing place s event) ≡ []
 unfolding turn_pieces
 report_text-turn image config showing place s event is =
     let fresh : List ℕ = drop (length s.released) (step_of image config s event).state.released in
@@ -153,7 +183,8 @@ report_text-end image config showing tallies done s is =
     ap (λ t. report_text (last_pieces t image config showing.watch tallies done s)) is
     ∙ report_text-append (trace_pieces s.committed) summary ∙ ap (λ t. t ++ report_text summary) (report_text-trace s.committed)
 
-report_text-from : (image : ImageData) (config : Config) (showing : Showing) (tallies : List (List ℕ)) (done : ℕ) (s : State) (events : List Event) → showing.report ≡ Trace → report_text (pieces_from image config showing tallies done s events)
+report_text-from : (image : ImageData) (config : Config) (showing : Showing) (tallies : List (List ℕ)) (done : ℕ) (s : State)
+    (events : List Event) → showing.report ≡ Trace → report_text (pieces_from image config showing tallies done s events)
     ≡ trace_text (state_after image config s events).committed ++ report_text (summary_pieces (codes "# ") image config showing.watch tallies (done + length events) (state_after image config s events))
 unfolding pieces_from
 report_text-from image config showing tallies done s [] is =
@@ -162,12 +193,16 @@ report_text-from image config showing tallies done s [] is =
 report_text-from image config showing tallies done s (event ∷ events) is =
     let next : State = (step_of image config s event).state in
     let same : done + 1 + length events ≡ done + length (event ∷ events) = omega arith in
-    report_text-append (turn_pieces image config showing (done + 1) s event) (pieces_from image config showing tallies (done + 1) next events)
-    ∙ ap (λ t. t ++ report_text (pieces_from image config showing tallies (done + 1) next events)) (report_text-turn image config showing (done + 1) s event is)
+    report_text-append (turn_pieces image config showing (done + 1) s event)
+    (pieces_from image config showing tallies (done + 1) next events)
+    ∙ ap (λ t. t ++ report_text (pieces_from image config showing tallies (done + 1) next events))
+    (report_text-turn image config showing (done + 1) s event is)
     ∙ report_text-from image config showing tallies (done + 1) next events is
     ∙ ap (λ n. trace_text (state_after image config next events).committed ++ report_text (summary_pieces (codes "# ") image config showing.watch tallies n (state_after image config next events))) same
 
-report-trace : (image : ImageData) (config : Config) (showing : Showing) (tallies : List (List ℕ)) (events : List Event) (before behind : Ends) → IsRun config events → behind ≡ after before (pieces_of image config showing tallies events) → showing.report ≡ Trace → IsTrace image config showing.watch tallies events before.report behind.report
+report-trace : (image : ImageData) (config : Config) (showing : Showing) (tallies : List (List ℕ)) (events : List Event)
+    (before behind : Ends) → IsRun config events → behind ≡ after before (pieces_of image config showing tallies events) →
+    showing.report ≡ Trace → IsTrace image config showing.watch tallies events before.report behind.report
 unfolding pieces_of
 report-trace image config showing tallies events before behind run put is =
     let same : 0 + length events ≡ length events = omega arith in
@@ -178,17 +213,26 @@ report-trace image config showing tallies events before behind run put is =
           ∙ ap (λ n. trace_text (committed_by image config events) ++ report_text (summary_pieces (codes "# ") image config showing.watch tallies n (reached image config events))) same);
     }
 
-pub shown-all : (image : ImageData) (config : Config) (showing : Showing) (tallies : List (List ℕ)) (events : List Event) (before behind : Ends) → IsRun config events → behind ≡ after before (pieces_of image config showing tallies events) → IsShown image config showing tallies events before behind
+pub shown-all : (image : ImageData) (config : Config) (showing : Showing) (tallies : List (List ℕ)) (events : List Event)
+    (before behind : Ends) → IsRun config events → behind ≡ after before (pieces_of image config showing tallies events) →
+    IsShown image config showing tallies events before behind
 shown-all image config showing tallies events before behind run put = record {
   lawful = moment image config showing tallies events run;
-  output = console-after before behind (pieces_of image config showing tallies events) put ∙ ap (followed_by before.console) (console-whole image config showing events run tallies);
+  output =
+      console-after before behind (pieces_of image config showing tallies events) put
+      ∙ ap (followed_by before.console) (console-whole image config showing events run tallies);
   traced = report-trace image config showing tallies events before behind run put;
 }
 
-pub shown-part : (image : ImageData) (config : Config) (showing : Showing) (tallies : List (List ℕ)) (events : List Event) (before behind : Ends) → IsRun config events → Breaks (pieces_of image config showing tallies events) before behind → IsShownInPart image config showing tallies events before behind
+pub shown-part : (image : ImageData) (config : Config) (showing : Showing) (tallies : List (List ℕ)) (events : List Event)
+    (before behind : Ends) → IsRun config events → Breaks (pieces_of image config showing tallies events) before behind →
+    IsShownInPart image config showing tallies events before behind
 shown-part image config showing tallies events before behind run broken = record {
   lawful = moment image config showing tallies events run;
   output = subst (λ (t : List ℕ). HasBeginning t before.console behind.console) (console-whole image config showing events run tallies)
-      (console-begun (pieces_of image config showing tallies events) broken.whole broken.rest broken.piece broken.count before behind broken.all broken.put);
-  report = report-begun (pieces_of image config showing tallies events) broken.whole broken.rest broken.piece broken.count before behind broken.all broken.put;
+      (console-begun
+      (pieces_of image config showing tallies events) broken.whole broken.rest broken.piece broken.count before behind broken.all broken.put);
+  report =
+      report-begun
+      (pieces_of image config showing tallies events) broken.whole broken.rest broken.piece broken.count before behind broken.all broken.put;
 }

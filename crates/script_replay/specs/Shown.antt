@@ -75,7 +75,8 @@ pub record IsBrokenOff (r : Replay) (probes : List Meter) (before behind : Ends)
 pub record BreaksAt (r : Replay) (probes : List Meter) (i : ℕ) (before behind : Ends) (told : List Meter) : Type 0 where
   pub below : i < length r.script
   pub pieces : List Piece
-  pub are : turns_of r.program r.config r.showing (take (i + 1) r.script) ≡ turns_of r.program r.config r.showing (take i r.script) ++ pieces
+  pub are : turns_of r.program r.config r.showing (take (i + 1) r.script) ≡ turns_of r.program r.config r.showing (take i r.script)
+      ++ pieces
   pub broken : Breaks pieces (after before (turns_of r.program r.config r.showing (take i r.script))) behind
   pub knows : told ≡ told_of_run r.program r.config (take (i + 1) r.script) probes
 

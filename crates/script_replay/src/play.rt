@@ -6,7 +6,8 @@ ghost use Rattle.consistent_cuts.specs.Runs.{AllFit};
 ghost use Rattle.sink_pieces.specs.Pieces.{ends, after, Breaks};
 ghost use Rattle.sn_probe.specs.Probes.{meters_in, tallies_of};
 ghost use Rattle.script_replay.specs.Pieces.{group_pieces, trace_pieces, tally_pieces};
-ghost use Rattle.script_replay.specs.Played.{after_event, group_now, summed_up, end_now, turn_now, pieces_left, told_next, told_left, Stops};
+ghost use Rattle.script_replay.specs.Played.{after_event, group_now, summed_up, end_now, turn_now, pieces_left, told_next, told_left};
+ghost use Rattle.script_replay.specs.Played.{Stops};
 ghost use Rattle.script_replay.specs.Played.{IsAlone, IsWatchable};
 
 use crate::job::{ReportKind, Showing};
@@ -39,7 +40,8 @@ fn put_group<R: Sink>(
     requires alone { IsAlone answer.now machine.now.sent }
     requires watched { IsWatchable showing.now.watch }
     ensures ok { OnOk result ((c : Option (List ℕ)) → ends c (R.written report.new)
-        ≡ after (ends c (R.written report.old)) (group_pieces showing.now.report (group_now machine.now showing.now.watch event.now answer.now))) }
+        ≡ after (ends c (R.written report.old))
+        (group_pieces showing.now.report (group_now machine.now showing.now.watch event.now answer.now))) }
     ensures err { OnErr result ((c : Option (List ℕ)) →
         Breaks (group_pieces showing.now.report (group_now machine.now showing.now.watch event.now answer.now))
         (ends c (R.written report.old)) (ends c (R.written report.new))) }
@@ -201,11 +203,13 @@ pub fn play<C: Sink, R: Sink>(
     requires watched { IsWatchable showing.now.watch }
     ensures ok { OnOk result (ends (C.written console.new) (R.written report.new)
         ≡ after (ends (C.written console.old) (R.written report.old))
-        (pieces_left machine.old showing.now (tallies_of (told_left machine.old events.now (meters_in first tally step probes.old.probes.items))) events.now)) }
+        (pieces_left machine.old showing.now
+        (tallies_of (told_left machine.old events.now (meters_in first tally step probes.old.probes.items))) events.now)) }
     ensures told { OnOk result (meters_in first tally step probes.new.probes.items
         ≡ told_left machine.old events.now (meters_in first tally step probes.old.probes.items)) }
     ensures err { OnErr result (Breaks
-        (pieces_left machine.old showing.now (tallies_of (told_left machine.old events.now (meters_in first tally step probes.old.probes.items))) events.now)
+        (pieces_left machine.old showing.now
+        (tallies_of (told_left machine.old events.now (meters_in first tally step probes.old.probes.items))) events.now)
         (ends (C.written console.old) (R.written report.old)) (ends (C.written console.new) (R.written report.new))) }
     ensures stops { OnErr result (Stops machine.old showing.now events.now
         (ends (C.written console.old) (R.written report.old)) (meters_in first tally step probes.old.probes.items)

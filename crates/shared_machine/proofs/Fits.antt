@@ -1,5 +1,6 @@
 -- A due event fits the machine, where the rules are ones for its nodes.
-use Rattle.std.proofs.Common.{◌≡◌, Bool, true, false, ◌||◌, zero, suc, ℕ, ◌+◌, ◌*◌, ◌%◌, ◌<◌, List, [], ◌∷◌, ◌++◌, map, filter_map, slice_get, Option, Some, None, IfSome, is_some, option_map, if◌then◌else◌, refl, arith}
+use Rattle.std.proofs.Common.{◌≡◌, Bool, true, false, ◌||◌, zero, suc, ℕ, ◌+◌, ◌*◌, ◌%◌, ◌<◌, List, [], ◌∷◌, ◌++◌, map, filter_map}
+use Rattle.std.proofs.Common.{slice_get, Option, Some, None, IfSome, is_some, option_map, if◌then◌else◌, refl, arith}
 use Rattle.std.specs.Prelude.{⊤, unwrap_or, not, ◌&&◌, nat_le}
 use Rattle.std.specs.Option.{option_or}
 use Rattle.std.proofs.lemmas.Bool.{lt-ltb}
@@ -102,14 +103,16 @@ module _ (nodes : ℕ) where
   kill_fits s x (Some rule) h =
       if_fits (nat_le rule.1 x.done && not (is_dead s.fabric.net.dead rule.0)) (Kill rule.0) (lt-ltb rule.0 (2 * nodes) h)
 
-due_fits : (nodes : ℕ) (test : Bool) (event due : Event) → Fits nodes event → (if test then None else Some event) ≡ Some due → Fits nodes due
+due_fits : (nodes : ℕ) (test : Bool) (event due : Event) → Fits nodes event → (if test then None else Some event) ≡ Some due →
+    Fits nodes due
 due_fits nodes true event due h e = absurd cc
 due_fits nodes false event due h e = cc
 
 module _ (rules : Rules) (image : ImageData) (config : Config) (s : State) (x : Numbers) where
   own_fit : (n : ℕ) → n < config.nodes → FitPlaces config.nodes (own_places rules image config s x n)
   own_fit n h = (
-    where_fits config.nodes (needs_evict (foreseen image config s (Step n))) _ (evict_fits config.nodes n (least_to_leave image config s n) h),
+    where_fits config.nodes (needs_evict (foreseen image config s (Step n))) _
+        (evict_fits config.nodes n (least_to_leave image config s n) h),
     (
       if_fits config.nodes _ (Edge n) (lt-ltb n config.nodes h),
       (
@@ -130,16 +133,19 @@ module _ (rules : Rules) (image : ImageData) (config : Config) (s : State) (x : 
   first_fits : (pick left n : ℕ) → n < config.nodes → FitsIf config.nodes (first_picked rules image config s x pick left n)
   first_fits pick zero n h = tt
   first_fits pick (suc left) n h =
-      or_fits config.nodes (picked pick (list_of rules image config s x n)) _ (get_fits config.nodes (list_of rules image config s x n) _ (list_fits n h))
+      or_fits config.nodes (picked pick (list_of rules image config s x n)) _
+      (get_fits config.nodes (list_of rules image config s x n) _ (list_fits n h))
       (first_fits pick left ((n + 1) % config.nodes) (mod_below (n + 1) config.nodes (omega (arith, h))))
 
   listed_fits : (worker pick : ℕ) → worker < config.nodes → FitsIf config.nodes (listed rules image config s x worker pick)
   listed_fits worker pick h = unless_fits config.nodes _ _ (lost_fits config.nodes rules x _ (first_fits pick config.nodes worker h))
 
-  pub due-fits : (worker pick : ℕ) (event : Event) → AreRules rules config.nodes → worker < config.nodes → due_of rules image config s x worker pick ≡ Some event →
+  pub due-fits : (worker pick : ℕ) (event : Event) → AreRules rules config.nodes → worker < config.nodes →
+      due_of rules image config s x worker pick ≡ Some event →
       event_fits config.nodes event ≡ true
   unfolding due_of
   due-fits worker pick event ruled h due =
       due_fits config.nodes (is_over image config s || is_some x.cut_off) (next_due rules image config s x worker pick) event
       (or_recover config.nodes (option_or (killing s x rules.kill) (listed rules image config s x worker pick))
-      (or_fits config.nodes (killing s x rules.kill) (listed rules image config s x worker pick) (kill_fits config.nodes s x rules.kill ruled.kill) (listed_fits worker pick h))) due
+      (or_fits config.nodes (killing s x rules.kill) (listed rules image config s x worker pick)
+      (kill_fits config.nodes s x rules.kill ruled.kill) (listed_fits worker pick h))) due

@@ -51,32 +51,43 @@ module _ (s : LockedData) (worker : ℕ) (event : Event) (answer : Answer) (pass
   abbrev step_at : State → Answer
   step_at x = (step_of b.image b.config x event).answer
 
-  keeps : IsKept s → worker < s.machine.config.nodes → due_at s.driver s.machine worker (next_pick s.seed s.journal worker) ≡ Some event → answer ≡ (next_of s.machine event).answer →
-      IsFirstOf passes machine_next.state.released → length s.journal < s.budget → IsKept (after_turn s worker event answer machine_next driver_next passes)
+  keeps : IsKept s → worker < s.machine.config.nodes → due_at s.driver s.machine worker (next_pick s.seed s.journal worker) ≡ Some event →
+      answer ≡ (next_of s.machine event).answer →
+      IsFirstOf passes machine_next.state.released → length s.journal < s.budget →
+      IsKept (after_turn s worker event answer machine_next driver_next passes)
   keeps kept there due said first left =
       let grown = length-append s.journal (entry_of worker event ∷ []) in
       let answered : answer ≡ step_at (state_of b s.journal) = said ∙ ap step_at kept.state in record {
         state = ap (λ (x : State). (step_of b.image b.config x event).state) kept.state ∙ sym (state_of-snoc b s.journal worker event);
         answers = ap (λ (l : List Answer). l ++ answer ∷ []) kept.answers ∙ ap (λ (a : Answer). answers_of b s.journal ++ a ∷ []) answered
             ∙ sym (answers_of-snoc b s.journal worker event);
-        numbers = ap (λ (x : Numbers). numbers_after x event answer) kept.numbers ∙ ap (λ (a : Answer). numbers_after (numbers_of b s.journal) event a) answered
+        numbers =
+            ap (λ (x : Numbers). numbers_after x event answer) kept.numbers
+            ∙ ap (λ (a : Answer). numbers_after (numbers_of b s.journal) event a) answered
             ∙ sym (numbers_of-snoc b s.journal worker event);
         due = IsDue-snoc b s.journal worker event kept.due
-            (ap (λ (x : State). due_of b.rules b.image b.config x (numbers_of b s.journal) worker (next_pick s.seed s.journal worker)) (sym kept.state)
-            ∙ ap (λ (x : Numbers). due_of b.rules b.image b.config s.machine.state x worker (next_pick s.seed s.journal worker)) (sym kept.numbers)
+            (ap (λ (x : State). due_of b.rules b.image b.config x (numbers_of b s.journal) worker (next_pick s.seed s.journal worker))
+            (sym kept.state)
+            ∙ ap (λ (x : Numbers). due_of b.rules b.image b.config s.machine.state x worker (next_pick s.seed s.journal worker))
+            (sym kept.numbers)
             ∙ due);
-        fit = λ ruled. All-push (λ (e : Entry). event_fits s.machine.config.nodes e.event ≡ true) s.journal (entry_of worker event) (kept.fit ruled)
-            (due-fits s.driver.rules s.machine.image s.machine.config s.machine.state s.driver.numbers worker (next_pick s.seed s.journal worker) event ruled there due);
+        fit =
+            λ ruled. All-push (λ (e : Entry). event_fits s.machine.config.nodes e.event ≡ true) s.journal (entry_of worker event)
+            (kept.fit ruled)
+            (due-fits s.driver.rules s.machine.image s.machine.config s.machine.state s.driver.numbers worker
+            (next_pick s.seed s.journal worker) event ruled there due);
         applied = omega (arith, grown, kept.applied);
         few = omega (arith, grown, left);
         passed = first;
       }
 
   pub kept-next : (machine : MachineData) (driver : DriverData) (spent : Bool) → IsKept s → worker < s.machine.config.nodes →
-      Did s.driver s.machine worker (next_pick s.seed s.journal worker) spent event answer driver machine → IsFirstOf passes machine.state.released →
+      Did s.driver s.machine worker (next_pick s.seed s.journal worker) spent event answer driver machine →
+      IsFirstOf passes machine.state.released →
       length s.journal < s.budget → IsKept (after_turn s worker event answer machine driver passes)
   kept-next machine driver spent kept there did first left =
-      let here = keeps kept there did.due did.applied.answer (subst (λ (m : MachineData). IsFirstOf passes m.state.released) did.applied.left first) left in
+      let here = keeps kept there did.due did.applied.answer
+      (subst (λ (m : MachineData). IsFirstOf passes m.state.released) did.applied.left first) left in
       subst (λ (m : MachineData). IsKept (after_turn s worker event answer m driver passes)) (sym did.applied.left)
       (subst (λ (d : DriverData). IsKept (after_turn s worker event answer machine_next d passes)) (sym did.counted) here)
 
@@ -94,7 +105,8 @@ module _ (s : LockedData) (worker : ℕ) (event : Event) (answer : Answer) (pass
       }
 
 -- what was passed on is still the first of what is released
-pub passed-next : (m after : MachineData) (event : Event) (answer : Answer) (passes : List ℕ) → IsApplied m after event answer → IsFirstOf passes m.state.released → IsFirstOf passes after.state.released
+pub passed-next : (m after : MachineData) (event : Event) (answer : Answer) (passes : List ℕ) → IsApplied m after event answer →
+    IsFirstOf passes m.state.released → IsFirstOf passes after.state.released
 passed-next m after event answer passes applied first =
     let grown = released-grows m.image m.config m.state event in
     let there : IsFirstOf passes (next_of m event).state.released =
@@ -102,15 +114,18 @@ passed-next m after event answer passes applied first =
     subst (λ (t : MachineData). IsFirstOf passes t.state.released) (sym applied.left) there
 
 -- the same, where the new lists are known by what they are
-module _ (s : LockedData) (worker : ℕ) (event : Event) (answer : Answer) (machine : MachineData) (driver : DriverData) (pick : ℕ) (spent : Bool) (passes : List ℕ) (journal : List Entry) (answers : List Answer)
-    (longer : journal ≡ s.journal ++ entry_of worker event ∷ []) (more : answers ≡ s.answers ++ answer ∷ []) (picked : pick ≡ next_pick s.seed s.journal worker) (did : Did s.driver s.machine worker pick spent event answer driver machine) where
+module _ (s : LockedData) (worker : ℕ) (event : Event) (answer : Answer) (machine : MachineData) (driver : DriverData) (pick : ℕ)
+    (spent : Bool) (passes : List ℕ) (journal : List Entry) (answers : List Answer)
+    (longer : journal ≡ s.journal ++ entry_of worker event ∷ []) (more : answers ≡ s.answers ++ answer ∷ [])
+    (picked : pick ≡ next_pick s.seed s.journal worker) (did : Did s.driver s.machine worker pick spent event answer driver machine) where
   abbrev turned : LockedData
   turned = record s { machine = machine; driver = driver; journal = journal; answers = answers; passed = passes }
 
   by_pick : Did s.driver s.machine worker (next_pick s.seed s.journal worker) spent event answer driver machine
   by_pick = subst (λ (p : ℕ). Did s.driver s.machine worker p spent event answer driver machine) picked did
 
-  pub turn-keeps : IsKept s → worker < s.machine.config.nodes → IsFirstOf passes machine.state.released → length s.journal < s.budget → IsKept turned
+  pub turn-keeps : IsKept s → worker < s.machine.config.nodes → IsFirstOf passes machine.state.released → length s.journal < s.budget →
+      IsKept turned
   turn-keeps kept there first left =
       subst (λ (l : List Entry). IsKept (record turned { journal = l })) (sym longer)
       (subst (λ (l : List Answer). IsKept (record turned { journal = s.journal ++ entry_of worker event ∷ []; answers = l })) (sym more)

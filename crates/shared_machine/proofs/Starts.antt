@@ -39,4 +39,11 @@ module _ (s : SharedData) (drawings : List Drawing) (ready : IsReady s drawings)
     kept-start no_entry no_answer no_byte = rw (no_entry, no_answer, no_byte) kept-first
 
     pub room-start : journal ≡ [] → HasRoom begun
-    room-start no_entry = let none : length journal ≡ 0 = ap (λ (l : List Entry). length l) no_entry in let first = room-first in record { nodes = first.nodes; budget = first.budget; spare = omega (arith, none, first.spare); done = omega (arith, none, first.done) }
+    room-start no_entry =
+        let none : length journal ≡ 0 = ap (λ (l : List Entry). length l) no_entry in let first = room-first in
+        record {
+          nodes = first.nodes;
+          budget = first.budget;
+          spare = omega (arith, none, first.spare);
+          done = omega (arith, none, first.done);
+        }

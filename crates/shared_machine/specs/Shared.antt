@@ -41,7 +41,17 @@ began_with s = record { image = s.machine.image; config = s.machine.config; rule
 
 -- the run's start
 abbrev pub locked : SharedData → LockedData
-locked s = record { machine = s.machine; driver = s.driver; seed = s.seed; budget = s.budget; journal = []; answers = []; passed = []; stopped = false }
+locked s =
+    record {
+      machine = s.machine;
+      driver = s.driver;
+      seed = s.seed;
+      budget = s.budget;
+      journal = [];
+      answers = [];
+      passed = [];
+      stopped = false;
+    }
 
 -- why no turn is had any more: the first of these that applies
 

@@ -1,5 +1,6 @@
 //! The value behind the lock.
-ghost use Rattle.std.specs.Prelude.{◌≡◌, ◌+◌, ◌<◌, ◌≤◌, true, false, nat_le, Some, None, [], ◌∷◌, ◌++◌, IfOk, IfErr, MatchResult, length, vec_len, vec_capacity};
+ghost use Rattle.std.specs.Prelude.{◌≡◌, ◌+◌, ◌<◌, ◌≤◌, true, false, nat_le, Some, None, [], ◌∷◌, ◌++◌, IfOk, IfErr, MatchResult, length};
+ghost use Rattle.std.specs.Prelude.{vec_len, vec_capacity};
 ghost use Rattle.sn_machine.specs.Machine.{IsApplied};
 ghost use Rattle.sn_driver.specs.Turns.{due_at, IsLater};
 ghost use Rattle.sn_console.specs.Ends.{passed, SameOutbox};
@@ -66,7 +67,8 @@ impl<L: RunName> Model for Locked<L> {
           passed = passed l.outbox;
           stopped = l.stopped;
         } in
-        IsKept s × HasRoom s × (l.budget ≤ vec_capacity l.journal) × (l.budget ≤ vec_capacity l.answers) × (length l.answers.items ≡ length l.journal.items)
+        IsKept s × HasRoom s × (l.budget ≤ vec_capacity l.journal) × (l.budget ≤ vec_capacity l.answers)
+        × (length l.answers.items ≡ length l.journal.items)
         × AreDrawn l.seed l.journal.items l.drawings.items × (length l.drawings.items ≡ l.machine.config.nodes)
         × (began_with s ≡ L.began) × (length l.journal.items ≡ l.book.total) × L.of_ring l.outbox };
 }
@@ -100,7 +102,8 @@ fn drive(
     requires life { driver.old.numbers.done < 4000000000 }
     requires room { 1 ≤ machine.old.spare }
     ensures ok { IfOk result (λ did. Did driver.old machine.old worker pick spent did.0 did.1 driver.new machine.new) }
-    ensures err { IfErr result (λ finish. (driver.new ≡ driver.old) × (machine.new ≡ machine.old) × (refusal_of driver.old machine.old spent ≡ Some finish)) }
+    ensures err { IfErr result
+        (λ finish. (driver.new ≡ driver.old) × (machine.new ≡ machine.old) × (refusal_of driver.old machine.old spent ≡ Some finish)) }
 {
     if spent && driver.due(machine, worker, pick).is_some() {
         return Err(Finish::Budget);
@@ -152,8 +155,10 @@ impl<L: RunName> Locked<L> {
         requires worker { worker < L.began.config.nodes }
         requires part { 0 < share.old.parts }
         ensures parts { share.new.parts ≡ share.old.parts }
-        ensures ok { IfOk result (λ did. (finish_of self.old ≡ None) × IsTurn self.old worker did.0 did.1 self.new × (share.new.amount ≡ share.old.amount + 1)) }
-        ensures err { IfErr result (λ finish. (finish_of self.old ≡ Some finish) × (self.new ≡ self.old) × (share.new.amount ≡ share.old.amount)) }
+        ensures ok { IfOk result
+            (λ did. (finish_of self.old ≡ None) × IsTurn self.old worker did.0 did.1 self.new × (share.new.amount ≡ share.old.amount + 1)) }
+        ensures err { IfErr result
+            (λ finish. (finish_of self.old ≡ Some finish) × (self.new ≡ self.old) × (share.new.amount ≡ share.old.amount)) }
     {
         if self.stopped {
             return Err(Finish::Stopped);
@@ -216,7 +221,8 @@ impl<L: RunName> Locked<L> {
 
     /// What the run leaves, once no worker has it any more.
     pub fn end(self) -> Ended
-        ensures same { (result.machine ≡ self.machine) × (result.journal.items ≡ self.journal) × (result.answers.items ≡ self.answers) × (passed result.outbox ≡ self.passed) }
+        ensures same { (result.machine ≡ self.machine) × (result.journal.items ≡ self.journal) × (result.answers.items ≡ self.answers)
+            × (passed result.outbox ≡ self.passed) }
         ensures kept { IsKept self }
         ensures began { began_with self ≡ L.began }
         ensures ring { L.of_ring result.outbox }

@@ -3,17 +3,20 @@ use Rattle.std.proofs.Common.{◌≡◌, ℕ, List, [], ◌∷◌, ◌++◌, tak
 use Rattle.std.proofs.lemmas.Bool.Decides.{nat_tests}
 use Rattle.std.specs.Prelude.{Option, Some, None, nat_eq, true, false}
 use Rattle.sn_io.specs.Outside.{followed_by}
-use Rattle.sink_pieces.specs.Pieces.{Piece, Console, Report, console_text, report_text, first_bytes, Ends, ends, after, Breaks, console_piece}
+use Rattle.sink_pieces.specs.Pieces.{Piece, Console, Report, console_text, report_text, first_bytes, Ends, ends, after, Breaks}
+use Rattle.sink_pieces.specs.Pieces.{console_piece}
 
 pub console_text-append : (ps qs : List Piece) → console_text (ps ++ qs) ≡ console_text ps ++ console_text qs
 console_text-append [] qs = refl
-console_text-append (Console bytes ∷ ps) qs = ap (λ t. bytes ++ t) (console_text-append ps qs) ∙ sym (append_assoc bytes (console_text ps) (console_text qs))
+console_text-append (Console bytes ∷ ps) qs =
+    ap (λ t. bytes ++ t) (console_text-append ps qs) ∙ sym (append_assoc bytes (console_text ps) (console_text qs))
 console_text-append (Report bytes ∷ ps) qs = console_text-append ps qs
 
 pub report_text-append : (ps qs : List Piece) → report_text (ps ++ qs) ≡ report_text ps ++ report_text qs
 report_text-append [] qs = refl
 report_text-append (Console bytes ∷ ps) qs = report_text-append ps qs
-report_text-append (Report bytes ∷ ps) qs = ap (λ t. bytes ++ t) (report_text-append ps qs) ∙ sym (append_assoc bytes (report_text ps) (report_text qs))
+report_text-append (Report bytes ∷ ps) qs =
+    ap (λ t. bytes ++ t) (report_text-append ps qs) ∙ sym (append_assoc bytes (report_text ps) (report_text qs))
 
 pub followed_by-append : (w : Option (List ℕ)) (xs ys : List ℕ) → followed_by (followed_by w xs) ys ≡ followed_by w (xs ++ ys)
 followed_by-append None xs ys = refl
@@ -51,7 +54,9 @@ Breaks-after ps qs e b h = record {
   rest = h.rest;
   count = h.count;
   all = ap (λ t. ps ++ t) h.all ∙ sym (append_assoc ps h.whole (h.piece ∷ h.rest));
-  put = h.put ∙ after-append e ps (h.whole ++ first_bytes h.count h.piece ∷ []) ∙ ap (after e) (sym (append_assoc ps h.whole (first_bytes h.count h.piece ∷ [])));
+  put =
+      h.put ∙ after-append e ps (h.whole ++ first_bytes h.count h.piece ∷ [])
+      ∙ ap (after e) (sym (append_assoc ps h.whole (first_bytes h.count h.piece ∷ [])));
 }
 
 after-console : (w v r : Option (List ℕ)) (bytes : List ℕ) → v ≡ followed_by w bytes → ends v r ≡ after (ends w r) (Console bytes ∷ [])
@@ -64,7 +69,8 @@ unfolding after
 after-report c w v bytes e = rw (append-nil, followed_by-nil c) (ap (λ t. ends c t) e)
 
 -- a text for the console that is put, where there is any
-pub after-console_piece : (w v r : Option (List ℕ)) (bytes : List ℕ) → v ≡ followed_by w bytes → ends v r ≡ after (ends w r) (console_piece bytes)
+pub after-console_piece : (w v r : Option (List ℕ)) (bytes : List ℕ) → v ≡ followed_by w bytes →
+    ends v r ≡ after (ends w r) (console_piece bytes)
 after-console_piece w v r [] e = ap (λ t. ends t r) (e ∙ followed_by-nil w) ∙ sym (after-nil (ends w r))
 after-console_piece w v r (byte ∷ bytes) e = after-console w v r (byte ∷ bytes) e
 
@@ -73,7 +79,8 @@ after-empty e [] empty = sym (after-nil e)
 after-empty e (byte ∷ bytes) empty = absurd (grind (arith, nat_tests))
 
 -- a piece that is put in part
-pub Breaks-console_piece : (w v r : Option (List ℕ)) (bytes : List ℕ) (n : ℕ) → nat_eq (length bytes) 0 ≡ false → v ≡ followed_by w (take n bytes) → Breaks (console_piece bytes) (ends w r) (ends v r)
+pub Breaks-console_piece : (w v r : Option (List ℕ)) (bytes : List ℕ) (n : ℕ) → nat_eq (length bytes) 0 ≡ false →
+    v ≡ followed_by w (take n bytes) → Breaks (console_piece bytes) (ends w r) (ends v r)
 Breaks-console_piece w v r [] n some e = cc
 Breaks-console_piece w v r (byte ∷ bytes) n some e = record {
   whole = [];
@@ -84,7 +91,8 @@ Breaks-console_piece w v r (byte ∷ bytes) n some e = record {
   put = after-console w v r (take n (byte ∷ bytes)) e;
 }
 
-pub Breaks-report : (c w v : Option (List ℕ)) (bytes : List ℕ) (n : ℕ) → v ≡ followed_by w (take n bytes) → Breaks (Report bytes ∷ []) (ends c w) (ends c v)
+pub Breaks-report : (c w v : Option (List ℕ)) (bytes : List ℕ) (n : ℕ) → v ≡ followed_by w (take n bytes) →
+    Breaks (Report bytes ∷ []) (ends c w) (ends c v)
 Breaks-report c w v bytes n e = record {
   whole = [];
   piece = Report bytes;

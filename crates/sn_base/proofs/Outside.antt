@@ -11,7 +11,8 @@ neither : (exec covered other : Bool) → covered ≡ false → other ≡ false 
 neither true covered other c o = rw (c, o) refl
 neither false covered other c o = o
 
-pub is_executable-outside : (segments : List SegmentData) (address : ℕ) → All IsSegment segments → ram_start + ram_size ≤ address → is_executable segments address ≡ false
+pub is_executable-outside : (segments : List SegmentData) (address : ℕ) → All IsSegment segments → ram_start + ram_size ≤ address →
+    is_executable segments address ≡ false
 is_executable-outside [] address h past = refl
 is_executable-outside (s ∷ segments) address h past = neither s.exec (covers s address) (is_executable segments address)
     (covers-outside s address (h 0 s (omega arith)) past)

@@ -1,6 +1,7 @@
 -- Programs: segments of memory and an entry. Two programs are the same where they agree, at each address of memory, on
 -- the byte, on whether it may be executed and on whether it may be written, and have the same entry.
-use Rattle.std.specs.Prelude.{◌≡◌, ℕ, zero, suc, ◌+◌, ◌-◌, ◌≤◌, ◌%◌, Bool, true, false, not, ◌&&◌, ◌||◌, nat_le, nat_lt, min, max, if◌then◌else◌, List, [], ◌∷◌, length, get_or, All, Option, Some, None, ⊤}
+use Rattle.std.specs.Prelude.{◌≡◌, ℕ, zero, suc, ◌+◌, ◌-◌, ◌≤◌, ◌%◌, Bool, true, false, not, ◌&&◌, ◌||◌, nat_le, nat_lt, min, max}
+use Rattle.std.specs.Prelude.{if◌then◌else◌, List, [], ◌∷◌, length, get_or, All, Option, Some, None, ⊤}
 use Rattle.byteorder.specs.Endian.{little_number}
 use Rattle.sn_base.specs.Blocks.{ram_start, ram_size}
 

@@ -1,5 +1,6 @@
 //! Blocks of memory: their numbers, their bytes, and the writes that change them.
-ghost use Rattle.std.specs.Prelude.{◌≡◌, ℕ, ◌+◌, ◌-◌, ◌*◌, ◌/◌, ◌%◌, ◌<◌, ◌≤◌, ◌↔◌, ◌^◌, List, ◌++◌, length, take, drop, replicate, IfSome, IsNone, IsSome};
+ghost use Rattle.std.specs.Prelude.{◌≡◌, ℕ, ◌+◌, ◌-◌, ◌*◌, ◌/◌, ◌%◌, ◌<◌, ◌≤◌, ◌↔◌, ◌^◌, List, ◌++◌, length, take, drop, replicate, IfSome};
+ghost use Rattle.std.specs.Prelude.{IsNone, IsSome};
 ghost use Rattle.byteorder.specs.Endian.{little_number, little_bytes};
 ghost use Rattle.sn_base.specs.Blocks.{bytes_of, ram_start, ram_size, stored_in};
 

@@ -1,7 +1,7 @@
 //! Programs, as segments of memory.
 ghost use Rattle.std.specs.Prelude.{◌≡◌, ℕ, ◌+◌, ◌<◌, ◌≤◌, ◌/◌, List, ◌∷◌, length, Bool, true, false, ◌&&◌, nat_le, nat_lt, Some, IfSome};
 ghost use Rattle.sn_base.specs.Blocks.{bytes_of};
-ghost use Rattle.sn_base.specs.Image.{SegmentData, ImageData, IsImage, covers, byte_in, byte_at, is_executable, is_writable, all_executable, all_writable, fetched};
+ghost use Rattle.sn_base.specs.Image.{SegmentData, ImageData, IsImage, covers, byte_at, is_executable, is_writable, all_writable, fetched};
 
 use crate::block::Width;
 use crate::limits::{RAM_END, RAM_START};

@@ -1,10 +1,17 @@
 -- Accesses: each row and event keeps the intervals of accesses.
 use Rattle.std.proofs.Common.{◌≡◌, ◌≢◌, ℕ, ◌+◌, ◌<◌, true, false, ◌⊎◌, arith}
 use Rattle.std.proofs.lemmas.Bool.Decides.{nat_tests}
-use Rattle.sn_coherence.specs.Block.{Block, Content, NoLine, Shared, Nothing, Elsewhere, NoPut, PutElsewhere, Idle, Move, GetS, GetM, FwdGetS, FwdGetM, Inv, DataS, DataM, DataE, UpgOk, InvAck, Unblock, PutReq, PutData, PutGo, PutDone, Ready, Advance, is_owned, is_writable, is_here, comes_to_cache}
-use Rattle.sn_coherence.specs.CacheRows.{forward_read, forward_write, invalidate, data_shared, data_modified_open, data_modified_complete, upgrade_granted_open, upgrade_granted_complete, acknowledge_open, acknowledge_complete, put_go, put_done, data_exclusive}
-use Rattle.sn_coherence.specs.HomeRows.{read_at_home, read_at_owner, take, move_ownership, upgrade, unblock_move, unblock_other, put_begins, put_is_stale, put_data, grant_exclusive}
-use Rattle.sn_coherence.specs.OtherEvents.{begin_read_miss, begin_write_miss, begin_put, begin_miss_elsewhere, end_miss_elsewhere, begin_put_elsewhere, end_put_elsewhere, numbers_elsewhere, store, evict_shared, edge, report, validate, lose, deliver_advance}
+use Rattle.sn_coherence.specs.Block.{Block, Content, NoLine, Shared, Nothing, Elsewhere, NoPut, PutElsewhere, Idle, Move, GetS, GetM}
+use Rattle.sn_coherence.specs.Block.{FwdGetS, FwdGetM, Inv, DataS, DataM, DataE, UpgOk, InvAck, Unblock, PutReq, PutData, PutGo, PutDone}
+use Rattle.sn_coherence.specs.Block.{Ready, Advance, is_owned, is_writable, is_here, comes_to_cache}
+use Rattle.sn_coherence.specs.CacheRows.{forward_read, forward_write, invalidate, data_shared, data_modified_open, data_modified_complete}
+use Rattle.sn_coherence.specs.CacheRows.{upgrade_granted_open, upgrade_granted_complete, acknowledge_open, acknowledge_complete, put_go}
+use Rattle.sn_coherence.specs.CacheRows.{put_done, data_exclusive}
+use Rattle.sn_coherence.specs.HomeRows.{read_at_home, read_at_owner, take, move_ownership, upgrade, unblock_move, unblock_other, put_begins}
+use Rattle.sn_coherence.specs.HomeRows.{put_is_stale, put_data, grant_exclusive}
+use Rattle.sn_coherence.specs.OtherEvents.{begin_read_miss, begin_write_miss, begin_put, begin_miss_elsewhere, end_miss_elsewhere}
+use Rattle.sn_coherence.specs.OtherEvents.{begin_put_elsewhere, end_put_elsewhere, numbers_elsewhere, store, evict_shared, edge, report}
+use Rattle.sn_coherence.specs.OtherEvents.{validate, lose, deliver_advance}
 use Rattle.sn_coherence.specs.Kept.{Clocks, Nodes, Stages, Requests, Owners, Acknowledgements, Sharing}
 use Rattle.sn_coherence.specs.Events.{IsReady, Arrives, Owns, OtherOwns, other_sharers, NothingUnfinished, Free}
 use Rattle.sn_coherence.proofs.Rows.{At, IsLast}
@@ -14,7 +21,8 @@ use Rattle.sn_coherence.proofs.Counts.{count_none}
 use Rattle.sn_coherence.proofs.Acknowledged.{last_waited}
 
 -- a node with a line that it doesn't own is listed or waited for, or it is r of a Take or Move
-excused : (b : Block) → Sharing b → (n : ℕ) → b.line n ≢ NoLine → is_owned (b.line n) ≡ false → (b.sharers n ≡ true) ⊎ (b.waited n ≡ true) ⊎ ((comes_to_cache b.kind ≡ true) × (b.requester ≡ n))
+excused : (b : Block) → Sharing b → (n : ℕ) → b.line n ≢ NoLine → is_owned (b.line n) ≡ false →
+    (b.sharers n ≡ true) ⊎ (b.waited n ≡ true) ⊎ ((comes_to_cache b.kind ≡ true) × (b.requester ≡ n))
 excused b h n e1 e2 = grind (arith, h.listed n)
 
 -- an owner is the only one
@@ -39,13 +47,15 @@ module _ (N : ℕ) (b : Block) (r : Records) (i : ℕ) (accesses : Accesses b r)
   pub data_modified_open_accesses : Arrives b i DataM → (b.miss (b.net i).to).acks ≢ (b.net i).due → Accesses (data_modified_open b i) r
   data_modified_open_accesses arrives some_lack = grind (arith, nat_tests)
 
-  pub data_modified_complete_accesses : Arrives b i DataM → (b.miss (b.net i).to).acks ≡ (b.net i).due → Accesses (data_modified_complete b i) r
+  pub data_modified_complete_accesses : Arrives b i DataM → (b.miss (b.net i).to).acks ≡ (b.net i).due →
+      Accesses (data_modified_complete b i) r
   data_modified_complete_accesses arrives all_in = grind (arith, nat_tests, count_none N b.waited)
 
   pub upgrade_granted_open_accesses : Arrives b i UpgOk → (b.miss (b.net i).to).acks ≢ (b.net i).due → Accesses (upgrade_granted_open b i) r
   upgrade_granted_open_accesses arrives some_lack = grind (arith, nat_tests)
 
-  pub upgrade_granted_complete_accesses : Arrives b i UpgOk → (b.miss (b.net i).to).acks ≡ (b.net i).due → Accesses (upgrade_granted_complete b i) r
+  pub upgrade_granted_complete_accesses : Arrives b i UpgOk → (b.miss (b.net i).to).acks ≡ (b.net i).due →
+      Accesses (upgrade_granted_complete b i) r
   upgrade_granted_complete_accesses arrives all_in = grind (arith, nat_tests, count_none N b.waited)
 
   pub acknowledge_open_accesses : Arrives b i InvAck → IsLast b i ≡ false → Accesses (acknowledge_open b i) r
@@ -100,7 +110,8 @@ module _ (N : ℕ) (b : Block) (r : Records) (i : ℕ) (accesses : Accesses b r)
     inv_ack = λ x e1. grind (arith, nat_tests);
   }
 
-  pub move_ownership_accesses : (targets : ℕ → ℕ) (due : ℕ) → At b i GetM → b.kind ≡ Idle → OtherOwns b (b.net i).from → Accesses (move_ownership b i targets due) r
+  pub move_ownership_accesses : (targets : ℕ → ℕ) (due : ℕ) → At b i GetM → b.kind ≡ Idle → OtherOwns b (b.net i).from →
+      Accesses (move_ownership b i targets due) r
   move_ownership_accesses targets due arrives idle other_owns = record {
     own = λ m1. grind (arith, nat_tests);
     write_line = λ m1 e1. grind (arith, nat_tests);
@@ -116,7 +127,8 @@ module _ (N : ℕ) (b : Block) (r : Records) (i : ℕ) (accesses : Accesses b r)
     inv_ack = λ x e1. grind (arith, nat_tests);
   }
 
-  pub upgrade_accesses : (targets : ℕ → ℕ) (due : ℕ) → At b i GetM → b.kind ≡ Idle → Owns b (b.net i).from → Accesses (upgrade b i targets due) r
+  pub upgrade_accesses : (targets : ℕ → ℕ) (due : ℕ) → At b i GetM → b.kind ≡ Idle → Owns b (b.net i).from →
+      Accesses (upgrade b i targets due) r
   upgrade_accesses targets due arrives idle sender_owns = record {
     own = λ m1. grind (arith, nat_tests);
     write_line = λ m1 e1. grind (arith, nat_tests);
@@ -141,13 +153,15 @@ module _ (N : ℕ) (b : Block) (r : Records) (i : ℕ) (accesses : Accesses b r)
   pub put_begins_accesses : At b i PutReq → b.kind ≡ Idle → Owns b (b.net i).from → Accesses (put_begins b i) r
   put_begins_accesses arrives idle sender_owns = grind (arith, nat_tests)
 
-  pub put_is_stale_accesses : At b i PutReq → b.kind ≡ Idle → (b.at_home ≡ true) ⊎ (b.owner ≢ (b.net i).from) → Accesses (put_is_stale b i) r
+  pub put_is_stale_accesses : At b i PutReq → b.kind ≡ Idle → (b.at_home ≡ true) ⊎ (b.owner ≢ (b.net i).from) →
+      Accesses (put_is_stale b i) r
   put_is_stale_accesses arrives idle stale = grind (arith, nat_tests)
 
   pub put_data_accesses : At b i PutData → Accesses (put_data b i) r
   put_data_accesses arrives = grind (arith, nat_tests)
 
-  pub grant_exclusive_accesses : At b i GetS → b.kind ≡ Idle → b.at_home ≡ true → ((x : ℕ) → other_sharers b i x ≡ false) → Accesses (grant_exclusive b i) r
+  pub grant_exclusive_accesses : At b i GetS → b.kind ≡ Idle → b.at_home ≡ true → ((x : ℕ) → other_sharers b i x ≡ false) →
+      Accesses (grant_exclusive b i) r
   grant_exclusive_accesses arrives idle home_owns none = grind (arith, nat_tests)
 
   -- The other events.
@@ -164,7 +178,8 @@ module _ (N : ℕ) (b : Block) (r : Records) (i : ℕ) (accesses : Accesses b r)
   pub begin_write_miss_accesses : Free N b i → is_writable (b.line i) ≡ false → Accesses (begin_write_miss b i) r
   begin_write_miss_accesses free line = grind (arith, nat_tests)
 
-  pub begin_put_accesses : i < N → is_here (b.miss i).want ≡ false → b.putting i ≡ NoPut → is_owned (b.line i) ≡ true → Accesses (begin_put b i) r
+  pub begin_put_accesses : i < N → is_here (b.miss i).want ≡ false → b.putting i ≡ NoPut → is_owned (b.line i) ≡ true →
+      Accesses (begin_put b i) r
   begin_put_accesses low no_miss no_put line = grind (arith, nat_tests)
 
   pub begin_miss_elsewhere_accesses : i < N → (b.miss i).want ≡ Nothing → Accesses (begin_miss_elsewhere b i) r
@@ -185,7 +200,8 @@ module _ (N : ℕ) (b : Block) (r : Records) (i : ℕ) (accesses : Accesses b r)
   pub store_accesses : (v : Content) → Free N b i → is_writable (b.line i) ≡ true → Accesses (store b i v) (stores r i (b.now i) v)
   store_accesses v free line = grind (arith, nat_tests)
 
-  pub store_conditional_accesses : (v : Content) → Free N b i → is_writable (b.line i) ≡ true → Accesses (store b i v) (stores_conditional r i (b.now i) v)
+  pub store_conditional_accesses : (v : Content) → Free N b i → is_writable (b.line i) ≡ true →
+      Accesses (store b i v) (stores_conditional r i (b.now i) v)
   store_conditional_accesses v free line = grind (arith, nat_tests)
 
   pub evict_shared_accesses : is_here (b.miss i).want ≡ false → b.line i ≡ Shared → Accesses (evict_shared b i) (unreserves r i)

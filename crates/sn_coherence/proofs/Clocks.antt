@@ -1,10 +1,17 @@
 -- Clocks: each row and event keeps them.
 use Rattle.std.proofs.Common.{◌≡◌, ◌≢◌, ℕ, ◌+◌, ◌<◌, true, false, ◌⊎◌, arith}
 use Rattle.std.proofs.lemmas.Bool.Decides.{nat_tests}
-use Rattle.sn_coherence.specs.Block.{Block, Content, NoLine, Shared, Nothing, Elsewhere, NoPut, PutElsewhere, Idle, Move, GetS, GetM, FwdGetS, FwdGetM, Inv, DataS, DataM, DataE, UpgOk, InvAck, Unblock, PutReq, PutData, PutGo, PutDone, Advance, is_owned, is_writable, is_here}
-use Rattle.sn_coherence.specs.CacheRows.{forward_read, forward_write, invalidate, data_shared, data_modified_open, data_modified_complete, upgrade_granted_open, upgrade_granted_complete, acknowledge_open, acknowledge_complete, put_go, put_done, data_exclusive}
-use Rattle.sn_coherence.specs.HomeRows.{read_at_home, read_at_owner, take, move_ownership, upgrade, unblock_move, unblock_other, put_begins, put_is_stale, put_data, grant_exclusive}
-use Rattle.sn_coherence.specs.OtherEvents.{begin_read_miss, begin_write_miss, begin_put, begin_miss_elsewhere, end_miss_elsewhere, begin_put_elsewhere, end_put_elsewhere, numbers_elsewhere, store, evict_shared, edge, report, validate, lose, deliver_advance}
+use Rattle.sn_coherence.specs.Block.{Block, Content, NoLine, Shared, Nothing, Elsewhere, NoPut, PutElsewhere, Idle, Move, GetS, GetM}
+use Rattle.sn_coherence.specs.Block.{FwdGetS, FwdGetM, Inv, DataS, DataM, DataE, UpgOk, InvAck, Unblock, PutReq, PutData, PutGo, PutDone}
+use Rattle.sn_coherence.specs.Block.{Advance, is_owned, is_writable, is_here}
+use Rattle.sn_coherence.specs.CacheRows.{forward_read, forward_write, invalidate, data_shared, data_modified_open, data_modified_complete}
+use Rattle.sn_coherence.specs.CacheRows.{upgrade_granted_open, upgrade_granted_complete, acknowledge_open, acknowledge_complete, put_go}
+use Rattle.sn_coherence.specs.CacheRows.{put_done, data_exclusive}
+use Rattle.sn_coherence.specs.HomeRows.{read_at_home, read_at_owner, take, move_ownership, upgrade, unblock_move, unblock_other, put_begins}
+use Rattle.sn_coherence.specs.HomeRows.{put_is_stale, put_data, grant_exclusive}
+use Rattle.sn_coherence.specs.OtherEvents.{begin_read_miss, begin_write_miss, begin_put, begin_miss_elsewhere, end_miss_elsewhere}
+use Rattle.sn_coherence.specs.OtherEvents.{begin_put_elsewhere, end_put_elsewhere, numbers_elsewhere, store, evict_shared, edge, report}
+use Rattle.sn_coherence.specs.OtherEvents.{validate, lose, deliver_advance}
 use Rattle.sn_coherence.specs.Kept.{Clocks, Nodes}
 use Rattle.sn_coherence.specs.Events.{Arrives, Owns, OtherOwns, other_sharers, NothingUnfinished, Free}
 use Rattle.sn_coherence.proofs.Rows.{At, IsLast}
@@ -33,7 +40,8 @@ module _ (N : ℕ) (b : Block) (i : ℕ) (clocks : Clocks N b) (nodes : Nodes N 
   pub upgrade_granted_open_clocks : Arrives b i UpgOk → (b.miss (b.net i).to).acks ≢ (b.net i).due → Clocks N (upgrade_granted_open b i)
   upgrade_granted_open_clocks arrives some_lack = grind (arith, nat_tests)
 
-  pub upgrade_granted_complete_clocks : Arrives b i UpgOk → (b.miss (b.net i).to).acks ≡ (b.net i).due → Clocks N (upgrade_granted_complete b i)
+  pub upgrade_granted_complete_clocks : Arrives b i UpgOk → (b.miss (b.net i).to).acks ≡ (b.net i).due →
+      Clocks N (upgrade_granted_complete b i)
   upgrade_granted_complete_clocks arrives all_in = grind (arith, nat_tests)
 
   pub acknowledge_open_clocks : Arrives b i InvAck → IsLast b i ≡ false → Clocks N (acknowledge_open b i)
@@ -62,10 +70,12 @@ module _ (N : ℕ) (b : Block) (i : ℕ) (clocks : Clocks N b) (nodes : Nodes N 
   pub take_clocks : (targets : ℕ → ℕ) (due : ℕ) → At b i GetM → b.kind ≡ Idle → b.at_home ≡ true → Clocks N (take b i targets due)
   take_clocks targets due arrives idle home_owns = grind (arith, nat_tests)
 
-  pub move_ownership_clocks : (targets : ℕ → ℕ) (due : ℕ) → At b i GetM → b.kind ≡ Idle → OtherOwns b (b.net i).from → Clocks N (move_ownership b i targets due)
+  pub move_ownership_clocks : (targets : ℕ → ℕ) (due : ℕ) → At b i GetM → b.kind ≡ Idle → OtherOwns b (b.net i).from →
+      Clocks N (move_ownership b i targets due)
   move_ownership_clocks targets due arrives idle other_owns = grind (arith, nat_tests)
 
-  pub upgrade_clocks : (targets : ℕ → ℕ) (due : ℕ) → At b i GetM → b.kind ≡ Idle → Owns b (b.net i).from → Clocks N (upgrade b i targets due)
+  pub upgrade_clocks : (targets : ℕ → ℕ) (due : ℕ) → At b i GetM → b.kind ≡ Idle → Owns b (b.net i).from →
+      Clocks N (upgrade b i targets due)
   upgrade_clocks targets due arrives idle sender_owns = grind (arith, nat_tests)
 
   pub unblock_move_clocks : At b i Unblock → b.kind ≡ Move → Clocks N (unblock_move b i)
@@ -83,7 +93,8 @@ module _ (N : ℕ) (b : Block) (i : ℕ) (clocks : Clocks N b) (nodes : Nodes N 
   pub put_data_clocks : At b i PutData → Clocks N (put_data b i)
   put_data_clocks arrives = grind (arith, nat_tests)
 
-  pub grant_exclusive_clocks : At b i GetS → b.kind ≡ Idle → b.at_home ≡ true → ((x : ℕ) → other_sharers b i x ≡ false) → Clocks N (grant_exclusive b i)
+  pub grant_exclusive_clocks : At b i GetS → b.kind ≡ Idle → b.at_home ≡ true → ((x : ℕ) → other_sharers b i x ≡ false) →
+      Clocks N (grant_exclusive b i)
   grant_exclusive_clocks arrives idle home_owns none = grind (arith, nat_tests)
 
   -- The other events.
@@ -100,7 +111,8 @@ module _ (N : ℕ) (b : Block) (i : ℕ) (clocks : Clocks N b) (nodes : Nodes N 
   pub begin_write_miss_clocks : Free N b i → is_writable (b.line i) ≡ false → Clocks N (begin_write_miss b i)
   begin_write_miss_clocks free line = grind (arith, nat_tests)
 
-  pub begin_put_clocks : i < N → is_here (b.miss i).want ≡ false → b.putting i ≡ NoPut → is_owned (b.line i) ≡ true → Clocks N (begin_put b i)
+  pub begin_put_clocks : i < N → is_here (b.miss i).want ≡ false → b.putting i ≡ NoPut → is_owned (b.line i) ≡ true →
+      Clocks N (begin_put b i)
   begin_put_clocks low no_miss no_put line = grind (arith, nat_tests)
 
   pub begin_miss_elsewhere_clocks : i < N → (b.miss i).want ≡ Nothing → Clocks N (begin_miss_elsewhere b i)

@@ -1,10 +1,17 @@
 -- Contents: each row and event keeps all copies equal.
 use Rattle.std.proofs.Common.{◌≡◌, ◌≢◌, ℕ, ◌+◌, ◌<◌, true, false, ◌⊎◌, arith}
 use Rattle.std.proofs.lemmas.Bool.Decides.{nat_tests}
-use Rattle.sn_coherence.specs.Block.{Block, Content, NoLine, Shared, Nothing, Elsewhere, NoPut, PutElsewhere, Idle, Move, GetS, GetM, FwdGetS, FwdGetM, Inv, DataS, DataM, DataE, UpgOk, InvAck, Unblock, PutReq, PutData, PutGo, PutDone, Ready, Advance, is_owned, is_writable, is_here}
-use Rattle.sn_coherence.specs.CacheRows.{forward_read, forward_write, invalidate, data_shared, data_modified_open, data_modified_complete, upgrade_granted_open, upgrade_granted_complete, acknowledge_open, acknowledge_complete, put_go, put_done, data_exclusive}
-use Rattle.sn_coherence.specs.HomeRows.{read_at_home, read_at_owner, take, move_ownership, upgrade, unblock_move, unblock_other, put_begins, put_is_stale, put_data, grant_exclusive}
-use Rattle.sn_coherence.specs.OtherEvents.{begin_read_miss, begin_write_miss, begin_put, begin_miss_elsewhere, end_miss_elsewhere, begin_put_elsewhere, end_put_elsewhere, numbers_elsewhere, store, evict_shared, edge, report, validate, lose, deliver_advance}
+use Rattle.sn_coherence.specs.Block.{Block, Content, NoLine, Shared, Nothing, Elsewhere, NoPut, PutElsewhere, Idle, Move, GetS, GetM}
+use Rattle.sn_coherence.specs.Block.{FwdGetS, FwdGetM, Inv, DataS, DataM, DataE, UpgOk, InvAck, Unblock, PutReq, PutData, PutGo, PutDone}
+use Rattle.sn_coherence.specs.Block.{Ready, Advance, is_owned, is_writable, is_here}
+use Rattle.sn_coherence.specs.CacheRows.{forward_read, forward_write, invalidate, data_shared, data_modified_open, data_modified_complete}
+use Rattle.sn_coherence.specs.CacheRows.{upgrade_granted_open, upgrade_granted_complete, acknowledge_open, acknowledge_complete, put_go}
+use Rattle.sn_coherence.specs.CacheRows.{put_done, data_exclusive}
+use Rattle.sn_coherence.specs.HomeRows.{read_at_home, read_at_owner, take, move_ownership, upgrade, unblock_move, unblock_other, put_begins}
+use Rattle.sn_coherence.specs.HomeRows.{put_is_stale, put_data, grant_exclusive}
+use Rattle.sn_coherence.specs.OtherEvents.{begin_read_miss, begin_write_miss, begin_put, begin_miss_elsewhere, end_miss_elsewhere}
+use Rattle.sn_coherence.specs.OtherEvents.{begin_put_elsewhere, end_put_elsewhere, numbers_elsewhere, store, evict_shared, edge, report}
+use Rattle.sn_coherence.specs.OtherEvents.{validate, lose, deliver_advance}
 use Rattle.sn_coherence.specs.Kept.{Stages, Requests, Owners, Acknowledgements, Sharing, Logs}
 use Rattle.sn_coherence.specs.Events.{IsReady, Arrives, Owns, OtherOwns, other_sharers, NothingUnfinished, Free}
 use Rattle.sn_coherence.proofs.Rows.{At, IsLast}
@@ -29,13 +36,15 @@ module _ (N : ℕ) (b : Block) (r : Records) (i : ℕ) (contents : Contents b r)
   pub data_modified_open_contents : Arrives b i DataM → (b.miss (b.net i).to).acks ≢ (b.net i).due → Contents (data_modified_open b i) r
   data_modified_open_contents arrives some_lack = grind (arith, nat_tests)
 
-  pub data_modified_complete_contents : Arrives b i DataM → (b.miss (b.net i).to).acks ≡ (b.net i).due → Contents (data_modified_complete b i) r
+  pub data_modified_complete_contents : Arrives b i DataM → (b.miss (b.net i).to).acks ≡ (b.net i).due →
+      Contents (data_modified_complete b i) r
   data_modified_complete_contents arrives all_in = grind (arith, nat_tests)
 
   pub upgrade_granted_open_contents : Arrives b i UpgOk → (b.miss (b.net i).to).acks ≢ (b.net i).due → Contents (upgrade_granted_open b i) r
   upgrade_granted_open_contents arrives some_lack = grind (arith, nat_tests)
 
-  pub upgrade_granted_complete_contents : Arrives b i UpgOk → (b.miss (b.net i).to).acks ≡ (b.net i).due → Contents (upgrade_granted_complete b i) r
+  pub upgrade_granted_complete_contents : Arrives b i UpgOk → (b.miss (b.net i).to).acks ≡ (b.net i).due →
+      Contents (upgrade_granted_complete b i) r
   upgrade_granted_complete_contents arrives all_in = grind (arith, nat_tests)
 
   pub acknowledge_open_contents : Acknowledgements N b → Arrives b i InvAck → IsLast b i ≡ false → Contents (acknowledge_open b i) r
@@ -73,7 +82,8 @@ module _ (N : ℕ) (b : Block) (r : Records) (i : ℕ) (contents : Contents b r)
     reserved_alone = λ m1 e1. grind (arith, nat_tests);
   }
 
-  pub move_ownership_contents : (targets : ℕ → ℕ) (due : ℕ) → At b i GetM → b.kind ≡ Idle → OtherOwns b (b.net i).from → Contents (move_ownership b i targets due) r
+  pub move_ownership_contents : (targets : ℕ → ℕ) (due : ℕ) → At b i GetM → b.kind ≡ Idle → OtherOwns b (b.net i).from →
+      Contents (move_ownership b i targets due) r
   move_ownership_contents targets due arrives idle other_owns = record {
     unwritten = λ y e1. grind (arith, nat_tests);
     of_line = λ m1 e1. grind (arith, nat_tests);
@@ -85,7 +95,8 @@ module _ (N : ℕ) (b : Block) (r : Records) (i : ℕ) (contents : Contents b r)
     reserved_alone = λ m1 e1. grind (arith, nat_tests);
   }
 
-  pub upgrade_contents : (targets : ℕ → ℕ) (due : ℕ) → At b i GetM → b.kind ≡ Idle → Owns b (b.net i).from → Contents (upgrade b i targets due) r
+  pub upgrade_contents : (targets : ℕ → ℕ) (due : ℕ) → At b i GetM → b.kind ≡ Idle → Owns b (b.net i).from →
+      Contents (upgrade b i targets due) r
   upgrade_contents targets due arrives idle sender_owns = record {
     unwritten = λ y e1. grind (arith, nat_tests);
     of_line = λ m1 e1. grind (arith, nat_tests);
@@ -106,13 +117,15 @@ module _ (N : ℕ) (b : Block) (r : Records) (i : ℕ) (contents : Contents b r)
   pub put_begins_contents : At b i PutReq → b.kind ≡ Idle → Owns b (b.net i).from → Contents (put_begins b i) r
   put_begins_contents arrives idle sender_owns = grind (arith, nat_tests)
 
-  pub put_is_stale_contents : At b i PutReq → b.kind ≡ Idle → (b.at_home ≡ true) ⊎ (b.owner ≢ (b.net i).from) → Contents (put_is_stale b i) r
+  pub put_is_stale_contents : At b i PutReq → b.kind ≡ Idle → (b.at_home ≡ true) ⊎ (b.owner ≢ (b.net i).from) →
+      Contents (put_is_stale b i) r
   put_is_stale_contents arrives idle stale = grind (arith, nat_tests)
 
   pub put_data_contents : At b i PutData → Contents (put_data b i) r
   put_data_contents arrives = grind (arith, nat_tests)
 
-  pub grant_exclusive_contents : At b i GetS → b.kind ≡ Idle → b.at_home ≡ true → ((x : ℕ) → other_sharers b i x ≡ false) → Contents (grant_exclusive b i) r
+  pub grant_exclusive_contents : At b i GetS → b.kind ≡ Idle → b.at_home ≡ true → ((x : ℕ) → other_sharers b i x ≡ false) →
+      Contents (grant_exclusive b i) r
   grant_exclusive_contents arrives idle home_owns none = grind (arith, nat_tests)
 
   -- The other events.
@@ -129,7 +142,8 @@ module _ (N : ℕ) (b : Block) (r : Records) (i : ℕ) (contents : Contents b r)
   pub begin_write_miss_contents : Free N b i → is_writable (b.line i) ≡ false → Contents (begin_write_miss b i) r
   begin_write_miss_contents free line = grind (arith, nat_tests)
 
-  pub begin_put_contents : i < N → is_here (b.miss i).want ≡ false → b.putting i ≡ NoPut → is_owned (b.line i) ≡ true → Contents (begin_put b i) r
+  pub begin_put_contents : i < N → is_here (b.miss i).want ≡ false → b.putting i ≡ NoPut → is_owned (b.line i) ≡ true →
+      Contents (begin_put b i) r
   begin_put_contents low no_miss no_put line = grind (arith, nat_tests)
 
   pub begin_miss_elsewhere_contents : i < N → (b.miss i).want ≡ Nothing → Contents (begin_miss_elsewhere b i) r
@@ -159,7 +173,8 @@ module _ (N : ℕ) (b : Block) (r : Records) (i : ℕ) (contents : Contents b r)
     reserved_alone = λ m1 e1. grind (arith, nat_tests);
   }
 
-  pub store_conditional_contents : (v : Content) → Free N b i → is_writable (b.line i) ≡ true → Contents (store b i v) (stores_conditional r i (b.now i) v)
+  pub store_conditional_contents : (v : Content) → Free N b i → is_writable (b.line i) ≡ true →
+      Contents (store b i v) (stores_conditional r i (b.now i) v)
   store_conditional_contents v free line = record {
     unwritten = λ y e1. grind (arith, nat_tests);
     of_line = λ m1 e1. grind (arith, nat_tests);

@@ -5,7 +5,8 @@ use Rattle.sn_coherence.specs.Block.{set}
 use Rattle.sn_coherence.specs.Kept.{count}
 
 -- where none is counted none passes
-zero_step : (N : ℕ) (f : ℕ → Bool) (n : ℕ) → cond (f N) 1 0 + count N f ≡ 0 → n < suc N → (count N f ≡ 0 → n < N → f n ≡ false) → f n ≡ false
+zero_step : (N : ℕ) (f : ℕ → Bool) (n : ℕ) → cond (f N) 1 0 + count N f ≡ 0 → n < suc N → (count N f ≡ 0 → n < N → f n ≡ false) →
+    f n ≡ false
 zero_step N f n e l h = grind (arith, nat_tests)
 
 pub count_zero : (N : ℕ) (f : ℕ → Bool) → count N f ≡ 0 → (n : ℕ) → n < N → f n ≡ false
@@ -25,7 +26,8 @@ unfolding count
 no_count zero = refl
 no_count (suc N) = grind (arith, no_count N)
 
-past_step : (N : ℕ) (f : ℕ → Bool) (n : ℕ) → suc N ≤ n → count N (set f n false) ≡ count N f → cond (set f n false N) 1 0 + count N (set f n false) ≡ cond (f N) 1 0 + count N f
+past_step : (N : ℕ) (f : ℕ → Bool) (n : ℕ) → suc N ≤ n → count N (set f n false) ≡ count N f →
+    cond (set f n false N) 1 0 + count N (set f n false) ≡ cond (f N) 1 0 + count N f
 past_step N f n l h = grind (arith, nat_tests)
 
 pub count_past : (N : ℕ) (f : ℕ → Bool) (n : ℕ) → N ≤ n → count N (set f n false) ≡ count N f
@@ -44,7 +46,8 @@ unfolding count
 count_without zero f n l e = absurd (omega arith)
 count_without (suc N) f n l e = without_step N f n l e (λ m. count_without N f n m e) (λ m. count_past N f n m)
 
-low_step : (N : ℕ) (f : ℕ → Bool) (n : ℕ) → n < suc N → f n ≡ false → count N f ≤ N → (n < N → count N f < N) → cond (f N) 1 0 + count N f < suc N
+low_step : (N : ℕ) (f : ℕ → Bool) (n : ℕ) → n < suc N → f n ≡ false → count N f ≤ N → (n < N → count N f < N) →
+    cond (f N) 1 0 + count N f < suc N
 low_step N f n l e m h = grind (arith, nat_tests)
 
 most_step : (N : ℕ) (f : ℕ → Bool) → count N f ≤ N → cond (f N) 1 0 + count N f ≤ suc N

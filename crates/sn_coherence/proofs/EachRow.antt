@@ -1,22 +1,115 @@
 -- Each row and event keeps all of the block's sentences: the groups put together.
 use Rattle.std.proofs.Common.{◌≡◌, ◌≢◌, ℕ, ◌+◌, ◌<◌, true, false, ◌⊎◌}
-use Rattle.sn_coherence.specs.Block.{Block, Content, NoLine, Shared, Nothing, Elsewhere, NoPut, PutElsewhere, Idle, Move, GetS, GetM, FwdGetS, FwdGetM, Inv, DataS, DataM, DataE, UpgOk, InvAck, Unblock, PutReq, PutData, PutGo, PutDone, Advance, is_owned, is_writable, is_here}
-use Rattle.sn_coherence.specs.CacheRows.{forward_read, forward_write, invalidate, data_shared, data_modified_open, data_modified_complete, upgrade_granted_open, upgrade_granted_complete, acknowledge_open, acknowledge_complete, put_go, put_done, data_exclusive}
-use Rattle.sn_coherence.specs.HomeRows.{read_at_home, read_at_owner, take, move_ownership, upgrade, unblock_move, unblock_other, put_begins, put_is_stale, put_data, grant_exclusive}
-use Rattle.sn_coherence.specs.OtherEvents.{begin_read_miss, begin_write_miss, begin_put, begin_miss_elsewhere, end_miss_elsewhere, begin_put_elsewhere, end_put_elsewhere, numbers_elsewhere, store, evict_shared, edge, report, validate, lose, deliver_advance}
+use Rattle.sn_coherence.specs.Block.{Block, Content, NoLine, Shared, Nothing, Elsewhere, NoPut, PutElsewhere, Idle, Move, GetS, GetM}
+use Rattle.sn_coherence.specs.Block.{FwdGetS, FwdGetM, Inv, DataS, DataM, DataE, UpgOk, InvAck, Unblock, PutReq, PutData, PutGo, PutDone}
+use Rattle.sn_coherence.specs.Block.{Advance, is_owned, is_writable, is_here}
+use Rattle.sn_coherence.specs.CacheRows.{forward_read, forward_write, invalidate, data_shared, data_modified_open, data_modified_complete}
+use Rattle.sn_coherence.specs.CacheRows.{upgrade_granted_open, upgrade_granted_complete, acknowledge_open, acknowledge_complete, put_go}
+use Rattle.sn_coherence.specs.CacheRows.{put_done, data_exclusive}
+use Rattle.sn_coherence.specs.HomeRows.{read_at_home, read_at_owner, take, move_ownership, upgrade, unblock_move, unblock_other, put_begins}
+use Rattle.sn_coherence.specs.HomeRows.{put_is_stale, put_data, grant_exclusive}
+use Rattle.sn_coherence.specs.OtherEvents.{begin_read_miss, begin_write_miss, begin_put, begin_miss_elsewhere, end_miss_elsewhere}
+use Rattle.sn_coherence.specs.OtherEvents.{begin_put_elsewhere, end_put_elsewhere, numbers_elsewhere, store, evict_shared, edge, report}
+use Rattle.sn_coherence.specs.OtherEvents.{validate, lose, deliver_advance}
 use Rattle.sn_coherence.specs.Kept.{AllSentences}
 use Rattle.sn_coherence.specs.Events.{Arrives, Owns, OtherOwns, Lists, other_sharers, NothingUnfinished, Free}
 use Rattle.sn_coherence.proofs.Rows.{At, IsLast}
-use Rattle.sn_coherence.proofs.Clocks.{forward_read_clocks, forward_write_clocks, invalidate_clocks, data_shared_clocks, data_modified_open_clocks, data_modified_complete_clocks, upgrade_granted_open_clocks, upgrade_granted_complete_clocks, acknowledge_open_clocks, acknowledge_complete_clocks, put_go_clocks, put_done_clocks, data_exclusive_clocks, read_at_home_clocks, read_at_owner_clocks, take_clocks, move_ownership_clocks, upgrade_clocks, unblock_move_clocks, unblock_other_clocks, put_begins_clocks, put_is_stale_clocks, put_data_clocks, grant_exclusive_clocks, deliver_advance_clocks, lose_clocks, begin_read_miss_clocks, begin_write_miss_clocks, begin_put_clocks, begin_miss_elsewhere_clocks, end_miss_elsewhere_clocks, begin_put_elsewhere_clocks, end_put_elsewhere_clocks, numbers_elsewhere_clocks, store_clocks, evict_shared_clocks, edge_clocks, report_clocks, validate_clocks}
-use Rattle.sn_coherence.proofs.Nodes.{forward_read_nodes, forward_write_nodes, invalidate_nodes, data_shared_nodes, data_modified_open_nodes, data_modified_complete_nodes, upgrade_granted_open_nodes, upgrade_granted_complete_nodes, acknowledge_open_nodes, acknowledge_complete_nodes, put_go_nodes, put_done_nodes, data_exclusive_nodes, read_at_home_nodes, read_at_owner_nodes, take_nodes, move_ownership_nodes, upgrade_nodes, unblock_move_nodes, unblock_other_nodes, put_begins_nodes, put_is_stale_nodes, put_data_nodes, grant_exclusive_nodes, deliver_advance_nodes, lose_nodes, begin_read_miss_nodes, begin_write_miss_nodes, begin_put_nodes, begin_miss_elsewhere_nodes, end_miss_elsewhere_nodes, begin_put_elsewhere_nodes, end_put_elsewhere_nodes, numbers_elsewhere_nodes, store_nodes, evict_shared_nodes, edge_nodes, report_nodes, validate_nodes}
-use Rattle.sn_coherence.proofs.Stages.{forward_read_stages, forward_write_stages, invalidate_stages, data_shared_stages, data_modified_open_stages, data_modified_complete_stages, upgrade_granted_open_stages, upgrade_granted_complete_stages, acknowledge_open_stages, acknowledge_complete_stages, put_go_stages, put_done_stages, data_exclusive_stages, read_at_home_stages, read_at_owner_stages, take_stages, move_ownership_stages, upgrade_stages, unblock_move_stages, unblock_other_stages, put_begins_stages, put_is_stale_stages, put_data_stages, grant_exclusive_stages, deliver_advance_stages, lose_stages, begin_read_miss_stages, begin_write_miss_stages, begin_put_stages, begin_miss_elsewhere_stages, end_miss_elsewhere_stages, begin_put_elsewhere_stages, end_put_elsewhere_stages, numbers_elsewhere_stages, store_stages, evict_shared_stages, edge_stages, report_stages, validate_stages}
-use Rattle.sn_coherence.proofs.Requests.{forward_read_requests, forward_write_requests, invalidate_requests, data_shared_requests, data_modified_open_requests, data_modified_complete_requests, upgrade_granted_open_requests, upgrade_granted_complete_requests, acknowledge_open_requests, acknowledge_complete_requests, put_go_requests, put_done_requests, data_exclusive_requests, read_at_home_requests, read_at_owner_requests, take_requests, move_ownership_requests, upgrade_requests, unblock_move_requests, unblock_other_requests, put_begins_requests, put_is_stale_requests, put_data_requests, grant_exclusive_requests, deliver_advance_requests, lose_requests, begin_read_miss_requests, begin_write_miss_requests, begin_put_requests, begin_miss_elsewhere_requests, end_miss_elsewhere_requests, begin_put_elsewhere_requests, end_put_elsewhere_requests, numbers_elsewhere_requests, store_requests, evict_shared_requests, edge_requests, report_requests, validate_requests}
-use Rattle.sn_coherence.proofs.Owners.{forward_read_owners, forward_write_owners, invalidate_owners, data_shared_owners, data_modified_open_owners, data_modified_complete_owners, upgrade_granted_open_owners, upgrade_granted_complete_owners, acknowledge_open_owners, acknowledge_complete_owners, put_go_owners, put_done_owners, data_exclusive_owners, read_at_home_owners, read_at_owner_owners, take_owners, move_ownership_owners, upgrade_owners, unblock_move_owners, unblock_other_owners, put_begins_owners, put_is_stale_owners, put_data_owners, grant_exclusive_owners, deliver_advance_owners, lose_owners, begin_read_miss_owners, begin_write_miss_owners, begin_put_owners, begin_miss_elsewhere_owners, end_miss_elsewhere_owners, begin_put_elsewhere_owners, end_put_elsewhere_owners, numbers_elsewhere_owners, store_owners, evict_shared_owners, edge_owners, report_owners, validate_owners}
-use Rattle.sn_coherence.proofs.Waits.{forward_read_waits, forward_write_waits, invalidate_waits, data_shared_waits, data_modified_open_waits, data_modified_complete_waits, upgrade_granted_open_waits, upgrade_granted_complete_waits, acknowledge_open_waits, acknowledge_complete_waits, put_go_waits, put_done_waits, data_exclusive_waits, read_at_home_waits, read_at_owner_waits, take_waits, move_ownership_waits, upgrade_waits, unblock_move_waits, unblock_other_waits, put_begins_waits, put_is_stale_waits, put_data_waits, grant_exclusive_waits, deliver_advance_waits, lose_waits, begin_read_miss_waits, begin_write_miss_waits, begin_put_waits, begin_miss_elsewhere_waits, end_miss_elsewhere_waits, begin_put_elsewhere_waits, end_put_elsewhere_waits, numbers_elsewhere_waits, store_waits, evict_shared_waits, edge_waits, report_waits, validate_waits}
-use Rattle.sn_coherence.proofs.Sharing.{forward_read_sharing, forward_write_sharing, invalidate_sharing, data_shared_sharing, data_modified_open_sharing, data_modified_complete_sharing, upgrade_granted_open_sharing, upgrade_granted_complete_sharing, acknowledge_open_sharing, acknowledge_complete_sharing, put_go_sharing, put_done_sharing, data_exclusive_sharing, read_at_home_sharing, read_at_owner_sharing, take_sharing, move_ownership_sharing, upgrade_sharing, unblock_move_sharing, unblock_other_sharing, put_begins_sharing, put_is_stale_sharing, put_data_sharing, grant_exclusive_sharing, deliver_advance_sharing, lose_sharing, begin_read_miss_sharing, begin_write_miss_sharing, begin_put_sharing, begin_miss_elsewhere_sharing, end_miss_elsewhere_sharing, begin_put_elsewhere_sharing, end_put_elsewhere_sharing, numbers_elsewhere_sharing, store_sharing, evict_shared_sharing, edge_sharing, report_sharing, validate_sharing}
-use Rattle.sn_coherence.proofs.Logs.{forward_read_logs, forward_write_logs, invalidate_logs, data_shared_logs, data_modified_open_logs, data_modified_complete_logs, upgrade_granted_open_logs, upgrade_granted_complete_logs, acknowledge_open_logs, acknowledge_complete_logs, put_go_logs, put_done_logs, data_exclusive_logs, read_at_home_logs, read_at_owner_logs, take_logs, move_ownership_logs, upgrade_logs, unblock_move_logs, unblock_other_logs, put_begins_logs, put_is_stale_logs, put_data_logs, grant_exclusive_logs, deliver_advance_logs, lose_logs, begin_read_miss_logs, begin_write_miss_logs, begin_put_logs, begin_miss_elsewhere_logs, end_miss_elsewhere_logs, begin_put_elsewhere_logs, end_put_elsewhere_logs, numbers_elsewhere_logs, store_logs, evict_shared_logs, edge_logs, report_logs, validate_logs}
-use Rattle.sn_coherence.proofs.Cuts.{forward_read_cuts, forward_write_cuts, invalidate_cuts, data_shared_cuts, data_modified_open_cuts, data_modified_complete_cuts, upgrade_granted_open_cuts, upgrade_granted_complete_cuts, acknowledge_open_cuts, acknowledge_complete_cuts, put_go_cuts, put_done_cuts, data_exclusive_cuts, read_at_home_cuts, read_at_owner_cuts, take_cuts, move_ownership_cuts, upgrade_cuts, unblock_move_cuts, unblock_other_cuts, put_begins_cuts, put_is_stale_cuts, put_data_cuts, grant_exclusive_cuts, deliver_advance_cuts, lose_cuts, begin_read_miss_cuts, begin_write_miss_cuts, begin_put_cuts, begin_miss_elsewhere_cuts, end_miss_elsewhere_cuts, begin_put_elsewhere_cuts, end_put_elsewhere_cuts, numbers_elsewhere_cuts, store_cuts, evict_shared_cuts, edge_cuts, report_cuts, validate_cuts}
-use Rattle.sn_coherence.proofs.Frames.{forward_read_frames, forward_write_frames, invalidate_frames, data_shared_frames, data_modified_open_frames, data_modified_complete_frames, upgrade_granted_open_frames, upgrade_granted_complete_frames, acknowledge_open_frames, acknowledge_complete_frames, put_go_frames, put_done_frames, data_exclusive_frames, read_at_home_frames, read_at_owner_frames, take_frames, move_ownership_frames, upgrade_frames, unblock_move_frames, unblock_other_frames, put_begins_frames, put_is_stale_frames, put_data_frames, grant_exclusive_frames, deliver_advance_frames, lose_frames, begin_read_miss_frames, begin_write_miss_frames, begin_put_frames, begin_miss_elsewhere_frames, end_miss_elsewhere_frames, begin_put_elsewhere_frames, end_put_elsewhere_frames, numbers_elsewhere_frames, store_frames, evict_shared_frames, edge_frames, report_frames, validate_frames}
+use Rattle.sn_coherence.proofs.Clocks.{forward_read_clocks, forward_write_clocks, invalidate_clocks, data_shared_clocks}
+use Rattle.sn_coherence.proofs.Clocks.{data_modified_open_clocks, data_modified_complete_clocks, upgrade_granted_open_clocks}
+use Rattle.sn_coherence.proofs.Clocks.{upgrade_granted_complete_clocks, acknowledge_open_clocks, acknowledge_complete_clocks, put_go_clocks}
+use Rattle.sn_coherence.proofs.Clocks.{put_done_clocks, data_exclusive_clocks, read_at_home_clocks, read_at_owner_clocks, take_clocks}
+use Rattle.sn_coherence.proofs.Clocks.{move_ownership_clocks, upgrade_clocks, unblock_move_clocks, unblock_other_clocks, put_begins_clocks}
+use Rattle.sn_coherence.proofs.Clocks.{put_is_stale_clocks, put_data_clocks, grant_exclusive_clocks, deliver_advance_clocks, lose_clocks}
+use Rattle.sn_coherence.proofs.Clocks.{begin_read_miss_clocks, begin_write_miss_clocks, begin_put_clocks, begin_miss_elsewhere_clocks}
+use Rattle.sn_coherence.proofs.Clocks.{end_miss_elsewhere_clocks, begin_put_elsewhere_clocks, end_put_elsewhere_clocks}
+use Rattle.sn_coherence.proofs.Clocks.{numbers_elsewhere_clocks, store_clocks, evict_shared_clocks, edge_clocks, report_clocks}
+use Rattle.sn_coherence.proofs.Clocks.{validate_clocks}
+use Rattle.sn_coherence.proofs.Nodes.{forward_read_nodes, forward_write_nodes, invalidate_nodes, data_shared_nodes}
+use Rattle.sn_coherence.proofs.Nodes.{data_modified_open_nodes, data_modified_complete_nodes, upgrade_granted_open_nodes}
+use Rattle.sn_coherence.proofs.Nodes.{upgrade_granted_complete_nodes, acknowledge_open_nodes, acknowledge_complete_nodes, put_go_nodes}
+use Rattle.sn_coherence.proofs.Nodes.{put_done_nodes, data_exclusive_nodes, read_at_home_nodes, read_at_owner_nodes, take_nodes}
+use Rattle.sn_coherence.proofs.Nodes.{move_ownership_nodes, upgrade_nodes, unblock_move_nodes, unblock_other_nodes, put_begins_nodes}
+use Rattle.sn_coherence.proofs.Nodes.{put_is_stale_nodes, put_data_nodes, grant_exclusive_nodes, deliver_advance_nodes, lose_nodes}
+use Rattle.sn_coherence.proofs.Nodes.{begin_read_miss_nodes, begin_write_miss_nodes, begin_put_nodes, begin_miss_elsewhere_nodes}
+use Rattle.sn_coherence.proofs.Nodes.{end_miss_elsewhere_nodes, begin_put_elsewhere_nodes, end_put_elsewhere_nodes, numbers_elsewhere_nodes}
+use Rattle.sn_coherence.proofs.Nodes.{store_nodes, evict_shared_nodes, edge_nodes, report_nodes, validate_nodes}
+use Rattle.sn_coherence.proofs.Stages.{forward_read_stages, forward_write_stages, invalidate_stages, data_shared_stages}
+use Rattle.sn_coherence.proofs.Stages.{data_modified_open_stages, data_modified_complete_stages, upgrade_granted_open_stages}
+use Rattle.sn_coherence.proofs.Stages.{upgrade_granted_complete_stages, acknowledge_open_stages, acknowledge_complete_stages, put_go_stages}
+use Rattle.sn_coherence.proofs.Stages.{put_done_stages, data_exclusive_stages, read_at_home_stages, read_at_owner_stages, take_stages}
+use Rattle.sn_coherence.proofs.Stages.{move_ownership_stages, upgrade_stages, unblock_move_stages, unblock_other_stages, put_begins_stages}
+use Rattle.sn_coherence.proofs.Stages.{put_is_stale_stages, put_data_stages, grant_exclusive_stages, deliver_advance_stages, lose_stages}
+use Rattle.sn_coherence.proofs.Stages.{begin_read_miss_stages, begin_write_miss_stages, begin_put_stages, begin_miss_elsewhere_stages}
+use Rattle.sn_coherence.proofs.Stages.{end_miss_elsewhere_stages, begin_put_elsewhere_stages, end_put_elsewhere_stages}
+use Rattle.sn_coherence.proofs.Stages.{numbers_elsewhere_stages, store_stages, evict_shared_stages, edge_stages, report_stages}
+use Rattle.sn_coherence.proofs.Stages.{validate_stages}
+use Rattle.sn_coherence.proofs.Requests.{forward_read_requests, forward_write_requests, invalidate_requests, data_shared_requests}
+use Rattle.sn_coherence.proofs.Requests.{data_modified_open_requests, data_modified_complete_requests, upgrade_granted_open_requests}
+use Rattle.sn_coherence.proofs.Requests.{upgrade_granted_complete_requests, acknowledge_open_requests, acknowledge_complete_requests}
+use Rattle.sn_coherence.proofs.Requests.{put_go_requests, put_done_requests, data_exclusive_requests, read_at_home_requests}
+use Rattle.sn_coherence.proofs.Requests.{read_at_owner_requests, take_requests, move_ownership_requests, upgrade_requests}
+use Rattle.sn_coherence.proofs.Requests.{unblock_move_requests, unblock_other_requests, put_begins_requests, put_is_stale_requests}
+use Rattle.sn_coherence.proofs.Requests.{put_data_requests, grant_exclusive_requests, deliver_advance_requests, lose_requests}
+use Rattle.sn_coherence.proofs.Requests.{begin_read_miss_requests, begin_write_miss_requests, begin_put_requests}
+use Rattle.sn_coherence.proofs.Requests.{begin_miss_elsewhere_requests, end_miss_elsewhere_requests, begin_put_elsewhere_requests}
+use Rattle.sn_coherence.proofs.Requests.{end_put_elsewhere_requests, numbers_elsewhere_requests, store_requests, evict_shared_requests}
+use Rattle.sn_coherence.proofs.Requests.{edge_requests, report_requests, validate_requests}
+use Rattle.sn_coherence.proofs.Owners.{forward_read_owners, forward_write_owners, invalidate_owners, data_shared_owners}
+use Rattle.sn_coherence.proofs.Owners.{data_modified_open_owners, data_modified_complete_owners, upgrade_granted_open_owners}
+use Rattle.sn_coherence.proofs.Owners.{upgrade_granted_complete_owners, acknowledge_open_owners, acknowledge_complete_owners, put_go_owners}
+use Rattle.sn_coherence.proofs.Owners.{put_done_owners, data_exclusive_owners, read_at_home_owners, read_at_owner_owners, take_owners}
+use Rattle.sn_coherence.proofs.Owners.{move_ownership_owners, upgrade_owners, unblock_move_owners, unblock_other_owners, put_begins_owners}
+use Rattle.sn_coherence.proofs.Owners.{put_is_stale_owners, put_data_owners, grant_exclusive_owners, deliver_advance_owners, lose_owners}
+use Rattle.sn_coherence.proofs.Owners.{begin_read_miss_owners, begin_write_miss_owners, begin_put_owners, begin_miss_elsewhere_owners}
+use Rattle.sn_coherence.proofs.Owners.{end_miss_elsewhere_owners, begin_put_elsewhere_owners, end_put_elsewhere_owners}
+use Rattle.sn_coherence.proofs.Owners.{numbers_elsewhere_owners, store_owners, evict_shared_owners, edge_owners, report_owners}
+use Rattle.sn_coherence.proofs.Owners.{validate_owners}
+use Rattle.sn_coherence.proofs.Waits.{forward_read_waits, forward_write_waits, invalidate_waits, data_shared_waits}
+use Rattle.sn_coherence.proofs.Waits.{data_modified_open_waits, data_modified_complete_waits, upgrade_granted_open_waits}
+use Rattle.sn_coherence.proofs.Waits.{upgrade_granted_complete_waits, acknowledge_open_waits, acknowledge_complete_waits, put_go_waits}
+use Rattle.sn_coherence.proofs.Waits.{put_done_waits, data_exclusive_waits, read_at_home_waits, read_at_owner_waits, take_waits}
+use Rattle.sn_coherence.proofs.Waits.{move_ownership_waits, upgrade_waits, unblock_move_waits, unblock_other_waits, put_begins_waits}
+use Rattle.sn_coherence.proofs.Waits.{put_is_stale_waits, put_data_waits, grant_exclusive_waits, deliver_advance_waits, lose_waits}
+use Rattle.sn_coherence.proofs.Waits.{begin_read_miss_waits, begin_write_miss_waits, begin_put_waits, begin_miss_elsewhere_waits}
+use Rattle.sn_coherence.proofs.Waits.{end_miss_elsewhere_waits, begin_put_elsewhere_waits, end_put_elsewhere_waits, numbers_elsewhere_waits}
+use Rattle.sn_coherence.proofs.Waits.{store_waits, evict_shared_waits, edge_waits, report_waits, validate_waits}
+use Rattle.sn_coherence.proofs.Sharing.{forward_read_sharing, forward_write_sharing, invalidate_sharing, data_shared_sharing}
+use Rattle.sn_coherence.proofs.Sharing.{data_modified_open_sharing, data_modified_complete_sharing, upgrade_granted_open_sharing}
+use Rattle.sn_coherence.proofs.Sharing.{upgrade_granted_complete_sharing, acknowledge_open_sharing, acknowledge_complete_sharing}
+use Rattle.sn_coherence.proofs.Sharing.{put_go_sharing, put_done_sharing, data_exclusive_sharing, read_at_home_sharing}
+use Rattle.sn_coherence.proofs.Sharing.{read_at_owner_sharing, take_sharing, move_ownership_sharing, upgrade_sharing, unblock_move_sharing}
+use Rattle.sn_coherence.proofs.Sharing.{unblock_other_sharing, put_begins_sharing, put_is_stale_sharing, put_data_sharing}
+use Rattle.sn_coherence.proofs.Sharing.{grant_exclusive_sharing, deliver_advance_sharing, lose_sharing, begin_read_miss_sharing}
+use Rattle.sn_coherence.proofs.Sharing.{begin_write_miss_sharing, begin_put_sharing, begin_miss_elsewhere_sharing}
+use Rattle.sn_coherence.proofs.Sharing.{end_miss_elsewhere_sharing, begin_put_elsewhere_sharing, end_put_elsewhere_sharing}
+use Rattle.sn_coherence.proofs.Sharing.{numbers_elsewhere_sharing, store_sharing, evict_shared_sharing, edge_sharing, report_sharing}
+use Rattle.sn_coherence.proofs.Sharing.{validate_sharing}
+use Rattle.sn_coherence.proofs.Logs.{forward_read_logs, forward_write_logs, invalidate_logs, data_shared_logs, data_modified_open_logs}
+use Rattle.sn_coherence.proofs.Logs.{data_modified_complete_logs, upgrade_granted_open_logs, upgrade_granted_complete_logs}
+use Rattle.sn_coherence.proofs.Logs.{acknowledge_open_logs, acknowledge_complete_logs, put_go_logs, put_done_logs, data_exclusive_logs}
+use Rattle.sn_coherence.proofs.Logs.{read_at_home_logs, read_at_owner_logs, take_logs, move_ownership_logs, upgrade_logs, unblock_move_logs}
+use Rattle.sn_coherence.proofs.Logs.{unblock_other_logs, put_begins_logs, put_is_stale_logs, put_data_logs, grant_exclusive_logs}
+use Rattle.sn_coherence.proofs.Logs.{deliver_advance_logs, lose_logs, begin_read_miss_logs, begin_write_miss_logs, begin_put_logs}
+use Rattle.sn_coherence.proofs.Logs.{begin_miss_elsewhere_logs, end_miss_elsewhere_logs, begin_put_elsewhere_logs, end_put_elsewhere_logs}
+use Rattle.sn_coherence.proofs.Logs.{numbers_elsewhere_logs, store_logs, evict_shared_logs, edge_logs, report_logs, validate_logs}
+use Rattle.sn_coherence.proofs.Cuts.{forward_read_cuts, forward_write_cuts, invalidate_cuts, data_shared_cuts, data_modified_open_cuts}
+use Rattle.sn_coherence.proofs.Cuts.{data_modified_complete_cuts, upgrade_granted_open_cuts, upgrade_granted_complete_cuts}
+use Rattle.sn_coherence.proofs.Cuts.{acknowledge_open_cuts, acknowledge_complete_cuts, put_go_cuts, put_done_cuts, data_exclusive_cuts}
+use Rattle.sn_coherence.proofs.Cuts.{read_at_home_cuts, read_at_owner_cuts, take_cuts, move_ownership_cuts, upgrade_cuts, unblock_move_cuts}
+use Rattle.sn_coherence.proofs.Cuts.{unblock_other_cuts, put_begins_cuts, put_is_stale_cuts, put_data_cuts, grant_exclusive_cuts}
+use Rattle.sn_coherence.proofs.Cuts.{deliver_advance_cuts, lose_cuts, begin_read_miss_cuts, begin_write_miss_cuts, begin_put_cuts}
+use Rattle.sn_coherence.proofs.Cuts.{begin_miss_elsewhere_cuts, end_miss_elsewhere_cuts, begin_put_elsewhere_cuts, end_put_elsewhere_cuts}
+use Rattle.sn_coherence.proofs.Cuts.{numbers_elsewhere_cuts, store_cuts, evict_shared_cuts, edge_cuts, report_cuts, validate_cuts}
+use Rattle.sn_coherence.proofs.Frames.{forward_read_frames, forward_write_frames, invalidate_frames, data_shared_frames}
+use Rattle.sn_coherence.proofs.Frames.{data_modified_open_frames, data_modified_complete_frames, upgrade_granted_open_frames}
+use Rattle.sn_coherence.proofs.Frames.{upgrade_granted_complete_frames, acknowledge_open_frames, acknowledge_complete_frames, put_go_frames}
+use Rattle.sn_coherence.proofs.Frames.{put_done_frames, data_exclusive_frames, read_at_home_frames, read_at_owner_frames, take_frames}
+use Rattle.sn_coherence.proofs.Frames.{move_ownership_frames, upgrade_frames, unblock_move_frames, unblock_other_frames, put_begins_frames}
+use Rattle.sn_coherence.proofs.Frames.{put_is_stale_frames, put_data_frames, grant_exclusive_frames, deliver_advance_frames, lose_frames}
+use Rattle.sn_coherence.proofs.Frames.{begin_read_miss_frames, begin_write_miss_frames, begin_put_frames, begin_miss_elsewhere_frames}
+use Rattle.sn_coherence.proofs.Frames.{end_miss_elsewhere_frames, begin_put_elsewhere_frames, end_put_elsewhere_frames}
+use Rattle.sn_coherence.proofs.Frames.{numbers_elsewhere_frames, store_frames, evict_shared_frames, edge_frames, report_frames}
+use Rattle.sn_coherence.proofs.Frames.{validate_frames}
 
 module _ (N : ℕ) (b : Block) (i : ℕ) (kept : AllSentences N b) where
   -- The cache's rows.
@@ -88,10 +181,12 @@ module _ (N : ℕ) (b : Block) (i : ℕ) (kept : AllSentences N b) where
     sharing = data_modified_open_sharing N b i kept.sharing kept.stages kept.owners kept.requests kept.waits kept.nodes arrives some_lack;
     logs = data_modified_open_logs N b i kept.logs kept.stages kept.owners kept.clocks kept.nodes arrives some_lack;
     cuts = data_modified_open_cuts N b i kept.cuts kept.logs kept.stages kept.owners kept.clocks kept.nodes arrives some_lack;
-    frames = data_modified_open_frames N b i kept.frames kept.stages kept.requests kept.logs kept.owners kept.clocks kept.nodes arrives some_lack;
+    frames =
+        data_modified_open_frames N b i kept.frames kept.stages kept.requests kept.logs kept.owners kept.clocks kept.nodes arrives some_lack;
   }
 
-  pub data_modified_complete_kept : Arrives b i DataM → (b.miss (b.net i).to).acks ≡ (b.net i).due → AllSentences N (data_modified_complete b i)
+  pub data_modified_complete_kept : Arrives b i DataM → (b.miss (b.net i).to).acks ≡ (b.net i).due →
+      AllSentences N (data_modified_complete b i)
   data_modified_complete_kept arrives all_in = record {
     clocks = data_modified_complete_clocks N b i kept.clocks kept.nodes arrives all_in;
     nodes = data_modified_complete_nodes N b i kept.nodes kept.stages kept.owners arrives all_in;
@@ -102,7 +197,8 @@ module _ (N : ℕ) (b : Block) (i : ℕ) (kept : AllSentences N b) where
     sharing = data_modified_complete_sharing N b i kept.sharing kept.stages kept.owners kept.requests kept.waits kept.nodes arrives all_in;
     logs = data_modified_complete_logs N b i kept.logs kept.stages kept.owners kept.clocks kept.nodes arrives all_in;
     cuts = data_modified_complete_cuts N b i kept.cuts kept.logs kept.stages kept.owners kept.clocks kept.nodes arrives all_in;
-    frames = data_modified_complete_frames N b i kept.frames kept.stages kept.requests kept.logs kept.owners kept.clocks kept.nodes arrives all_in;
+    frames =
+        data_modified_complete_frames N b i kept.frames kept.stages kept.requests kept.logs kept.owners kept.clocks kept.nodes arrives all_in;
   }
 
   pub upgrade_granted_open_kept : Arrives b i UpgOk → (b.miss (b.net i).to).acks ≢ (b.net i).due → AllSentences N (upgrade_granted_open b i)
@@ -116,10 +212,12 @@ module _ (N : ℕ) (b : Block) (i : ℕ) (kept : AllSentences N b) where
     sharing = upgrade_granted_open_sharing N b i kept.sharing kept.stages kept.owners kept.requests kept.waits kept.nodes arrives some_lack;
     logs = upgrade_granted_open_logs N b i kept.logs kept.stages kept.owners kept.clocks kept.nodes arrives some_lack;
     cuts = upgrade_granted_open_cuts N b i kept.cuts kept.logs kept.stages kept.owners kept.clocks kept.nodes arrives some_lack;
-    frames = upgrade_granted_open_frames N b i kept.frames kept.stages kept.requests kept.logs kept.owners kept.clocks kept.nodes arrives some_lack;
+    frames =
+        upgrade_granted_open_frames N b i kept.frames kept.stages kept.requests kept.logs kept.owners kept.clocks kept.nodes arrives some_lack;
   }
 
-  pub upgrade_granted_complete_kept : Arrives b i UpgOk → (b.miss (b.net i).to).acks ≡ (b.net i).due → AllSentences N (upgrade_granted_complete b i)
+  pub upgrade_granted_complete_kept : Arrives b i UpgOk → (b.miss (b.net i).to).acks ≡ (b.net i).due →
+      AllSentences N (upgrade_granted_complete b i)
   upgrade_granted_complete_kept arrives all_in = record {
     clocks = upgrade_granted_complete_clocks N b i kept.clocks kept.nodes arrives all_in;
     nodes = upgrade_granted_complete_nodes N b i kept.nodes kept.stages kept.owners arrives all_in;
@@ -127,10 +225,12 @@ module _ (N : ℕ) (b : Block) (i : ℕ) (kept : AllSentences N b) where
     requests = upgrade_granted_complete_requests N b i kept.requests kept.stages kept.owners arrives all_in;
     owners = upgrade_granted_complete_owners N b i kept.owners kept.stages arrives all_in;
     waits = upgrade_granted_complete_waits N b i kept.waits kept.stages kept.requests kept.nodes arrives all_in;
-    sharing = upgrade_granted_complete_sharing N b i kept.sharing kept.stages kept.owners kept.requests kept.waits kept.nodes arrives all_in;
+    sharing =
+        upgrade_granted_complete_sharing N b i kept.sharing kept.stages kept.owners kept.requests kept.waits kept.nodes arrives all_in;
     logs = upgrade_granted_complete_logs N b i kept.logs kept.stages kept.owners kept.clocks kept.nodes arrives all_in;
     cuts = upgrade_granted_complete_cuts N b i kept.cuts kept.logs kept.stages kept.owners kept.clocks kept.nodes arrives all_in;
-    frames = upgrade_granted_complete_frames N b i kept.frames kept.stages kept.requests kept.logs kept.owners kept.clocks kept.nodes arrives all_in;
+    frames =
+        upgrade_granted_complete_frames N b i kept.frames kept.stages kept.requests kept.logs kept.owners kept.clocks kept.nodes arrives all_in;
   }
 
   pub acknowledge_open_kept : Arrives b i InvAck → IsLast b i ≡ false → AllSentences N (acknowledge_open b i)
@@ -144,7 +244,8 @@ module _ (N : ℕ) (b : Block) (i : ℕ) (kept : AllSentences N b) where
     sharing = acknowledge_open_sharing N b i kept.sharing kept.stages kept.owners kept.requests kept.waits kept.nodes arrives not_last;
     logs = acknowledge_open_logs N b i kept.logs kept.stages kept.owners kept.clocks kept.nodes kept.waits arrives not_last;
     cuts = acknowledge_open_cuts N b i kept.cuts kept.logs kept.stages kept.owners kept.clocks kept.nodes kept.waits arrives not_last;
-    frames = acknowledge_open_frames N b i kept.frames kept.stages kept.requests kept.logs kept.owners kept.clocks kept.nodes kept.waits arrives not_last;
+    frames =
+        acknowledge_open_frames N b i kept.frames kept.stages kept.requests kept.logs kept.owners kept.clocks kept.nodes kept.waits arrives not_last;
   }
 
   pub acknowledge_complete_kept : Arrives b i InvAck → IsLast b i ≡ true → AllSentences N (acknowledge_complete b i)
@@ -158,7 +259,8 @@ module _ (N : ℕ) (b : Block) (i : ℕ) (kept : AllSentences N b) where
     sharing = acknowledge_complete_sharing N b i kept.sharing kept.stages kept.owners kept.requests kept.waits kept.nodes arrives last;
     logs = acknowledge_complete_logs N b i kept.logs kept.stages kept.owners kept.clocks kept.nodes kept.waits arrives last;
     cuts = acknowledge_complete_cuts N b i kept.cuts kept.logs kept.stages kept.owners kept.clocks kept.nodes kept.waits arrives last;
-    frames = acknowledge_complete_frames N b i kept.frames kept.stages kept.requests kept.logs kept.owners kept.clocks kept.nodes kept.waits arrives last;
+    frames =
+        acknowledge_complete_frames N b i kept.frames kept.stages kept.requests kept.logs kept.owners kept.clocks kept.nodes kept.waits arrives last;
   }
 
   pub put_go_kept : Arrives b i PutGo → AllSentences N (put_go b i)
@@ -216,7 +318,8 @@ module _ (N : ℕ) (b : Block) (i : ℕ) (kept : AllSentences N b) where
     sharing = read_at_home_sharing N b i kept.sharing kept.stages kept.owners kept.requests kept.waits kept.nodes arrives idle home_owns;
     logs = read_at_home_logs N b i kept.logs kept.stages kept.owners kept.clocks kept.nodes arrives idle home_owns;
     cuts = read_at_home_cuts N b i kept.cuts kept.logs kept.stages kept.owners kept.clocks kept.nodes arrives idle home_owns;
-    frames = read_at_home_frames N b i kept.frames kept.stages kept.requests kept.logs kept.owners kept.clocks kept.nodes arrives idle home_owns;
+    frames =
+        read_at_home_frames N b i kept.frames kept.stages kept.requests kept.logs kept.owners kept.clocks kept.nodes arrives idle home_owns;
   }
 
   pub read_at_owner_kept : At b i GetS → b.kind ≡ Idle → b.at_home ≡ false → AllSentences N (read_at_owner b i)
@@ -230,10 +333,12 @@ module _ (N : ℕ) (b : Block) (i : ℕ) (kept : AllSentences N b) where
     sharing = read_at_owner_sharing N b i kept.sharing kept.stages kept.owners kept.requests kept.waits kept.nodes arrives idle cache_owns;
     logs = read_at_owner_logs N b i kept.logs kept.stages kept.owners kept.clocks kept.nodes arrives idle cache_owns;
     cuts = read_at_owner_cuts N b i kept.cuts kept.logs kept.stages kept.owners kept.clocks kept.nodes arrives idle cache_owns;
-    frames = read_at_owner_frames N b i kept.frames kept.stages kept.requests kept.logs kept.owners kept.clocks kept.nodes arrives idle cache_owns;
+    frames =
+        read_at_owner_frames N b i kept.frames kept.stages kept.requests kept.logs kept.owners kept.clocks kept.nodes arrives idle cache_owns;
   }
 
-  pub take_kept : (targets : ℕ → ℕ) (due : ℕ) → At b i GetM → b.kind ≡ Idle → b.at_home ≡ true → Lists N (other_sharers b i) targets due → AllSentences N (take b i targets due)
+  pub take_kept : (targets : ℕ → ℕ) (due : ℕ) → At b i GetM → b.kind ≡ Idle → b.at_home ≡ true → Lists N (other_sharers b i) targets due →
+      AllSentences N (take b i targets due)
   take_kept targets due arrives idle home_owns each = record {
     clocks = take_clocks N b i kept.clocks kept.nodes targets due arrives idle home_owns;
     nodes = take_nodes N b i kept.nodes kept.stages kept.owners targets due arrives idle home_owns each;
@@ -241,13 +346,16 @@ module _ (N : ℕ) (b : Block) (i : ℕ) (kept : AllSentences N b) where
     requests = take_requests N b i kept.requests kept.stages kept.owners targets due arrives idle home_owns;
     owners = take_owners N b i kept.owners kept.stages targets due arrives idle home_owns;
     waits = take_waits N b i kept.waits kept.stages kept.requests kept.nodes targets due arrives idle home_owns each;
-    sharing = take_sharing N b i kept.sharing kept.stages kept.owners kept.requests kept.waits kept.nodes targets due arrives idle home_owns;
+    sharing =
+        take_sharing N b i kept.sharing kept.stages kept.owners kept.requests kept.waits kept.nodes targets due arrives idle home_owns;
     logs = take_logs N b i kept.logs kept.stages kept.owners kept.clocks kept.nodes targets due arrives idle home_owns;
     cuts = take_cuts N b i kept.cuts kept.logs kept.stages kept.owners kept.clocks kept.nodes targets due arrives idle home_owns;
-    frames = take_frames N b i kept.frames kept.stages kept.requests kept.logs kept.owners kept.clocks kept.nodes targets due arrives idle home_owns;
+    frames =
+        take_frames N b i kept.frames kept.stages kept.requests kept.logs kept.owners kept.clocks kept.nodes targets due arrives idle home_owns;
   }
 
-  pub move_ownership_kept : (targets : ℕ → ℕ) (due : ℕ) → At b i GetM → b.kind ≡ Idle → OtherOwns b (b.net i).from → Lists N (other_sharers b i) targets due → AllSentences N (move_ownership b i targets due)
+  pub move_ownership_kept : (targets : ℕ → ℕ) (due : ℕ) → At b i GetM → b.kind ≡ Idle → OtherOwns b (b.net i).from →
+      Lists N (other_sharers b i) targets due → AllSentences N (move_ownership b i targets due)
   move_ownership_kept targets due arrives idle other_owns each = record {
     clocks = move_ownership_clocks N b i kept.clocks kept.nodes targets due arrives idle other_owns;
     nodes = move_ownership_nodes N b i kept.nodes kept.stages kept.owners targets due arrives idle other_owns each;
@@ -255,13 +363,16 @@ module _ (N : ℕ) (b : Block) (i : ℕ) (kept : AllSentences N b) where
     requests = move_ownership_requests N b i kept.requests kept.stages kept.owners targets due arrives idle other_owns;
     owners = move_ownership_owners N b i kept.owners kept.stages targets due arrives idle other_owns;
     waits = move_ownership_waits N b i kept.waits kept.stages kept.requests kept.nodes targets due arrives idle other_owns each;
-    sharing = move_ownership_sharing N b i kept.sharing kept.stages kept.owners kept.requests kept.waits kept.nodes targets due arrives idle other_owns;
+    sharing =
+        move_ownership_sharing N b i kept.sharing kept.stages kept.owners kept.requests kept.waits kept.nodes targets due arrives idle other_owns;
     logs = move_ownership_logs N b i kept.logs kept.stages kept.owners kept.clocks kept.nodes targets due arrives idle other_owns;
     cuts = move_ownership_cuts N b i kept.cuts kept.logs kept.stages kept.owners kept.clocks kept.nodes targets due arrives idle other_owns;
-    frames = move_ownership_frames N b i kept.frames kept.stages kept.requests kept.logs kept.owners kept.clocks kept.nodes targets due arrives idle other_owns;
+    frames =
+        move_ownership_frames N b i kept.frames kept.stages kept.requests kept.logs kept.owners kept.clocks kept.nodes targets due arrives idle other_owns;
   }
 
-  pub upgrade_kept : (targets : ℕ → ℕ) (due : ℕ) → At b i GetM → b.kind ≡ Idle → Owns b (b.net i).from → Lists N (other_sharers b i) targets due → AllSentences N (upgrade b i targets due)
+  pub upgrade_kept : (targets : ℕ → ℕ) (due : ℕ) → At b i GetM → b.kind ≡ Idle → Owns b (b.net i).from →
+      Lists N (other_sharers b i) targets due → AllSentences N (upgrade b i targets due)
   upgrade_kept targets due arrives idle sender_owns each = record {
     clocks = upgrade_clocks N b i kept.clocks kept.nodes targets due arrives idle sender_owns;
     nodes = upgrade_nodes N b i kept.nodes kept.stages kept.owners targets due arrives idle sender_owns each;
@@ -269,10 +380,12 @@ module _ (N : ℕ) (b : Block) (i : ℕ) (kept : AllSentences N b) where
     requests = upgrade_requests N b i kept.requests kept.stages kept.owners targets due arrives idle sender_owns;
     owners = upgrade_owners N b i kept.owners kept.stages targets due arrives idle sender_owns;
     waits = upgrade_waits N b i kept.waits kept.stages kept.requests kept.nodes targets due arrives idle sender_owns each;
-    sharing = upgrade_sharing N b i kept.sharing kept.stages kept.owners kept.requests kept.waits kept.nodes targets due arrives idle sender_owns;
+    sharing =
+        upgrade_sharing N b i kept.sharing kept.stages kept.owners kept.requests kept.waits kept.nodes targets due arrives idle sender_owns;
     logs = upgrade_logs N b i kept.logs kept.stages kept.owners kept.clocks kept.nodes targets due arrives idle sender_owns;
     cuts = upgrade_cuts N b i kept.cuts kept.logs kept.stages kept.owners kept.clocks kept.nodes targets due arrives idle sender_owns;
-    frames = upgrade_frames N b i kept.frames kept.stages kept.requests kept.logs kept.owners kept.clocks kept.nodes targets due arrives idle sender_owns;
+    frames =
+        upgrade_frames N b i kept.frames kept.stages kept.requests kept.logs kept.owners kept.clocks kept.nodes targets due arrives idle sender_owns;
   }
 
   pub unblock_move_kept : At b i Unblock → b.kind ≡ Move → AllSentences N (unblock_move b i)
@@ -314,10 +427,12 @@ module _ (N : ℕ) (b : Block) (i : ℕ) (kept : AllSentences N b) where
     sharing = put_begins_sharing N b i kept.sharing kept.stages kept.owners kept.requests kept.waits kept.nodes arrives idle sender_owns;
     logs = put_begins_logs N b i kept.logs kept.stages kept.owners kept.clocks kept.nodes arrives idle sender_owns;
     cuts = put_begins_cuts N b i kept.cuts kept.logs kept.stages kept.owners kept.clocks kept.nodes arrives idle sender_owns;
-    frames = put_begins_frames N b i kept.frames kept.stages kept.requests kept.logs kept.owners kept.clocks kept.nodes arrives idle sender_owns;
+    frames =
+        put_begins_frames N b i kept.frames kept.stages kept.requests kept.logs kept.owners kept.clocks kept.nodes arrives idle sender_owns;
   }
 
-  pub put_is_stale_kept : At b i PutReq → b.kind ≡ Idle → (b.at_home ≡ true) ⊎ (b.owner ≢ (b.net i).from) → AllSentences N (put_is_stale b i)
+  pub put_is_stale_kept : At b i PutReq → b.kind ≡ Idle → (b.at_home ≡ true) ⊎ (b.owner ≢ (b.net i).from) →
+      AllSentences N (put_is_stale b i)
   put_is_stale_kept arrives idle stale = record {
     clocks = put_is_stale_clocks N b i kept.clocks kept.nodes arrives idle stale;
     nodes = put_is_stale_nodes N b i kept.nodes kept.stages kept.owners arrives idle stale;
@@ -328,7 +443,8 @@ module _ (N : ℕ) (b : Block) (i : ℕ) (kept : AllSentences N b) where
     sharing = put_is_stale_sharing N b i kept.sharing kept.stages kept.owners kept.requests kept.waits kept.nodes arrives idle stale;
     logs = put_is_stale_logs N b i kept.logs kept.stages kept.owners kept.clocks kept.nodes arrives idle stale;
     cuts = put_is_stale_cuts N b i kept.cuts kept.logs kept.stages kept.owners kept.clocks kept.nodes arrives idle stale;
-    frames = put_is_stale_frames N b i kept.frames kept.stages kept.requests kept.logs kept.owners kept.clocks kept.nodes arrives idle stale;
+    frames =
+        put_is_stale_frames N b i kept.frames kept.stages kept.requests kept.logs kept.owners kept.clocks kept.nodes arrives idle stale;
   }
 
   pub put_data_kept : At b i PutData → AllSentences N (put_data b i)
@@ -345,7 +461,8 @@ module _ (N : ℕ) (b : Block) (i : ℕ) (kept : AllSentences N b) where
     frames = put_data_frames N b i kept.frames kept.stages kept.requests kept.logs kept.owners kept.clocks kept.nodes arrives;
   }
 
-  pub grant_exclusive_kept : At b i GetS → b.kind ≡ Idle → b.at_home ≡ true → ((x : ℕ) → other_sharers b i x ≡ false) → AllSentences N (grant_exclusive b i)
+  pub grant_exclusive_kept : At b i GetS → b.kind ≡ Idle → b.at_home ≡ true → ((x : ℕ) → other_sharers b i x ≡ false) →
+      AllSentences N (grant_exclusive b i)
   grant_exclusive_kept arrives idle home_owns none = record {
     clocks = grant_exclusive_clocks N b i kept.clocks kept.nodes arrives idle home_owns none;
     nodes = grant_exclusive_nodes N b i kept.nodes kept.stages kept.owners arrives idle home_owns none;
@@ -353,10 +470,12 @@ module _ (N : ℕ) (b : Block) (i : ℕ) (kept : AllSentences N b) where
     requests = grant_exclusive_requests N b i kept.requests kept.stages kept.owners arrives idle home_owns none;
     owners = grant_exclusive_owners N b i kept.owners kept.stages arrives idle home_owns none;
     waits = grant_exclusive_waits N b i kept.waits kept.stages kept.requests kept.nodes arrives idle home_owns none;
-    sharing = grant_exclusive_sharing N b i kept.sharing kept.stages kept.owners kept.requests kept.waits kept.nodes arrives idle home_owns none;
+    sharing =
+        grant_exclusive_sharing N b i kept.sharing kept.stages kept.owners kept.requests kept.waits kept.nodes arrives idle home_owns none;
     logs = grant_exclusive_logs N b i kept.logs kept.stages kept.owners kept.clocks kept.nodes arrives idle home_owns none;
     cuts = grant_exclusive_cuts N b i kept.cuts kept.logs kept.stages kept.owners kept.clocks kept.nodes arrives idle home_owns none;
-    frames = grant_exclusive_frames N b i kept.frames kept.stages kept.requests kept.logs kept.owners kept.clocks kept.nodes arrives idle home_owns none;
+    frames =
+        grant_exclusive_frames N b i kept.frames kept.stages kept.requests kept.logs kept.owners kept.clocks kept.nodes arrives idle home_owns none;
   }
 
   -- The other events.
@@ -417,7 +536,8 @@ module _ (N : ℕ) (b : Block) (i : ℕ) (kept : AllSentences N b) where
     frames = begin_write_miss_frames N b i kept.frames kept.stages kept.requests kept.logs kept.owners kept.clocks kept.nodes free line;
   }
 
-  pub begin_put_kept : i < N → is_here (b.miss i).want ≡ false → b.putting i ≡ NoPut → is_owned (b.line i) ≡ true → AllSentences N (begin_put b i)
+  pub begin_put_kept : i < N → is_here (b.miss i).want ≡ false → b.putting i ≡ NoPut → is_owned (b.line i) ≡ true →
+      AllSentences N (begin_put b i)
   begin_put_kept low no_miss no_put line = record {
     clocks = begin_put_clocks N b i kept.clocks kept.nodes low no_miss no_put line;
     nodes = begin_put_nodes N b i kept.nodes kept.stages kept.owners low no_miss no_put line;
@@ -428,7 +548,8 @@ module _ (N : ℕ) (b : Block) (i : ℕ) (kept : AllSentences N b) where
     sharing = begin_put_sharing N b i kept.sharing kept.stages kept.owners kept.requests kept.waits kept.nodes low no_miss no_put line;
     logs = begin_put_logs N b i kept.logs kept.stages kept.owners kept.clocks kept.nodes low no_miss no_put line;
     cuts = begin_put_cuts N b i kept.cuts kept.logs kept.stages kept.owners kept.clocks kept.nodes low no_miss no_put line;
-    frames = begin_put_frames N b i kept.frames kept.stages kept.requests kept.logs kept.owners kept.clocks kept.nodes low no_miss no_put line;
+    frames =
+        begin_put_frames N b i kept.frames kept.stages kept.requests kept.logs kept.owners kept.clocks kept.nodes low no_miss no_put line;
   }
 
   pub begin_miss_elsewhere_kept : i < N → (b.miss i).want ≡ Nothing → AllSentences N (begin_miss_elsewhere b i)
@@ -442,7 +563,8 @@ module _ (N : ℕ) (b : Block) (i : ℕ) (kept : AllSentences N b) where
     sharing = begin_miss_elsewhere_sharing N b i kept.sharing kept.stages kept.owners kept.requests kept.waits kept.nodes low no_miss;
     logs = begin_miss_elsewhere_logs N b i kept.logs kept.stages kept.owners kept.clocks kept.nodes low no_miss;
     cuts = begin_miss_elsewhere_cuts N b i kept.cuts kept.logs kept.stages kept.owners kept.clocks kept.nodes low no_miss;
-    frames = begin_miss_elsewhere_frames N b i kept.frames kept.stages kept.requests kept.logs kept.owners kept.clocks kept.nodes low no_miss;
+    frames =
+        begin_miss_elsewhere_frames N b i kept.frames kept.stages kept.requests kept.logs kept.owners kept.clocks kept.nodes low no_miss;
   }
 
   pub end_miss_elsewhere_kept : (b.miss i).want ≡ Elsewhere → AllSentences N (end_miss_elsewhere b i)

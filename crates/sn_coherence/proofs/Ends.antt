@@ -3,7 +3,8 @@ use Rattle.std.proofs.Common.{◌≡◌, ℕ, ◌<◌, true, arith}
 use Rattle.std.proofs.lemmas.Bool.Decides.{nat_tests}
 use Rattle.sn_coherence.specs.Block.{Block, Content}
 use Rattle.sn_coherence.specs.OtherEvents.{start, recover}
-use Rattle.sn_coherence.specs.Kept.{Clocks, Nodes, Stages, Requests, Owners, Acknowledgements, Sharing, Logs, Cuts, Frames, AllSentences, is_settled}
+use Rattle.sn_coherence.specs.Kept.{Clocks, Nodes, Stages, Requests, Owners, Acknowledgements, Sharing, Logs, Cuts, Frames, AllSentences}
+use Rattle.sn_coherence.specs.Kept.{is_settled}
 use Rattle.sn_coherence.proofs.Counts.{no_count}
 
 pub start_kept : (N home : ℕ) (v : Content) → home < N → AllSentences N (start home v)

@@ -23,7 +23,8 @@ module _ (N : ℕ) (b : Block) (r : Records) where
   recover_contents : Contents b r → CutContents b r → Contents (recover N b) (rolls_back r N b.point)
   recover_contents t d = grind (arith, nat_tests, t.unwritten b.point)
 
-  recover_accesses : is_settled b b.point ≡ true → Clocks N b → Nodes N b → Cuts b → Accesses b r → Accesses (recover N b) (rolls_back r N b.point)
+  recover_accesses : is_settled b b.point ≡ true → Clocks N b → Nodes N b → Cuts b → Accesses b r →
+      Accesses (recover N b) (rolls_back r N b.point)
   recover_accesses settled c z u acc = grind (arith, nat_tests, u.one)
 
   recover_cut_contents : CutContents b r → CutContents (recover N b) (rolls_back r N b.point)

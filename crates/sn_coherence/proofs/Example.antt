@@ -7,14 +7,16 @@ use Rattle.sn_coherence.specs.Kept.{count}
 use Rattle.sn_coherence.specs.Events.{Event, Lists, after}
 use Rattle.sn_coherence.specs.Records.{Records, no_records, recorded}
 use Rattle.sn_coherence.specs.Runs.{CanRun, block_after, records_after}
-use Rattle.sn_coherence.specs.Example.{example_start, written_and_read, hand_over, handed_over, lose_and_recover, recovered, EndsHandedOver, EndsRecovered}
+use Rattle.sn_coherence.specs.Example.{example_start, written_and_read, hand_over, handed_over, lose_and_recover, recovered, EndsHandedOver}
+use Rattle.sn_coherence.specs.Example.{EndsRecovered}
 
 infixr 10 ◌⨾◌
 -- the proof that an event can happen, and that the others can
 ◌⨾◌ : {A B : Type 0} → A → B → A × B
 a ⨾ b = (a, b)
 
-run_append : (N : ℕ) (b : Block) (r : Records) (es fs : List Event) → CanRun N b r es → CanRun N (block_after N b es) (records_after N b r es) fs → CanRun N b r (es ++ fs)
+run_append : (N : ℕ) (b : Block) (r : Records) (es fs : List Event) → CanRun N b r es →
+    CanRun N (block_after N b es) (records_after N b r es) fs → CanRun N b r (es ++ fs)
 run_append N b r [] fs c d = d
 run_append N b r (e ∷ es) fs c d = (c.0, run_append N (after N b e) (recorded N b r e) es fs c.1 d)
 

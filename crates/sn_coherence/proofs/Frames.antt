@@ -1,10 +1,17 @@
 -- Frames: each row and event keeps the frames at the edges.
 use Rattle.std.proofs.Common.{◌≡◌, ◌≢◌, ℕ, ◌+◌, ◌<◌, true, false, ◌⊎◌, arith}
 use Rattle.std.proofs.lemmas.Bool.Decides.{nat_tests}
-use Rattle.sn_coherence.specs.Block.{Block, Content, NoLine, Shared, Nothing, Elsewhere, NoPut, PutElsewhere, Idle, Move, GetS, GetM, FwdGetS, FwdGetM, Inv, DataS, DataM, DataE, UpgOk, InvAck, Unblock, PutReq, PutData, PutGo, PutDone, Advance, is_owned, is_writable, is_here}
-use Rattle.sn_coherence.specs.CacheRows.{forward_read, forward_write, invalidate, data_shared, data_modified_open, data_modified_complete, upgrade_granted_open, upgrade_granted_complete, acknowledge_open, acknowledge_complete, put_go, put_done, data_exclusive}
-use Rattle.sn_coherence.specs.HomeRows.{read_at_home, read_at_owner, take, move_ownership, upgrade, unblock_move, unblock_other, put_begins, put_is_stale, put_data, grant_exclusive}
-use Rattle.sn_coherence.specs.OtherEvents.{begin_read_miss, begin_write_miss, begin_put, begin_miss_elsewhere, end_miss_elsewhere, begin_put_elsewhere, end_put_elsewhere, numbers_elsewhere, store, evict_shared, edge, report, validate, lose, deliver_advance}
+use Rattle.sn_coherence.specs.Block.{Block, Content, NoLine, Shared, Nothing, Elsewhere, NoPut, PutElsewhere, Idle, Move, GetS, GetM}
+use Rattle.sn_coherence.specs.Block.{FwdGetS, FwdGetM, Inv, DataS, DataM, DataE, UpgOk, InvAck, Unblock, PutReq, PutData, PutGo, PutDone}
+use Rattle.sn_coherence.specs.Block.{Advance, is_owned, is_writable, is_here}
+use Rattle.sn_coherence.specs.CacheRows.{forward_read, forward_write, invalidate, data_shared, data_modified_open, data_modified_complete}
+use Rattle.sn_coherence.specs.CacheRows.{upgrade_granted_open, upgrade_granted_complete, acknowledge_open, acknowledge_complete, put_go}
+use Rattle.sn_coherence.specs.CacheRows.{put_done, data_exclusive}
+use Rattle.sn_coherence.specs.HomeRows.{read_at_home, read_at_owner, take, move_ownership, upgrade, unblock_move, unblock_other, put_begins}
+use Rattle.sn_coherence.specs.HomeRows.{put_is_stale, put_data, grant_exclusive}
+use Rattle.sn_coherence.specs.OtherEvents.{begin_read_miss, begin_write_miss, begin_put, begin_miss_elsewhere, end_miss_elsewhere}
+use Rattle.sn_coherence.specs.OtherEvents.{begin_put_elsewhere, end_put_elsewhere, numbers_elsewhere, store, evict_shared, edge, report}
+use Rattle.sn_coherence.specs.OtherEvents.{validate, lose, deliver_advance}
 use Rattle.sn_coherence.specs.Kept.{Clocks, Nodes, Stages, Requests, Owners, Acknowledgements, Logs, Frames}
 use Rattle.sn_coherence.specs.Events.{Arrives, Owns, OtherOwns, other_sharers, NothingUnfinished, Free}
 use Rattle.sn_coherence.proofs.Rows.{At, IsLast}
@@ -33,7 +40,8 @@ module _ (N : ℕ) (b : Block) (i : ℕ) (frames : Frames N b) (stages : Stages 
   pub upgrade_granted_open_frames : Arrives b i UpgOk → (b.miss (b.net i).to).acks ≢ (b.net i).due → Frames N (upgrade_granted_open b i)
   upgrade_granted_open_frames arrives some_lack = grind (arith, nat_tests, requests.one_get i)
 
-  pub upgrade_granted_complete_frames : Arrives b i UpgOk → (b.miss (b.net i).to).acks ≡ (b.net i).due → Frames N (upgrade_granted_complete b i)
+  pub upgrade_granted_complete_frames : Arrives b i UpgOk → (b.miss (b.net i).to).acks ≡ (b.net i).due →
+      Frames N (upgrade_granted_complete b i)
   upgrade_granted_complete_frames arrives all_in = grind (arith, nat_tests, requests.one_get i)
 
   pub acknowledge_open_frames : Acknowledgements N b → Arrives b i InvAck → IsLast b i ≡ false → Frames N (acknowledge_open b i)
@@ -67,7 +75,8 @@ module _ (N : ℕ) (b : Block) (i : ℕ) (frames : Frames N b) (stages : Stages 
     issued_begun = λ e1 e2. grind (arith, nat_tests);
   }
 
-  pub move_ownership_frames : (targets : ℕ → ℕ) (due : ℕ) → At b i GetM → b.kind ≡ Idle → OtherOwns b (b.net i).from → Frames N (move_ownership b i targets due)
+  pub move_ownership_frames : (targets : ℕ → ℕ) (due : ℕ) → At b i GetM → b.kind ≡ Idle → OtherOwns b (b.net i).from →
+      Frames N (move_ownership b i targets due)
   move_ownership_frames targets due arrives idle other_owns = record {
     holds_framed = λ m1 y e1 e2 e3 e4. grind (arith, nat_tests);
     miss_framed = λ m1 y e1 e2 e3. grind (arith, nat_tests);
@@ -75,7 +84,8 @@ module _ (N : ℕ) (b : Block) (i : ℕ) (frames : Frames N b) (stages : Stages 
     issued_begun = λ e1 e2. grind (arith, nat_tests);
   }
 
-  pub upgrade_frames : (targets : ℕ → ℕ) (due : ℕ) → At b i GetM → b.kind ≡ Idle → Owns b (b.net i).from → Frames N (upgrade b i targets due)
+  pub upgrade_frames : (targets : ℕ → ℕ) (due : ℕ) → At b i GetM → b.kind ≡ Idle → Owns b (b.net i).from →
+      Frames N (upgrade b i targets due)
   upgrade_frames targets due arrives idle sender_owns = record {
     holds_framed = λ m1 y e1 e2 e3 e4. grind (arith, nat_tests);
     miss_framed = λ m1 y e1 e2 e3. grind (arith, nat_tests);
@@ -98,7 +108,8 @@ module _ (N : ℕ) (b : Block) (i : ℕ) (frames : Frames N b) (stages : Stages 
   pub put_data_frames : At b i PutData → Frames N (put_data b i)
   put_data_frames arrives = grind (arith, nat_tests, requests.one_get i)
 
-  pub grant_exclusive_frames : At b i GetS → b.kind ≡ Idle → b.at_home ≡ true → ((x : ℕ) → other_sharers b i x ≡ false) → Frames N (grant_exclusive b i)
+  pub grant_exclusive_frames : At b i GetS → b.kind ≡ Idle → b.at_home ≡ true → ((x : ℕ) → other_sharers b i x ≡ false) →
+      Frames N (grant_exclusive b i)
   grant_exclusive_frames arrives idle home_owns none = grind (arith, nat_tests, requests.one_get i)
 
   -- The other events.
@@ -115,7 +126,8 @@ module _ (N : ℕ) (b : Block) (i : ℕ) (frames : Frames N b) (stages : Stages 
   pub begin_write_miss_frames : Free N b i → is_writable (b.line i) ≡ false → Frames N (begin_write_miss b i)
   begin_write_miss_frames free line = grind (arith, nat_tests, requests.one_get i)
 
-  pub begin_put_frames : i < N → is_here (b.miss i).want ≡ false → b.putting i ≡ NoPut → is_owned (b.line i) ≡ true → Frames N (begin_put b i)
+  pub begin_put_frames : i < N → is_here (b.miss i).want ≡ false → b.putting i ≡ NoPut → is_owned (b.line i) ≡ true →
+      Frames N (begin_put b i)
   begin_put_frames low no_miss no_put line = grind (arith, nat_tests, requests.one_get i)
 
   pub begin_miss_elsewhere_frames : i < N → (b.miss i).want ≡ Nothing → Frames N (begin_miss_elsewhere b i)

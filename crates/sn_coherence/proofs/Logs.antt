@@ -1,10 +1,17 @@
 -- Logs: each row and event keeps how new the entries are.
 use Rattle.std.proofs.Common.{◌≡◌, ◌≢◌, ℕ, ◌+◌, ◌<◌, true, false, ◌⊎◌, arith}
 use Rattle.std.proofs.lemmas.Bool.Decides.{nat_tests}
-use Rattle.sn_coherence.specs.Block.{Block, Content, NoLine, Shared, Nothing, Elsewhere, NoPut, PutElsewhere, Idle, Move, GetS, GetM, FwdGetS, FwdGetM, Inv, DataS, DataM, DataE, UpgOk, InvAck, Unblock, PutReq, PutData, PutGo, PutDone, Advance, is_owned, is_writable, is_here}
-use Rattle.sn_coherence.specs.CacheRows.{forward_read, forward_write, invalidate, data_shared, data_modified_open, data_modified_complete, upgrade_granted_open, upgrade_granted_complete, acknowledge_open, acknowledge_complete, put_go, put_done, data_exclusive}
-use Rattle.sn_coherence.specs.HomeRows.{read_at_home, read_at_owner, take, move_ownership, upgrade, unblock_move, unblock_other, put_begins, put_is_stale, put_data, grant_exclusive}
-use Rattle.sn_coherence.specs.OtherEvents.{begin_read_miss, begin_write_miss, begin_put, begin_miss_elsewhere, end_miss_elsewhere, begin_put_elsewhere, end_put_elsewhere, numbers_elsewhere, store, evict_shared, edge, report, validate, lose, deliver_advance}
+use Rattle.sn_coherence.specs.Block.{Block, Content, NoLine, Shared, Nothing, Elsewhere, NoPut, PutElsewhere, Idle, Move, GetS, GetM}
+use Rattle.sn_coherence.specs.Block.{FwdGetS, FwdGetM, Inv, DataS, DataM, DataE, UpgOk, InvAck, Unblock, PutReq, PutData, PutGo, PutDone}
+use Rattle.sn_coherence.specs.Block.{Advance, is_owned, is_writable, is_here}
+use Rattle.sn_coherence.specs.CacheRows.{forward_read, forward_write, invalidate, data_shared, data_modified_open, data_modified_complete}
+use Rattle.sn_coherence.specs.CacheRows.{upgrade_granted_open, upgrade_granted_complete, acknowledge_open, acknowledge_complete, put_go}
+use Rattle.sn_coherence.specs.CacheRows.{put_done, data_exclusive}
+use Rattle.sn_coherence.specs.HomeRows.{read_at_home, read_at_owner, take, move_ownership, upgrade, unblock_move, unblock_other, put_begins}
+use Rattle.sn_coherence.specs.HomeRows.{put_is_stale, put_data, grant_exclusive}
+use Rattle.sn_coherence.specs.OtherEvents.{begin_read_miss, begin_write_miss, begin_put, begin_miss_elsewhere, end_miss_elsewhere}
+use Rattle.sn_coherence.specs.OtherEvents.{begin_put_elsewhere, end_put_elsewhere, numbers_elsewhere, store, evict_shared, edge, report}
+use Rattle.sn_coherence.specs.OtherEvents.{validate, lose, deliver_advance}
 use Rattle.sn_coherence.specs.Kept.{Clocks, Nodes, Stages, Requests, Owners, Acknowledgements, Sharing, Logs}
 use Rattle.sn_coherence.specs.Events.{Arrives, Owns, OtherOwns, other_sharers, NothingUnfinished, Free}
 use Rattle.sn_coherence.proofs.Rows.{At, IsLast}
@@ -73,7 +80,8 @@ module _ (N : ℕ) (b : Block) (i : ℕ) (logs : Logs b) (stages : Stages b) (ow
     giver = λ e1 e2. grind (arith, nat_tests);
   }
 
-  pub move_ownership_logs : (targets : ℕ → ℕ) (due : ℕ) → At b i GetM → b.kind ≡ Idle → OtherOwns b (b.net i).from → Logs (move_ownership b i targets due)
+  pub move_ownership_logs : (targets : ℕ → ℕ) (due : ℕ) → At b i GetM → b.kind ≡ Idle → OtherOwns b (b.net i).from →
+      Logs (move_ownership b i targets due)
   move_ownership_logs targets due arrives idle other_owns = record {
     holds_now = λ m1 y e1. grind (arith, nat_tests);
     named_home_now = λ y e1. grind (arith, nat_tests);
@@ -116,7 +124,8 @@ module _ (N : ℕ) (b : Block) (i : ℕ) (logs : Logs b) (stages : Stages b) (ow
   pub put_data_logs : At b i PutData → Logs (put_data b i)
   put_data_logs arrives = grind (arith, nat_tests)
 
-  pub grant_exclusive_logs : At b i GetS → b.kind ≡ Idle → b.at_home ≡ true → ((x : ℕ) → other_sharers b i x ≡ false) → Logs (grant_exclusive b i)
+  pub grant_exclusive_logs : At b i GetS → b.kind ≡ Idle → b.at_home ≡ true → ((x : ℕ) → other_sharers b i x ≡ false) →
+      Logs (grant_exclusive b i)
   grant_exclusive_logs arrives idle home_owns none = grind (arith, nat_tests)
 
   -- The other events.

@@ -1,10 +1,17 @@
 -- Nodes: each row and event keeps to them.
 use Rattle.std.proofs.Common.{◌≡◌, ◌≢◌, ℕ, ◌+◌, ◌-◌, ◌<◌, true, false, ◌⊎◌, arith}
 use Rattle.std.proofs.lemmas.Bool.Decides.{nat_tests}
-use Rattle.sn_coherence.specs.Block.{Block, Content, NoLine, Shared, Nothing, Elsewhere, NoPut, PutElsewhere, Idle, Move, GetS, GetM, FwdGetS, FwdGetM, Inv, DataS, DataM, DataE, UpgOk, InvAck, Unblock, PutReq, PutData, PutGo, PutDone, Advance, is_owned, is_writable, is_here}
-use Rattle.sn_coherence.specs.CacheRows.{forward_read, forward_write, invalidate, data_shared, data_modified_open, data_modified_complete, upgrade_granted_open, upgrade_granted_complete, acknowledge_open, acknowledge_complete, put_go, put_done, data_exclusive}
-use Rattle.sn_coherence.specs.HomeRows.{read_at_home, read_at_owner, take, move_ownership, upgrade, unblock_move, unblock_other, put_begins, put_is_stale, put_data, grant_exclusive}
-use Rattle.sn_coherence.specs.OtherEvents.{begin_read_miss, begin_write_miss, begin_put, begin_miss_elsewhere, end_miss_elsewhere, begin_put_elsewhere, end_put_elsewhere, numbers_elsewhere, store, evict_shared, edge, report, validate, lose, deliver_advance}
+use Rattle.sn_coherence.specs.Block.{Block, Content, NoLine, Shared, Nothing, Elsewhere, NoPut, PutElsewhere, Idle, Move, GetS, GetM}
+use Rattle.sn_coherence.specs.Block.{FwdGetS, FwdGetM, Inv, DataS, DataM, DataE, UpgOk, InvAck, Unblock, PutReq, PutData, PutGo, PutDone}
+use Rattle.sn_coherence.specs.Block.{Advance, is_owned, is_writable, is_here}
+use Rattle.sn_coherence.specs.CacheRows.{forward_read, forward_write, invalidate, data_shared, data_modified_open, data_modified_complete}
+use Rattle.sn_coherence.specs.CacheRows.{upgrade_granted_open, upgrade_granted_complete, acknowledge_open, acknowledge_complete, put_go}
+use Rattle.sn_coherence.specs.CacheRows.{put_done, data_exclusive}
+use Rattle.sn_coherence.specs.HomeRows.{read_at_home, read_at_owner, take, move_ownership, upgrade, unblock_move, unblock_other, put_begins}
+use Rattle.sn_coherence.specs.HomeRows.{put_is_stale, put_data, grant_exclusive}
+use Rattle.sn_coherence.specs.OtherEvents.{begin_read_miss, begin_write_miss, begin_put, begin_miss_elsewhere, end_miss_elsewhere}
+use Rattle.sn_coherence.specs.OtherEvents.{begin_put_elsewhere, end_put_elsewhere, numbers_elsewhere, store, evict_shared, edge, report}
+use Rattle.sn_coherence.specs.OtherEvents.{validate, lose, deliver_advance}
 use Rattle.sn_coherence.specs.Kept.{Nodes, Stages, Owners, Acknowledgements}
 use Rattle.sn_coherence.specs.Events.{Arrives, Owns, OtherOwns, Lists, other_sharers, NothingUnfinished, Free}
 use Rattle.sn_coherence.proofs.Rows.{At, IsLast}
@@ -33,7 +40,8 @@ module _ (N : ℕ) (b : Block) (i : ℕ) (nodes : Nodes N b) (stages : Stages b)
   pub upgrade_granted_open_nodes : Arrives b i UpgOk → (b.miss (b.net i).to).acks ≢ (b.net i).due → Nodes N (upgrade_granted_open b i)
   upgrade_granted_open_nodes arrives some_lack = grind (arith, nat_tests)
 
-  pub upgrade_granted_complete_nodes : Arrives b i UpgOk → (b.miss (b.net i).to).acks ≡ (b.net i).due → Nodes N (upgrade_granted_complete b i)
+  pub upgrade_granted_complete_nodes : Arrives b i UpgOk → (b.miss (b.net i).to).acks ≡ (b.net i).due →
+      Nodes N (upgrade_granted_complete b i)
   upgrade_granted_complete_nodes arrives all_in = grind (arith, nat_tests)
 
   pub acknowledge_open_nodes : Arrives b i InvAck → IsLast b i ≡ false → Nodes N (acknowledge_open b i)
@@ -59,7 +67,8 @@ module _ (N : ℕ) (b : Block) (i : ℕ) (nodes : Nodes N b) (stages : Stages b)
   pub read_at_owner_nodes : At b i GetS → b.kind ≡ Idle → b.at_home ≡ false → Nodes N (read_at_owner b i)
   read_at_owner_nodes arrives idle cache_owns = grind (arith, nat_tests)
 
-  pub take_nodes : (targets : ℕ → ℕ) (due : ℕ) → At b i GetM → b.kind ≡ Idle → b.at_home ≡ true → Lists N (other_sharers b i) targets due → Nodes N (take b i targets due)
+  pub take_nodes : (targets : ℕ → ℕ) (due : ℕ) → At b i GetM → b.kind ≡ Idle → b.at_home ≡ true → Lists N (other_sharers b i) targets due →
+      Nodes N (take b i targets due)
   take_nodes targets due arrives idle home_owns each = record {
     home_low = grind (arith, nat_tests);
     from_low = λ x e1. grind (arith, nat_tests);
@@ -74,7 +83,8 @@ module _ (N : ℕ) (b : Block) (i : ℕ) (nodes : Nodes N b) (stages : Stages b)
     put_low = λ m1 e1. grind (arith, nat_tests);
   }
 
-  pub move_ownership_nodes : (targets : ℕ → ℕ) (due : ℕ) → At b i GetM → b.kind ≡ Idle → OtherOwns b (b.net i).from → Lists N (other_sharers b i) targets due → Nodes N (move_ownership b i targets due)
+  pub move_ownership_nodes : (targets : ℕ → ℕ) (due : ℕ) → At b i GetM → b.kind ≡ Idle → OtherOwns b (b.net i).from →
+      Lists N (other_sharers b i) targets due → Nodes N (move_ownership b i targets due)
   move_ownership_nodes targets due arrives idle other_owns each = record {
     home_low = grind (arith, nat_tests);
     from_low = λ x e1. grind (arith, nat_tests);
@@ -89,7 +99,8 @@ module _ (N : ℕ) (b : Block) (i : ℕ) (nodes : Nodes N b) (stages : Stages b)
     put_low = λ m1 e1. grind (arith, nat_tests);
   }
 
-  pub upgrade_nodes : (targets : ℕ → ℕ) (due : ℕ) → At b i GetM → b.kind ≡ Idle → Owns b (b.net i).from → Lists N (other_sharers b i) targets due → Nodes N (upgrade b i targets due)
+  pub upgrade_nodes : (targets : ℕ → ℕ) (due : ℕ) → At b i GetM → b.kind ≡ Idle → Owns b (b.net i).from →
+      Lists N (other_sharers b i) targets due → Nodes N (upgrade b i targets due)
   upgrade_nodes targets due arrives idle sender_owns each = record {
     home_low = grind (arith, nat_tests);
     from_low = λ x e1. grind (arith, nat_tests);
@@ -119,7 +130,8 @@ module _ (N : ℕ) (b : Block) (i : ℕ) (nodes : Nodes N b) (stages : Stages b)
   pub put_data_nodes : At b i PutData → Nodes N (put_data b i)
   put_data_nodes arrives = grind (arith, nat_tests)
 
-  pub grant_exclusive_nodes : At b i GetS → b.kind ≡ Idle → b.at_home ≡ true → ((x : ℕ) → other_sharers b i x ≡ false) → Nodes N (grant_exclusive b i)
+  pub grant_exclusive_nodes : At b i GetS → b.kind ≡ Idle → b.at_home ≡ true → ((x : ℕ) → other_sharers b i x ≡ false) →
+      Nodes N (grant_exclusive b i)
   grant_exclusive_nodes arrives idle home_owns none = grind (arith, nat_tests)
 
   -- The other events.

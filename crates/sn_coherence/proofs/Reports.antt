@@ -1,10 +1,17 @@
 -- Reports: each row and event keeps what was promised to the controller.
 use Rattle.std.proofs.Common.{◌≡◌, ◌≢◌, ℕ, ◌+◌, ◌<◌, true, false, ◌⊎◌, arith}
 use Rattle.std.proofs.lemmas.Bool.Decides.{nat_tests}
-use Rattle.sn_coherence.specs.Block.{Block, Content, NoLine, Shared, Nothing, Elsewhere, NoPut, PutElsewhere, Idle, Move, GetS, GetM, FwdGetS, FwdGetM, Inv, DataS, DataM, DataE, UpgOk, InvAck, Unblock, PutReq, PutData, PutGo, PutDone, Ready, Advance, is_owned, is_writable, is_here}
-use Rattle.sn_coherence.specs.CacheRows.{forward_read, forward_write, invalidate, data_shared, data_modified_open, data_modified_complete, upgrade_granted_open, upgrade_granted_complete, acknowledge_open, acknowledge_complete, put_go, put_done, data_exclusive}
-use Rattle.sn_coherence.specs.HomeRows.{read_at_home, read_at_owner, take, move_ownership, upgrade, unblock_move, unblock_other, put_begins, put_is_stale, put_data, grant_exclusive}
-use Rattle.sn_coherence.specs.OtherEvents.{begin_read_miss, begin_write_miss, begin_put, begin_miss_elsewhere, end_miss_elsewhere, begin_put_elsewhere, end_put_elsewhere, numbers_elsewhere, store, evict_shared, edge, report, validate, lose, deliver_advance}
+use Rattle.sn_coherence.specs.Block.{Block, Content, NoLine, Shared, Nothing, Elsewhere, NoPut, PutElsewhere, Idle, Move, GetS, GetM}
+use Rattle.sn_coherence.specs.Block.{FwdGetS, FwdGetM, Inv, DataS, DataM, DataE, UpgOk, InvAck, Unblock, PutReq, PutData, PutGo, PutDone}
+use Rattle.sn_coherence.specs.Block.{Ready, Advance, is_owned, is_writable, is_here}
+use Rattle.sn_coherence.specs.CacheRows.{forward_read, forward_write, invalidate, data_shared, data_modified_open, data_modified_complete}
+use Rattle.sn_coherence.specs.CacheRows.{upgrade_granted_open, upgrade_granted_complete, acknowledge_open, acknowledge_complete, put_go}
+use Rattle.sn_coherence.specs.CacheRows.{put_done, data_exclusive}
+use Rattle.sn_coherence.specs.HomeRows.{read_at_home, read_at_owner, take, move_ownership, upgrade, unblock_move, unblock_other, put_begins}
+use Rattle.sn_coherence.specs.HomeRows.{put_is_stale, put_data, grant_exclusive}
+use Rattle.sn_coherence.specs.OtherEvents.{begin_read_miss, begin_write_miss, begin_put, begin_miss_elsewhere, end_miss_elsewhere}
+use Rattle.sn_coherence.specs.OtherEvents.{begin_put_elsewhere, end_put_elsewhere, numbers_elsewhere, store, evict_shared, edge, report}
+use Rattle.sn_coherence.specs.OtherEvents.{validate, lose, deliver_advance}
 use Rattle.sn_coherence.specs.Kept.{Clocks}
 use Rattle.sn_coherence.specs.Events.{IsReady, Arrives, Owns, OtherOwns, other_sharers, NothingUnfinished, Free}
 use Rattle.sn_coherence.proofs.Rows.{At, IsLast}
@@ -29,13 +36,15 @@ module _ (N : ℕ) (b : Block) (r : Records) (i : ℕ) (reports : Reports b r) (
   pub data_modified_open_reports : Arrives b i DataM → (b.miss (b.net i).to).acks ≢ (b.net i).due → Reports (data_modified_open b i) r
   data_modified_open_reports arrives some_lack = grind (arith, nat_tests)
 
-  pub data_modified_complete_reports : Arrives b i DataM → (b.miss (b.net i).to).acks ≡ (b.net i).due → Reports (data_modified_complete b i) r
+  pub data_modified_complete_reports : Arrives b i DataM → (b.miss (b.net i).to).acks ≡ (b.net i).due →
+      Reports (data_modified_complete b i) r
   data_modified_complete_reports arrives all_in = grind (arith, nat_tests)
 
   pub upgrade_granted_open_reports : Arrives b i UpgOk → (b.miss (b.net i).to).acks ≢ (b.net i).due → Reports (upgrade_granted_open b i) r
   upgrade_granted_open_reports arrives some_lack = grind (arith, nat_tests)
 
-  pub upgrade_granted_complete_reports : Arrives b i UpgOk → (b.miss (b.net i).to).acks ≡ (b.net i).due → Reports (upgrade_granted_complete b i) r
+  pub upgrade_granted_complete_reports : Arrives b i UpgOk → (b.miss (b.net i).to).acks ≡ (b.net i).due →
+      Reports (upgrade_granted_complete b i) r
   upgrade_granted_complete_reports arrives all_in = grind (arith, nat_tests)
 
   pub acknowledge_open_reports : Arrives b i InvAck → IsLast b i ≡ false → Reports (acknowledge_open b i) r
@@ -67,13 +76,15 @@ module _ (N : ℕ) (b : Block) (r : Records) (i : ℕ) (reports : Reports b r) (
     message = λ x e1. grind (arith, nat_tests);
   }
 
-  pub move_ownership_reports : (targets : ℕ → ℕ) (due : ℕ) → At b i GetM → b.kind ≡ Idle → OtherOwns b (b.net i).from → Reports (move_ownership b i targets due) r
+  pub move_ownership_reports : (targets : ℕ → ℕ) (due : ℕ) → At b i GetM → b.kind ≡ Idle → OtherOwns b (b.net i).from →
+      Reports (move_ownership b i targets due) r
   move_ownership_reports targets due arrives idle other_owns = record {
     reported = λ m1. grind (arith, nat_tests);
     message = λ x e1. grind (arith, nat_tests);
   }
 
-  pub upgrade_reports : (targets : ℕ → ℕ) (due : ℕ) → At b i GetM → b.kind ≡ Idle → Owns b (b.net i).from → Reports (upgrade b i targets due) r
+  pub upgrade_reports : (targets : ℕ → ℕ) (due : ℕ) → At b i GetM → b.kind ≡ Idle → Owns b (b.net i).from →
+      Reports (upgrade b i targets due) r
   upgrade_reports targets due arrives idle sender_owns = record {
     reported = λ m1. grind (arith, nat_tests);
     message = λ x e1. grind (arith, nat_tests);
@@ -94,7 +105,8 @@ module _ (N : ℕ) (b : Block) (r : Records) (i : ℕ) (reports : Reports b r) (
   pub put_data_reports : At b i PutData → Reports (put_data b i) r
   put_data_reports arrives = grind (arith, nat_tests)
 
-  pub grant_exclusive_reports : At b i GetS → b.kind ≡ Idle → b.at_home ≡ true → ((x : ℕ) → other_sharers b i x ≡ false) → Reports (grant_exclusive b i) r
+  pub grant_exclusive_reports : At b i GetS → b.kind ≡ Idle → b.at_home ≡ true → ((x : ℕ) → other_sharers b i x ≡ false) →
+      Reports (grant_exclusive b i) r
   grant_exclusive_reports arrives idle home_owns none = grind (arith, nat_tests)
 
   -- The other events.
@@ -111,7 +123,8 @@ module _ (N : ℕ) (b : Block) (r : Records) (i : ℕ) (reports : Reports b r) (
   pub begin_write_miss_reports : Free N b i → is_writable (b.line i) ≡ false → Reports (begin_write_miss b i) r
   begin_write_miss_reports free line = grind (arith, nat_tests)
 
-  pub begin_put_reports : i < N → is_here (b.miss i).want ≡ false → b.putting i ≡ NoPut → is_owned (b.line i) ≡ true → Reports (begin_put b i) r
+  pub begin_put_reports : i < N → is_here (b.miss i).want ≡ false → b.putting i ≡ NoPut → is_owned (b.line i) ≡ true →
+      Reports (begin_put b i) r
   begin_put_reports low no_miss no_put line = grind (arith, nat_tests)
 
   pub begin_miss_elsewhere_reports : i < N → (b.miss i).want ≡ Nothing → Reports (begin_miss_elsewhere b i) r
@@ -132,7 +145,8 @@ module _ (N : ℕ) (b : Block) (r : Records) (i : ℕ) (reports : Reports b r) (
   pub store_reports : (v : Content) → Free N b i → is_writable (b.line i) ≡ true → Reports (store b i v) (stores r i (b.now i) v)
   store_reports v free line = grind (arith, nat_tests)
 
-  pub store_conditional_reports : (v : Content) → Free N b i → is_writable (b.line i) ≡ true → Reports (store b i v) (stores_conditional r i (b.now i) v)
+  pub store_conditional_reports : (v : Content) → Free N b i → is_writable (b.line i) ≡ true →
+      Reports (store b i v) (stores_conditional r i (b.now i) v)
   store_conditional_reports v free line = grind (arith, nat_tests)
 
   pub evict_shared_reports : is_here (b.miss i).want ≡ false → b.line i ≡ Shared → Reports (evict_shared b i) (unreserves r i)

@@ -1,10 +1,17 @@
 -- Requests: each row and event keeps what waits at the home.
 use Rattle.std.proofs.Common.{◌≡◌, ◌≢◌, ℕ, ◌+◌, ◌<◌, true, false, ◌⊎◌, arith}
 use Rattle.std.proofs.lemmas.Bool.Decides.{nat_tests}
-use Rattle.sn_coherence.specs.Block.{Block, Content, NoLine, Shared, Nothing, Elsewhere, NoPut, PutElsewhere, Idle, Move, GetS, GetM, FwdGetS, FwdGetM, Inv, DataS, DataM, DataE, UpgOk, InvAck, Unblock, PutReq, PutData, PutGo, PutDone, Advance, is_owned, is_writable, is_here}
-use Rattle.sn_coherence.specs.CacheRows.{forward_read, forward_write, invalidate, data_shared, data_modified_open, data_modified_complete, upgrade_granted_open, upgrade_granted_complete, acknowledge_open, acknowledge_complete, put_go, put_done, data_exclusive}
-use Rattle.sn_coherence.specs.HomeRows.{read_at_home, read_at_owner, take, move_ownership, upgrade, unblock_move, unblock_other, put_begins, put_is_stale, put_data, grant_exclusive}
-use Rattle.sn_coherence.specs.OtherEvents.{begin_read_miss, begin_write_miss, begin_put, begin_miss_elsewhere, end_miss_elsewhere, begin_put_elsewhere, end_put_elsewhere, numbers_elsewhere, store, evict_shared, edge, report, validate, lose, deliver_advance}
+use Rattle.sn_coherence.specs.Block.{Block, Content, NoLine, Shared, Nothing, Elsewhere, NoPut, PutElsewhere, Idle, Move, GetS, GetM}
+use Rattle.sn_coherence.specs.Block.{FwdGetS, FwdGetM, Inv, DataS, DataM, DataE, UpgOk, InvAck, Unblock, PutReq, PutData, PutGo, PutDone}
+use Rattle.sn_coherence.specs.Block.{Advance, is_owned, is_writable, is_here}
+use Rattle.sn_coherence.specs.CacheRows.{forward_read, forward_write, invalidate, data_shared, data_modified_open, data_modified_complete}
+use Rattle.sn_coherence.specs.CacheRows.{upgrade_granted_open, upgrade_granted_complete, acknowledge_open, acknowledge_complete, put_go}
+use Rattle.sn_coherence.specs.CacheRows.{put_done, data_exclusive}
+use Rattle.sn_coherence.specs.HomeRows.{read_at_home, read_at_owner, take, move_ownership, upgrade, unblock_move, unblock_other, put_begins}
+use Rattle.sn_coherence.specs.HomeRows.{put_is_stale, put_data, grant_exclusive}
+use Rattle.sn_coherence.specs.OtherEvents.{begin_read_miss, begin_write_miss, begin_put, begin_miss_elsewhere, end_miss_elsewhere}
+use Rattle.sn_coherence.specs.OtherEvents.{begin_put_elsewhere, end_put_elsewhere, numbers_elsewhere, store, evict_shared, edge, report}
+use Rattle.sn_coherence.specs.OtherEvents.{validate, lose, deliver_advance}
 use Rattle.sn_coherence.specs.Kept.{Stages, Requests, Owners}
 use Rattle.sn_coherence.specs.Events.{Arrives, Owns, OtherOwns, other_sharers, NothingUnfinished, Free}
 use Rattle.sn_coherence.proofs.Rows.{At, IsLast}
@@ -27,13 +34,15 @@ module _ (N : ℕ) (b : Block) (i : ℕ) (requests : Requests b) (stages : Stage
   pub data_modified_open_requests : Arrives b i DataM → (b.miss (b.net i).to).acks ≢ (b.net i).due → Requests (data_modified_open b i)
   data_modified_open_requests arrives some_lack = grind (arith, nat_tests, requests.one_get i, requests.one_put_request i)
 
-  pub data_modified_complete_requests : Arrives b i DataM → (b.miss (b.net i).to).acks ≡ (b.net i).due → Requests (data_modified_complete b i)
+  pub data_modified_complete_requests : Arrives b i DataM → (b.miss (b.net i).to).acks ≡ (b.net i).due →
+      Requests (data_modified_complete b i)
   data_modified_complete_requests arrives all_in = grind (arith, nat_tests, requests.one_get i, requests.one_put_request i)
 
   pub upgrade_granted_open_requests : Arrives b i UpgOk → (b.miss (b.net i).to).acks ≢ (b.net i).due → Requests (upgrade_granted_open b i)
   upgrade_granted_open_requests arrives some_lack = grind (arith, nat_tests, requests.one_get i, requests.one_put_request i)
 
-  pub upgrade_granted_complete_requests : Arrives b i UpgOk → (b.miss (b.net i).to).acks ≡ (b.net i).due → Requests (upgrade_granted_complete b i)
+  pub upgrade_granted_complete_requests : Arrives b i UpgOk → (b.miss (b.net i).to).acks ≡ (b.net i).due →
+      Requests (upgrade_granted_complete b i)
   upgrade_granted_complete_requests arrives all_in = grind (arith, nat_tests, requests.one_get i, requests.one_put_request i)
 
   pub acknowledge_open_requests : Arrives b i InvAck → IsLast b i ≡ false → Requests (acknowledge_open b i)
@@ -75,7 +84,8 @@ module _ (N : ℕ) (b : Block) (i : ℕ) (requests : Requests b) (stages : Stage
     put_open = λ e1 e2. grind (arith, nat_tests, requests.one_get i);
   }
 
-  pub move_ownership_requests : (targets : ℕ → ℕ) (due : ℕ) → At b i GetM → b.kind ≡ Idle → OtherOwns b (b.net i).from → Requests (move_ownership b i targets due)
+  pub move_ownership_requests : (targets : ℕ → ℕ) (due : ℕ) → At b i GetM → b.kind ≡ Idle → OtherOwns b (b.net i).from →
+      Requests (move_ownership b i targets due)
   move_ownership_requests targets due arrives idle other_owns = record {
     to_home = λ x e1. grind (arith, nat_tests, requests.one_get i);
     from_home = λ x e1. grind (arith, nat_tests, requests.one_get i);
@@ -91,7 +101,8 @@ module _ (N : ℕ) (b : Block) (i : ℕ) (requests : Requests b) (stages : Stage
     put_open = λ e1 e2. grind (arith, nat_tests, requests.one_get i);
   }
 
-  pub upgrade_requests : (targets : ℕ → ℕ) (due : ℕ) → At b i GetM → b.kind ≡ Idle → Owns b (b.net i).from → Requests (upgrade b i targets due)
+  pub upgrade_requests : (targets : ℕ → ℕ) (due : ℕ) → At b i GetM → b.kind ≡ Idle → Owns b (b.net i).from →
+      Requests (upgrade b i targets due)
   upgrade_requests targets due arrives idle sender_owns = record {
     to_home = λ x e1. grind (arith, nat_tests, requests.one_get i);
     from_home = λ x e1. grind (arith, nat_tests, requests.one_get i);
@@ -122,7 +133,8 @@ module _ (N : ℕ) (b : Block) (i : ℕ) (requests : Requests b) (stages : Stage
   pub put_data_requests : At b i PutData → Requests (put_data b i)
   put_data_requests arrives = grind (arith, nat_tests, requests.one_get i, requests.one_put_request i)
 
-  pub grant_exclusive_requests : At b i GetS → b.kind ≡ Idle → b.at_home ≡ true → ((x : ℕ) → other_sharers b i x ≡ false) → Requests (grant_exclusive b i)
+  pub grant_exclusive_requests : At b i GetS → b.kind ≡ Idle → b.at_home ≡ true → ((x : ℕ) → other_sharers b i x ≡ false) →
+      Requests (grant_exclusive b i)
   grant_exclusive_requests arrives idle home_owns none = grind (arith, nat_tests, requests.one_get i, requests.one_put_request i)
 
   -- The other events.
@@ -139,7 +151,8 @@ module _ (N : ℕ) (b : Block) (i : ℕ) (requests : Requests b) (stages : Stage
   pub begin_write_miss_requests : Free N b i → is_writable (b.line i) ≡ false → Requests (begin_write_miss b i)
   begin_write_miss_requests free line = grind (arith, nat_tests, requests.one_get i, requests.one_put_request i)
 
-  pub begin_put_requests : i < N → is_here (b.miss i).want ≡ false → b.putting i ≡ NoPut → is_owned (b.line i) ≡ true → Requests (begin_put b i)
+  pub begin_put_requests : i < N → is_here (b.miss i).want ≡ false → b.putting i ≡ NoPut → is_owned (b.line i) ≡ true →
+      Requests (begin_put b i)
   begin_put_requests low no_miss no_put line = grind (arith, nat_tests, requests.one_get i, requests.one_put_request i)
 
   pub begin_miss_elsewhere_requests : i < N → (b.miss i).want ≡ Nothing → Requests (begin_miss_elsewhere b i)

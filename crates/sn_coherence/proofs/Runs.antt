@@ -11,9 +11,11 @@ use Rattle.sn_coherence.proofs.Ends.{start_kept}
 use Rattle.sn_coherence.proofs.EndsRecords.{start_recorded}
 use Rattle.sn_coherence.proofs.Whole.{event_kept}
 use Rattle.sn_coherence.proofs.WholeRecords.{allowed, event_recorded}
-use Rattle.sn_coherence.proofs.WhatFollows.{kept_meets_rows, kept_meets_notes, kept_one_holder, kept_content, kept_legal, kept_finished, kept_point}
+use Rattle.sn_coherence.proofs.WhatFollows.{kept_meets_rows, kept_meets_notes, kept_one_holder, kept_content, kept_legal, kept_finished}
+use Rattle.sn_coherence.proofs.WhatFollows.{kept_point}
 
-pub run_kept : (N : ℕ) (b : Block) (r : Records) (es : List Event) → AllSentences N b → KeptRecords b r → CanRun N b r es → AllSentences N (block_after N b es) × KeptRecords (block_after N b es) (records_after N b r es)
+pub run_kept : (N : ℕ) (b : Block) (r : Records) (es : List Event) → AllSentences N b → KeptRecords b r → CanRun N b r es →
+    AllSentences N (block_after N b es) × KeptRecords (block_after N b es) (records_after N b r es)
 run_kept N b r [] k v c = (k, v)
 run_kept N b r (e ∷ es) k v c =
     run_kept N (after N b e) (recorded N b r e) es (event_kept N b e k (allowed N b r e k v c.0)) (event_recorded N b r e k v c.0) c.1
@@ -34,4 +36,5 @@ kept_coherent N b r few k v = record {
 pub run_coherent : (N home : ℕ) (v : Content) (es : List Event) → home < N → N ≤ 16 → CanRun N (start home v) (no_records v) es →
     IsCoherent N (block_after N (start home v) es) (records_after N (start home v) (no_records v) es)
 run_coherent N home v es low few c =
-    let k : _ = run_kept N (start home v) (no_records v) es (start_kept N home v low) (start_recorded home v) c in kept_coherent N _ _ few k.0 k.1
+    let k : _ = run_kept N (start home v) (no_records v) es (start_kept N home v low) (start_recorded home v) c in
+    kept_coherent N _ _ few k.0 k.1

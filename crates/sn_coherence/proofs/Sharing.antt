@@ -1,10 +1,17 @@
 -- Sharing: each row and event keeps who may have a copy beside whom.
 use Rattle.std.proofs.Common.{◌≡◌, ◌≢◌, ℕ, ◌+◌, ◌<◌, true, false, ◌⊎◌, arith}
 use Rattle.std.proofs.lemmas.Bool.Decides.{nat_tests}
-use Rattle.sn_coherence.specs.Block.{Block, Content, NoLine, Shared, Nothing, Elsewhere, NoPut, PutElsewhere, Idle, Move, GetS, GetM, FwdGetS, FwdGetM, Inv, DataS, DataM, DataE, UpgOk, InvAck, Unblock, PutReq, PutData, PutGo, PutDone, Advance, is_owned, is_writable, is_here}
-use Rattle.sn_coherence.specs.CacheRows.{forward_read, forward_write, invalidate, data_shared, data_modified_open, data_modified_complete, upgrade_granted_open, upgrade_granted_complete, acknowledge_open, acknowledge_complete, put_go, put_done, data_exclusive}
-use Rattle.sn_coherence.specs.HomeRows.{read_at_home, read_at_owner, take, move_ownership, upgrade, unblock_move, unblock_other, put_begins, put_is_stale, put_data, grant_exclusive}
-use Rattle.sn_coherence.specs.OtherEvents.{begin_read_miss, begin_write_miss, begin_put, begin_miss_elsewhere, end_miss_elsewhere, begin_put_elsewhere, end_put_elsewhere, numbers_elsewhere, store, evict_shared, edge, report, validate, lose, deliver_advance}
+use Rattle.sn_coherence.specs.Block.{Block, Content, NoLine, Shared, Nothing, Elsewhere, NoPut, PutElsewhere, Idle, Move, GetS, GetM}
+use Rattle.sn_coherence.specs.Block.{FwdGetS, FwdGetM, Inv, DataS, DataM, DataE, UpgOk, InvAck, Unblock, PutReq, PutData, PutGo, PutDone}
+use Rattle.sn_coherence.specs.Block.{Advance, is_owned, is_writable, is_here}
+use Rattle.sn_coherence.specs.CacheRows.{forward_read, forward_write, invalidate, data_shared, data_modified_open, data_modified_complete}
+use Rattle.sn_coherence.specs.CacheRows.{upgrade_granted_open, upgrade_granted_complete, acknowledge_open, acknowledge_complete, put_go}
+use Rattle.sn_coherence.specs.CacheRows.{put_done, data_exclusive}
+use Rattle.sn_coherence.specs.HomeRows.{read_at_home, read_at_owner, take, move_ownership, upgrade, unblock_move, unblock_other, put_begins}
+use Rattle.sn_coherence.specs.HomeRows.{put_is_stale, put_data, grant_exclusive}
+use Rattle.sn_coherence.specs.OtherEvents.{begin_read_miss, begin_write_miss, begin_put, begin_miss_elsewhere, end_miss_elsewhere}
+use Rattle.sn_coherence.specs.OtherEvents.{begin_put_elsewhere, end_put_elsewhere, numbers_elsewhere, store, evict_shared, edge, report}
+use Rattle.sn_coherence.specs.OtherEvents.{validate, lose, deliver_advance}
 use Rattle.sn_coherence.specs.Kept.{Nodes, Stages, Requests, Owners, Acknowledgements, Sharing}
 use Rattle.sn_coherence.specs.Events.{Arrives, Owns, OtherOwns, other_sharers, NothingUnfinished, Free}
 use Rattle.sn_coherence.proofs.Rows.{At, IsLast}
@@ -35,7 +42,8 @@ module _ (N : ℕ) (b : Block) (i : ℕ) (sharing : Sharing b) (stages : Stages 
   pub upgrade_granted_open_sharing : Arrives b i UpgOk → (b.miss (b.net i).to).acks ≢ (b.net i).due → Sharing (upgrade_granted_open b i)
   upgrade_granted_open_sharing arrives some_lack = grind (arith, nat_tests)
 
-  pub upgrade_granted_complete_sharing : Arrives b i UpgOk → (b.miss (b.net i).to).acks ≡ (b.net i).due → Sharing (upgrade_granted_complete b i)
+  pub upgrade_granted_complete_sharing : Arrives b i UpgOk → (b.miss (b.net i).to).acks ≡ (b.net i).due →
+      Sharing (upgrade_granted_complete b i)
   upgrade_granted_complete_sharing arrives all_in = grind (arith, nat_tests, count_none N b.waited)
 
   pub acknowledge_open_sharing : Arrives b i InvAck → IsLast b i ≡ false → Sharing (acknowledge_open b i)
@@ -71,7 +79,8 @@ module _ (N : ℕ) (b : Block) (i : ℕ) (sharing : Sharing b) (stages : Stages 
     read_given = λ m1 e1 e2. grind (arith, nat_tests);
   }
 
-  pub move_ownership_sharing : (targets : ℕ → ℕ) (due : ℕ) → At b i GetM → b.kind ≡ Idle → OtherOwns b (b.net i).from → Sharing (move_ownership b i targets due)
+  pub move_ownership_sharing : (targets : ℕ → ℕ) (due : ℕ) → At b i GetM → b.kind ≡ Idle → OtherOwns b (b.net i).from →
+      Sharing (move_ownership b i targets due)
   move_ownership_sharing targets due arrives idle other_owns = record {
     listed = λ m1 e1. grind (arith, nat_tests);
     reader = λ e1. grind (arith, nat_tests);
@@ -81,7 +90,8 @@ module _ (N : ℕ) (b : Block) (i : ℕ) (sharing : Sharing b) (stages : Stages 
     read_given = λ m1 e1 e2. grind (arith, nat_tests);
   }
 
-  pub upgrade_sharing : (targets : ℕ → ℕ) (due : ℕ) → At b i GetM → b.kind ≡ Idle → Owns b (b.net i).from → Sharing (upgrade b i targets due)
+  pub upgrade_sharing : (targets : ℕ → ℕ) (due : ℕ) → At b i GetM → b.kind ≡ Idle → Owns b (b.net i).from →
+      Sharing (upgrade b i targets due)
   upgrade_sharing targets due arrives idle sender_owns = record {
     listed = λ m1 e1. grind (arith, nat_tests);
     reader = λ e1. grind (arith, nat_tests);
@@ -106,7 +116,8 @@ module _ (N : ℕ) (b : Block) (i : ℕ) (sharing : Sharing b) (stages : Stages 
   pub put_data_sharing : At b i PutData → Sharing (put_data b i)
   put_data_sharing arrives = grind (arith, nat_tests)
 
-  pub grant_exclusive_sharing : At b i GetS → b.kind ≡ Idle → b.at_home ≡ true → ((x : ℕ) → other_sharers b i x ≡ false) → Sharing (grant_exclusive b i)
+  pub grant_exclusive_sharing : At b i GetS → b.kind ≡ Idle → b.at_home ≡ true → ((x : ℕ) → other_sharers b i x ≡ false) →
+      Sharing (grant_exclusive b i)
   grant_exclusive_sharing arrives idle home_owns none = grind (arith, nat_tests)
 
   -- The other events.
@@ -123,7 +134,8 @@ module _ (N : ℕ) (b : Block) (i : ℕ) (sharing : Sharing b) (stages : Stages 
   pub begin_write_miss_sharing : Free N b i → is_writable (b.line i) ≡ false → Sharing (begin_write_miss b i)
   begin_write_miss_sharing free line = grind (arith, nat_tests)
 
-  pub begin_put_sharing : i < N → is_here (b.miss i).want ≡ false → b.putting i ≡ NoPut → is_owned (b.line i) ≡ true → Sharing (begin_put b i)
+  pub begin_put_sharing : i < N → is_here (b.miss i).want ≡ false → b.putting i ≡ NoPut → is_owned (b.line i) ≡ true →
+      Sharing (begin_put b i)
   begin_put_sharing low no_miss no_put line = grind (arith, nat_tests)
 
   pub begin_miss_elsewhere_sharing : i < N → (b.miss i).want ≡ Nothing → Sharing (begin_miss_elsewhere b i)

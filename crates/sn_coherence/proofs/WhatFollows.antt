@@ -3,7 +3,8 @@ use Rattle.std.proofs.Common.{◌≡◌, ◌≢◌, ℕ, ◌≤◌, true, arith}
 use Rattle.std.proofs.lemmas.Bool.Decides.{nat_tests}
 use Rattle.sn_coherence.specs.Block.{Block}
 use Rattle.sn_coherence.specs.OtherEvents.{recover}
-use Rattle.sn_coherence.specs.Kept.{Clocks, Nodes, Stages, Requests, Owners, Acknowledgements, Sharing, Logs, Cuts, AllSentences, count, is_settled}
+use Rattle.sn_coherence.specs.Kept.{Clocks, Nodes, Stages, Requests, Owners, Acknowledgements, Sharing, Logs, Cuts, AllSentences, count}
+use Rattle.sn_coherence.specs.Kept.{is_settled}
 use Rattle.sn_coherence.specs.Events.{NothingUnfinished}
 use Rattle.sn_coherence.specs.Records.{Records, rolls_back}
 use Rattle.sn_coherence.specs.KeptRecords.{Contents, Accesses, CutContents, KeptRecords}

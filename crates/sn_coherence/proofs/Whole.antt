@@ -5,14 +5,29 @@ use Rattle.sn_coherence.specs.Block.{Block, Kind, Move, Body, DataM, UpgOk, InvA
 use Rattle.sn_coherence.specs.CacheRows.{data_modified, upgrade_granted, acknowledge}
 use Rattle.sn_coherence.specs.HomeRows.{unblock, is_move}
 use Rattle.sn_coherence.specs.Kept.{AllSentences, Requests, count}
-use Rattle.sn_coherence.specs.Events.{Event, ForwardRead, ForwardWrite, Invalidate, DataShared, DataModified, UpgradeGranted, Acknowledge, PutGoes, PutIsDone, DataExclusive, ReadAtHome, ReadAtOwner, Takes, MovesOwnership, Upgrades, Unblocks, PutBegins, PutIsStale, PutDataComes, GrantExclusive, DeliverReady, DeliverAdvance, Lose, BeginReadMiss, BeginWriteMiss, BeginPut, BeginMissElsewhere, EndMissElsewhere, BeginPutElsewhere, EndPutElsewhere, NumbersElsewhere, Load, LoadReserved, Store, StoreConditionalDone, StoreConditionalUndone, EvictShared, Edge, Report, Validate, Recover, Allows, after, Arrives, other_sharers}
+use Rattle.sn_coherence.specs.Events.{Event, ForwardRead, ForwardWrite, Invalidate, DataShared, DataModified, UpgradeGranted, Acknowledge}
+use Rattle.sn_coherence.specs.Events.{PutGoes, PutIsDone, DataExclusive, ReadAtHome, ReadAtOwner, Takes, MovesOwnership, Upgrades, Unblocks}
+use Rattle.sn_coherence.specs.Events.{PutBegins, PutIsStale, PutDataComes, GrantExclusive, DeliverReady, DeliverAdvance, Lose}
+use Rattle.sn_coherence.specs.Events.{BeginReadMiss, BeginWriteMiss, BeginPut, BeginMissElsewhere, EndMissElsewhere, BeginPutElsewhere}
+use Rattle.sn_coherence.specs.Events.{EndPutElsewhere, NumbersElsewhere, Load, LoadReserved, Store, StoreConditionalDone}
+use Rattle.sn_coherence.specs.Events.{StoreConditionalUndone, EvictShared, Edge, Report, Validate, Recover, Allows, after, Arrives}
+use Rattle.sn_coherence.specs.Events.{other_sharers}
 use Rattle.sn_coherence.proofs.Rows.{At}
 use Rattle.sn_coherence.proofs.Counts.{count_none}
 use Rattle.sn_coherence.proofs.Ends.{recover_kept}
-use Rattle.sn_coherence.proofs.EachRow.{forward_read_kept, forward_write_kept, invalidate_kept, data_shared_kept, data_modified_open_kept, data_modified_complete_kept, upgrade_granted_open_kept, upgrade_granted_complete_kept, acknowledge_open_kept, acknowledge_complete_kept, put_go_kept, put_done_kept, data_exclusive_kept, read_at_home_kept, read_at_owner_kept, take_kept, move_ownership_kept, upgrade_kept, unblock_move_kept, unblock_other_kept, put_begins_kept, put_is_stale_kept, put_data_kept, grant_exclusive_kept, deliver_advance_kept, lose_kept, begin_read_miss_kept, begin_write_miss_kept, begin_put_kept, begin_miss_elsewhere_kept, end_miss_elsewhere_kept, begin_put_elsewhere_kept, end_put_elsewhere_kept, numbers_elsewhere_kept, store_kept, evict_shared_kept, edge_kept, report_kept, validate_kept}
+use Rattle.sn_coherence.proofs.EachRow.{forward_read_kept, forward_write_kept, invalidate_kept, data_shared_kept, data_modified_open_kept}
+use Rattle.sn_coherence.proofs.EachRow.{data_modified_complete_kept, upgrade_granted_open_kept, upgrade_granted_complete_kept}
+use Rattle.sn_coherence.proofs.EachRow.{acknowledge_open_kept, acknowledge_complete_kept, put_go_kept, put_done_kept, data_exclusive_kept}
+use Rattle.sn_coherence.proofs.EachRow.{read_at_home_kept, read_at_owner_kept, take_kept, move_ownership_kept, upgrade_kept}
+use Rattle.sn_coherence.proofs.EachRow.{unblock_move_kept, unblock_other_kept, put_begins_kept, put_is_stale_kept, put_data_kept}
+use Rattle.sn_coherence.proofs.EachRow.{grant_exclusive_kept, deliver_advance_kept, lose_kept, begin_read_miss_kept, begin_write_miss_kept}
+use Rattle.sn_coherence.proofs.EachRow.{begin_put_kept, begin_miss_elsewhere_kept, end_miss_elsewhere_kept, begin_put_elsewhere_kept}
+use Rattle.sn_coherence.proofs.EachRow.{end_put_elsewhere_kept, numbers_elsewhere_kept, store_kept, evict_shared_kept, edge_kept}
+use Rattle.sn_coherence.proofs.EachRow.{report_kept, validate_kept}
 
 -- a row with two ends
-chosen_kept : (N : ℕ) (t : Bool) (x y : Block) → (t ≡ true → AllSentences N x) → (t ≡ false → AllSentences N y) → AllSentences N (cond t x y)
+chosen_kept : (N : ℕ) (t : Bool) (x y : Block) → (t ≡ true → AllSentences N x) → (t ≡ false → AllSentences N y) →
+    AllSentences N (cond t x y)
 chosen_kept N true x y first second = first refl
 chosen_kept N false x y first second = second refl
 

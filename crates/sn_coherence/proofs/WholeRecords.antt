@@ -4,21 +4,41 @@ use Rattle.sn_coherence.specs.Block.{Block, DataM, UpgOk, InvAck, Unblock}
 use Rattle.sn_coherence.specs.CacheRows.{data_modified, upgrade_granted, acknowledge}
 use Rattle.sn_coherence.specs.HomeRows.{unblock}
 use Rattle.sn_coherence.specs.Kept.{AllSentences}
-use Rattle.sn_coherence.specs.Events.{Event, ForwardRead, ForwardWrite, Invalidate, DataShared, DataModified, UpgradeGranted, Acknowledge, PutGoes, PutIsDone, DataExclusive, ReadAtHome, ReadAtOwner, Takes, MovesOwnership, Upgrades, Unblocks, PutBegins, PutIsStale, PutDataComes, GrantExclusive, DeliverReady, DeliverAdvance, Lose, BeginReadMiss, BeginWriteMiss, BeginPut, BeginMissElsewhere, EndMissElsewhere, BeginPutElsewhere, EndPutElsewhere, NumbersElsewhere, Load, LoadReserved, Store, StoreConditionalDone, StoreConditionalUndone, EvictShared, Edge, Report, Validate, Recover, Allows, NothingUnfinished, after, Arrives}
+use Rattle.sn_coherence.specs.Events.{Event, ForwardRead, ForwardWrite, Invalidate, DataShared, DataModified, UpgradeGranted, Acknowledge}
+use Rattle.sn_coherence.specs.Events.{PutGoes, PutIsDone, DataExclusive, ReadAtHome, ReadAtOwner, Takes, MovesOwnership, Upgrades, Unblocks}
+use Rattle.sn_coherence.specs.Events.{PutBegins, PutIsStale, PutDataComes, GrantExclusive, DeliverReady, DeliverAdvance, Lose}
+use Rattle.sn_coherence.specs.Events.{BeginReadMiss, BeginWriteMiss, BeginPut, BeginMissElsewhere, EndMissElsewhere, BeginPutElsewhere}
+use Rattle.sn_coherence.specs.Events.{EndPutElsewhere, NumbersElsewhere, Load, LoadReserved, Store, StoreConditionalDone}
+use Rattle.sn_coherence.specs.Events.{StoreConditionalUndone, EvictShared, Edge, Report, Validate, Recover, Allows, NothingUnfinished}
+use Rattle.sn_coherence.specs.Events.{after, Arrives}
 use Rattle.sn_coherence.specs.Records.{Records, recorded, MayHappen}
 use Rattle.sn_coherence.specs.KeptRecords.{KeptRecords, Reports}
 use Rattle.sn_coherence.proofs.Rows.{At}
 use Rattle.sn_coherence.proofs.Whole.{at, equal, unequal, moves, stays, no_others}
-use Rattle.sn_coherence.proofs.EachRowRecords.{forward_read_recorded, forward_write_recorded, invalidate_recorded, data_shared_recorded, data_modified_open_recorded, data_modified_complete_recorded, upgrade_granted_open_recorded, upgrade_granted_complete_recorded, acknowledge_open_recorded, acknowledge_complete_recorded, put_go_recorded, put_done_recorded, data_exclusive_recorded, read_at_home_recorded, read_at_owner_recorded, take_recorded, move_ownership_recorded, upgrade_recorded, unblock_move_recorded, unblock_other_recorded, put_begins_recorded, put_is_stale_recorded, put_data_recorded, grant_exclusive_recorded, deliver_advance_recorded, lose_recorded, begin_read_miss_recorded, begin_write_miss_recorded, begin_put_recorded, begin_miss_elsewhere_recorded, end_miss_elsewhere_recorded, begin_put_elsewhere_recorded, end_put_elsewhere_recorded, numbers_elsewhere_recorded, store_recorded, store_conditional_recorded, evict_shared_recorded, edge_recorded, report_recorded, validate_recorded, load_recorded, load_reserved_recorded, store_conditional_undone_recorded, deliver_ready_recorded}
+use Rattle.sn_coherence.proofs.EachRowRecords.{forward_read_recorded, forward_write_recorded, invalidate_recorded, data_shared_recorded}
+use Rattle.sn_coherence.proofs.EachRowRecords.{data_modified_open_recorded, data_modified_complete_recorded, upgrade_granted_open_recorded}
+use Rattle.sn_coherence.proofs.EachRowRecords.{upgrade_granted_complete_recorded, acknowledge_open_recorded, acknowledge_complete_recorded}
+use Rattle.sn_coherence.proofs.EachRowRecords.{put_go_recorded, put_done_recorded, data_exclusive_recorded, read_at_home_recorded}
+use Rattle.sn_coherence.proofs.EachRowRecords.{read_at_owner_recorded, take_recorded, move_ownership_recorded, upgrade_recorded}
+use Rattle.sn_coherence.proofs.EachRowRecords.{unblock_move_recorded, unblock_other_recorded, put_begins_recorded, put_is_stale_recorded}
+use Rattle.sn_coherence.proofs.EachRowRecords.{put_data_recorded, grant_exclusive_recorded, deliver_advance_recorded, lose_recorded}
+use Rattle.sn_coherence.proofs.EachRowRecords.{begin_read_miss_recorded, begin_write_miss_recorded, begin_put_recorded}
+use Rattle.sn_coherence.proofs.EachRowRecords.{begin_miss_elsewhere_recorded, end_miss_elsewhere_recorded, begin_put_elsewhere_recorded}
+use Rattle.sn_coherence.proofs.EachRowRecords.{end_put_elsewhere_recorded, numbers_elsewhere_recorded, store_recorded}
+use Rattle.sn_coherence.proofs.EachRowRecords.{store_conditional_recorded, evict_shared_recorded, edge_recorded, report_recorded}
+use Rattle.sn_coherence.proofs.EachRowRecords.{validate_recorded, load_recorded, load_reserved_recorded, store_conditional_undone_recorded}
+use Rattle.sn_coherence.proofs.EachRowRecords.{deliver_ready_recorded}
 use Rattle.sn_coherence.proofs.EndsRecords.{recover_recorded}
 
 -- a row with two ends
-chosen_recorded : (t : Bool) (x y : Block) (r : Records) → (t ≡ true → KeptRecords x r) → (t ≡ false → KeptRecords y r) → KeptRecords (cond t x y) r
+chosen_recorded : (t : Bool) (x y : Block) (r : Records) → (t ≡ true → KeptRecords x r) → (t ≡ false → KeptRecords y r) →
+    KeptRecords (cond t x y) r
 chosen_recorded true x y r first second = first refl
 chosen_recorded false x y r first second = second refl
 
 -- what every node has reported is unfinished nowhere
-pub nothing_unfinished : (N : ℕ) (b : Block) (r : Records) → AllSentences N b → Reports b r → ((n : ℕ) → n < N → b.point < r.reported n) → NothingUnfinished N b (b.point + 1)
+pub nothing_unfinished : (N : ℕ) (b : Block) (r : Records) → AllSentences N b → Reports b r → ((n : ℕ) → n < N → b.point < r.reported n) →
+    NothingUnfinished N b (b.point + 1)
 nothing_unfinished N b r k p a = record {
   now = λ n l. grind (arith, a n l, p.reported n);
   miss = λ n l e. grind (arith, a n l, p.reported n);
@@ -82,14 +102,16 @@ module _ (N : ℕ) (b : Block) (r : Records) (i : ℕ) (k : AllSentences N b) (v
       (λ e. upgrade_granted_open_recorded N b r i k v a (unequal _ _ e))
 
   acknowledge_recorded : Arrives b i InvAck → KeptRecords (acknowledge b i) r
-  acknowledge_recorded a = chosen_recorded _ _ _ r (λ e. acknowledge_complete_recorded N b r i k v a e) (λ e. acknowledge_open_recorded N b r i k v a e)
+  acknowledge_recorded a =
+      chosen_recorded _ _ _ r (λ e. acknowledge_complete_recorded N b r i k v a e) (λ e. acknowledge_open_recorded N b r i k v a e)
 
   unblock_recorded : At b i Unblock → KeptRecords (unblock b i) r
   unblock_recorded a = chosen_recorded _ _ _ r
       (λ e. unblock_move_recorded N b r i k v a (moves _ e))
       (λ e. unblock_other_recorded N b r i k v a (stays _ e))
 
-pub event_recorded : (N : ℕ) (b : Block) (r : Records) (e : Event) → AllSentences N b → KeptRecords b r → MayHappen N b r e → KeptRecords (after N b e) (recorded N b r e)
+pub event_recorded : (N : ℕ) (b : Block) (r : Records) (e : Event) → AllSentences N b → KeptRecords b r → MayHappen N b r e →
+    KeptRecords (after N b e) (recorded N b r e)
 event_recorded N b r (ForwardRead i) k v a = forward_read_recorded N b r i k v a
 event_recorded N b r (ForwardWrite i) k v a = forward_write_recorded N b r i k v a
 event_recorded N b r (Invalidate i) k v a = invalidate_recorded N b r i k v a
@@ -103,13 +125,15 @@ event_recorded N b r (DataExclusive i) k v a = data_exclusive_recorded N b r i k
 event_recorded N b r (ReadAtHome i) k v a = read_at_home_recorded N b r i k v (at b i _ k.requests refl a.0.0) a.0.1 a.1
 event_recorded N b r (ReadAtOwner i) k v a = read_at_owner_recorded N b r i k v (at b i _ k.requests refl a.0.0) a.0.1 a.1
 event_recorded N b r (Takes i targets due) k v a = take_recorded N b r i k v targets due (at b i _ k.requests refl a.0.0) a.0.1 a.1
-event_recorded N b r (MovesOwnership i targets due) k v a = move_ownership_recorded N b r i k v targets due (at b i _ k.requests refl a.0.0) a.0.1 a.1
+event_recorded N b r (MovesOwnership i targets due) k v a =
+    move_ownership_recorded N b r i k v targets due (at b i _ k.requests refl a.0.0) a.0.1 a.1
 event_recorded N b r (Upgrades i targets due) k v a = upgrade_recorded N b r i k v targets due (at b i _ k.requests refl a.0.0) a.0.1 a.1
 event_recorded N b r (Unblocks i) k v a = unblock_recorded N b r i k v (at b i _ k.requests refl a)
 event_recorded N b r (PutBegins i) k v a = put_begins_recorded N b r i k v (at b i _ k.requests refl a.0.0) a.0.1 a.1
 event_recorded N b r (PutIsStale i) k v a = put_is_stale_recorded N b r i k v (at b i _ k.requests refl a.0.0) a.0.1 a.1
 event_recorded N b r (PutDataComes i) k v a = put_data_recorded N b r i k v (at b i _ k.requests refl a)
-event_recorded N b r (GrantExclusive i) k v a = grant_exclusive_recorded N b r i k v (at b i _ k.requests refl a.0.0) a.0.1 a.1 (no_others N b i k a.2)
+event_recorded N b r (GrantExclusive i) k v a =
+    grant_exclusive_recorded N b r i k v (at b i _ k.requests refl a.0.0) a.0.1 a.1 (no_others N b i k a.2)
 event_recorded N b r (DeliverReady i) k v a = deliver_ready_recorded N b r i k v a
 event_recorded N b r (DeliverAdvance i) k v a = deliver_advance_recorded N b r i k v a
 event_recorded N b r (Lose i) k v a = lose_recorded N b r i k v

@@ -321,13 +321,16 @@ abbrev pub plain : Body → ℕ → ℕ → ℕ → Message
 plain body from to tag = record { body = body; from = from; to = to; tag = tag; requester = 0; due = 0; number = 0; content = nothing }
 
 abbrev pub with_number : Body → ℕ → ℕ → ℕ → ℕ → Message
-with_number body from to tag number = record { body = body; from = from; to = to; tag = tag; requester = 0; due = 0; number = number; content = nothing }
+with_number body from to tag number =
+    record { body = body; from = from; to = to; tag = tag; requester = 0; due = 0; number = number; content = nothing }
 
 abbrev pub forward : Body → ℕ → ℕ → ℕ → ℕ → ℕ → Message
-forward body from to tag requester due = record { body = body; from = from; to = to; tag = tag; requester = requester; due = due; number = 0; content = nothing }
+forward body from to tag requester due =
+    record { body = body; from = from; to = to; tag = tag; requester = requester; due = due; number = 0; content = nothing }
 
 abbrev pub answer : Body → ℕ → ℕ → ℕ → ℕ → Content → Message
-answer body from to tag due content = record { body = body; from = from; to = to; tag = tag; requester = 0; due = due; number = 0; content = content }
+answer body from to tag due content =
+    record { body = body; from = from; to = to; tag = tag; requester = 0; due = due; number = 0; content = content }
 
 -- the net without message i
 abbrev pub taken : Block → ℕ → ℕ → Message

@@ -1,6 +1,8 @@
 -- The rows of a cache, in the order of its table. Message i has come to the node that it is for.
 use Rattle.std.specs.Prelude.{ℕ, ◌+◌, true, false, ◌==◌, ◌&&◌, cond}
-use Rattle.sn_coherence.specs.Block.{Block, Miss, NoLine, Shared, Owned, Modified, Exclusive, NoPut, Given, Inside, Done, Message, DataS, DataM, InvAck, Unblock, PutData, is_write, set, set_row, above, nothing, no_miss, plain, with_number, answer, taken, replaced}
+use Rattle.sn_coherence.specs.Block.{Block, Miss, NoLine, Shared, Owned, Modified, Exclusive, NoPut, Given, Inside, Done, Message, DataS}
+use Rattle.sn_coherence.specs.Block.{DataM, InvAck, Unblock, PutData, is_write, set, set_row, above, nothing, no_miss, plain, with_number}
+use Rattle.sn_coherence.specs.Block.{answer, taken, replaced}
 
 -- FwdGetS for r, at the owner: the line is owned and no longer writable; DataS with the content to r.
 abbrev pub forward_read : Block → ℕ → Block
@@ -137,7 +139,8 @@ acknowledge_complete b i =
 
 abbrev pub acknowledge : Block → ℕ → Block
 acknowledge b i =
-    cond ((b.miss (b.net i).to).is_fixed && ((b.miss (b.net i).to).acks + 1 == (b.miss (b.net i).to).due)) (acknowledge_complete b i) (acknowledge_open b i)
+    cond ((b.miss (b.net i).to).is_fixed && ((b.miss (b.net i).to).acks + 1 == (b.miss (b.net i).to).due)) (acknowledge_complete b i)
+    (acknowledge_open b i)
 
 -- PutGo: the old content is noted under now, the copy is lost, the put is closed; PutData to the home.
 abbrev pub put_go : Block → ℕ → Block

@@ -1,6 +1,8 @@
 -- What follows from the sentences.
 use Rattle.std.specs.Prelude.{◌≡◌, ◌≢◌, ◌⊎◌, ℕ, ◌+◌, ◌<◌, ◌≤◌, true, false}
-use Rattle.sn_coherence.specs.Block.{Block, NoLine, Shared, Owned, Modified, Nothing, Reads, Writes, NoPut, Here, Idle, Move, Put, Gone, GetS, FwdGetS, FwdGetM, Inv, DataS, DataM, DataE, UpgOk, InvAck, Unblock, PutData, PutGo, PutDone, is_owned, is_writable, is_here, gets, is_to_home}
+use Rattle.sn_coherence.specs.Block.{Block, NoLine, Shared, Owned, Modified, Nothing, Reads, Writes, NoPut, Here, Idle, Move, Put, Gone}
+use Rattle.sn_coherence.specs.Block.{GetS, FwdGetS, FwdGetM, Inv, DataS, DataM, DataE, UpgOk, InvAck, Unblock, PutData, PutGo, PutDone}
+use Rattle.sn_coherence.specs.Block.{is_owned, is_writable, is_here, gets, is_to_home}
 use Rattle.sn_coherence.specs.Records.{Records}
 use Rattle.sn_coherence.specs.Events.{Free}
 
@@ -13,13 +15,16 @@ pub record MeetsRows (b : Block) : Type 0 where
   pub invalidate : (i : ℕ) → (b.net i).body ≡ Inv → is_owned (b.line (b.net i).to) ≡ false
   -- an answer finds its miss open, of its kind and not fixed, and the line that it expects; at a read no acknowledgement is in
   pub data_shared : (i : ℕ) → (b.net i).body ≡ DataS →
-      ((b.miss (b.net i).to).want ≡ Reads) × ((b.miss (b.net i).to).is_fixed ≡ false) × ((b.miss (b.net i).to).acks ≡ 0) × (b.line (b.net i).to ≡ NoLine)
+      ((b.miss (b.net i).to).want ≡ Reads) × ((b.miss (b.net i).to).is_fixed ≡ false) × ((b.miss (b.net i).to).acks ≡ 0)
+      × (b.line (b.net i).to ≡ NoLine)
   pub data_modified : (i : ℕ) → (b.net i).body ≡ DataM →
-      ((b.miss (b.net i).to).want ≡ Writes) × ((b.miss (b.net i).to).is_fixed ≡ false) × ((b.line (b.net i).to ≡ NoLine) ⊎ (b.line (b.net i).to ≡ Shared))
+      ((b.miss (b.net i).to).want ≡ Writes) × ((b.miss (b.net i).to).is_fixed ≡ false)
+      × ((b.line (b.net i).to ≡ NoLine) ⊎ (b.line (b.net i).to ≡ Shared))
   pub upgrade_granted : (i : ℕ) → (b.net i).body ≡ UpgOk →
       ((b.miss (b.net i).to).want ≡ Writes) × ((b.miss (b.net i).to).is_fixed ≡ false) × (b.line (b.net i).to ≡ Owned)
   pub data_exclusive : (i : ℕ) → (b.net i).body ≡ DataE →
-      ((b.miss (b.net i).to).want ≡ Reads) × ((b.miss (b.net i).to).is_fixed ≡ false) × ((b.miss (b.net i).to).acks ≡ 0) × (b.line (b.net i).to ≡ NoLine)
+      ((b.miss (b.net i).to).want ≡ Reads) × ((b.miss (b.net i).to).is_fixed ≡ false) × ((b.miss (b.net i).to).acks ≡ 0)
+      × (b.line (b.net i).to ≡ NoLine)
   -- an acknowledgement finds the miss open, and fewer than 15 are in
   pub acknowledge : (i : ℕ) → (b.net i).body ≡ InvAck → (is_here (b.miss (b.net i).to).want ≡ true) × ((b.miss (b.net i).to).acks < 15)
   -- a PutGo finds the line owned and the put open, a PutDone the put open

@@ -2,7 +2,8 @@
 use Rattle.std.specs.Prelude.{◌≡◌, true, false, List, [], ◌∷◌, ◌++◌}
 use Rattle.sn_coherence.specs.Block.{Block, Modified, NoLine}
 use Rattle.sn_coherence.specs.OtherEvents.{start}
-use Rattle.sn_coherence.specs.Events.{Event, BeginWriteMiss, Takes, DataModified, Unblocks, Store, BeginReadMiss, ReadAtOwner, ForwardRead, DataShared, Load, Edge, MovesOwnership, ForwardWrite, Lose, Report, DeliverReady, Validate, Recover}
+use Rattle.sn_coherence.specs.Events.{Event, BeginWriteMiss, Takes, DataModified, Unblocks, Store, BeginReadMiss, ReadAtOwner, ForwardRead}
+use Rattle.sn_coherence.specs.Events.{DataShared, Load, Edge, MovesOwnership, ForwardWrite, Lose, Report, DeliverReady, Validate, Recover}
 
 -- the home has the content 5
 abbrev pub example_start : Block
@@ -17,7 +18,9 @@ written_and_read =
 -- Then node 0 gets it to write, and makes it 9. Node 1's clock ticked before it gave the block away, so the data can't
 -- come to node 0 before node 0's clock has ticked too.
 abbrev pub hand_over : List Event
-hand_over = Edge 1 ∷ BeginWriteMiss 0 ∷ MovesOwnership 8 (λ k. 0) 0 ∷ ForwardWrite 9 ∷ Edge 0 ∷ DataModified 10 ∷ Unblocks 11 ∷ Store 0 (9 ∷ []) ∷ []
+hand_over =
+    Edge 1 ∷ BeginWriteMiss 0 ∷ MovesOwnership 8 (λ k. 0) 0 ∷ ForwardWrite 9 ∷ Edge 0 ∷ DataModified 10 ∷ Unblocks 11 ∷ Store 0 (9 ∷ [])
+    ∷ []
 
 abbrev pub handed_over : List Event
 handed_over = written_and_read ++ hand_over

@@ -1,7 +1,9 @@
 -- The rows of a home, in the order of its table. Message i has come to the home, r is its sender.
 -- `targets` and `due` are the sharers without r, in order, and how many they are.
 use Rattle.std.specs.Prelude.{ℕ, ◌+◌, Bool, true, false, cond}
-use Rattle.sn_coherence.specs.Block.{Block, Kind, Idle, Read, Take, Move, Upgrade, Put, Asked, Given, FwdGetS, FwdGetM, DataS, DataM, DataE, UpgOk, PutGo, PutDone, nothing, set, above, others, plain, forward, answer, taken, replaced, invalidates}
+use Rattle.sn_coherence.specs.Block.{Block, Kind, Idle, Read, Take, Move, Upgrade, Put, Asked, Given, FwdGetS, FwdGetM, DataS, DataM, DataE}
+use Rattle.sn_coherence.specs.Block.{UpgOk, PutGo, PutDone, nothing, set, above, others, plain, forward, answer, taken, replaced}
+use Rattle.sn_coherence.specs.Block.{invalidates}
 
 -- GetS, the home owns and there are other sharers: a Read opens; r joins the sharers; DataS to r.
 abbrev pub read_at_home : Block → ℕ → Block

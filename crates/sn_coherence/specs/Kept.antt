@@ -1,7 +1,11 @@
 -- What every event keeps of one block, without the records of accesses. Names: r is the requester of the open
 -- transaction, an entry is an entry of a log, a cut is a number of a checkpoint.
 use Rattle.std.specs.Prelude.{◌≡◌, ◌≢◌, ◌⊎◌, ℕ, zero, suc, ◌+◌, ◌<◌, ◌≤◌, Bool, true, false, cond, nat_le}
-use Rattle.sn_coherence.specs.Block.{Block, NoLine, Shared, Owned, Modified, Nothing, Reads, Writes, NoPut, Here, Kind, Idle, Read, Take, Move, Upgrade, Put, Stage, Asked, Given, Inside, Done, Gone, GetS, GetM, FwdGetS, FwdGetM, Inv, DataS, DataM, DataE, UpgOk, InvAck, Unblock, PutData, PutGo, Ready, Advance, is_owned, is_writable, is_here, takes, gets, hands_over, leaves_cache, comes_to_cache, is_early, is_late, is_token, is_get, has_due, is_to_home, is_from_home, is_invalidation, sharer_of, is_put_request, putter_of}
+use Rattle.sn_coherence.specs.Block.{Block, NoLine, Shared, Owned, Modified, Nothing, Reads, Writes, NoPut, Here, Kind, Idle, Read, Take}
+use Rattle.sn_coherence.specs.Block.{Move, Upgrade, Put, Stage, Asked, Given, Inside, Done, Gone, GetS, GetM, FwdGetS, FwdGetM, Inv, DataS}
+use Rattle.sn_coherence.specs.Block.{DataM, DataE, UpgOk, InvAck, Unblock, PutData, PutGo, Ready, Advance, is_owned, is_writable, is_here}
+use Rattle.sn_coherence.specs.Block.{takes, gets, hands_over, leaves_cache, comes_to_cache, is_early, is_late, is_token, is_get, has_due}
+use Rattle.sn_coherence.specs.Block.{is_to_home, is_from_home, is_invalidation, sharer_of, is_put_request, putter_of}
 
 -- how many nodes below n pass
 unfoldable pub count : ℕ → (ℕ → Bool) → ℕ
@@ -60,31 +64,40 @@ pub record Stages (b : Block) : Type 0 where
   pub begun_at : b.kind ≢ Idle → b.stage ≢ Asked → b.begun ≤ b.at
   -- a FwdGetS is for r of a Read that is asked, at the cache that the home names, from begun on
   pub fwd_get_s : (i : ℕ) → (b.net i).body ≡ FwdGetS →
-      (b.kind ≡ Read) × (b.stage ≡ Asked) × (b.at_home ≡ false) × ((b.net i).to ≡ b.owner) × ((b.net i).requester ≡ b.requester) × (b.begun ≤ (b.net i).tag)
+      (b.kind ≡ Read) × (b.stage ≡ Asked) × (b.at_home ≡ false) × ((b.net i).to ≡ b.owner) × ((b.net i).requester ≡ b.requester)
+      × (b.begun ≤ (b.net i).tag)
   -- a FwdGetM is for r of a Move that is asked, at the cache that the home names, from begun on
   pub fwd_get_m : (i : ℕ) → (b.net i).body ≡ FwdGetM →
-      (b.kind ≡ Move) × (b.stage ≡ Asked) × (b.at_home ≡ false) × ((b.net i).to ≡ b.owner) × ((b.net i).requester ≡ b.requester) × (b.begun ≤ (b.net i).tag)
+      (b.kind ≡ Move) × (b.stage ≡ Asked) × (b.at_home ≡ false) × ((b.net i).to ≡ b.owner) × ((b.net i).requester ≡ b.requester)
+      × (b.begun ≤ (b.net i).tag)
   -- a PutGo is for r of a Put that is asked, from begun on
-  pub put_go : (i : ℕ) → (b.net i).body ≡ PutGo → (b.kind ≡ Put) × (b.stage ≡ Asked) × ((b.net i).to ≡ b.requester) × (b.begun ≤ (b.net i).tag)
+  pub put_go : (i : ℕ) → (b.net i).body ≡ PutGo →
+      (b.kind ≡ Put) × (b.stage ≡ Asked) × ((b.net i).to ≡ b.requester) × (b.begun ≤ (b.net i).tag)
   -- a DataS is for r of a Read that is given, with the interval of atomicity as its tag
-  pub data_s : (i : ℕ) → (b.net i).body ≡ DataS → (b.kind ≡ Read) × (b.stage ≡ Given) × ((b.net i).to ≡ b.requester) × ((b.net i).tag ≡ b.at)
+  pub data_s : (i : ℕ) → (b.net i).body ≡ DataS →
+      (b.kind ≡ Read) × (b.stage ≡ Given) × ((b.net i).to ≡ b.requester) × ((b.net i).tag ≡ b.at)
   -- a DataM is for r of a Take or Move that is given, with that tag; r wants to write
   pub data_m : (i : ℕ) → (b.net i).body ≡ DataM →
-      (comes_to_cache b.kind ≡ true) × (b.stage ≡ Given) × ((b.net i).to ≡ b.requester) × ((b.net i).tag ≡ b.at) × ((b.miss b.requester).want ≡ Writes)
+      (comes_to_cache b.kind ≡ true) × (b.stage ≡ Given) × ((b.net i).to ≡ b.requester) × ((b.net i).tag ≡ b.at)
+      × ((b.miss b.requester).want ≡ Writes)
   -- a DataE is for r of a Take that is given, with that tag; r wants to read
   pub data_e : (i : ℕ) → (b.net i).body ≡ DataE →
       (b.kind ≡ Take) × (b.stage ≡ Given) × ((b.net i).to ≡ b.requester) × ((b.net i).tag ≡ b.at) × ((b.miss b.requester).want ≡ Reads)
   -- an UpgOk is for r of an Upgrade that is given, with that tag
-  pub upg_ok : (i : ℕ) → (b.net i).body ≡ UpgOk → (b.kind ≡ Upgrade) × (b.stage ≡ Given) × ((b.net i).to ≡ b.requester) × ((b.net i).tag ≡ b.at)
+  pub upg_ok : (i : ℕ) → (b.net i).body ≡ UpgOk →
+      (b.kind ≡ Upgrade) × (b.stage ≡ Given) × ((b.net i).to ≡ b.requester) × ((b.net i).tag ≡ b.at)
   -- a PutData is from r of a Put that is given, with that tag
-  pub put_data : (i : ℕ) → (b.net i).body ≡ PutData → (b.kind ≡ Put) × (b.stage ≡ Given) × ((b.net i).from ≡ b.requester) × ((b.net i).tag ≡ b.at)
+  pub put_data : (i : ℕ) → (b.net i).body ≡ PutData →
+      (b.kind ≡ Put) × (b.stage ≡ Given) × ((b.net i).from ≡ b.requester) × ((b.net i).tag ≡ b.at)
   -- an Unblock is from r of a transaction that is done, and names its interval of atomicity, which its tag isn't below
   pub unblock : (i : ℕ) → (b.net i).body ≡ Unblock →
-      (gets b.kind ≡ true) × (b.stage ≡ Done) × ((b.net i).from ≡ b.requester) × ((b.net i).number ≡ b.at) × ((b.net i).number ≤ (b.net i).tag)
+      (gets b.kind ≡ true) × (b.stage ≡ Done) × ((b.net i).from ≡ b.requester) × ((b.net i).number ≡ b.at)
+      × ((b.net i).number ≤ (b.net i).tag)
   -- at most one of all these is in flight
   pub one_token : (i j : ℕ) → is_token (b.net i).body ≡ true → is_token (b.net j).body ≡ true → i ≡ j
   -- until r is reached its miss is open on the block and not fixed,
-  pub wait : gets b.kind ≡ true → is_early b.stage ≡ true → (is_here (b.miss b.requester).want ≡ true) × ((b.miss b.requester).is_fixed ≡ false)
+  pub wait : gets b.kind ≡ true → is_early b.stage ≡ true →
+      (is_here (b.miss b.requester).want ≡ true) × ((b.miss b.requester).is_fixed ≡ false)
   -- for a write in a Move or Upgrade, for a read in a Read,
   pub wait_move : b.kind ≡ Move → is_early b.stage ≡ true → (b.miss b.requester).want ≡ Writes
   pub wait_upgrade : b.kind ≡ Upgrade → is_early b.stage ≡ true → (b.miss b.requester).want ≡ Writes
@@ -93,7 +106,8 @@ pub record Stages (b : Block) : Type 0 where
   pub wait_alone : (i : ℕ) → is_get (b.net i).body ≡ true → gets b.kind ≡ true → is_early b.stage ≡ true → (b.net i).from ≢ b.requester
   -- while acknowledgements lack, r's miss is fixed at the interval of atomicity, which its now has reached, for a write;
   pub inside : b.kind ≢ Idle → b.stage ≡ Inside →
-      ((b.miss b.requester).is_fixed ≡ true) × ((b.miss b.requester).want ≡ Writes) × ((b.miss b.requester).fixed ≡ b.at) × (b.at ≤ b.now b.requester)
+      ((b.miss b.requester).is_fixed ≡ true) × ((b.miss b.requester).want ≡ Writes) × ((b.miss b.requester).fixed ≡ b.at)
+      × (b.at ≤ b.now b.requester)
   -- its line is Owned in an Upgrade and else Modified
   pub inside_upgrade : b.kind ≡ Upgrade → b.stage ≡ Inside → b.line b.requester ≡ Owned
   pub inside_other : comes_to_cache b.kind ≡ true → b.stage ≡ Inside → b.line b.requester ≡ Modified
@@ -117,8 +131,10 @@ pub record Requests (b : Block) : Type 0 where
   pub get_m : (i : ℕ) → (b.net i).body ≡ GetM → ((b.miss (b.net i).from).want ≡ Writes) × ((b.miss (b.net i).from).is_fixed ≡ false)
   pub one_get : (i j : ℕ) → is_get (b.net i).body ≡ true → is_get (b.net j).body ≡ true → (b.net i).from ≡ (b.net j).from → i ≡ j
   -- a PutReq or PutDone is of that node's open put, for which no Put is open, and a put has at most one
-  pub put_request : (i : ℕ) → is_put_request (b.net i).body ≡ true → (b.putting (putter_of (b.net i)) ≡ Here) × (b.kind ≡ Put → b.requester ≢ putter_of (b.net i))
-  pub one_put_request : (i j : ℕ) → is_put_request (b.net i).body ≡ true → is_put_request (b.net j).body ≡ true → putter_of (b.net i) ≡ putter_of (b.net j) → i ≡ j
+  pub put_request : (i : ℕ) → is_put_request (b.net i).body ≡ true →
+      (b.putting (putter_of (b.net i)) ≡ Here) × (b.kind ≡ Put → b.requester ≢ putter_of (b.net i))
+  pub one_put_request : (i j : ℕ) → is_put_request (b.net i).body ≡ true → is_put_request (b.net j).body ≡ true →
+      putter_of (b.net i) ≡ putter_of (b.net j) → i ≡ j
   -- until a Put is given r's put is open
   pub put_open : b.kind ≡ Put → b.stage ≡ Asked → b.putting b.requester ≡ Here
 
@@ -135,7 +151,8 @@ owner_has kind stage = true
 pub record Owners (b : Block) : Type 0 where
   -- an owner is the cache that the home names, or r of a Take or Move that has come to it;
   pub owns : (n : ℕ) → is_owned (b.line n) ≡ true →
-      ((b.at_home ≡ false) × (b.owner ≡ n) × (owner_has b.kind b.stage ≡ true)) ⊎ ((comes_to_cache b.kind ≡ true) × (is_late b.stage ≡ true) × (b.requester ≡ n))
+      ((b.at_home ≡ false) × (b.owner ≡ n) × (owner_has b.kind b.stage ≡ true))
+      ⊎ ((comes_to_cache b.kind ≡ true) × (is_late b.stage ≡ true) × (b.requester ≡ n))
   -- and these own it
   pub owner_owns : b.at_home ≡ false → owner_has b.kind b.stage ≡ true → is_owned (b.line b.owner) ≡ true
   pub requester_owns : comes_to_cache b.kind ≡ true → is_late b.stage ≡ true → is_owned (b.line b.requester) ≡ true
@@ -162,14 +179,16 @@ pub record Acknowledgements (N : ℕ) (b : Block) : Type 0 where
   -- an Inv is to, an InvAck from a node that is waited for, and of r; a node has at most one of them
   pub inv : (i : ℕ) → (b.net i).body ≡ Inv → (b.waited (b.net i).to ≡ true) × ((b.net i).requester ≡ b.requester)
   pub inv_ack : (i : ℕ) → (b.net i).body ≡ InvAck → (b.waited (b.net i).from ≡ true) × ((b.net i).to ≡ b.requester)
-  pub one_inv : (i j : ℕ) → is_invalidation (b.net i).body ≡ true → is_invalidation (b.net j).body ≡ true → sharer_of (b.net i) ≡ sharer_of (b.net j) → i ≡ j
+  pub one_inv : (i j : ℕ) → is_invalidation (b.net i).body ≡ true → is_invalidation (b.net j).body ≡ true →
+      sharer_of (b.net i) ≡ sharer_of (b.net j) → i ≡ j
   -- who sent an InvAck has no line
   pub ack_line : (i : ℕ) → (b.net i).body ≡ InvAck → b.line (b.net i).from ≡ NoLine
 
 -- Sharing. Who may have a copy beside whom.
 pub record Sharing (b : Block) : Type 0 where
   -- a Shared line is listed, or waited for, or it is of r of a Take or Move
-  pub listed : (n : ℕ) → b.line n ≡ Shared → (b.sharers n ≡ true) ⊎ (b.waited n ≡ true) ⊎ ((comes_to_cache b.kind ≡ true) × (b.requester ≡ n))
+  pub listed : (n : ℕ) → b.line n ≡ Shared →
+      (b.sharers n ≡ true) ⊎ (b.waited n ≡ true) ⊎ ((comes_to_cache b.kind ≡ true) × (b.requester ≡ n))
   -- r of a Read is listed
   pub reader : b.kind ≡ Read → b.sharers b.requester ≡ true
   -- nobody is listed in a Take, Move or Upgrade

@@ -1,6 +1,7 @@
 -- What every event keeps of the records of accesses, beside what it keeps of the block.
 use Rattle.std.specs.Prelude.{◌≡◌, ◌≢◌, ◌⊎◌, ℕ, ◌+◌, ◌<◌, ◌≤◌, true, false}
-use Rattle.sn_coherence.specs.Block.{Block, NoLine, Reads, Read, Take, Given, InvAck, Ready, is_owned, is_writable, is_here, hands_over, comes_to_cache, is_get, has_content}
+use Rattle.sn_coherence.specs.Block.{Block, NoLine, Reads, Read, Take, Given, InvAck, Ready, is_owned, is_writable, is_here, hands_over}
+use Rattle.sn_coherence.specs.Block.{comes_to_cache, is_get, has_content}
 use Rattle.sn_coherence.specs.Events.{IsReady}
 use Rattle.sn_coherence.specs.Records.{Records}
 

@@ -36,11 +36,14 @@ told_at says es home_side block now j = told says (old_at es home_side block j) 
 -- Law of a note. Where no entry of the side lies above i, and the old content says what is now, a note under i and a
 -- change to `new` leave each cut up to i, and say `new` at each above it; and the newest entry is of i.
 pub record NoteLaw (A : Type 0) (says : Old → A) (es : List LogEntry) (i block : ℕ) (old : Old) (now new : A) : Type 0 where
-  pub cuts : (j : ℕ) → told_at says (noted es i block old) (is_home_side old) block new j ≡ above (told_at says es (is_home_side old) block now) i new j
+  pub cuts : (j : ℕ) → told_at says (noted es i block old) (is_home_side old) block new j
+      ≡ above (told_at says es (is_home_side old) block now) i new j
   pub newest : logged_to (noted es i block old) (is_home_side old) block ≡ i + 1
   -- the other side, and other blocks, are as before
-  pub others : (home_side : Bool) (other j : ℕ) (was : A) → (home_side ≢ is_home_side old) ⊎ (other ≢ block) → told_at says (noted es i block old) home_side other was j ≡ told_at says es home_side other was j
-  pub others_newest : (home_side : Bool) (other : ℕ) → (home_side ≢ is_home_side old) ⊎ (other ≢ block) → logged_to (noted es i block old) home_side other ≡ logged_to es home_side other
+  pub others : (home_side : Bool) (other j : ℕ) (was : A) → (home_side ≢ is_home_side old) ⊎ (other ≢ block) →
+      told_at says (noted es i block old) home_side other was j ≡ told_at says es home_side other was j
+  pub others_newest : (home_side : Bool) (other : ℕ) → (home_side ≢ is_home_side old) ⊎ (other ≢ block) →
+      logged_to (noted es i block old) home_side other ≡ logged_to es home_side other
 
 -- Law of no note. Above its newest entry a side says what is now; so a change without a note is one at these cuts alone.
 abbrev pub NoNoteLaw : (A : Type 0) → (Old → A) → List LogEntry → Bool → ℕ → Type 0
@@ -53,10 +56,13 @@ pub record FreeLaw (A : Type 0) (says : Old → A) (es : List LogEntry) (k : ℕ
 
 -- The laws for all lists of entries.
 abbrev pub NoteLaws : Type 0 → Type 0
-NoteLaws A = (says : Old → A) (es : List LogEntry) (i block : ℕ) (old : Old) (now new : A) → logged_to es (is_home_side old) block ≤ i + 1 → says old ≡ now → NoteLaw A says es i block old now new
+NoteLaws A =
+    (says : Old → A) (es : List LogEntry) (i block : ℕ) (old : Old) (now new : A) → logged_to es (is_home_side old) block ≤ i + 1 →
+    says old ≡ now → NoteLaw A says es i block old now new
 
 abbrev pub NoNoteLaws : Type 0 → Type 0
 NoNoteLaws A = (says : Old → A) (es : List LogEntry) (home_side : Bool) (block : ℕ) → NoNoteLaw A says es home_side block
 
 abbrev pub FreeLaws : Type 0 → Type 0
-FreeLaws A = (says : Old → A) (es : List LogEntry) (k : ℕ) (home_side : Bool) (block : ℕ) (now : A) → FreeLaw A says es k home_side block now
+FreeLaws A =
+    (says : Old → A) (es : List LogEntry) (k : ℕ) (home_side : Bool) (block : ℕ) (now : A) → FreeLaw A says es k home_side block now

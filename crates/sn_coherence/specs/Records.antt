@@ -2,7 +2,8 @@
 -- The sorted list is the accesses of the block in order of intervals, and in each interval in order of retirement.
 use Rattle.std.specs.Prelude.{◌≡◌, ℕ, ◌+◌, ◌<◌, Bool, true, false, ◌==◌, ◌&&◌, nat_lt, nat_le, max, min, cond}
 use Rattle.sn_coherence.specs.Block.{Block, Content, set, above}
-use Rattle.sn_coherence.specs.Events.{Event, ForwardWrite, Invalidate, PutGoes, DeliverReady, Load, LoadReserved, Store, StoreConditionalDone, StoreConditionalUndone, EvictShared, Edge, Validate, Recover, Allows}
+use Rattle.sn_coherence.specs.Events.{Event, ForwardWrite, Invalidate, PutGoes, DeliverReady, Load, LoadReserved, Store}
+use Rattle.sn_coherence.specs.Events.{StoreConditionalDone, StoreConditionalUndone, EvictShared, Edge, Validate, Recover, Allows}
 
 pub record Records : Type 0 where
   -- bounds: no write of the sorted list lies in an interval of this number or above, and no access of node n
@@ -63,7 +64,8 @@ rolls_back r N k =
 
 -- at the start nothing was accessed
 abbrev pub no_records : Content → Records
-no_records v = record { last_write = 0; last_access = λ n. 0; below = λ j. v; value = v; reserved = λ n. false; alone = λ n. false; reported = λ n. 0 }
+no_records v =
+    record { last_write = 0; last_access = λ n. 0; below = λ j. v; value = v; reserved = λ n. false; alone = λ n. false; reported = λ n. 0 }
 
 -- the records after an event
 abbrev pub recorded : ℕ → Block → Records → Event → Records

@@ -36,8 +36,10 @@ pub fn each_event_keeps()
 
 /// Every event that the machine does can happen to the block, and keeps the sentences on the records of accesses too.
 pub fn each_event_keeps_records()
-    ensures allowed { (N : ℕ) (b : Block) (r : Records) (e : Event) → AllSentences N b → KeptRecords b r → MayHappen N b r e → Allows N b e }
-    ensures kept { (N : ℕ) (b : Block) (r : Records) (e : Event) → AllSentences N b → KeptRecords b r → MayHappen N b r e → KeptRecords (after N b e) (recorded N b r e) }
+    ensures allowed { (N : ℕ) (b : Block) (r : Records) (e : Event) → AllSentences N b → KeptRecords b r → MayHappen N b r e →
+        Allows N b e }
+    ensures kept { (N : ℕ) (b : Block) (r : Records) (e : Event) → AllSentences N b → KeptRecords b r → MayHappen N b r e →
+        KeptRecords (after N b e) (recorded N b r e) }
 {}
 
 /// What the sentences say of every moment: of deliveries, of notes, of cuts, of all that the block shows, of a validation
@@ -47,8 +49,10 @@ pub fn consequences()
     ensures notes { (N : ℕ) (b : Block) → AllSentences N b → MeetsNotes b }
     ensures holder { (N : ℕ) (b : Block) → AllSentences N b → (j : ℕ) → b.point ≤ j → NoneBegun b j → HasOneHolder N b j }
     ensures coherent { (N : ℕ) (b : Block) (r : Records) → N ≤ 16 → AllSentences N b → KeptRecords b r → IsCoherent N b r }
-    ensures validated { (N : ℕ) (b : Block) (r : Records) → AllSentences N b → KeptRecords b r → MayHappen N b r Validate → NothingUnfinished N b (b.point + 1) × HasOneHolder N b (b.point + 1) × HasContent b r (b.point + 1) }
-    ensures restored { (N : ℕ) (b : Block) (r : Records) → AllSentences N b → KeptRecords b r → IsRestored N (recover N b) (rolls_back r N b.point) }
+    ensures validated { (N : ℕ) (b : Block) (r : Records) → AllSentences N b → KeptRecords b r → MayHappen N b r Validate →
+        NothingUnfinished N b (b.point + 1) × HasOneHolder N b (b.point + 1) × HasContent b r (b.point + 1) }
+    ensures restored { (N : ℕ) (b : Block) (r : Records) → AllSentences N b → KeptRecords b r →
+        IsRestored N (recover N b) (rolls_back r N b.point) }
 {}
 
 /// Whatever is delivered, lost, evicted, checkpointed or recovered, in whatever order, the block is coherent after it.
@@ -59,7 +63,8 @@ pub fn every_run_is_coherent()
 
 /// Two short runs can happen, and end as their definitions say: so the theorems are of something.
 pub fn some_runs_can_happen()
-    ensures handed_over { CanRun 2 example_start (no_records (5 ∷ [])) handed_over × EndsHandedOver (block_after 2 example_start handed_over) }
+    ensures handed_over { CanRun 2 example_start (no_records (5 ∷ [])) handed_over
+        × EndsHandedOver (block_after 2 example_start handed_over) }
     ensures recovered { CanRun 2 example_start (no_records (5 ∷ [])) recovered × EndsRecovered (block_after 2 example_start recovered) }
 {}
 

@@ -1,5 +1,6 @@
 -- The committed part is an execution with the same last state; it grows at its end alone, and stays through retirements at or above the point and through recoveries.
-use Rattle.std.proofs.Common.{◌≡◌, ℕ, zero, suc, ◌<◌, ◌≤◌, Bool, true, false, cond, Option, Some, None, List, [], ◌∷◌, ◌++◌, refl, sym, ◌∙◌, ap, arith, append_assoc, option_to_list, nat_eq, inl, inr, ◌⊎◌, subst, ◌==◌, nat_lt}
+use Rattle.std.proofs.Common.{◌≡◌, ℕ, zero, suc, ◌<◌, ◌≤◌, Bool, true, false, cond, Option, Some, None, List, [], ◌∷◌, ◌++◌, refl, sym, ◌∙◌}
+use Rattle.std.proofs.Common.{ap, arith, append_assoc, option_to_list, nat_eq, inl, inr, ◌⊎◌, subst, ◌==◌, nat_lt}
 use Rattle.std.proofs.lemmas.Bool.Decides.{nat_tests}
 use Rattle.std.proofs.lemmas.List.{append-nil}
 use Rattle.std.proofs.lemmas.Bool.{cases_order}
@@ -24,7 +25,9 @@ module _ (image : ImageData) (N : ℕ) (s : FlatState) (F : Places) (start : Sho
   committed_execution = good_execution image N s F start (below f k) (below_good image F f N g k)
 
   pub committed_end : Shows N (state_after image s (committed f k)) (at_cut image F f k)
-  committed_end = subst (λ G. Shows N (state_after image s (committed f k)) G) (run-below image F f k) (good_end image N s F start (below f k) (below_good image F f N g k))
+  committed_end =
+      subst (λ G. Shows N (state_after image s (committed f k)) G) (run-below image F f k)
+      (good_end image N s F start (below f k) (below_good image F f N g k))
 
 -- the bytes put out
 puts_is : (image : ImageData) (c : CoreState) (r : Record) →
@@ -37,8 +40,10 @@ good_out : (image : ImageData) (N : ℕ) (s : FlatState) (F : Places) → Shows 
 good_out image N s F t [] g = refl
 good_out image N s F t (e ∷ es) g =
     let i : e.found ≡ bare (core_at s e.did.core) = g.0.same ∙ sym (t.core e.did.core) in
-    let a : option_to_list (next_of image (core_at s e.did.core) e.did.seen e.did.sc_done e.did.read).effect.out ≡ puts image e.found e.did =
-    puts_is image (core_at s e.did.core) e.did ∙ sym (puts_bare image (core_at s e.did.core) e.did) ∙ ap (λ c. puts image c e.did) (sym i) in
+    let a : option_to_list (next_of image (core_at s e.did.core) e.did.seen e.did.sc_done e.did.read).effect.out
+    ≡ puts image e.found e.did =
+    puts_is image (core_at s e.did.core) e.did ∙ sym (puts_bare image (core_at s e.did.core) e.did)
+    ∙ ap (λ c. puts image c e.did) (sym i) in
     let b = good_out image N (flat_step image s e.did) (step image F e) (shows_step image N s F t e i g.0.fits.within) es g.1 in
     cc
 
@@ -56,7 +61,8 @@ taken_step a r false x = refl
 taken-in_of : (image : ImageData) (F : Places) (es : List Entry) (n : ℕ) →
     (run image F es).taken n ≡ F.taken n ++ in_of n (records es)
 taken-in_of image F [] n = sym (append-nil (F.taken n))
-taken-in_of image F (e ∷ es) n = taken-in_of image (step image F e) es n ∙ taken_step (F.taken n) (in_of n (records es)) (nat_eq e.did.core n) e.did.read
+taken-in_of image F (e ∷ es) n =
+    taken-in_of image (step image F e) es n ∙ taken_step (F.taken n) (in_of n (records es)) (nat_eq e.did.core n) e.did.read
 
 pub committed_reads : (image : ImageData) (F : Places) (f : ℕ → List Entry) (n k : ℕ) →
     (at_cut image F f k).taken n ≡ F.taken n ++ in_of n (committed f k)
@@ -75,11 +81,15 @@ records-below f (suc k) = records-append (below f k) (f k) ∙ ap (λ l. l ++ re
 
 pub in_of-append : (n : ℕ) (xs ys : List Record) → in_of n (xs ++ ys) ≡ in_of n xs ++ in_of n ys
 in_of-append n [] ys = refl
-in_of-append n (x ∷ xs) ys = ap (λ l. cond (nat_eq x.core n) (option_to_list x.read) [] ++ l) (in_of-append n xs ys) ∙ sym (append_assoc (cond (nat_eq x.core n) (option_to_list x.read) []) (in_of n xs) (in_of n ys))
+in_of-append n (x ∷ xs) ys =
+    ap (λ l. cond (nat_eq x.core n) (option_to_list x.read) [] ++ l) (in_of-append n xs ys)
+    ∙ sym (append_assoc (cond (nat_eq x.core n) (option_to_list x.read) []) (in_of n xs) (in_of n ys))
 
 pub outs-append : (image : ImageData) (xs ys : List Entry) → outs image (xs ++ ys) ≡ outs image xs ++ outs image ys
 outs-append image [] ys = refl
-outs-append image (x ∷ xs) ys = ap (λ l. puts image x.found x.did ++ l) (outs-append image xs ys) ∙ sym (append_assoc (puts image x.found x.did) (outs image xs) (outs image ys))
+outs-append image (x ∷ xs) ys =
+    ap (λ l. puts image x.found x.did ++ l) (outs-append image xs ys)
+    ∙ sym (append_assoc (puts image x.found x.did) (outs image xs) (outs image ys))
 
 -- it grows at its end
 pub committed_next : (f : ℕ → List Entry) (k : ℕ) → committed f (suc k) ≡ committed f k ++ records (f k)
@@ -92,7 +102,8 @@ unfolding below
 released_next image f k = outs-append image (below f k) (f k)
 
 pub committed_begins : (f : ℕ → List Entry) (k j : ℕ) → k ≤ j → Begins (committed f k) (committed f j)
-committed_begins f k zero l = let i : k ≡ zero = omega arith in record { more = []; is = ap (committed f) (sym i) ∙ sym (append-nil (committed f k)) }
+committed_begins f k zero l =
+    let i : k ≡ zero = omega arith in record { more = []; is = ap (committed f) (sym i) ∙ sym (append-nil (committed f k)) }
 committed_begins f k (suc j) l = go (cases_order k (suc j)) (committed_begins f k j)
   where
     go : ((k ≡ suc j) ⊎ ((k < suc j) ⊎ (suc j < k))) → (k ≤ j → Begins (committed f k) (committed f j)) →
@@ -100,7 +111,10 @@ committed_begins f k (suc j) l = go (cases_order k (suc j)) (committed_begins f 
     go (inl i) h = record { more = []; is = ap (committed f) (sym i) ∙ sym (append-nil (committed f k)) }
     go (inr (inl m)) h =
         let r = h (omega arith) in
-        record { more = r.more ++ records (f j); is = committed_next f j ∙ ap (λ a. a ++ records (f j)) r.is ∙ append_assoc (committed f k) r.more (records (f j)) }
+        record {
+          more = r.more ++ records (f j);
+          is = committed_next f j ∙ ap (λ a. a ++ records (f j)) r.is ∙ append_assoc (committed f k) r.more (records (f j));
+        }
     go (inr (inr m)) h = absurd (omega arith)
 
 -- the bytes that it reads are a front of those that a longer part reads
@@ -134,12 +148,14 @@ below_cut f point (suc k) l = go (cases_order point (suc k)) (below_cut f point 
 
 pub recovered_execution : (image : ImageData) (N : ℕ) (s : FlatState) (F : Places) → Shows N s F →
     (f : ℕ → List Entry) → GoodList image N F f → (point k : ℕ) → Executes image s (committed (cut_off f point) k)
-recovered_execution image N s F start f g point k = committed_execution image N s F start (cut_off f point) (cut_off_good image F f point N g) k
+recovered_execution image N s F start f g point k =
+    committed_execution image N s F start (cut_off f point) (cut_off_good image F f point N g) k
 
 -- a list of retirements, by interval
 module _ {A : Type 0} where
   by_step : (r q : Retirement A) (x : ℕ) (l k : List A) → l ≡ cond (x == q.interval) (k ++ q.item ∷ []) k
-      → cond (x == r.interval) (r.item ∷ l) l ≡ cond (x == q.interval) (cond (x == r.interval) (r.item ∷ k) k ++ q.item ∷ []) (cond (x == r.interval) (r.item ∷ k) k)
+      → cond (x == r.interval) (r.item ∷ l) l
+      ≡ cond (x == q.interval) (cond (x == r.interval) (r.item ∷ k) k ++ q.item ∷ []) (cond (x == r.interval) (r.item ∷ k) k)
   by_step r q x l k e = grind (arith, nat_tests)
 
   kept_in : (r : Retirement A) (x k : ℕ) (l b : List A) → nat_lt r.interval k ≡ true → l ≡ cond (nat_lt x k) b [] →

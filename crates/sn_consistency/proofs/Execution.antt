@@ -1,5 +1,6 @@
 -- Good entries are an execution, and its last state is that of the entries.
-use Rattle.std.proofs.Common.{◌≡◌, ℕ, ◌<◌, ◌≤◌, true, false, cond, Option, List, [], ◌∷◌, length, map, set, get_or, refl, sym, ap, ◌∙◌, arith, ◌==◌, ◌⊎◌, inl, inr, Some, None}
+use Rattle.std.proofs.Common.{◌≡◌, ℕ, ◌<◌, ◌≤◌, true, false, cond, Option, List, [], ◌∷◌, length, map, set, get_or, refl, sym, ap, ◌∙◌}
+use Rattle.std.proofs.Common.{arith, ◌==◌, ◌⊎◌, inl, inr, Some, None}
 use Rattle.std.proofs.lemmas.Bool.Decides.{nat_tests}
 use Rattle.std.proofs.lemmas.Bool.{cases_order, cases_lt}
 use Rattle.std.proofs.lemmas.List.{get_or-set_same, get_or-set_other, get_or-map, get_or_past, length-set, length-map}
@@ -55,11 +56,15 @@ module _ (image : ImageData) (s : FlatState) (r : Record) where
       core_at (flat_step image s r) n ≡ cond (n == r.core) (next image (core_at s r.core) r) (after_write wrote_by (core_at s n))
   unfolding next
   core_after n l =
-      set_at (map (after_write wrote_by) s.cores) (start_of 0 0) r.core (next_of image (core_at s r.core) r.seen r.sc_done r.read).core n (omega (arith, length-map s.cores (after_write wrote_by)))
-      ∙ ap (cond (n == r.core) (next_of image (core_at s r.core) r.seen r.sc_done r.read).core) (map_at s.cores (start_of 0 0) (after_write wrote_by) (nobody_after wrote_by) n)
+      set_at (map (after_write wrote_by) s.cores) (start_of 0 0) r.core (next_of image (core_at s r.core) r.seen r.sc_done r.read).core n
+      (omega (arith, length-map s.cores (after_write wrote_by)))
+      ∙ ap (cond (n == r.core) (next_of image (core_at s r.core) r.seen r.sc_done r.read).core)
+      (map_at s.cores (start_of 0 0) (after_write wrote_by) (nobody_after wrote_by) n)
 
   count_after : length (flat_step image s r).cores ≡ length s.cores
-  count_after = length-set (map (after_write wrote_by) s.cores) r.core (next_of image (core_at s r.core) r.seen r.sc_done r.read).core ∙ length-map s.cores (after_write wrote_by)
+  count_after =
+      length-set (map (after_write wrote_by) s.cores) r.core (next_of image (core_at s r.core) r.seen r.sc_done r.read).core
+      ∙ length-map s.cores (after_write wrote_by)
 
 -- a record on the state is its entry on the places
 module _ (image : ImageData) (N : ℕ) (s : FlatState) (F : Places) (t : Shows N s F) (e : Entry) (same : e.found ≡ bare (core_at s e.did.core)) where
@@ -165,10 +170,14 @@ module _ (image : ImageData) (N : ℕ) where
       Executes image s (records es)
   good_execution s F t [] g = tt
   good_execution s F t (e ∷ es) g =
-      let i : e.found ≡ bare (core_at s e.did.core) = g.0.same ∙ sym (t.core e.did.core) in
-      (legal_has image N s F t e i g.0, good_execution (flat_step image s e.did) (step image F e) (shows_step image N s F t e i g.0.fits.within) es g.1)
+      let i : e.found ≡ bare (core_at s e.did.core) = g.0.same ∙ sym (t.core e.did.core) in (
+        legal_has image N s F t e i g.0,
+        good_execution (flat_step image s e.did) (step image F e) (shows_step image N s F t e i g.0.fits.within) es g.1,
+      )
 
   pub good_end : (s : FlatState) (F : Places) → Shows N s F → (es : List Entry) → Good image N F es →
       Shows N (state_after image s (records es)) (run image F es)
   good_end s F t [] g = t
-  good_end s F t (e ∷ es) g = good_end (flat_step image s e.did) (step image F e) (shows_step image N s F t e (g.0.same ∙ sym (t.core e.did.core)) g.0.fits.within) es g.1
+  good_end s F t (e ∷ es) g =
+      good_end (flat_step image s e.did) (step image F e)
+      (shows_step image N s F t e (g.0.same ∙ sym (t.core e.did.core)) g.0.fits.within) es g.1

@@ -8,7 +8,8 @@ use Rattle.rv_core.specs.declared.step.Record.{Record}
 use Rattle.rv_core.specs.Flat.{FlatState, core_at}
 use Rattle.sn_consistency.specs.Words.{block, next}
 use Rattle.sn_consistency.specs.Entries.{Entry, touches}
-use Rattle.sn_consistency.specs.Projections.{Replays, CoreGood, entries, BlockState, block_step, BlockLegal, BlockGood, block_of_state, AllGood, records_of, ReplaysAll, accesses_of, AgreesAll, AllProjectionsGood}
+use Rattle.sn_consistency.specs.Projections.{Replays, CoreGood, entries, BlockState, block_step, BlockLegal, BlockGood, block_of_state}
+use Rattle.sn_consistency.specs.Projections.{AllGood, records_of, ReplaysAll, accesses_of, AgreesAll, AllProjectionsGood}
 use mathlib.Core.Path.{fun_ext}
 
 pick : (n m : ℕ) → (n ≡ m) ⊎ (n ≢ m)

@@ -81,7 +81,8 @@ module _ (image : ImageData) (N : ℕ) (s : FlatState) (count : length s.cores �
         within = omega (arith, h.within);
         running = h.running;
         seen =
-            seen_from (reads (kind image (core_at s r.core))) (block_word (block_in s.memory (block image (core_at s r.core))) (place image (core_at s r.core))) h.seen h.unseen
+            seen_from (reads (kind image (core_at s r.core)))
+            (block_word (block_in s.memory (block image (core_at s r.core))) (place image (core_at s r.core))) h.seen h.unseen
             ∙ sym (seen_block image (core_at s r.core) s.memory);
         done = λ d. sc_from (want_of image (core_at s r.core)) (core_at s r.core) (h.done_sc d) (h.done_reserved d);
         read = h.byte ∙ sym (input_is (want_of image (core_at s r.core)));

@@ -1,5 +1,6 @@
 -- Each event of a machine keeps what it keeps of the sorted list.
-use Rattle.std.proofs.Common.{◌≡◌, ◌≢◌, ℕ, zero, suc, ◌<◌, ◌≤◌, Bool, true, ◌⊎◌, List, [], ◌∷◌, ◌++◌, append_assoc, refl, sym, ◌∙◌, ap, arith, inl, inr, subst}
+use Rattle.std.proofs.Common.{◌≡◌, ◌≢◌, ℕ, zero, suc, ◌<◌, ◌≤◌, Bool, true, ◌⊎◌, List, [], ◌∷◌, ◌++◌, append_assoc, refl, sym, ◌∙◌, ap}
+use Rattle.std.proofs.Common.{arith, inl, inr, subst}
 use Rattle.std.proofs.lemmas.Bool.Decides.{nat_tests}
 use Rattle.std.proofs.lemmas.Bool.{cases_order}
 use Rattle.sn_base.specs.Image.{ImageData}
@@ -11,7 +12,8 @@ use Rattle.sn_consistency.specs.Entries.{Entry, Places, Legal, step}
 use Rattle.sn_consistency.specs.Sorted.{at_cut, cut_off, LetsPass, AllPass}
 use Rattle.sn_consistency.specs.Shows.{Shows}
 use Rattle.sn_consistency.specs.Committed.{committed, Begins}
-use Rattle.sn_consistency.specs.Kept.{Outline, Placed, AllPlaced, Keeps, Retires, IsSameOutline, retired, begun, edged, lost_to, learned, given_to, validated, recovered}
+use Rattle.sn_consistency.specs.Kept.{Outline, Placed, AllPlaced, Keeps, Retires, IsSameOutline, retired, begun, edged, lost_to, learned}
+use Rattle.sn_consistency.specs.Kept.{given_to, validated, recovered}
 use mathlib.Core.Path.{fun_ext}
 use Rattle.sn_consistency.proofs.CommittedPart.{committed_end, committed_reads, reads_begin}
 use Rattle.sn_consistency.proofs.Sorted.{all_apart, retire_low, retire_high, retire_good, cut_off_high, cut_off_good}
@@ -23,7 +25,11 @@ module _ (image : ImageData) where
       AllPlaced image t l a x ys → AllPlaced image t' l' a' x ys
   AllPlaced-more t l t' l' a a' x p q r [] s = tt
   AllPlaced-more t l t' l' a a' x p q r (y ∷ ys) s = (
-    record { early = p y.did.core s.0.early; write = λ w. q (block image y.found) (s.0.write w); touch = λ u. r (block image y.found) y.did.core (s.0.touch u) },
+    record {
+      early = p y.did.core s.0.early;
+      write = λ w. q (block image y.found) (s.0.write w);
+      touch = λ u. r (block image y.found) y.did.core (s.0.touch u);
+    },
     AllPlaced-more t l t' l' a a' x p q r ys s.1,
   )
 
@@ -55,7 +61,9 @@ module _ (image : ImageData) (N : ℕ) (F : Places) (m : Outline) (t : Keeps ima
     legal_now = record {
       fits = r.fits;
       same = let h = t.core e.did.core (suc (m.interval e.did.core)) (omega arith) in grind arith;
-      seen = λ d. let h = t.content (block image e.found) (suc (m.interval e.did.core)) (omega (arith, t.point_interval e.did.core)) in grind (arith, t.unwritten, r.newest, r.seen);
+      seen =
+          λ d. let h = t.content (block image e.found) (suc (m.interval e.did.core)) (omega (arith, t.point_interval e.did.core)) in
+          grind (arith, t.unwritten, r.newest, r.seen);
       done = λ d. t.reserved e.did.core (suc (m.interval e.did.core)) (block image e.found) (omega arith) (r.done d);
     }
 
@@ -72,7 +80,8 @@ module _ (image : ImageData) (N : ℕ) (F : Places) (m : Outline) (t : Keeps ima
     placed_now : (x : ℕ) →
         AllPlaced image m.interval (retired image m e).last_write (retired image m e).last_access x (m.list x)
     placed_now x =
-        AllPlaced-more image m.interval m.last_write m.interval (retired image m e).last_write m.last_access (retired image m e).last_access x
+        AllPlaced-more image m.interval m.last_write m.interval (retired image m e).last_write m.last_access
+        (retired image m e).last_access x
         (λ n l. l) (λ b l. grind (arith, nat_tests, r.newest)) (λ b n a. grind (arith, nat_tests)) (m.list x) (t.placed x)
 
     is_now : (x : ℕ) → x ≡ m.interval e.did.core → (retired image m e).list x ≡ m.list x ++ e ∷ []
@@ -136,7 +145,9 @@ module _ (image : ImageData) (N : ℕ) (F : Places) (m : Outline) (t : Keeps ima
   pub edged_keeps : (n : ℕ) → Keeps image N F (edged m n)
   edged_keeps n = record {
     good = t.good;
-    placed = λ x. AllPlaced-more image m.interval m.last_write (edged m n).interval m.last_write m.last_access m.last_access x (λ k l. grind (arith, nat_tests)) (λ b l. l) (λ b k a. a) (m.list x) (t.placed x);
+    placed =
+        λ x. AllPlaced-more image m.interval m.last_write (edged m n).interval m.last_write m.last_access m.last_access x
+        (λ k l. grind (arith, nat_tests)) (λ b l. l) (λ b k a. a) (m.list x) (t.placed x);
     core = λ k j l. let h = t.core k j in grind (arith, nat_tests);
     reserved = λ k j b l h. let g = t.reserved k j b in grind (arith, nat_tests);
     given = λ k j l. let h = t.given k j in grind (arith, nat_tests);
@@ -214,7 +225,8 @@ module _ (image : ImageData) (N : ℕ) (F : Places) (m : Outline) (t : Keeps ima
 
     placed_one : (x : ℕ) → (y : Entry) → x < m.point → Placed image m.interval m.last_write m.last_access x y →
         Placed image (recovered m waiting).interval (recovered m waiting).last_write (recovered m waiting).last_access x y
-    placed_one x y l s = record { early = grind arith; write = λ w. grind (arith, nat_tests); touch = λ a. grind (arith, nat_tests, s.touch) }
+    placed_one x y l s =
+        record { early = grind arith; write = λ w. grind (arith, nat_tests); touch = λ a. grind (arith, nat_tests, s.touch) }
 
     placed_all : (x : ℕ) → (ys : List Entry) → x < m.point → AllPlaced image m.interval m.last_write m.last_access x ys →
         AllPlaced image (recovered m waiting).interval (recovered m waiting).last_write (recovered m waiting).last_access x ys
@@ -228,7 +240,8 @@ module _ (image : ImageData) (N : ℕ) (F : Places) (m : Outline) (t : Keeps ima
     kept_there x l = grind (arith, nat_tests)
 
     placed_below : (x : ℕ) → ((x ≡ m.point) ⊎ ((x < m.point) ⊎ (m.point < x))) →
-        AllPlaced image (recovered m waiting).interval (recovered m waiting).last_write (recovered m waiting).last_access x ((recovered m waiting).list x)
+        AllPlaced image (recovered m waiting).interval (recovered m waiting).last_write (recovered m waiting).last_access x
+        ((recovered m waiting).list x)
     placed_below x (inl i) = rw (nothing x (omega arith)) tt
     placed_below x (inr (inl l)) = rw (kept_there x l) (placed_all x (m.list x) l (t.placed x))
     placed_below x (inr (inr l)) = rw (nothing x (omega arith)) tt
@@ -245,10 +258,13 @@ module _ (image : ImageData) (N : ℕ) (F : Places) (m : Outline) (t : Keeps ima
     recovered_keeps = record {
       good = cut_off_good image F m.list m.point N t.good;
       placed = λ x. placed_below x (cases_order x m.point);
-      core = λ n j l. let h = at_point j (omega arith) in let g = t.checkpoint n m.point (t.known_point n) (t.point_interval n) in grind arith;
+      core =
+          λ n j l. let h = at_point j (omega arith) in let g = t.checkpoint n m.point (t.known_point n) (t.point_interval n) in grind arith;
       reserved = λ n j b l h. grind arith;
       given = λ n j l. let h = at_point j (omega arith) in let g = left n in grind arith;
-      checkpoint = λ n j k l. let h = at_point j k in let g = t.checkpoint n j in let i : j ≡ m.point = omega arith in let q = t.known_point n in let p = t.point_interval n in grind arith;
+      checkpoint =
+          λ n j k l. let h = at_point j k in let g = t.checkpoint n j in let i : j ≡ m.point = omega arith in let q = t.known_point n in
+          let p = t.point_interval n in grind arith;
       content = λ b j l. ap (λ G. G.content b) (at_point j l) ∙ t.content b m.point (omega arith) ∙ sym (content_there b j l);
       unwritten = λ b j l. let g = t.unwritten b j in let h = t.unwritten b m.point in grind (arith, nat_tests);
       known_point = λ n. grind arith;
@@ -281,7 +297,8 @@ module _ (image : ImageData) (N : ℕ) (s : FlatState) (F : Places) (start : Sho
   end_content b = (committed_end image N s F start m.list t.good m.point).memory b ∙ t.content b m.point (omega arith)
 
   pub end_core : (n : ℕ) → bare (core_at (state_after image s (committed m.list m.point)) n) ≡ m.checkpoint n m.point
-  end_core n = (committed_end image N s F start m.list t.good m.point).core n ∙ t.checkpoint n m.point (t.known_point n) (t.point_interval n)
+  end_core n =
+      (committed_end image N s F start m.list t.good m.point).core n ∙ t.checkpoint n m.point (t.known_point n) (t.point_interval n)
 
 module _ (image : ImageData) (N : ℕ) (F : Places) (m : Outline) (t : Keeps image N F m) where
   pub given_begins : (n : ℕ) → F.taken n ≡ [] → Begins (in_of n (committed m.list m.point)) (m.given n)
@@ -291,7 +308,8 @@ module _ (image : ImageData) (N : ℕ) (F : Places) (m : Outline) (t : Keeps ima
       record {
         more = r.more ++ m.waiting n;
         is =
-            t.given n j (omega arith) ∙ ap (λ l. l ++ m.waiting n) (committed_reads image F m.list n j ∙ ap (λ l. l ++ in_of n (committed m.list j)) none ∙ r.is)
+            t.given n j (omega arith)
+            ∙ ap (λ l. l ++ m.waiting n) (committed_reads image F m.list n j ∙ ap (λ l. l ++ in_of n (committed m.list j)) none ∙ r.is)
             ∙ append_assoc (in_of n (committed m.list m.point)) r.more (m.waiting n);
       }
 

@@ -38,7 +38,8 @@ module _ (image : ImageData) (F : Places) (start : (n : ℕ) → bare (F.core n)
   cut_bare f (suc k) n = run_bare (at_cut image F f k) (f k) n (cut_bare f k n)
 
 module _ (image : ImageData) (N : ℕ) (F : Places) (m : Outline) (t : Keeps image N F m) where
-  pub exchanged_keeps : (checkpoint : ℕ → ℕ → CoreState) → ((n k : ℕ) → m.known n ≤ k → k ≤ m.interval n → checkpoint n k ≡ m.checkpoint n k) →
+  pub exchanged_keeps : (checkpoint : ℕ → ℕ → CoreState) →
+      ((n k : ℕ) → m.known n ≤ k → k ≤ m.interval n → checkpoint n k ≡ m.checkpoint n k) →
       Keeps image N F (record m { checkpoint = checkpoint })
   exchanged_keeps checkpoint same = record {
     good = t.good;
@@ -57,7 +58,8 @@ module _ (image : ImageData) (N : ℕ) (F : Places) (m : Outline) (t : Keeps ima
     grows : (n : ℕ) → m.interval n ≤ (others_reach N F m k).interval n
     grows n = grind (arith, nat_tests)
 
-    checkpoint_there : (n j : ℕ) (node : Bool) → nat_lt n N ≡ node → (others_reach N F m k).known n ≤ j → j ≤ (others_reach N F m k).interval n →
+    checkpoint_there : (n j : ℕ) (node : Bool) → nat_lt n N ≡ node → (others_reach N F m k).known n ≤ j →
+        j ≤ (others_reach N F m k).interval n →
         (at_cut image F m.list j).core n ≡ cond node (m.checkpoint n j) (F.core n)
     checkpoint_there n j true e l u = t.checkpoint n j (grind (arith, nat_tests)) (grind (arith, nat_tests))
     checkpoint_there n j false e l u = cut_other image N n (grind (arith, nat_tests)) F m.list t.good j
@@ -65,7 +67,9 @@ module _ (image : ImageData) (N : ℕ) (F : Places) (m : Outline) (t : Keeps ima
     pub others_keep : Keeps image N F (others_reach N F m k)
     others_keep = record {
       good = t.good;
-      placed = λ x. AllPlaced-more image m.interval m.last_write (others_reach N F m k).interval m.last_write m.last_access m.last_access x (λ n l. let g = grows n in omega (arith, g, l)) (λ b l. l) (λ b n a. a) (m.list x) (t.placed x);
+      placed =
+          λ x. AllPlaced-more image m.interval m.last_write (others_reach N F m k).interval m.last_write m.last_access m.last_access x
+          (λ n l. let g = grows n in omega (arith, g, l)) (λ b l. l) (λ b n a. a) (m.list x) (t.placed x);
       core = λ n j l. t.core n j (let g = grows n in omega (arith, g, l));
       reserved = λ n j b l h. t.reserved n j b (let g = grows n in omega (arith, g, l)) h;
       given = λ n j l. t.given n j (let g = grows n in omega (arith, g, l));

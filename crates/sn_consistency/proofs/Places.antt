@@ -8,7 +8,8 @@ use Rattle.rv_core.specs.Flat.{FlatState, HasStep, flat_step}
 use Rattle.rv_core.specs.Execution.{Executes, state_after}
 use Rattle.sn_consistency.specs.Entries.{Entry}
 use Rattle.sn_consistency.specs.Shows.{Shows, places_of}
-use Rattle.sn_consistency.specs.Projections.{core_step, core_after, CoreGood, entries, BlockState, block_step, BlockGood, FirstWithoutStep, LeastFailing}
+use Rattle.sn_consistency.specs.Projections.{core_step, core_after, CoreGood, entries, BlockState, block_step, BlockGood, FirstWithoutStep}
+use Rattle.sn_consistency.specs.Projections.{LeastFailing}
 use Rattle.sn_consistency.proofs.ProjectionLaw.{law_to, law_from}
 
 -- a record more at the end
@@ -30,7 +31,8 @@ module _ (image : ImageData) where
   only_executes : (s : FlatState) (rs : List Record) (p : ℕ) (r : Record) → slice_get rs p ≡ Some r →
       Executes image s (take p rs) → HasStep image (state_after image s (take p rs)) r →
       Executes image s (take (suc p) rs)
-  only_executes s rs p r e g h = more_executes s rs p g (λ q f. let i : r ≡ q = cc in subst (HasStep image (state_after image s (take p rs))) i h)
+  only_executes s rs p r e g h =
+      more_executes s rs p g (λ q f. let i : r ≡ q = cc in subst (HasStep image (state_after image s (take p rs))) i h)
 
 -- where there is a record at a place
 record At (rs : List Record) (p : ℕ) : Type 0 where
@@ -47,7 +49,9 @@ module _ (image : ImageData) (N : ℕ) (s : FlatState) (shows : Shows N s (place
   least_to f = record {
     within = f.within;
     before = law_to image N s shows (take p rs) f.before;
-    fails = λ g. let a = at rs p f.within in f.none a.item a.is (front_executes image s rs p a.item a.is (law_from image N s shows (take (suc p) rs) g));
+    fails =
+        λ g. let a = at rs p f.within in
+        f.none a.item a.is (front_executes image s rs p a.item a.is (law_from image N s shows (take (suc p) rs) g));
   }
 
   pub least_from : LeastFailing image N s rs p → FirstWithoutStep image s rs p
@@ -84,7 +88,8 @@ module _ (image : ImageData) where
   pub entries-append : (c : ℕ → CoreState) (xs ys : List Record) →
       entries image c (xs ++ ys) ≡ entries image c xs ++ entries image (λ n. core_after image n (c n) xs) ys
   entries-append c [] ys = refl
-  entries-append c (x ∷ xs) ys = ap (λ l. record { found = bare (c x.core); did = x } ∷ l) (entries-append (λ n. core_step image n (c n) x) xs ys)
+  entries-append c (x ∷ xs) ys =
+      ap (λ l. record { found = bare (c x.core); did = x } ∷ l) (entries-append (λ n. core_step image n (c n) x) xs ys)
 
   pub BlockGood-front : (b : ℕ) (v : BlockState) (xs ys : List Entry) → BlockGood image b v (xs ++ ys) →
       BlockGood image b v xs

@@ -10,7 +10,8 @@ use Rattle.rv_core.specs.Core.{bare, is_reserved}
 use Rattle.sn_consistency.specs.Words.{block}
 use Rattle.sn_consistency.specs.Entries.{Entry, Places, Legal, Good, step}
 use Rattle.sn_consistency.specs.Shows.{Shows, places_of, records}
-use Rattle.sn_consistency.specs.Projections.{Replays, core_step, CoreGood, entries, BlockState, block_step, BlockLegal, BlockGood, block_of_state, AllGood}
+use Rattle.sn_consistency.specs.Projections.{Replays, core_step, CoreGood, entries, BlockState, block_step, BlockLegal, BlockGood}
+use Rattle.sn_consistency.specs.Projections.{block_of_state, AllGood}
 use Rattle.sn_consistency.proofs.StepLaws.{running_bare, kind_bare, block_bare, after_bare, next_held}
 use Rattle.sn_consistency.proofs.Execution.{good_execution, has_legal, shows_step}
 
@@ -99,14 +100,20 @@ module _ (image : ImageData) (N : ℕ) where
   cores_good : (F : Places) (c : ℕ → CoreState) (v : ℕ → BlockState) → Tied F c v → (rs : List Record) →
       Good image N F (entries image c rs) → (n : ℕ) → CoreGood image N n (c n) rs
   cores_good F c v t [] g n = tt
-  cores_good F c v t (r ∷ rs) g n =
-      (replays_to image N F c v t r g.0 n, cores_good (step image F (entry c r)) (after image c r) (λ b. block_step image b (v b) (entry c r)) (tied_step image N F c v t r) rs g.1 n)
+  cores_good F c v t (r ∷ rs) g n = (
+    replays_to image N F c v t r g.0 n,
+    cores_good (step image F (entry c r)) (after image c r) (λ b. block_step image b (v b) (entry c r))
+        (tied_step image N F c v t r) rs g.1 n,
+  )
 
   blocks_good : (F : Places) (c : ℕ → CoreState) (v : ℕ → BlockState) → Tied F c v → (rs : List Record) →
       Good image N F (entries image c rs) → (b : ℕ) → BlockGood image b (v b) (entries image c rs)
   blocks_good F c v t [] g b = tt
-  blocks_good F c v t (r ∷ rs) g b =
-      (block_to image N F c v t r g.0 b, blocks_good (step image F (entry c r)) (after image c r) (λ d. block_step image d (v d) (entry c r)) (tied_step image N F c v t r) rs g.1 b)
+  blocks_good F c v t (r ∷ rs) g b = (
+    block_to image N F c v t r g.0 b,
+    blocks_good (step image F (entry c r)) (after image c r) (λ d. block_step image d (v d) (entry c r))
+        (tied_step image N F c v t r) rs g.1 b,
+  )
 
   all_good : (F : Places) (c : ℕ → CoreState) (v : ℕ → BlockState) → Tied F c v → (rs : List Record) →
       ((n : ℕ) → CoreGood image N n (c n) rs) → ((b : ℕ) → BlockGood image b (v b) (entries image c rs)) →
@@ -114,7 +121,8 @@ module _ (image : ImageData) (N : ℕ) where
   all_good F c v t [] p q = tt
   all_good F c v t (r ∷ rs) p q = (
     legal_from image N F c v t r ((p r.core).0 refl) ((q (block image (bare (c r.core)))).0 refl),
-    all_good (step image F (entry c r)) (after image c r) (λ b. block_step image b (v b) (entry c r)) (tied_step image N F c v t r) rs (λ n. (p n).1) (λ b. (q b).1),
+    all_good (step image F (entry c r)) (after image c r) (λ b. block_step image b (v b) (entry c r)) (tied_step image N F c v t r) rs
+        (λ n. (p n).1) (λ b. (q b).1),
   )
 
   -- an execution's entries are good
@@ -124,7 +132,9 @@ module _ (image : ImageData) (N : ℕ) where
   execution_good s F t c v q (r ∷ rs) g =
       let i : bare (c r.core) ≡ bare (core_at s r.core) = sym (q.core r.core) ∙ sym (t.core r.core) in (
         has_legal image N s F t (entry c r) i g.0,
-        execution_good (flat_step image s r) (step image F (entry c r)) (shows_step image N s F t (entry c r) i (omega (arith, t.count, g.0.within))) (after image c r) (λ b. block_step image b (v b) (entry c r)) (tied_step image N F c v q r) rs g.1,
+        execution_good (flat_step image s r) (step image F (entry c r))
+            (shows_step image N s F t (entry c r) i (omega (arith, t.count, g.0.within))) (after image c r)
+            (λ b. block_step image b (v b) (entry c r)) (tied_step image N F c v q r) rs g.1,
       )
 
 pub entries_back : (image : ImageData) (c : ℕ → CoreState) (rs : List Record) → records (entries image c rs) ≡ rs
@@ -146,4 +156,5 @@ module _ (image : ImageData) (N : ℕ) (s : FlatState) (shows : Shows N s (place
   pub law_from : AllGood image N s rs → Executes image s rs
   law_from g =
       subst (Executes image s) (entries_back image (core_at s) rs)
-      (good_execution image N s (places_of s) shows (entries image (core_at s) rs) (all_good image N (places_of s) (core_at s) (block_of_state s) tied rs g.cores g.blocks))
+      (good_execution image N s (places_of s) shows (entries image (core_at s) rs)
+      (all_good image N (places_of s) (core_at s) (block_of_state s) tied rs g.cores g.blocks))

@@ -48,7 +48,8 @@ module _ (image : ImageData) (n b : ℕ) where
 
   -- a list
   later : (e : Entry) (es : List Entry) → ReservedSince image n b es → ReservedSince image n b (e ∷ es)
-  later e es r = record { before = e ∷ r.before; entry = r.entry; after = r.after; is = ap (λ l. e ∷ l) r.is; reserves = r.reserves; leave = r.leave }
+  later e es r =
+      record { before = e ∷ r.before; entry = r.entry; after = r.after; is = ap (λ l. e ∷ l) r.is; reserves = r.reserves; leave = r.leave }
 
   run_to : (F : Places) (es : List Entry) → (run image F es).held n b ≡ true →
       ((F.held n b ≡ true) × AllLeave image n b es) ⊎ ReservedSince image n b es
@@ -87,4 +88,5 @@ module _ (image : ImageData) (n b : ℕ) where
 
     pub held_from : ReservedSince image n b (below f k) → (at_cut image F f k).held n b ≡ true
     held_from r =
-        ap (λ G. G.held n b) (sym (run-below image F f k)) ∙ ap (λ l. (run image F l).held n b) r.is ∙ split_held F r.before r.entry r.after r.reserves r.leave
+        ap (λ G. G.held n b) (sym (run-below image F f k)) ∙ ap (λ l. (run image F l).held n b) r.is
+        ∙ split_held F r.before r.entry r.after r.reserves r.leave

@@ -38,8 +38,10 @@ module _ (image : ImageData) where
   good_late : (N : ℕ) (F : Places) (e : Entry) (ys : List Entry) → AllApart image e ys → Good image N F ys →
       Good image N (step image F e) ys
   good_late N F e [] a g = tt
-  good_late N F e (y ∷ ys) a g =
-      (legal_after image F e y a.0 N g.0, subst (λ G. Good image N G ys) (sym (swap image F e y a.0)) (good_late N (step image F y) e ys a.1 g.1))
+  good_late N F e (y ∷ ys) a g = (
+    legal_after image F e y a.0 N g.0,
+    subst (λ G. Good image N G ys) (sym (swap image F e y a.0)) (good_late N (step image F y) e ys a.1 g.1),
+  )
 
 module _ (image : ImageData) (F : Places) (f : ℕ → List Entry) (x : ℕ) (e : Entry) where
   -- up to its interval nothing changes
@@ -93,7 +95,8 @@ module _ (image : ImageData) (F : Places) (f : ℕ → List Entry) (x : ℕ) (e 
         go : ((k ≡ x) ⊎ ((k < x) ⊎ (x < k))) → Good image N (at_cut image F (retire f x e) k) (retire f x e k)
         go (inl i) =
             rw (retire_low k (omega arith), is_x i)
-            (Good-append image N (at_cut image F f k) (f k) (e ∷ []) (g k) ((subst (λ j. Legal image N (run image (at_cut image F f j) (f j)) e) (sym i) l), tt))
+            (Good-append image N (at_cut image F f k) (f k) (e ∷ []) (g k)
+            ((subst (λ j. Legal image N (run image (at_cut image F f j) (f j)) e) (sym i) l), tt))
         go (inr (inl m)) = rw (retire_low k (omega arith), not_x (omega arith)) (g k)
         go (inr (inr m)) = rw (retire_high k m, not_x (omega arith)) (good_late image N (at_cut image F f k) e (f k) (a k m) (g k))
 
@@ -143,7 +146,8 @@ module _ (image : ImageData) (F : Places) (f : ℕ → List Entry) where
   pub below_good : (N : ℕ) → GoodList image N F f → (k : ℕ) → Good image N F (below f k)
   unfolding below
   below_good N g zero = tt
-  below_good N g (suc k) = Good-append image N F (below f k) (f k) (below_good N g k) (subst (λ G. Good image N G (f k)) (sym (run-below k)) (g k))
+  below_good N g (suc k) =
+      Good-append image N F (below f k) (f k) (below_good N g k) (subst (λ G. Good image N G (f k)) (sym (run-below k)) (g k))
 
 -- what is below k stays where only what is at or above it changes
 pub below_same : {A : Type 0} → (f g : ℕ → List A) (k : ℕ) → ((j : ℕ) → j < k → f j ≡ g j) → below f k ≡ below g k

@@ -5,7 +5,8 @@ use Rattle.rv_core.specs.declared.step.Record.{Record}
 use Rattle.rv_core.specs.declared.step.Want.{Want}
 use Rattle.rv_core.specs.declared.step.Want.TheVariants.{Nothing, Load, Store, Amo, Lr, Sc, Input}
 use Rattle.sn_base.specs.Image.{ImageData}
-use Rattle.sn_consistency.specs.Words.{Content, kind, kind_of, block, address_of, place, next, puts, content_after, write_block, is_lr, is_sc}
+use Rattle.sn_consistency.specs.Words.{Content, kind, kind_of, block, address_of, place, next, puts, content_after, write_block, is_lr}
+use Rattle.sn_consistency.specs.Words.{is_sc}
 use Rattle.rv_core.specs.Step.{want_of}
 use Rattle.rv_core.specs.Core.{bare, is_running, block_of, is_reserved}
 use Rattle.sn_consistency.specs.Laws.{own_reservation}

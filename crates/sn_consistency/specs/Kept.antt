@@ -1,5 +1,6 @@
 -- What a machine keeps of the sorted list while its nodes retire, count intervals, validate and recover.
-use Rattle.std.specs.Prelude.{◌≡◌, ◌≢◌, ℕ, suc, ◌<◌, ◌≤◌, Bool, true, false, ◌&&◌, if◌then◌else◌, max, min, List, [], ◌∷◌, ◌++◌, ◌==◌, nat_eq, nat_lt, nat_le, length, drop, option_to_list}
+use Rattle.std.specs.Prelude.{◌≡◌, ◌≢◌, ℕ, suc, ◌<◌, ◌≤◌, Bool, true, false, ◌&&◌, if◌then◌else◌, max, min, List, [], ◌∷◌, ◌++◌, ◌==◌}
+use Rattle.std.specs.Prelude.{nat_eq, nat_lt, nat_le, length, drop, option_to_list}
 use Rattle.sn_base.specs.Image.{ImageData}
 use Rattle.rv_core.specs.declared.state.CoreState.{CoreState}
 use Rattle.rv_core.specs.Core.{bare}

@@ -1,6 +1,7 @@
 -- The projections of a list of records: on a core its records, on a block the accesses to it. First as folds over the
 -- whole list that skip what is not theirs, then as filtered lists.
-use Rattle.std.specs.Prelude.{◌≡◌, ℕ, ◌<◌, Bool, true, false, not, ◌&&◌, ◌||◌, if◌then◌else◌, List, [], ◌∷◌, ◌==◌, is_some, take, length, suc, slice_get, Some}
+use Rattle.std.specs.Prelude.{◌≡◌, ℕ, ◌<◌, Bool, true, false, not, ◌&&◌, ◌||◌, if◌then◌else◌, List, [], ◌∷◌, ◌==◌, is_some, take, length}
+use Rattle.std.specs.Prelude.{suc, slice_get, Some}
 use Rattle.rv_core.specs.declared.state.CoreState.{CoreState}
 use Rattle.rv_core.specs.declared.step.Record.{Record}
 use Rattle.sn_base.specs.Image.{ImageData}

@@ -12,7 +12,8 @@ ghost use Rattle.sn_consistency.specs.Entries.{Entry, Places};
 ghost use Rattle.sn_consistency.specs.Sorted.{at_cut};
 ghost use Rattle.sn_consistency.specs.Shows.{Shows};
 ghost use Rattle.sn_consistency.specs.Committed.{committed, Begins};
-ghost use Rattle.sn_consistency.specs.Kept.{Outline, Keeps, Retires, IsSameOutline, retired, begun, edged, lost_to, learned, given_to, validated, recovered, others_reach};
+ghost use Rattle.sn_consistency.specs.Kept.{Outline, Keeps, Retires, IsSameOutline, retired, begun, edged, lost_to, learned, given_to};
+ghost use Rattle.sn_consistency.specs.Kept.{validated, recovered, others_reach};
 
 /// A program's start keeps it, and so does each event: a retirement that may be, an edge, the loss of reservations, the
 /// news of a point that isn't above the machine's, a byte of input, a validation where no node's interval is below the

@@ -46,5 +46,6 @@ pub fn block_has_its_store()
     ensures { (memory : List ℕ) (width : Width) (value address b : ℕ) → length memory ≡ ram_size →
         ram_start ≤ address → address + bytes_of width ≤ ram_start + ram_size → address % bytes_of width ≡ 0 →
         block_in (stored_in memory (address - ram_start) (little_bytes (bytes_of width) value)) b ≡
-        cond (b == block_of address) (stored_in (block_in memory b) ((address - ram_start) % 64) (little_bytes (bytes_of width) value)) (block_in memory b) }
+        cond (b == block_of address) (stored_in (block_in memory b) ((address - ram_start) % 64) (little_bytes (bytes_of width) value))
+        (block_in memory b) }
 {}

@@ -5,7 +5,8 @@ use Rattle.std.proofs.lemmas.List.{take-append-drop}
 use Rattle.sn_io.specs.Outside.{followed_by}
 use Rattle.sn_console.specs.Handed.{IsBegun}
 
-pub IsBegun-take : (before piece after : List ℕ) (n : ℕ) (written writes : Option (List ℕ)) → before ++ piece ≡ after → writes ≡ followed_by written (take n piece) → IsBegun before after written writes
+pub IsBegun-take : (before piece after : List ℕ) (n : ℕ) (written writes : Option (List ℕ)) → before ++ piece ≡ after →
+    writes ≡ followed_by written (take n piece) → IsBegun before after written writes
 IsBegun-take before piece after n written writes grown put = record {
   more = take n piece;
   begun = record {

@@ -1,5 +1,6 @@
 -- What the calls that send nothing come to.
-use Rattle.std.proofs.Common.{◌≡◌, ℕ, ◌+◌, ◌<◌, Bool, true, false, cond, not, Option, Some, None, List, [], length, get_or, set, refl, sym, ap, ◌∙◌, subst}
+use Rattle.std.proofs.Common.{◌≡◌, ℕ, ◌+◌, ◌<◌, Bool, true, false, cond, not, Option, Some, None, List, [], length, get_or, set, refl, sym}
+use Rattle.std.proofs.Common.{ap, ◌∙◌, subst}
 use Rattle.std.specs.Prelude.{is_some}
 use Rattle.sn_base.specs.declared.config.Config.{Config}
 use Rattle.sn_base.specs.declared.event.Answer.{Answer}
@@ -29,7 +30,8 @@ rising config p k = k.keeps.1.shape.rising
 -- a hop
 
 there_routes : (n : NetData) (id : ℕ) (f : Carried) (a d : Bool) →
-    (cond a n (cond d (record n { flights = without n.flights id }) (record n { flights = moved n.flights id (next_switch n.routes f) }))).routes ≡ n.routes
+    (cond a n (cond d (record n { flights = without n.flights id })
+    (record n { flights = moved n.flights id (next_switch n.routes f) }))).routes ≡ n.routes
 there_routes n id f true d = refl
 there_routes n id f false true = refl
 there_routes n id f false false = refl
@@ -42,12 +44,16 @@ hop_is_moved : (config : Config) (s : Fabric) (id : ℕ) → moved_by config s (
 unfolding moved_by
 hop_is_moved config s id = refl
 
-pub hop-comes : (config : Config) (p : Parts) (id : ℕ) (net : NetData) (r : HopAnswer) (said : Answer) (sends : List Sent) → AreParts config p →
-    net ≡ after_hop p.net id (find_flight p.net.flights id) → r ≡ hop_answer p.net (find_flight p.net.flights id) → said ≡ hop_as r → sends ≡ [] →
+pub hop-comes : (config : Config) (p : Parts) (id : ℕ) (net : NetData) (r : HopAnswer) (said : Answer) (sends : List Sent) →
+    AreParts config p →
+    net ≡ after_hop p.net id (find_flight p.net.flights id) → r ≡ hop_answer p.net (find_flight p.net.flights id) → said ≡ hop_as r →
+    sends ≡ [] →
     Comes config p (record p { net = net }) sends said (hopped (fabric_as p) id)
 hop-comes config p id net r said sends k n a s e =
-    comes-as config p (record p { net = net }) sends said None (Hop id) (hopped (fabric_as p) id) k tt tt (hop_is_moved config (fabric_as p) id)
-    (whole-net config p net k.whole (ap (λ (x : NetData). x.routes.nodes) n ∙ ap (λ (x : Switches). x.nodes) (hop_routes p.net id (find_flight p.net.flights id))))
+    comes-as config p (record p { net = net }) sends said None (Hop id) (hopped (fabric_as p) id) k tt tt
+    (hop_is_moved config (fabric_as p) id)
+    (whole-net config p net k.whole
+    (ap (λ (x : NetData). x.routes.nodes) n ∙ ap (λ (x : Switches). x.nodes) (hop_routes p.net id (find_flight p.net.flights id))))
     (rw (n, s, a, e) (hop-is p id (routes-as config p k.whole) (rising config p k)))
 
 -- a loss
@@ -57,10 +63,12 @@ unfolding moved_by
 loss_is_moved config s id = refl
 
 pub loss-comes : (config : Config) (p : Parts) (id : ℕ) (net : NetData) (b : Bool) (said : Answer) (sends : List Sent) → AreParts config p →
-    b ≡ is_some (find_flight p.net.flights id) → net ≡ record p.net { flights = without p.net.flights id } → (b ≡ false → net ≡ p.net) → said ≡ loss_as b → sends ≡ [] →
+    b ≡ is_some (find_flight p.net.flights id) → net ≡ record p.net { flights = without p.net.flights id } → (b ≡ false → net ≡ p.net) →
+    said ≡ loss_as b → sends ≡ [] →
     Comes config p (record p { net = net }) sends said (lost (fabric_as p) id)
 loss-comes config p id net b said sends k there after absent s e =
-    comes-as config p (record p { net = net }) sends said None (Lose id) (lost (fabric_as p) id) k tt tt (loss_is_moved config (fabric_as p) id)
+    comes-as config p (record p { net = net }) sends said None (Lose id) (lost (fabric_as p) id) k tt tt
+    (loss_is_moved config (fabric_as p) id)
     (whole-net config p net k.whole (ap (λ (x : NetData). x.routes.nodes) after))
     (rw (s, e) (loss-is p id net b there after absent))
 
@@ -70,15 +78,21 @@ kill_is_moved : (config : Config) (s : Fabric) (switch : ℕ) → moved_by confi
 unfolding moved_by
 kill_is_moved config s switch = refl
 
-kill_routes : (n m : NetData) (switch : ℕ) (b : Bool) → (b ≡ true → m ≡ record n { dead = set n.dead switch true; flights = outside n.flights switch }) → (b ≡ false → m ≡ n) → m.routes.nodes ≡ n.routes.nodes
+kill_routes : (n m : NetData) (switch : ℕ) (b : Bool) →
+    (b ≡ true → m ≡ record n { dead = set n.dead switch true; flights = outside n.flights switch }) → (b ≡ false → m ≡ n) →
+    m.routes.nodes ≡ n.routes.nodes
 kill_routes n m switch true after already = ap (λ (x : NetData). x.routes.nodes) (after refl)
 kill_routes n m switch false after already = ap (λ (x : NetData). x.routes.nodes) (already refl)
 
-pub kill-comes : (config : Config) (p : Parts) (switch : ℕ) (net : NetData) (b : Bool) (said : Answer) (sends : List Sent) → AreParts config p →
-    b ≡ not (is_dead p.net.dead switch) → (b ≡ true → net ≡ record p.net { dead = set p.net.dead switch true; flights = outside p.net.flights switch }) → (b ≡ false → net ≡ p.net) →
+pub kill-comes : (config : Config) (p : Parts) (switch : ℕ) (net : NetData) (b : Bool) (said : Answer) (sends : List Sent) →
+    AreParts config p →
+    b ≡ not (is_dead p.net.dead switch) →
+    (b ≡ true → net ≡ record p.net { dead = set p.net.dead switch true; flights = outside p.net.flights switch }) →
+    (b ≡ false → net ≡ p.net) →
     said ≡ kill_as b → sends ≡ [] → Comes config p (record p { net = net }) sends said (killed (fabric_as p) switch)
 kill-comes config p switch net b said sends k there after already s e =
-    comes-as config p (record p { net = net }) sends said None (Kill switch) (killed (fabric_as p) switch) k tt tt (kill_is_moved config (fabric_as p) switch)
+    comes-as config p (record p { net = net }) sends said None (Kill switch) (killed (fabric_as p) switch) k tt tt
+    (kill_is_moved config (fabric_as p) switch)
     (whole-net config p net k.whole (kill_routes p.net net switch b after already))
     (rw (s, e) (kill-is p switch net b there after already))
 
@@ -88,22 +102,34 @@ edge_is_moved : (config : Config) (s : Fabric) (n : ℕ) → moved_by config s (
 unfolding moved_by
 edge_is_moved config s n = refl
 
-edge_step : (p : Parts) (n : ℕ) (b : Bool) → seat.is_full (seat_at p.seats n).clock ≡ b → node_at (fabric_as p) n ≡ node_as (seat_at p.seats n) →
-    model.edged (fabric_as p) n ≡ answered (fabric_as (record p { seats = set p.seats n (record (seat_at p.seats n) { clock = seat.edged (seat_at p.seats n).clock }) })) (seat.edge_answer (seat_at p.seats n).clock)
+edge_step : (p : Parts) (n : ℕ) (b : Bool) → seat.is_full (seat_at p.seats n).clock ≡ b →
+    node_at (fabric_as p) n ≡ node_as (seat_at p.seats n) →
+    model.edged (fabric_as p) n
+    ≡ answered (fabric_as (record p {
+      seats = set p.seats n
+          (record (seat_at p.seats n) { clock = seat.edged (seat_at p.seats n).clock });
+    })) (seat.edge_answer (seat_at p.seats n).clock)
 edge_step p n true e a = rw (a, e, set-get_or p.seats n no_seat) refl
-edge_step p n false e a = rw (a, e) (ap (λ (s : Fabric). answered s (Edged ((seat_at p.seats n).clock.interval + 1))) (sym (fabric-seat p n (record (seat_at p.seats n) { clock = record (seat_at p.seats n).clock { interval = (seat_at p.seats n).clock.interval + 1 } }))))
+edge_step p n false e a =
+    rw (a, e) (ap (λ (s : Fabric). answered s (Edged ((seat_at p.seats n).clock.interval + 1)))
+    (sym (fabric-seat p n (record
+    (seat_at p.seats n) { clock = record (seat_at p.seats n).clock { interval = (seat_at p.seats n).clock.interval + 1 } }))))
 
 same_seat : (config : Config) (n : ℕ) (x : Seat) (clock : ClockData) → IsSeat config n x → IsSeat config n (record x { clock = clock })
 same_seat config n x clock i = record { node = i.node; nodes = i.nodes; sets = i.sets; ways = i.ways; limit = i.limit }
 
-pub edge-comes : (config : Config) (p : Parts) (n place : ℕ) (x : Seat) (clock : ClockData) (said : Answer) (sends : List Sent) → AreParts config p →
-    n < length (fabric_as p).nodes → place ≡ n → x ≡ get_or p.seats place x → clock ≡ seat.edged x.clock → said ≡ seat.edge_answer x.clock → sends ≡ [] →
+pub edge-comes : (config : Config) (p : Parts) (n place : ℕ) (x : Seat) (clock : ClockData) (said : Answer) (sends : List Sent) →
+    AreParts config p →
+    n < length (fabric_as p).nodes → place ≡ n → x ≡ get_or p.seats place x → clock ≡ seat.edged x.clock → said ≡ seat.edge_answer x.clock →
+    sends ≡ [] →
     Comes config p (record p { seats = set p.seats place (record x { clock = clock }) }) sends said (model.edged (fabric_as p) n)
 edge-comes config p n place x clock said sends k l ep ex ec es e =
     let h : n < length p.seats = subst (λ (k : ℕ). n < k) (count-nodes p) l in
     rw (ec, es, seat-read p n place x l ep ex, ep, e)
-    (comes-as config p (record p { seats = set p.seats n (record (seat_at p.seats n) { clock = seat.edged (seat_at p.seats n).clock }) }) [] (seat.edge_answer (seat_at p.seats n).clock) None
+    (comes-as config p (record p { seats = set p.seats n (record (seat_at p.seats n) { clock = seat.edged (seat_at p.seats n).clock }) }) []
+    (seat.edge_answer (seat_at p.seats n).clock) None
     (Edge n) (model.edged (fabric_as p) n) k l tt (edge_is_moved config (fabric_as p) n)
     (whole-seat config p n (record (seat_at p.seats n) { clock = seat.edged (seat_at p.seats n).clock }) k.whole h
-    (same_seat config n (seat_at p.seats n) (seat.edged (seat_at p.seats n).clock) (k.whole.seats n (subst (λ (k : ℕ). n < k) k.whole.count h))))
+    (same_seat config n (seat_at p.seats n) (seat.edged (seat_at p.seats n).clock)
+    (k.whole.seats n (subst (λ (k : ℕ). n < k) k.whole.count h))))
     (edge_step p n (seat.is_full (seat_at p.seats n).clock) refl (node-at p n h)))

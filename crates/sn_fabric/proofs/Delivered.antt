@@ -55,7 +55,8 @@ no_fault : (why : TakeFault) → fault_as why ≡ Delivered → ⊥
 no_fault fault.NoMessage e = cc
 no_fault fault.NotArrived e = cc
 
-pub none-delivered : (config : Config) (p : Parts) (id : ℕ) (why : TakeFault) → take_answer (find_flight p.net.flights id) ≡ Err why → (delivered config (fabric_as p) id).answer ≡ Delivered → ⊥
+pub none-delivered : (config : Config) (p : Parts) (id : ℕ) (why : TakeFault) → take_answer (find_flight p.net.flights id) ≡ Err why →
+    (delivered config (fabric_as p) id).answer ≡ Delivered → ⊥
 none-delivered config p id why e d = no_fault why (sym (ap (λ (y : Moved). y.answer) (fault-shown config p id why e)) ∙ d)
 
 -- what isn't delivered stays where it is
@@ -63,18 +64,22 @@ none-delivered config p id why e d = no_fault why (sym (ap (λ (y : Moved). y.an
 abbrev Stays : Fabric → Moved → Type 0
 Stays s x = (x.answer ≡ Delivered → ⊥) → x ≡ refused s x.answer
 
-room_stays : (s : Fabric) (over full : Bool) (done : Moved) → done.answer ≡ Delivered → Stays s (if over then refused s LogFull else if full then refused s NetFull else done)
+room_stays : (s : Fabric) (over full : Bool) (done : Moved) → done.answer ≡ Delivered →
+    Stays s (if over then refused s LogFull else if full then refused s NetFull else done)
 room_stays s true full done d h = refl
 room_stays s false true done d h = refl
 room_stays s false false done d h = absurd (h d)
 
 outcome_stays : (config : Config) (s : Fabric) (m : Message) (o : Outcome) → Stays s (delivers config s m o)
 outcome_stays config s m Busy h = refl
-outcome_stays config s m (AtCache reply) h = room_stays s (nat_lt config.log (length reply.after.log)) (nat_lt 1025 (length s.net.flights + length reply.sends)) _ refl h
-outcome_stays config s m (AtHome reply) h = room_stays s (nat_lt config.log (length reply.after.log)) (nat_lt 1025 (length s.net.flights + length reply.sends)) _ refl h
+outcome_stays config s m (AtCache reply) h =
+    room_stays s (nat_lt config.log (length reply.after.log)) (nat_lt 1025 (length s.net.flights + length reply.sends)) _ refl h
+outcome_stays config s m (AtHome reply) h =
+    room_stays s (nat_lt config.log (length reply.after.log)) (nat_lt 1025 (length s.net.flights + length reply.sends)) _ refl h
 outcome_stays config s m (Noted fabric told) h = absurd (h refl)
 
-test_stays : (s : Fabric) (there held : Bool) (rest : Moved) → Stays s rest → Stays s (if not there then refused s NotArrived else if held then refused s Held else rest)
+test_stays : (s : Fabric) (there held : Bool) (rest : Moved) → Stays s rest →
+    Stays s (if not there then refused s NotArrived else if held then refused s Held else rest)
 test_stays s false held rest k h = refl
 test_stays s true true rest k h = refl
 test_stays s true false rest k h = k h
@@ -82,7 +87,9 @@ test_stays s true false rest k h = k h
 flight_stays : (config : Config) (s : Fabric) (o : Option Flight) → Stays s (delivers_flight config s o)
 flight_stays config s None h = refl
 flight_stays config s (Some f) h =
-    test_stays s (is_there f) (nat_lt (node_at s f.message.to).now f.message.tag) (delivers config s f.message (outcome_of s f.message f.message.body)) (outcome_stays config s f.message (outcome_of s f.message f.message.body)) h
+    test_stays s (is_there f) (nat_lt (node_at s f.message.to).now f.message.tag)
+    (delivers config s f.message (outcome_of s f.message f.message.body))
+    (outcome_stays config s f.message (outcome_of s f.message f.message.body)) h
 
 undelivered : (config : Config) (s : Fabric) (id : ℕ) → Stays s (delivered config s id)
 undelivered config s id h = flight_stays config s (flight_of s.net.flights id) h

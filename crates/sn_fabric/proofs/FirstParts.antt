@@ -1,9 +1,9 @@
 -- What the parts at the start stand for.
-use Rattle.std.proofs.Common.{◌≡◌, ℕ, zero, suc, ◌+◌, ◌-◌, ◌*◌, ◌/◌, ◌%◌, ◌<◌, ◌≤◌, true, false, List, [], ◌∷◌, ◌++◌, length, get_or, replicate, refl, sym, ap, ◌∙◌, subst, arith, ⊎_elim}
+use Rattle.std.proofs.Common.{◌≡◌, ℕ, zero, suc, ◌+◌, ◌-◌, ◌*◌, ◌/◌, ◌%◌, ◌<◌, ◌≤◌, true, false, List, [], ◌∷◌, ◌++◌, length, get_or}
+use Rattle.std.proofs.Common.{replicate, refl, sym, ap, ◌∙◌, subst, arith, ⊎_elim}
 use Rattle.std.specs.Prelude.{map}
 use Rattle.std.specs.List.{range_with_len}
-use Rattle.std.proofs.Math.Nat.{mod-lt, div-add-mod}
-use Rattle.std.proofs.Math.Nat.{mul_comm}
+use Rattle.std.proofs.Math.Nat.{mod-lt, div-add-mod, mul_comm}
 use Rattle.std.proofs.lemmas.Nat.{le-div}
 use Rattle.std.proofs.lemmas.Bool.Decides.{nat_tests}
 use Rattle.std.proofs.lemmas.Grind.{common_steps}
@@ -18,7 +18,7 @@ use Rattle.home_directory.specs.Home.{HomeData, places_of, entries_below, first_
 use Rattle.sn_model.specs.Caches.{block_count}
 use Rattle.sn_model.specs.Homes.{HomeEntry}
 use Rattle.sn_model.specs.Fabric as model
-use Rattle.sn_model.specs.Fabric.{Fabric, Node, first_home, first_homes, first_node, first_fabric, no_entry}
+use Rattle.sn_model.specs.Fabric.{Node, first_home, first_homes, first_node, first_fabric, no_entry}
 use Rattle.fabric_coherence.specs.Start.{first_beside}
 use Rattle.fabric_coherence.proofs.KeptStart.{start-kept}
 use Rattle.fabric_coherence.proofs.Recovery.{replicated}
@@ -27,7 +27,8 @@ use Rattle.sn_fabric.specs.Logs.{AreOwnLogs}
 use Rattle.fabric_bounds.specs.Bounds.{KeepsBounds}
 use Rattle.fabric_bounds.proofs.Runs.{start_bounded}
 use Rattle.sn_fabric.specs.declared.node.Seat.{Seat}
-use Rattle.sn_fabric.specs.Parts.{node_as, Parts, fabric_as, seat_at, home_at, no_seat, no_home, homes_as, entry_at, IsSeat, IsHomeOf, AreWhole, AreParts}
+use Rattle.sn_fabric.specs.Parts.{node_as, Parts, fabric_as, seat_at, home_at, no_seat, no_home, homes_as, entry_at, IsSeat, IsHomeOf}
+use Rattle.sn_fabric.specs.Parts.{AreWhole, AreParts}
 use Rattle.sn_fabric.specs.Start.{first_seat, seats_below, homes_below}
 
 -- a list that is built from its beginning
@@ -38,7 +39,9 @@ upto f (suc n) = upto f n ++ f n ∷ []
 length-upto : {A : Type 0} (f : ℕ → A) (n : ℕ) → length (upto f n) ≡ n
 unfolding upto
 length-upto f zero = refl
-length-upto f (suc n) = let l : length (upto f n ++ f n ∷ []) ≡ length (upto f n) + 1 = length_push (upto f n) (f n) in let h : length (upto f n) ≡ n = length-upto f n in omega arith
+length-upto f (suc n) =
+    let l : length (upto f n ++ f n ∷ []) ≡ length (upto f n) + 1 = length_push (upto f n) (f n) in
+    let h : length (upto f n) ≡ n = length-upto f n in omega arith
 
 at-upto : {A : Type 0} (f : ℕ → A) (n i : ℕ) (d : A) → i < n → get_or (upto f n) i d ≡ f i
 unfolding upto
@@ -60,10 +63,12 @@ unfolding upto
 homes-upto zero image nodes = refl
 homes-upto (suc n) image nodes = ap (λ (xs : List HomeData). xs ++ first_of image n nodes ∷ []) (homes-upto n image nodes)
 
-entries-upto : (n : ℕ) (image : ImageData) (node nodes : ℕ) → entries_below n image node nodes ≡ upto (λ k. first_home image (node + nodes * k)) n
+entries-upto : (n : ℕ) (image : ImageData) (node nodes : ℕ) →
+    entries_below n image node nodes ≡ upto (λ k. first_home image (node + nodes * k)) n
 unfolding upto
 entries-upto zero image node nodes = refl
-entries-upto (suc n) image node nodes = ap (λ (xs : List HomeEntry). xs ++ first_home image (node + nodes * n) ∷ []) (entries-upto n image node nodes)
+entries-upto (suc n) image node nodes =
+    ap (λ (xs : List HomeEntry). xs ++ first_home image (node + nodes * n) ∷ []) (entries-upto n image node nodes)
 
 blocks-upto : (n : ℕ) (image : ImageData) → model.homes_below n image ≡ upto (first_home image) n
 unfolding upto
@@ -85,13 +90,15 @@ seat-start : (n i : ℕ) (config : Config) → i < n → seat_at (seats_below n 
 seat-start n i config l = ap (λ (xs : List Seat). get_or xs i no_seat) (seats-upto n config) ∙ at-upto (first_seat config) n i no_seat l
 
 home-start : (n i : ℕ) (image : ImageData) → i < n → home_at (homes_below n image n) i ≡ first_of image i n
-home-start n i image l = ap (λ (xs : List HomeData). get_or xs i no_home) (homes-upto n image n) ∙ at-upto (λ k. first_of image k n) n i no_home l
+home-start n i image l =
+    ap (λ (xs : List HomeData). get_or xs i no_home) (homes-upto n image n) ∙ at-upto (λ k. first_of image k n) n i no_home l
 
 count-homes : (n : ℕ) (image : ImageData) → length (homes_below n image n) ≡ n
 count-homes n image = ap (λ (xs : List HomeData). length xs) (homes-upto n image n) ∙ length-upto (λ k. first_of image k n) n
 
 count-entries : (n : ℕ) (image : ImageData) (node nodes : ℕ) → length (entries_below n image node nodes) ≡ n
-count-entries n image node nodes = ap (λ (xs : List HomeEntry). length xs) (entries-upto n image node nodes) ∙ length-upto (λ k. first_home image (node + nodes * k)) n
+count-entries n image node nodes =
+    ap (λ (xs : List HomeEntry). length xs) (entries-upto n image node nodes) ∙ length-upto (λ k. first_home image (node + nodes * k)) n
 
 -- a block's place is one of its home's
 pub place_inside : (b n : ℕ) → 0 < n → b < block_count → b / n < places_of (b % n) n
@@ -107,14 +114,16 @@ entry-start n b image l h =
     let m : b % n < n = mod-lt b l in
     let e : b % n + n * (b / n) ≡ b = omega (arith, div-add-mod b n) in
     sym (
-    ap (λ (k : ℕ). get_or (home_at (homes_below n image n) (b % k)).entries (b / (home_at (homes_below n image n) (b % k)).nodes) no_entry) (count-homes n image)
+    ap (λ (k : ℕ). get_or (home_at (homes_below n image n) (b % k)).entries (b / (home_at (homes_below n image n) (b % k)).nodes) no_entry)
+    (count-homes n image)
     ∙ ap (λ (x : HomeData). get_or x.entries (b / x.nodes) no_entry) (home-start n (b % n) image m)
     ∙ ap (λ (xs : List HomeEntry). get_or xs (b / n) no_entry) (entries-upto (places_of (b % n) n) image (b % n) n)
     ∙ at-upto (λ k. first_home image (b % n + n * k)) (places_of (b % n) n) (b / n) no_entry (place_inside b n l h)
     ∙ ap (first_home image) e
     )
 
-all-start : (n : ℕ) (image : ImageData) (count : ℕ) → count ≤ block_count → 0 < n → model.homes_below count image ≡ map (entry_at (homes_below n image n)) (range_with_len 0 count)
+all-start : (n : ℕ) (image : ImageData) (count : ℕ) → count ≤ block_count → 0 < n →
+    model.homes_below count image ≡ map (entry_at (homes_below n image n)) (range_with_len 0 count)
 all-start n image count c l =
     blocks-upto count image
     ∙ fill_by_all (entry_at (homes_below n image n)) (upto (first_home image) count) count no_entry (length-upto (first_home image) count)
@@ -126,7 +135,8 @@ homes-start n image l = sym (all-start n image block_count (omega arith) l)
 
 -- the parts at the start
 abbrev pub first_parts : Config → ImageData → NetData → Parts
-first_parts config image net = record { seats = seats_below config.nodes config; homes = homes_below config.nodes image config.nodes; net = net; point = 0 }
+first_parts config image net =
+    record { seats = seats_below config.nodes config; homes = homes_below config.nodes image config.nodes; net = net; point = 0 }
 
 pub record HasFewNodes (config : Config) : Type 0 where
   pub some : 1 ≤ config.nodes
@@ -135,13 +145,16 @@ pub record HasFewNodes (config : Config) : Type 0 where
 pub few-nodes : (config : Config) → config_fits config ≡ true → HasFewNodes config
 few-nodes config h = record { some = grind (arith, common_steps, nat_tests, h); few = grind (arith, common_steps, nat_tests, h) }
 
-whole-start : (config : Config) (image : ImageData) (net : NetData) → config_fits config ≡ true → net.routes.nodes ≡ config.nodes → AreWhole config (first_parts config image net)
+whole-start : (config : Config) (image : ImageData) (net : NetData) → config_fits config ≡ true → net.routes.nodes ≡ config.nodes →
+    AreWhole config (first_parts config image net)
 whole-start config image net f r = record {
   fits = f;
   count = ap (λ (xs : List Seat). length xs) (seats-upto config.nodes config) ∙ length-upto (first_seat config) config.nodes;
   count_homes = count-homes config.nodes image;
   count_routes = r;
-  seats = λ n l. subst (IsSeat config n) (sym (seat-start config.nodes n config l)) (record { node = refl; nodes = refl; sets = refl; ways = refl; limit = refl });
+  seats =
+      λ n l. subst (IsSeat config n) (sym (seat-start config.nodes n config l))
+      (record { node = refl; nodes = refl; sets = refl; ways = refl; limit = refl });
   homes = λ n l. subst (IsHomeOf config n) (sym (home-start config.nodes n image l)) (record {
     node = refl;
     nodes = refl;
@@ -151,19 +164,29 @@ whole-start config image net f r = record {
 
 -- the network at the start
 abbrev pub first_net : Config → NetData
-first_net config = record { routes = record { nodes = config.nodes; dead = replicate 32 false }; dead = replicate 32 false; next = 1; flights = [] }
+first_net config =
+    record { routes = record { nodes = config.nodes; dead = replicate 32 false }; dead = replicate 32 false; next = 1; flights = [] }
 
-pub fabric-start : (config : Config) (image : ImageData) → config_fits config ≡ true → fabric_as (first_parts config image (first_net config)) ≡ first_fabric image config.nodes
+pub fabric-start : (config : Config) (image : ImageData) → config_fits config ≡ true →
+    fabric_as (first_parts config image (first_net config)) ≡ first_fabric image config.nodes
 fabric-start config image f =
-    ap (λ (nodes : List Node). record (fabric_as (first_parts config image (first_net config))) { nodes = nodes }) (nodes-start config.nodes config)
-    ∙ ap (λ (homes : List HomeEntry). record (first_fabric image config.nodes) { homes = homes }) (homes-start config.nodes image (few-nodes config f).some)
+    ap (λ (nodes : List Node). record (fabric_as (first_parts config image (first_net config))) { nodes = nodes })
+    (nodes-start config.nodes config)
+    ∙ ap (λ (homes : List HomeEntry). record (first_fabric image config.nodes) { homes = homes })
+    (homes-start config.nodes image (few-nodes config f).some)
 
 logs-start : (image : ImageData) (nodes : ℕ) → AreOwnLogs (first_fabric image nodes)
 logs-start image nodes n l block other = ap (λ (x : Node). logged_to x.log true block) (replicated nodes n first_node)
 
-pub parts-start : (config : Config) (image : ImageData) → config_fits config ≡ true → AreParts config (first_parts config image (first_net config))
+pub parts-start : (config : Config) (image : ImageData) → config_fits config ≡ true →
+    AreParts config (first_parts config image (first_net config))
 parts-start config image f = record {
   whole = whole-start config image (first_net config) f refl;
-  keeps = subst (KeepsBounds config) (sym (fabric-start config image f)) (first_beside, start-kept image config.nodes (few-nodes config f).some (few-nodes config f).few, start_bounded image config config.nodes);
+  keeps =
+      subst (KeepsBounds config) (sym (fabric-start config image f)) (
+        first_beside,
+        start-kept image config.nodes (few-nodes config f).some (few-nodes config f).few,
+        start_bounded image config config.nodes,
+      );
   logs = subst AreOwnLogs (sym (fabric-start config image f)) (logs-start image config.nodes);
 }

@@ -1,5 +1,6 @@
 -- What events would be answered, by what the parts say.
-use Rattle.std.proofs.Common.{◌≡◌, ℕ, ◌+◌, ◌<◌, ◌≤◌, ◌^◌, Bool, cond, Option, Some, None, List, length, get_or, take, refl, sym, ap, ◌∙◌, subst, arith}
+use Rattle.std.proofs.Common.{◌≡◌, ℕ, ◌+◌, ◌<◌, ◌≤◌, ◌^◌, Bool, cond, Option, Some, None, List, length, get_or, take, refl, sym, ap, ◌∙◌}
+use Rattle.std.proofs.Common.{subst, arith}
 use Rattle.std.specs.Prelude.{nat_le, is_some, slice_get}
 use Rattle.std.specs.List.{sum_by}
 use Rattle.std.proofs.lemmas.List.Filters.{length-filter_more}
@@ -24,19 +25,25 @@ use Rattle.sn_fabric.proofs.Calls.{rising}
 use Rattle.sn_fabric.proofs.Nets.{found-as, hop-is}
 use Rattle.sn_fabric.proofs.Parts.{routes-as}
 
-pub hop-foreseen : (config : Config) (p : Parts) (id : ℕ) (found : HopAnswer) (said : Answer) → AreParts config p → found ≡ hop_answer p.net (find_flight p.net.flights id) → said ≡ hop_as found → said ≡ (hopped (fabric_as p) id).answer
-hop-foreseen config p id found said a e s = s ∙ ap hop_as e ∙ sym (ap (λ (m : Moved). m.answer) (hop-is p id (routes-as config p a.whole) (rising config p a)))
+pub hop-foreseen : (config : Config) (p : Parts) (id : ℕ) (found : HopAnswer) (said : Answer) → AreParts config p →
+    found ≡ hop_answer p.net (find_flight p.net.flights id) → said ≡ hop_as found → said ≡ (hopped (fabric_as p) id).answer
+hop-foreseen config p id found said a e s =
+    s ∙ ap hop_as e ∙ sym (ap (λ (m : Moved). m.answer) (hop-is p id (routes-as config p a.whole) (rising config p a)))
 
 loses_is : (s : Fabric) (o : Option Carried) → loss_as (is_some o) ≡ (loses s (option_map flight_as o)).answer
 loses_is s None = refl
 loses_is s (Some f) = refl
 
-pub loss-foreseen : (p : Parts) (id : ℕ) (found : Bool) → found ≡ is_some (find_flight p.net.flights id) → loss_as found ≡ (lost (fabric_as p) id).answer
-loss-foreseen p id found e = ap loss_as e ∙ loses_is (fabric_as p) (find_flight p.net.flights id) ∙ ap (λ (o : Option model.Flight). (loses (fabric_as p) o).answer) (sym (found-as p.net.flights id))
+pub loss-foreseen : (p : Parts) (id : ℕ) (found : Bool) → found ≡ is_some (find_flight p.net.flights id) →
+    loss_as found ≡ (lost (fabric_as p) id).answer
+loss-foreseen p id found e =
+    ap loss_as e ∙ loses_is (fabric_as p) (find_flight p.net.flights id)
+    ∙ ap (λ (o : Option model.Flight). (loses (fabric_as p) o).answer) (sym (found-as p.net.flights id))
 
 -- how many entries are undone, one entry more and one log more
 
-pub undone-more : (log : List LogEntry) (i k count : ℕ) (e : LogEntry) (t : Bool) → i < length log → slice_get log i ≡ Some e → nat_le k e.interval ≡ t → count ≡ length (entries_from k (take i log)) →
+pub undone-more : (log : List LogEntry) (i k count : ℕ) (e : LogEntry) (t : Bool) → i < length log → slice_get log i ≡ Some e →
+    nat_le k e.interval ≡ t → count ≡ length (entries_from k (take i log)) →
     count + cond t 1 0 ≡ length (entries_from k (take (i + 1) log))
 undone-more log i k count e t l g h same =
     let r : get_or log i e ≡ e = get_or_from_slice_get log i e e g in
@@ -47,12 +54,15 @@ undone-more log i k count e t l g h same =
     ∙ ap (λ (n : ℕ). n + cond t 1 0) (sym same)
     )
 
-pub all-undone-more : (seats : List Seat) (i k undone count : ℕ) (x : Seat) → i < length seats → x ≡ seat_at seats i → undone ≡ sum_by (undone_of k) (take i seats) → count ≡ undone_of k x →
+pub all-undone-more : (seats : List Seat) (i k undone count : ℕ) (x : Seat) → i < length seats → x ≡ seat_at seats i →
+    undone ≡ sum_by (undone_of k) (take i seats) → count ≡ undone_of k x →
     undone + count ≡ sum_by (undone_of k) (take (i + 1) seats)
 all-undone-more seats i k undone count x l r same c =
-    sym (sum_by_more (undone_of k) seats i no_seat l ∙ ap (λ (n : ℕ). n + undone_of k (seat_at seats i)) (sym same) ∙ ap (λ (y : Seat). undone + undone_of k y) (sym r) ∙ ap (λ (n : ℕ). undone + n) (sym c))
+    sym (sum_by_more (undone_of k) seats i no_seat l ∙ ap (λ (n : ℕ). n + undone_of k (seat_at seats i)) (sym same)
+    ∙ ap (λ (y : Seat). undone + undone_of k y) (sym r) ∙ ap (λ (n : ℕ). undone + n) (sym c))
 
-pub few-undone : (seats : List Seat) (i k count : ℕ) (x : Seat) → x ≡ seat_at seats i → length (seat_at seats i).log.entries < 2 ^ 16 → count ≡ undone_of k x → count ≤ 2 ^ 16
+pub few-undone : (seats : List Seat) (i k count : ℕ) (x : Seat) → x ≡ seat_at seats i → length (seat_at seats i).log.entries < 2 ^ 16 →
+    count ≡ undone_of k x → count ≤ 2 ^ 16
 few-undone seats i k count x r few c =
     let s = from_shorter k x.log.entries in
     let f : length x.log.entries < 2 ^ 16 = subst (λ (y : Seat). length y.log.entries < 2 ^ 16) (sym r) few in

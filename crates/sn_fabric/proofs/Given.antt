@@ -10,7 +10,7 @@ use Rattle.sn_msg.specs.declared.Message.{Message}
 use Rattle.switch_net.specs.Net.{NetData, without}
 use Rattle.sn_model.specs.declared.cache.Out.{Out}
 use Rattle.sn_model.specs.Fabric as model
-use Rattle.sn_model.specs.Fabric.{Fabric, Node, Moved, node_at}
+use Rattle.sn_model.specs.Fabric.{Fabric, Node, node_at}
 use Rattle.sn_model.specs.Net.{without_flight}
 use Rattle.sn_model.specs.NetEvents.{delivered}
 use Rattle.fabric_coherence.specs.Steps.{IsInFlight}
@@ -31,7 +31,8 @@ pub taken-as : (p : Parts) (id : ℕ) → net_as (taken p id) ≡ without_flight
 taken-as p id = ap (λ (fs : List model.Flight). record (net_as p.net) { flights = fs }) (without-as p.net.flights id)
 
 -- it has the room for what was foreseen to be sent
-pub taken-room : (config : Config) (p : Parts) (m : Message) (log : List LogEntry) (sends outs : List Out) (net : NetData) → HasCome (fabric_as p) m → HasRoomFor config (fabric_as p) log sends → outs ≡ sends → net ≡ taken p m.id →
+pub taken-room : (config : Config) (p : Parts) (m : Message) (log : List LogEntry) (sends outs : List Out) (net : NetData) →
+    HasCome (fabric_as p) m → HasRoomFor config (fabric_as p) log sends → outs ≡ sends → net ≡ taken p m.id →
     length net.flights + length outs ≤ 1024
 taken-room config p m log sends outs net h r eo en =
     let k : length (without p.net.flights m.id) + 1 ≤ length p.net.flights = fewer-without p m h in
@@ -52,9 +53,11 @@ module _ (config : Config) (p : Parts) (a : AreParts config p) (m : Message) (h 
   pub to-there : m.to < p.net.routes.nodes
   to-there = subst (λ (k : ℕ). m.to < k) (a.whole.count ∙ sym a.whole.count_routes) inside
 
-  pub goes-there : (outs sends : List Out) (net : NetData) → GoTo sends (length (fabric_as p).nodes) → outs ≡ sends → net ≡ taken p m.id → GoTo outs net.routes.nodes
+  pub goes-there : (outs sends : List Out) (net : NetData) → GoTo sends (length (fabric_as p).nodes) → outs ≡ sends → net ≡ taken p m.id →
+      GoTo outs net.routes.nodes
   goes-there outs sends net g eo en =
-      let e : length (fabric_as p).nodes ≡ net.routes.nodes = count-nodes p ∙ a.whole.count ∙ sym a.whole.count_routes ∙ sym (ap (λ (x : NetData). x.routes.nodes) en) in
+      let e : length (fabric_as p).nodes ≡ net.routes.nodes = count-nodes p ∙ a.whole.count ∙ sym a.whole.count_routes
+      ∙ sym (ap (λ (x : NetData). x.routes.nodes) en) in
       subst (λ (xs : List Out). GoTo xs net.routes.nodes) (sym eo) (subst (GoTo sends) e g)
 
   module _ (place : ℕ) (x : Seat) (ep : place ≡ m.to) (ex : x ≡ get_or p.seats place x) where
@@ -71,5 +74,7 @@ module _ (config : Config) (p : Parts) (a : AreParts config p) (m : Message) (h 
     pub tag-reached : (now : ℕ) → now ≡ x.clock.interval → m.tag ≤ (node_at (fabric_as p) m.to).now → m.tag ≤ now
     tag-reached now en l = let k : m.tag ≤ x.clock.interval = subst (λ (y : Node). m.tag ≤ y.now) node-read l in omega arith
 
-pub delivered-reached : (config : Config) (s : Fabric) (m : Message) → HasCome s m → (delivered config s m.id).answer ≡ Delivered → m.tag ≤ (node_at s m.to).now
-delivered-reached config s m h d = let k : nat_lt (node_at s m.to).now m.tag ≡ false = reached-of config s m h d in grind (arith, nat_tests, k)
+pub delivered-reached : (config : Config) (s : Fabric) (m : Message) → HasCome s m → (delivered config s m.id).answer ≡ Delivered →
+    m.tag ≤ (node_at s m.to).now
+delivered-reached config s m h d =
+    let k : nat_lt (node_at s m.to).now m.tag ≡ false = reached-of config s m h d in grind (arith, nat_tests, k)

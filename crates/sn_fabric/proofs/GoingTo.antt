@@ -48,33 +48,51 @@ within_append : (fs gs : List Flight) (nodes : ℕ) → Within (fs ++ gs) nodes 
 within_append [] gs nodes w = (tt, w)
 within_append (f ∷ fs) gs nodes w = let h = within_append fs gs nodes w.1 in ((w.0, h.0), h.1)
 
-within_posted : (routes : Switches) (net : Net) (from tag block : ℕ) (outs : List Out) (nodes : ℕ) → net.dead ≡ [] → Within (posted routes net from tag block outs).flights nodes →
+within_posted : (routes : Switches) (net : Net) (from tag block : ℕ) (outs : List Out) (nodes : ℕ) → net.dead ≡ [] →
+    Within (posted routes net from tag block outs).flights nodes →
     Within net.flights nodes × GoTo outs nodes
 within_posted routes net from tag block [] nodes d w = (w, tt)
 within_posted routes net from tag block (out ∷ outs) nodes d w =
     let h = within_posted routes (post routes net (message_of net from tag block out)) from tag block outs nodes d w in
-    let l : is_lost routes net (message_of net from tag block out) ≡ false = ap (λ (dead : List Bool). slice_index_or dead (entry_of routes (message_of net from tag block out)) false) d in
-    let g : Within (net.flights ++ record { message = message_of net from tag block out; place = entry_of routes (message_of net from tag block out) } ∷ []) nodes =
-    subst (λ (b : Bool). Within (if b then net.flights else net.flights ++ record { message = message_of net from tag block out; place = entry_of routes (message_of net from tag block out) } ∷ []) nodes) l h.0 in
-    let k = within_append net.flights (record { message = message_of net from tag block out; place = entry_of routes (message_of net from tag block out) } ∷ []) nodes g in
+    let l : is_lost routes net (message_of net from tag block out)
+    ≡ false = ap (λ (dead : List Bool). slice_index_or dead (entry_of routes (message_of net from tag block out)) false) d in
+    let g : Within (net.flights
+    ++ record { message = message_of net from tag block out; place = entry_of routes (message_of net from tag block out) } ∷ []) nodes =
+    subst (λ (b : Bool). Within
+    (if b then net.flights else net.flights
+    ++ record { message = message_of net from tag block out; place = entry_of routes (message_of net from tag block out) }
+    ∷ []) nodes) l h.0 in
+    let k = within_append net.flights
+    (record { message = message_of net from tag block out; place = entry_of routes (message_of net from tag block out) }
+    ∷ []) nodes g in
     (k.0, (k.1.0.1, h.1))
 
 -- after a delivery the fabric has its shape
 shaped_after : (config : Config) (s : Fabric) (id : ℕ) (moved : Moved) → Keeps s → delivered config s id ≡ moved → IsShaped moved.fabric
-shaped_after config s id moved k e = (subst Keeps (ap (λ (x : Moved). x.fabric) (deliver_is_moved config s id ∙ e)) (each_keeps config s (Deliver id) k tt)).1.shape
+shaped_after config s id moved k e =
+    (subst Keeps (ap (λ (x : Moved). x.fabric) (deliver_is_moved config s id ∙ e)) (each_keeps config s (Deliver id) k tt)).1.shape
 
 -- so what a row sends goes to nodes that are there
 
-sends_go : (config : Config) (s t : Fabric) (id from block : ℕ) (sends : List Out) (moved : Moved) → Keeps s → delivered config s id ≡ moved → t.net.dead ≡ [] → moved.fabric ≡ (sending t from block sends Delivered).fabric → GoTo sends (length t.nodes)
+sends_go : (config : Config) (s t : Fabric) (id from block : ℕ) (sends : List Out) (moved : Moved) → Keeps s →
+    delivered config s id ≡ moved → t.net.dead ≡ [] → moved.fabric ≡ (sending t from block sends Delivered).fabric →
+    GoTo sends (length t.nodes)
 sends_go config s t id from block sends moved k e d f =
-    (within_posted (routes_of t) t.net from (node_at t from).now block sends (length t.nodes) d (subst (λ (x : Fabric). Within x.net.flights (length x.nodes)) f (shaped_after config s id moved k e).within)).1
+    (within_posted (routes_of t) t.net from (node_at t from).now block sends (length t.nodes) d
+    (subst (λ (x : Fabric). Within x.net.flights (length x.nodes)) f (shaped_after config s id moved k e).within)).1
 
-pub cache-sends-go : (config : Config) (s : Fabric) (m : Message) (reply : CacheReply) → Keeps s → delivered config (undead s) m.id ≡ after_cache (undead s) m reply → GoTo reply.sends (length s.nodes)
+pub cache-sends-go : (config : Config) (s : Fabric) (m : Message) (reply : CacheReply) → Keeps s →
+    delivered config (undead s) m.id ≡ after_cache (undead s) m reply → GoTo reply.sends (length s.nodes)
 cache-sends-go config s m reply k e =
     subst (GoTo reply.sends) (length-set s.nodes m.to (node_after (node_at s m.to) reply))
-    (sends_go config (undead s) (with_net (with_node (undead s) m.to (node_after (node_at (undead s) m.to) reply)) (without_flight (undead s).net m.id)) m.id m.to m.block reply.sends (after_cache (undead s) m reply) (undead-keeps s k) e refl refl)
+    (sends_go config (undead s)
+    (with_net (with_node (undead s) m.to (node_after (node_at (undead s) m.to) reply))
+    (without_flight (undead s).net m.id)) m.id m.to m.block reply.sends (after_cache (undead s) m reply) (undead-keeps s k) e refl refl)
 
-pub home-sends-go : (config : Config) (s : Fabric) (m : Message) (reply : HomeReply) → Keeps s → delivered config (undead s) m.id ≡ after_home (undead s) m reply → GoTo reply.sends (length s.nodes)
+pub home-sends-go : (config : Config) (s : Fabric) (m : Message) (reply : HomeReply) → Keeps s →
+    delivered config (undead s) m.id ≡ after_home (undead s) m reply → GoTo reply.sends (length s.nodes)
 home-sends-go config s m reply k e =
     subst (GoTo reply.sends) (length-set s.nodes m.to (record (node_at s m.to) { log = reply.after.log }))
-    (sends_go config (undead s) (with_net (home_after (undead s) m.to m.block reply) (without_flight (undead s).net m.id)) m.id m.to m.block reply.sends (after_home (undead s) m reply) (undead-keeps s k) e refl refl)
+    (sends_go config (undead s)
+    (with_net (home_after (undead s) m.to m.block reply) (without_flight (undead s).net m.id)) m.id m.to m.block reply.sends
+    (after_home (undead s) m reply) (undead-keeps s k) e refl refl)

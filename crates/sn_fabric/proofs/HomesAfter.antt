@@ -19,7 +19,9 @@ length-homes homes = length-map-range_with_len (entry_at homes) 0 block_count
 
 -- two blocks of one home have two places
 other_place : (b c n : ℕ) → b ≢ c → b % n ≡ c % n → b / n ≢ c / n
-other_place b c n ne e = λ (same : b / n ≡ c / n). ne (sym (div-add-mod b n) ∙ ap (λ (k : ℕ). n * k + b % n) same ∙ ap (λ (r : ℕ). n * (c / n) + r) e ∙ div-add-mod c n)
+other_place b c n ne e =
+    λ (same : b / n ≡ c / n). ne
+    (sym (div-add-mod b n) ∙ ap (λ (k : ℕ). n * k + b % n) same ∙ ap (λ (r : ℕ). n * (c / n) + r) e ∙ div-add-mod c n)
 
 module _ (config : Config) (p : Parts) (w : AreWhole config p) (block n : ℕ) (entry : HomeEntry) (l : block < block_count) (e : n ≡ block % config.nodes) where
   low : n < config.nodes
@@ -52,7 +54,8 @@ module _ (config : Config) (p : Parts) (w : AreWhole config p) (block n : ℕ) (
   place_low : block / (home_at p.homes n).nodes < length (home_at p.homes n).entries
   place_low =
       let f : length (home_at p.homes n).entries ≡ places_of (block % config.nodes) config.nodes =
-      is.whole.filled ∙ ap (λ (k : ℕ). places_of k (home_at p.homes n).nodes) (is.node ∙ e) ∙ ap (λ (k : ℕ). places_of (block % config.nodes) k) is.nodes in
+      is.whole.filled ∙ ap (λ (k : ℕ). places_of k (home_at p.homes n).nodes) (is.node ∙ e)
+      ∙ ap (λ (k : ℕ). places_of (block % config.nodes) k) is.nodes in
       subst (λ (k : ℕ). block / k < length (home_at p.homes n).entries) (sym is.nodes)
       (subst (λ (k : ℕ). block / config.nodes < k) (sym f) (place_inside block config.nodes (few-nodes config w.fits).some l))
 
@@ -75,7 +78,8 @@ module _ (config : Config) (p : Parts) (w : AreWhole config p) (block n : ℕ) (
       ∙ sym (entry_in p.homes b w.count_homes)
 
   other_home : (b : ℕ) → b % config.nodes ≢ n → entry_at homes b ≡ entry_at p.homes b
-  other_home b ne = entry_in homes b count ∙ ap (λ (x : HomeData). entry_of x b) (at_other (b % config.nodes) ne) ∙ sym (entry_in p.homes b w.count_homes)
+  other_home b ne =
+      entry_in homes b count ∙ ap (λ (x : HomeData). entry_of x b) (at_other (b % config.nodes) ne) ∙ sym (entry_in p.homes b w.count_homes)
 
   there : (b : ℕ) → b ≢ block → entry_at homes b ≡ entry_at p.homes b
   there b ne = ⊎_elim (λ (h : b % config.nodes ≡ n). same_home b ne h) (λ no. other_home b no) (cases_eq (b % config.nodes) n)
@@ -92,13 +96,20 @@ module _ (config : Config) (p : Parts) (w : AreWhole config p) (block n : ℕ) (
   -- the entries are those with that of the block changed
   pub homes-set : homes_as homes ≡ set (homes_as p.homes) block entry
   unfolding homes_as
-  homes-set = sym (fill_by_all (entry_at homes) (set (homes_as p.homes) block entry) block_count no_entry (length-set (homes_as p.homes) block entry ∙ length-homes p.homes) each)
+  homes-set =
+      sym (fill_by_all (entry_at homes) (set (homes_as p.homes) block entry) block_count no_entry
+      (length-set (homes_as p.homes) block entry ∙ length-homes p.homes) each)
 
   same_after : IsHomeOf config n after
   same_after = record {
     node = is.node;
     nodes = is.nodes;
-    whole = record { inside = is.whole.inside; few = is.whole.few; filled = length-set (home_at p.homes n).entries (block / (home_at p.homes n).nodes) entry ∙ is.whole.filled };
+    whole =
+        record {
+          inside = is.whole.inside;
+          few = is.whole.few;
+          filled = length-set (home_at p.homes n).entries (block / (home_at p.homes n).nodes) entry ∙ is.whole.filled;
+        };
   }
 
   -- and the parts are whole

@@ -1,12 +1,15 @@
 -- No event brings an entry of another home into a node's log.
-use Rattle.std.proofs.Common.{◌≡◌, ℕ, ◌+◌, ◌-◌, ◌%◌, ◌<◌, Bool, true, false, not, List, length, get_or, set, refl, sym, subst, arith, ⊎_elim, get_or-set_same, get_or-set_other}
+use Rattle.std.proofs.Common.{◌≡◌, ℕ, ◌+◌, ◌-◌, ◌%◌, ◌<◌, Bool, true, false, not, List, length, get_or, set, refl, sym, subst, arith}
+use Rattle.std.proofs.Common.{⊎_elim, get_or-set_same, get_or-set_other}
 use Rattle.std.specs.Prelude.{nat_eq, nat_lt, nat_le, ◌&&◌, if◌then◌else◌, Option, Some, None}
 use Rattle.std.proofs.lemmas.Bool.{cases_eq}
 use Rattle.sn_base.specs.declared.block.Write.{Write as Written}
 use Rattle.sn_base.specs.declared.config.Config.{Config}
-use Rattle.sn_base.specs.declared.event.Answer.TheVariants.{Waits, NeedsEvict, LogFull, NetFull, PutOpen, MissOpen, CheckpointsFull, Arrived, NotArrived, Held, AlreadyDead, Retired}
+use Rattle.sn_base.specs.declared.event.Answer.TheVariants.{Waits, NeedsEvict, LogFull, NetFull, PutOpen, MissOpen, CheckpointsFull}
+use Rattle.sn_base.specs.declared.event.Answer.TheVariants.{Arrived, NotArrived, Held, AlreadyDead, Retired}
 use Rattle.sn_msg.specs.declared.Body.{Body}
-use Rattle.sn_msg.specs.declared.Body.TheVariants.{GetS, GetM, FwdGetS, FwdGetM, Inv, DataS, DataM, DataE, UpgOk, InvAck, Unblock, PutReq, PutGo, PutData, PutDone, Ready, Advance}
+use Rattle.sn_msg.specs.declared.Body.TheVariants.{GetS, GetM, FwdGetS, FwdGetM, Inv, DataS, DataM, DataE, UpgOk, InvAck, Unblock, PutReq}
+use Rattle.sn_msg.specs.declared.Body.TheVariants.{PutGo, PutData, PutDone, Ready, Advance}
 use Rattle.log_buffer.specs.Log.{LogEntry}
 use Rattle.rv_core.specs.Core.{block_of}
 use Rattle.route_plan.specs.Distances.{is_dead}
@@ -16,14 +19,18 @@ use Rattle.sn_model.specs.declared.cache.LineState.TheVariants as state
 use Rattle.sn_model.specs.declared.cache.Need.{Need}
 use Rattle.sn_model.specs.Access.{missing, missed, misses, has_miss, serves, lacks_room, with_write, stored, accesses, accessed}
 use Rattle.sn_model.specs.Caches.{line_of, is_present, misses_on, puts_on, frames_taken, with_line}
-use Rattle.sn_model.specs.CacheRows.{Logged, CacheReply, content_of, taken_over, forward_read, forward_write, invalidate, put_go, put_done, data_shared, data_modified, data_exclusive, upgrade_granted, acknowledge, fixed_at, acknowledged}
+use Rattle.sn_model.specs.CacheRows.{Logged, CacheReply, content_of, taken_over, forward_read, forward_write, invalidate, put_go, put_done}
+use Rattle.sn_model.specs.CacheRows.{data_shared, data_modified, data_exclusive, upgrade_granted, acknowledge, fixed_at, acknowledged}
 use Rattle.sn_model.specs.Homes.{Transaction}
 use Rattle.sn_model.specs.HomeRows.{HomeReply, put_data, unblock}
 use Rattle.sn_model.specs.Fabric.{Fabric, Flight, Node, Moved, first_node, node_at, home_of, home_node, refused, answered}
-use Rattle.sn_model.specs.FabricEvents.{FabricEvent, Access, Write, Evict, Edge, Hop, Deliver, Lose, Kill, Report, Advance as Advances, Recover, moved_by}
+use Rattle.sn_model.specs.FabricEvents.{FabricEvent, Access, Write, Evict, Edge, Hop, Deliver, Lose, Kill, Report, Advance as Advances}
+use Rattle.sn_model.specs.FabricEvents.{Recover, moved_by}
 use Rattle.sn_model.specs.Net.{net_limit, routes_of, flight_of, is_there, is_full, next_switch}
-use Rattle.sn_model.specs.NodeEvents.{without_copy, has_put, with_put, begins_put, evicts, evicted, after_edge, checkpoint_limit, edged, reported}
-use Rattle.sn_model.specs.NetEvents.{AtCache, AtHome, logged_at, kept_at, unless_busy, outcome_of, node_after, learned, delivers, delivers_flight, hops, hops_to, loses, killed}
+use Rattle.sn_model.specs.NodeEvents.{without_copy, has_put, with_put, begins_put, evicts, evicted, after_edge, checkpoint_limit, edged}
+use Rattle.sn_model.specs.NodeEvents.{reported}
+use Rattle.sn_model.specs.NetEvents.{AtCache, AtHome, logged_at, kept_at, unless_busy, outcome_of, node_after, learned, delivers}
+use Rattle.sn_model.specs.NetEvents.{delivers_flight, hops, hops_to, loses, killed}
 use Rattle.sn_model.specs.PointEvents.{advanced, restored, recovers, living_switches}
 use Rattle.fabric_coherence.specs.Coherent.{IsKept}
 use Rattle.fabric_coherence.specs.Events.{MayBe}
@@ -35,11 +42,13 @@ use Rattle.fabric_coherence.proofs.NodesStay.{nodes_same}
 use Rattle.fabric_coherence.proofs.Recovery.{each_node}
 use Rattle.fabric_coherence.proofs.RowsMet.{meets_home}
 use Rattle.sn_fabric.specs.Logs.{IsOwnLog, AreOwnLogs}
-use Rattle.sn_fabric.proofs.LogRows.{nothing-own, content-own, from-own, get-shared-own, get-modified-own, put-request-own, unblock-own, put-data-own, settled-log}
+use Rattle.sn_fabric.proofs.LogRows.{nothing-own, content-own, from-own, get-shared-own, get-modified-own, put-request-own, unblock-own}
+use Rattle.sn_fabric.proofs.LogRows.{put-data-own, completed_or_waiting-log}
 
 -- what an event makes of each log
 record KeepsLogs (s : Fabric) (x : Moved) : Type 0 where
-  nodes : (n : ℕ) → n < length s.nodes → IsOwnLog (length s.nodes) n (node_at s n).log → IsOwnLog (length s.nodes) n (node_at x.fabric n).log
+  nodes : (n : ℕ) → n < length s.nodes → IsOwnLog (length s.nodes) n (node_at s n).log →
+      IsOwnLog (length s.nodes) n (node_at x.fabric n).log
 
 -- a test of the fabric
 by_test : (s : Fabric) (test : Bool) (a b : Moved) → KeepsLogs s a → KeepsLogs s b → KeepsLogs s (if test then a else b)
@@ -47,32 +56,41 @@ by_test s true a b first second = first
 by_test s false a b first second = second
 
 -- one node changes
-one_keeps : (s : Fabric) (n : ℕ) (v : Node) → n < length s.nodes → (IsOwnLog (length s.nodes) n (node_at s n).log → IsOwnLog (length s.nodes) n v.log) →
-    (m : ℕ) → m < length s.nodes → IsOwnLog (length s.nodes) m (node_at s m).log → IsOwnLog (length s.nodes) m (get_or (set s.nodes n v) m first_node).log
+one_keeps : (s : Fabric) (n : ℕ) (v : Node) → n < length s.nodes →
+    (IsOwnLog (length s.nodes) n (node_at s n).log → IsOwnLog (length s.nodes) n v.log) →
+    (m : ℕ) → m < length s.nodes → IsOwnLog (length s.nodes) m (node_at s m).log →
+    IsOwnLog (length s.nodes) m (get_or (set s.nodes n v) m first_node).log
 one_keeps s n v l h m k own = ⊎_elim
     (λ (e : m ≡ n). subst (λ (i : ℕ). IsOwnLog (length s.nodes) i (get_or (set s.nodes n v) i first_node).log) (sym e)
-    (subst (λ (x : Node). IsOwnLog (length s.nodes) n x.log) (sym (get_or-set_same s.nodes n v first_node l)) (h (subst (λ (i : ℕ). IsOwnLog (length s.nodes) i (node_at s i).log) e own))))
+    (subst (λ (x : Node). IsOwnLog (length s.nodes) n x.log) (sym (get_or-set_same s.nodes n v first_node l))
+    (h (subst (λ (i : ℕ). IsOwnLog (length s.nodes) i (node_at s i).log) e own))))
     (λ ne. subst (λ (x : Node). IsOwnLog (length s.nodes) m x.log) (sym (get_or-set_other s.nodes n m v first_node ne)) own)
     (cases_eq m n)
 
 module _ (config : Config) (s : Fabric) (n : ℕ) (l : n < length s.nodes) where
   misses-keep : (block : ℕ) (access : Need) → KeepsLogs s (misses config s n block access)
   misses-keep block access =
-      by_test s (not (is_present (line_of (node_at s n).cache block).state) && nat_le config.ways (frames_taken (node_at s n).cache config.sets block)) (refused s NeedsEvict) _ (record { nodes = λ m k own. own })
-      (by_test s (is_full s 1) (refused s NetFull) (missed s n block access) (record { nodes = λ m k own. own }) (record { nodes = one_keeps s n (missing (node_at s n) block access) l (λ own. own) }))
+      by_test s (not (is_present (line_of (node_at s n).cache block).state)
+      && nat_le config.ways (frames_taken (node_at s n).cache config.sets block)) (refused s NeedsEvict) _
+      (record { nodes = λ m k own. own })
+      (by_test s (is_full s 1) (refused s NetFull) (missed s n block access) (record { nodes = λ m k own. own })
+      (record { nodes = one_keeps s n (missing (node_at s n) block access) l (λ own. own) }))
 
   accessed-keeps : (block : ℕ) (access : Need) → KeepsLogs s (accessed config s n block access)
   accessed-keeps block access =
       by_test s (has_miss (node_at s n).cache.miss) (refused s Waits) (accesses config s n block access) (record { nodes = λ m k own. own })
       (by_test s (puts_on (node_at s n).cache.put block) (refused s Waits) _ (record { nodes = λ m k own. own })
-      (by_test s (serves access (line_of (node_at s n).cache block).state) (if lacks_room config (node_at s n) block access then refused s LogFull else answered s Retired) (misses config s n block access)
-      (by_test s (lacks_room config (node_at s n) block access) (refused s LogFull) (answered s Retired) (record { nodes = λ m k own. own }) (record { nodes = λ m k own. own }))
+      (by_test s (serves access (line_of (node_at s n).cache block).state)
+      (if lacks_room config (node_at s n) block access then refused s LogFull else answered s Retired) (misses config s n block access)
+      (by_test s (lacks_room config (node_at s n) block access) (refused s LogFull) (answered s Retired) (record { nodes = λ m k own. own })
+      (record { nodes = λ m k own. own }))
       (misses-keep block access)))
 
   put-keeps : (block : ℕ) → KeepsLogs s (begins_put s n block)
   put-keeps block =
       by_test s (has_put (node_at s n).cache.put) (refused s PutOpen) _ (record { nodes = λ m k own. own })
-      (by_test s (is_full s 1) (refused s NetFull) _ (record { nodes = λ m k own. own }) (record { nodes = one_keeps s n (with_put (node_at s n) block) l (λ own. own) }))
+      (by_test s (is_full s 1) (refused s NetFull) _ (record { nodes = λ m k own. own })
+      (record { nodes = one_keeps s n (with_put (node_at s n) block) l (λ own. own) }))
 
   evicts-keep : (block : ℕ) (line : LineState) → KeepsLogs s (evicts s n block line)
   evicts-keep block state.Absent = record { nodes = λ m k own. own }
@@ -82,17 +100,26 @@ module _ (config : Config) (s : Fabric) (n : ℕ) (l : n < length s.nodes) where
   evicts-keep block state.Exclusive = put-keeps block
 
   evicted-keeps : (block : ℕ) → KeepsLogs s (evicted s n block)
-  evicted-keeps block = by_test s (misses_on (node_at s n).cache.miss block) (refused s MissOpen) _ (record { nodes = λ m k own. own }) (evicts-keep block (line_of (node_at s n).cache block).state)
+  evicted-keeps block =
+      by_test s (misses_on (node_at s n).cache.miss block) (refused s MissOpen) _ (record { nodes = λ m k own. own })
+      (evicts-keep block (line_of (node_at s n).cache block).state)
 
   edge-keeps : KeepsLogs s (edged s n)
-  edge-keeps = by_test s (nat_eq ((node_at s n).now - (node_at s n).known) checkpoint_limit) (refused s CheckpointsFull) _ (record { nodes = λ m k own. own })
+  edge-keeps =
+      by_test s (nat_eq ((node_at s n).now - (node_at s n).known) checkpoint_limit) (refused s CheckpointsFull) _
+      (record { nodes = λ m k own. own })
       (record { nodes = one_keeps s n (after_edge (node_at s n)) l (λ own. own) })
 
   report-keeps : KeepsLogs s (reported s n)
   report-keeps = by_test s (is_full s 1) (refused s NetFull) _ (record { nodes = λ m k own. own }) (record { nodes = λ m k own. own })
 
   write-keeps : (w : Written) → KeepsLogs s (answered (stored s n w) Retired)
-  write-keeps w = record { nodes = one_keeps s n (with_write (node_at s n) w) l (content-own (length s.nodes) n (node_at s n).log (node_at s n).now (block_of w.address) (line_of (node_at s n).cache (block_of w.address)).content) }
+  write-keeps w =
+      record {
+        nodes = one_keeps s n (with_write (node_at s n) w) l
+            (content-own (length s.nodes) n (node_at s n).log (node_at s n).now (block_of w.address)
+            (line_of (node_at s n).cache (block_of w.address)).content);
+      }
 
 module _ (s : Fabric) where
   loses-keep : (found : Option Flight) → KeepsLogs s (loses s found)
@@ -101,19 +128,28 @@ module _ (s : Fabric) where
 
   hops-keep : (found : Option Flight) → KeepsLogs s (hops s found)
   hops-keep None = record { nodes = λ m k own. own }
-  hops-keep (Some f) = by_test s (is_there f) (refused s Arrived) (hops_to s f (next_switch (routes_of s) f)) (record { nodes = λ m k own. own })
-      (by_test s (is_dead s.net.dead (next_switch (routes_of s) f)) _ _ (record { nodes = λ m k own. own }) (record { nodes = λ m k own. own }))
+  hops-keep (Some f) =
+      by_test s (is_there f) (refused s Arrived) (hops_to s f (next_switch (routes_of s) f)) (record { nodes = λ m k own. own })
+      (by_test s (is_dead s.net.dead (next_switch (routes_of s) f)) _ _ (record { nodes = λ m k own. own })
+      (record { nodes = λ m k own. own }))
 
   kill-keeps : (switch : ℕ) → KeepsLogs s (killed s switch)
-  kill-keeps switch = by_test s (is_dead s.net.dead switch) (refused s AlreadyDead) _ (record { nodes = λ m k own. own }) (record { nodes = λ m k own. own })
+  kill-keeps switch =
+      by_test s (is_dead s.net.dead switch) (refused s AlreadyDead) _ (record { nodes = λ m k own. own })
+      (record { nodes = λ m k own. own })
 
   advance-keeps : (k : ℕ) → KeepsLogs s (advanced s k)
-  advance-keeps k = by_test s (is_full s (length s.nodes)) (refused s NetFull) _ (record { nodes = λ m k own. own }) (record { nodes = λ m k own. own })
+  advance-keeps k =
+      by_test s (is_full s (length s.nodes)) (refused s NetFull) _ (record { nodes = λ m k own. own }) (record { nodes = λ m k own. own })
 
   recovers-keep : (cut : Option (ℕ × ℕ)) → KeepsLogs s (recovers s s.point cut)
   unfolding restored
   recovers-keep (Some pair) = record { nodes = λ m k own. own }
-  recovers-keep None = record { nodes = λ n l own. each_node (λ m x y. m < length s.nodes → IsOwnLog (length s.nodes) m y.log) s (λ m k h c other. refl) (λ m k h. absurd (omega arith)) n l }
+  recovers-keep None =
+      record {
+        nodes = λ n l own. each_node (λ m x y. m < length s.nodes → IsOwnLog (length s.nodes) m y.log) s (λ m k h c other. refl)
+            (λ m k h. absurd (omega arith)) n l;
+      }
 
 -- a delivery
 module _ (config : Config) (s : Fabric) (t : Beside) (id : ℕ) (f : Flight) (kept : IsKept s t) (found : flight_of s.net.flights id ≡ Some f) where
@@ -126,17 +162,22 @@ module _ (config : Config) (s : Fabric) (t : Beside) (id : ℕ) (f : Flight) (ke
   abbrev Own : List LogEntry → Type 0
   Own log = IsOwnLog (length s.nodes) f.message.to log
 
-  cache-keeps : (reply : CacheReply) → (Own (node_at s f.message.to).log → Own reply.after.log) → KeepsLogs s (delivers config s f.message (AtCache reply))
+  cache-keeps : (reply : CacheReply) → (Own (node_at s f.message.to).log → Own reply.after.log) →
+      KeepsLogs s (delivers config s f.message (AtCache reply))
   cache-keeps reply h = by_test s (nat_lt config.log (length reply.after.log)) (refused s LogFull) _ (record { nodes = λ m k own. own })
-      (by_test s (nat_lt (net_limit + 1) (length s.net.flights + length reply.sends)) (refused s NetFull) _ (record { nodes = λ m k own. own })
+      (by_test s (nat_lt (net_limit + 1) (length s.net.flights + length reply.sends)) (refused s NetFull) _
+      (record { nodes = λ m k own. own })
       (record { nodes = one_keeps s f.message.to (node_after (node_at s f.message.to) reply) flight.to h }))
 
-  home-keeps : (reply : HomeReply) → (Own (node_at s f.message.to).log → Own reply.after.log) → KeepsLogs s (delivers config s f.message (AtHome reply))
+  home-keeps : (reply : HomeReply) → (Own (node_at s f.message.to).log → Own reply.after.log) →
+      KeepsLogs s (delivers config s f.message (AtHome reply))
   home-keeps reply h = by_test s (nat_lt config.log (length reply.after.log)) (refused s LogFull) _ (record { nodes = λ m k own. own })
-      (by_test s (nat_lt (net_limit + 1) (length s.net.flights + length reply.sends)) (refused s NetFull) _ (record { nodes = λ m k own. own })
+      (by_test s (nat_lt (net_limit + 1) (length s.net.flights + length reply.sends)) (refused s NetFull) _
+      (record { nodes = λ m k own. own })
       (record { nodes = one_keeps s f.message.to (record (node_at s f.message.to) { log = reply.after.log }) flight.to h }))
 
-  request-keeps : (reply : HomeReply) (open_one : Option Transaction) → (Own (node_at s f.message.to).log → Own reply.after.log) → KeepsLogs s (delivers config s f.message (unless_busy open_one reply))
+  request-keeps : (reply : HomeReply) (open_one : Option Transaction) → (Own (node_at s f.message.to).log → Own reply.after.log) →
+      KeepsLogs s (delivers config s f.message (unless_busy open_one reply))
   request-keeps reply None h = home-keeps reply h
   request-keeps reply (Some transaction) h = record { nodes = λ m k own. own }
 
@@ -150,49 +191,75 @@ module _ (config : Config) (s : Fabric) (t : Beside) (id : ℕ) (f : Flight) (ke
   home = home_node s f.message.block
 
   -- a row by which a miss may complete
-  settled-keeps : (reply : CacheReply) (log : List LogEntry) → reply.after.log ≡ log → (Own at.log → Own log) → KeepsLogs s (delivers config s f.message (AtCache reply))
-  settled-keeps reply log e h = cache-keeps reply (λ own. subst Own (sym e) (h own))
+  miss-keeps : (reply : CacheReply) (log : List LogEntry) → reply.after.log ≡ log → (Own at.log → Own log) →
+      KeepsLogs s (delivers config s f.message (AtCache reply))
+  miss-keeps reply log e h = cache-keeps reply (λ own. subst Own (sym e) (h own))
 
   body-keeps : (x : Body) → f.message.body ≡ x → KeepsLogs s (delivers config s f.message (outcome_of s f.message x))
   body-keeps GetS is = request-keeps _ (home_of s f.message.block).transaction
-      (λ own. get-shared-own (length s.nodes) f.message.to (kept_at s f.message.to f.message.block) f.message.block (at_home GetS is refl) own now f.message.from (home_of s f.message.block).holder)
+      (λ own. get-shared-own (length s.nodes) f.message.to (kept_at s f.message.to f.message.block) f.message.block
+      (at_home GetS is refl) own now f.message.from (home_of s f.message.block).holder)
   body-keeps GetM is = request-keeps _ (home_of s f.message.block).transaction
-      (λ own. get-modified-own (length s.nodes) f.message.to (kept_at s f.message.to f.message.block) f.message.block (at_home GetM is refl) own now f.message.from (home_of s f.message.block).holder)
+      (λ own. get-modified-own (length s.nodes) f.message.to (kept_at s f.message.to f.message.block) f.message.block
+      (at_home GetM is refl) own now f.message.from (home_of s f.message.block).holder)
   body-keeps PutReq is = request-keeps _ (home_of s f.message.block).transaction
-      (λ own. put-request-own (length s.nodes) f.message.to (kept_at s f.message.to f.message.block) f.message.block (at_home PutReq is refl) own now f.message.from)
-  body-keeps (Unblock fixed) is = home-keeps (unblock (kept_at s f.message.to f.message.block) f.message.block fixed (home_of s f.message.block).transaction)
-      (λ own. unblock-own (length s.nodes) f.message.to (kept_at s f.message.to f.message.block) f.message.block (at_home (Unblock fixed) is refl) own fixed (home_of s f.message.block).transaction)
-  body-keeps (PutData content) is = home-keeps (put_data (kept_at s f.message.to f.message.block) f.message.block f.message.tag f.message.from content)
-      (λ own. put-data-own (length s.nodes) f.message.to (kept_at s f.message.to f.message.block) f.message.block (at_home (PutData content) is refl) own f.message.tag f.message.from content)
+      (λ own. put-request-own (length s.nodes) f.message.to (kept_at s f.message.to f.message.block) f.message.block
+      (at_home PutReq is refl) own now f.message.from)
+  body-keeps (Unblock fixed) is =
+      home-keeps (unblock (kept_at s f.message.to f.message.block) f.message.block fixed (home_of s f.message.block).transaction)
+      (λ own. unblock-own (length s.nodes) f.message.to (kept_at s f.message.to f.message.block) f.message.block
+      (at_home (Unblock fixed) is refl) own fixed (home_of s f.message.block).transaction)
+  body-keeps (PutData content) is =
+      home-keeps (put_data (kept_at s f.message.to f.message.block) f.message.block f.message.tag f.message.from content)
+      (λ own. put-data-own (length s.nodes) f.message.to (kept_at s f.message.to f.message.block) f.message.block
+      (at_home (PutData content) is refl) own f.message.tag f.message.from content)
   body-keeps (FwdGetS r) is = cache-keeps (forward_read at f.message.block r) (λ own. own)
   body-keeps (FwdGetM r due) is = cache-keeps (forward_write at f.message.block now r due)
       (content-own (length s.nodes) f.message.to (node_at s f.message.to).log now f.message.block (content_of at f.message.block))
   body-keeps (Inv r) is = cache-keeps (invalidate at f.message.block r) (λ own. own)
-  body-keeps (DataS content) is = settled-keeps (data_shared at home f.message.block f.message.tag content) (node_at s f.message.to).log
-      (settled-log (record at { cache = with_line at.cache f.message.block state.Shared content }) home (fixed_at at.cache.miss f.message.tag 0)) (λ own. own)
-  body-keeps (DataM content due) is = settled-keeps (data_modified at home f.message.block f.message.tag content due) (taken_over at f.message.block f.message.tag state.Modified content).log
-      (settled-log (taken_over at f.message.block f.message.tag state.Modified content) home (fixed_at at.cache.miss f.message.tag due))
+  body-keeps (DataS content) is = miss-keeps (data_shared at home f.message.block f.message.tag content) (node_at s f.message.to).log
+      (completed_or_waiting-log (record at { cache = with_line at.cache f.message.block state.Shared content }) home
+      (fixed_at at.cache.miss f.message.tag 0)) (λ own. own)
+  body-keeps (DataM content due) is =
+      miss-keeps (data_modified at home f.message.block f.message.tag content due)
+      (taken_over at f.message.block f.message.tag state.Modified content).log
+      (completed_or_waiting-log (taken_over at f.message.block f.message.tag state.Modified content) home
+      (fixed_at at.cache.miss f.message.tag due))
       (nothing-own (length s.nodes) f.message.to at.log f.message.tag f.message.block)
-  body-keeps (DataE content) is = settled-keeps (data_exclusive at home f.message.block f.message.tag content) (taken_over at f.message.block f.message.tag state.Exclusive content).log
-      (settled-log (taken_over at f.message.block f.message.tag state.Exclusive content) home (fixed_at at.cache.miss f.message.tag 0))
+  body-keeps (DataE content) is =
+      miss-keeps (data_exclusive at home f.message.block f.message.tag content)
+      (taken_over at f.message.block f.message.tag state.Exclusive content).log
+      (completed_or_waiting-log (taken_over at f.message.block f.message.tag state.Exclusive content) home
+      (fixed_at at.cache.miss f.message.tag 0))
       (nothing-own (length s.nodes) f.message.to at.log f.message.tag f.message.block)
-  body-keeps (UpgOk due) is = settled-keeps (upgrade_granted at home f.message.tag due) (node_at s f.message.to).log (settled-log at home (fixed_at at.cache.miss f.message.tag due)) (λ own. own)
-  body-keeps InvAck is = settled-keeps (acknowledge at home) (node_at s f.message.to).log (settled-log at home (acknowledged at.cache.miss)) (λ own. own)
+  body-keeps (UpgOk due) is =
+      miss-keeps (upgrade_granted at home f.message.tag due) (node_at s f.message.to).log
+      (completed_or_waiting-log at home (fixed_at at.cache.miss f.message.tag due)) (λ own. own)
+  body-keeps InvAck is =
+      miss-keeps (acknowledge at home) (node_at s f.message.to).log (completed_or_waiting-log at home (acknowledged at.cache.miss))
+      (λ own. own)
   body-keeps PutGo is = cache-keeps (put_go at (home_node s f.message.block) f.message.block now)
       (content-own (length s.nodes) f.message.to (node_at s f.message.to).log now f.message.block (content_of at f.message.block))
   body-keeps PutDone is = cache-keeps (put_done at) (λ own. own)
   body-keeps (Ready k) is = record { nodes = λ m l own. own }
-  body-keeps (Advance k) is = record { nodes = one_keeps s f.message.to (learned (node_at s f.message.to) k) flight.to (from-own (length s.nodes) f.message.to (node_at s f.message.to).log k) }
+  body-keeps (Advance k) is =
+      record {
+        nodes = one_keeps s f.message.to (learned (node_at s f.message.to) k) flight.to
+            (from-own (length s.nodes) f.message.to (node_at s f.message.to).log k);
+      }
 
   flight-keeps : KeepsLogs s (delivers_flight config s (Some f))
   flight-keeps = by_test s (not (is_there f)) (refused s NotArrived) _ (record { nodes = λ m k own. own })
-      (by_test s (nat_lt now f.message.tag) (refused s Held) (delivers config s f.message (outcome_of s f.message f.message.body)) (record { nodes = λ m k own. own }) (body-keeps f.message.body refl))
+      (by_test s (nat_lt now f.message.tag) (refused s Held) (delivers config s f.message (outcome_of s f.message f.message.body))
+      (record { nodes = λ m k own. own }) (body-keeps f.message.body refl))
 
-delivery-keeps : (config : Config) (s : Fabric) (t : Beside) (id : ℕ) (found : Option Flight) → IsKept s t → flight_of s.net.flights id ≡ found → KeepsLogs s (delivers_flight config s found)
+delivery-keeps : (config : Config) (s : Fabric) (t : Beside) (id : ℕ) (found : Option Flight) → IsKept s t →
+    flight_of s.net.flights id ≡ found → KeepsLogs s (delivers_flight config s found)
 delivery-keeps config s t id None kept e = record { nodes = λ m k own. own }
 delivery-keeps config s t id (Some f) kept e = flight-keeps config s t id f kept e
 
-event-keeps : (config : Config) (s : Fabric) (t : Beside) (event : FabricEvent) → IsKept s t → MayBe s event → KeepsLogs s (moved_by config s event)
+event-keeps : (config : Config) (s : Fabric) (t : Beside) (event : FabricEvent) → IsKept s t → MayBe s event →
+    KeepsLogs s (moved_by config s event)
 unfolding moved_by
 event-keeps config s t (Access n block access) kept may = accessed-keeps config s n may.0 block access
 event-keeps config s t (Write n w) kept may = write-keeps config s n may.line.node w
@@ -204,11 +271,15 @@ event-keeps config s t (Lose id) kept may = loses-keep s (flight_of s.net.flight
 event-keeps config s t (Kill switch) kept may = kill-keeps s switch
 event-keeps config s t (Report n) kept may = report-keeps config s n may
 event-keeps config s t (Advances k) kept may = advance-keeps s k
-event-keeps config s t (Recover k) kept may = subst (λ (j : ℕ). KeepsLogs s (recovers s j (first_cut_off (living_switches s)))) (sym may) (recovers-keep s (first_cut_off (living_switches s)))
+event-keeps config s t (Recover k) kept may =
+    subst (λ (j : ℕ). KeepsLogs s (recovers s j (first_cut_off (living_switches s)))) (sym may)
+    (recovers-keep s (first_cut_off (living_switches s)))
 
 -- every event keeps that each log has entries of its own home alone
-pub each-keeps-logs : (config : Config) (s : Fabric) (t : Beside) (event : FabricEvent) → IsKept s t → MayBe s event → AreOwnLogs s → AreOwnLogs (moved_by config s event).fabric
+pub each-keeps-logs : (config : Config) (s : Fabric) (t : Beside) (event : FabricEvent) → IsKept s t → MayBe s event → AreOwnLogs s →
+    AreOwnLogs (moved_by config s event).fabric
 each-keeps-logs config s t event kept may own n l =
     let c : length (moved_by config s event).fabric.nodes ≡ length s.nodes = nodes_same config s event in
     let h : n < length s.nodes = subst (λ (k : ℕ). n < k) c l in
-    subst (λ (k : ℕ). IsOwnLog k n (node_at (moved_by config s event).fabric n).log) (sym c) ((event-keeps config s t event kept may).nodes n h (own n h))
+    subst (λ (k : ℕ). IsOwnLog k n (node_at (moved_by config s event).fabric n).log) (sym c)
+    ((event-keeps config s t event kept may).nodes n h (own n h))

@@ -9,9 +9,10 @@ use Rattle.log_buffer.proofs.Laws.{logged_to-noted_other, logged_to-from}
 use Rattle.sn_model.specs.declared.home.Kind.{Kind}
 use Rattle.sn_model.specs.declared.home.Kind.TheVariants.{Read, Take, Move, Upgrade, Put}
 use Rattle.sn_model.specs.Caches.{Miss}
-use Rattle.sn_model.specs.CacheRows.{Logged, completed, waiting, settled_by, settled}
+use Rattle.sn_model.specs.CacheRows.{Logged, completed, waiting, completed_or_waiting_by, completed_or_waiting}
 use Rattle.sn_model.specs.Homes.{Holder, Itself, OfCache, Transaction, is_owner}
-use Rattle.sn_model.specs.HomeRows.{LoggedEntry, count_others, noted_owner, unblock_of, unblock, grant_exclusive, read_at_home, upgrade, move_ownership, put_begins, put_is_stale, put_data}
+use Rattle.sn_model.specs.HomeRows.{LoggedEntry, count_others, noted_owner, unblock_of, unblock, grant_exclusive, read_at_home, upgrade}
+use Rattle.sn_model.specs.HomeRows.{move_ownership, put_begins, put_is_stale, put_data}
 use Rattle.sn_model.specs.NetEvents.{get_shared, get_modified, put_request}
 use Rattle.sn_fabric.specs.Logs.{IsOwnLog}
 
@@ -24,7 +25,8 @@ module _ (nodes n : ℕ) where
   pub nothing-own : (log : List LogEntry) (i b : ℕ) → IsOwnLog nodes n log → IsOwnLog nodes n (noted log i b NotOwned)
   nothing-own log i b own c other = logged_to-noted_other log i b NotOwned true c refl ∙ own c other
 
-  pub content-own : (log : List LogEntry) (i b : ℕ) (content : List ℕ) → IsOwnLog nodes n log → IsOwnLog nodes n (noted log i b (Owned content))
+  pub content-own : (log : List LogEntry) (i b : ℕ) (content : List ℕ) → IsOwnLog nodes n log →
+      IsOwnLog nodes n (noted log i b (Owned content))
   content-own log i b content own c other = logged_to-noted_other log i b (Owned content) true c refl ∙ own c other
 
   -- a note of a block of the node's home
@@ -36,7 +38,8 @@ module _ (nodes n : ℕ) where
       by_test true e = let q : b ≡ c = grind (arith, nat_tests) in absurd (other (ap (λ (k : ℕ). k % nodes) (sym q) ∙ here))
 
   home-own : (log : List LogEntry) (i b : ℕ) (old : Old) → b % nodes ≡ n → IsOwnLog nodes n log → IsOwnLog nodes n (noted log i b old)
-  home-own log i b old here own c other = logged_to-noted_other log i b old true c (and_false (is_of_side true old) (nat_eq b c) (apart b c here other)) ∙ own c other
+  home-own log i b old here own c other =
+      logged_to-noted_other log i b old true c (and_false (is_of_side true old) (nat_eq b c) (apart b c here other)) ∙ own c other
 
   pub from-own : (log : List LogEntry) (k : ℕ) → IsOwnLog nodes n log → IsOwnLog nodes n (entries_from k log)
   from-own log k own c other = let l = logged_to-from log k true c in let z = own c other in omega arith
@@ -46,7 +49,8 @@ module _ (nodes n : ℕ) where
     pub get-shared-own : (now r : ℕ) (holder : Holder) → IsOwnLog nodes n (get_shared at block now r holder).after.log
     get-shared-own now r (Itself content) = by_test (nat_eq (count_others at.entry.sharers r) 0)
       where
-        by_test : (t : Bool) → IsOwnLog nodes n (if t then grant_exclusive at block now r content else read_at_home at now r content).after.log
+        by_test : (t : Bool) → IsOwnLog nodes n
+            (if t then grant_exclusive at block now r content else read_at_home at now r content).after.log
         by_test true = home-own at.log now block (WasHome content) here own
         by_test false = own
     get-shared-own now r (OfCache owner) = own
@@ -85,14 +89,15 @@ module _ (nodes n : ℕ) where
     put-data-own tag r content = home-own at.log tag block (WasCache r) here own
 
 -- a miss that completes notes nothing
-settled-by-log : (at : Logged) (home : ℕ) (miss : Miss) (fixed : Option ℕ) → (settled_by at home miss fixed).after.log ≡ at.log
-settled-by-log at home miss None = refl
-settled-by-log at home miss (Some fixed) = by_test (nat_eq miss.acks miss.due)
+completed_or_waiting_by-log : (at : Logged) (home : ℕ) (miss : Miss) (fixed : Option ℕ) →
+    (completed_or_waiting_by at home miss fixed).after.log ≡ at.log
+completed_or_waiting_by-log at home miss None = refl
+completed_or_waiting_by-log at home miss (Some fixed) = by_test (nat_eq miss.acks miss.due)
   where
     by_test : (t : Bool) → (if t then completed at home miss fixed else waiting at miss).after.log ≡ at.log
     by_test true = refl
     by_test false = refl
 
-pub settled-log : (at : Logged) (home : ℕ) (o : Option Miss) → (settled at home o).after.log ≡ at.log
-settled-log at home None = refl
-settled-log at home (Some miss) = settled-by-log at home miss miss.fixed
+pub completed_or_waiting-log : (at : Logged) (home : ℕ) (o : Option Miss) → (completed_or_waiting at home o).after.log ≡ at.log
+completed_or_waiting-log at home None = refl
+completed_or_waiting-log at home (Some miss) = completed_or_waiting_by-log at home miss miss.fixed

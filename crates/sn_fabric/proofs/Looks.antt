@@ -18,12 +18,14 @@ use Rattle.sn_model.specs.Fabric.{Fabric, Moved, refused}
 use Rattle.sn_model.specs.NetEvents.{Outcome, Busy, AtCache, AtHome, Noted, unless_busy, fits_in, delivers}
 use Rattle.sn_fabric.specs.Deliveries.{look_answer}
 
-full_step : (s : Fabric) (full : Bool) (done : Moved) → done.answer ≡ Delivered → (if full then NetFull else Delivered) ≡ (if full then refused s NetFull else done).answer
+full_step : (s : Fabric) (full : Bool) (done : Moved) → done.answer ≡ Delivered →
+    (if full then NetFull else Delivered) ≡ (if full then refused s NetFull else done).answer
 full_step s true done d = refl
 full_step s false done d = sym d
 
 over_step : (s : Fabric) (over : Bool) (more flights : ℕ) (done : Moved) → done.answer ≡ Delivered →
-    look_answer (if over then SeesLogFull else Sends more) flights ≡ (if over then refused s LogFull else if nat_lt 1025 (flights + more) then refused s NetFull else done).answer
+    look_answer (if over then SeesLogFull else Sends more) flights
+    ≡ (if over then refused s LogFull else if nat_lt 1025 (flights + more) then refused s NetFull else done).answer
 over_step s true more flights done d = refl
 over_step s false more flights done d = full_step s (nat_lt 1025 (flights + more)) done d
 
@@ -31,7 +33,8 @@ over_step s false more flights done d = full_step s (nat_lt 1025 (flights + more
 pub cache-looks : (config : Config) (s : Fabric) (m : Message) (log : LogData) (reply : CacheReply) → log.limit ≡ config.log →
     look_answer (look_by log reply) (length s.net.flights) ≡ (delivers config s m (AtCache reply)).answer
 cache-looks config s m log reply e =
-    ap (λ (k : ℕ). look_answer (if nat_lt k (length reply.after.log) then SeesLogFull else Sends (length reply.sends)) (length s.net.flights)) e
+    ap (λ (k : ℕ). look_answer (if nat_lt k (length reply.after.log) then SeesLogFull else Sends (length reply.sends))
+    (length s.net.flights)) e
     ∙ over_step s (nat_lt config.log (length reply.after.log)) (length reply.sends) (length s.net.flights) _ refl
 
 -- at a home what a message comes to is a row or that it waits
@@ -53,19 +56,24 @@ outcome_there at now m (Unblock fixed) = tt
 outcome_there at now m (PutData content) = tt
 outcome_there at now m _ = tt
 
-judged_over : (s : Fabric) (over : Bool) (limit : ℕ) (flights : ℕ) (reply : HomeReply) (done : Moved) → nat_lt limit (length reply.after.log) ≡ over → done.answer ≡ Delivered →
-    look_answer (look_of (judged limit (AtHome reply))) flights ≡ (if over then refused s LogFull else if nat_lt 1025 (flights + length reply.sends) then refused s NetFull else done).answer
+judged_over : (s : Fabric) (over : Bool) (limit : ℕ) (flights : ℕ) (reply : HomeReply) (done : Moved) →
+    nat_lt limit (length reply.after.log) ≡ over → done.answer ≡ Delivered →
+    look_answer (look_of (judged limit (AtHome reply))) flights
+    ≡ (if over then refused s LogFull else if nat_lt 1025 (flights + length reply.sends) then refused s NetFull else done).answer
 judged_over s true limit flights reply done e d = rw e refl
 judged_over s false limit flights reply done e d = rw e (full_step s (nat_lt 1025 (flights + length reply.sends)) done d)
 
-judged_step : (config : Config) (s : Fabric) (m : Message) (o : Outcome) → IsAtHome o → look_answer (look_of (judged config.log o)) (length s.net.flights) ≡ (delivers config s m o).answer
+judged_step : (config : Config) (s : Fabric) (m : Message) (o : Outcome) → IsAtHome o →
+    look_answer (look_of (judged config.log o)) (length s.net.flights) ≡ (delivers config s m o).answer
 judged_step config s m Busy is = refl
-judged_step config s m (AtHome reply) is = judged_over s (nat_lt config.log (length reply.after.log)) config.log (length s.net.flights) reply _ refl refl
+judged_step config s m (AtHome reply) is =
+    judged_over s (nat_lt config.log (length reply.after.log)) config.log (length s.net.flights) reply _ refl refl
 judged_step config s m (AtCache reply) is = absurd is
 judged_step config s m (Noted fabric told) is = absurd is
 
 pub home-looks : (config : Config) (s : Fabric) (m : Message) (at : LoggedEntry) (now : ℕ) (x : Body) →
-    look_answer (look_of (judged config.log (outcome_at at now m x))) (length s.net.flights) ≡ (delivers config s m (outcome_at at now m x)).answer
+    look_answer (look_of (judged config.log (outcome_at at now m x))) (length s.net.flights)
+    ≡ (delivers config s m (outcome_at at now m x)).answer
 home-looks config s m at now x = judged_step config s m (outcome_at at now m x) (outcome_there at now m x)
 
 -- what is delivered is done, for the log and the network have the room
@@ -74,18 +82,23 @@ pub record HasRoomFor (config : Config) (s : Fabric) (log : List LogEntry) (send
   pub entries : nat_lt config.log (length log) ≡ false
   pub messages : nat_lt 1025 (length s.net.flights + length sends) ≡ false
 
-room_step : (config : Config) (s : Fabric) (log : List LogEntry) (sends : List Out) (done : Moved) (over full : Bool) → nat_lt config.log (length log) ≡ over → nat_lt 1025 (length s.net.flights + length sends) ≡ full →
+room_step : (config : Config) (s : Fabric) (log : List LogEntry) (sends : List Out) (done : Moved) (over full : Bool) →
+    nat_lt config.log (length log) ≡ over → nat_lt 1025 (length s.net.flights + length sends) ≡ full →
     (if over then refused s LogFull else if full then refused s NetFull else done).answer ≡ Delivered → HasRoomFor config s log sends
 room_step config s log sends done true full a b e = absurd (cc)
 room_step config s log sends done false true a b e = absurd (cc)
 room_step config s log sends done false false a b e = record { entries = a; messages = b }
 
-pub room-for : (config : Config) (s : Fabric) (log : List LogEntry) (sends : List Out) (done : Moved) → (fits_in config s log sends done).answer ≡ Delivered → HasRoomFor config s log sends
-room-for config s log sends done e = room_step config s log sends done (nat_lt config.log (length log)) (nat_lt 1025 (length s.net.flights + length sends)) refl refl e
+pub room-for : (config : Config) (s : Fabric) (log : List LogEntry) (sends : List Out) (done : Moved) →
+    (fits_in config s log sends done).answer ≡ Delivered → HasRoomFor config s log sends
+room-for config s log sends done e =
+    room_step config s log sends done (nat_lt config.log (length log)) (nat_lt 1025 (length s.net.flights + length sends)) refl refl e
 
-pub fits-then : (config : Config) (s : Fabric) (log : List LogEntry) (sends : List Out) (done : Moved) → HasRoomFor config s log sends → fits_in config s log sends done ≡ done
+pub fits-then : (config : Config) (s : Fabric) (log : List LogEntry) (sends : List Out) (done : Moved) → HasRoomFor config s log sends →
+    fits_in config s log sends done ≡ done
 fits-then config s log sends done r =
-    ap (λ (b : Bool). if b then refused s LogFull else if nat_lt 1025 (length s.net.flights + length sends) then refused s NetFull else done) r.entries
+    ap (λ (b : Bool). if b then refused s LogFull else if nat_lt 1025 (length s.net.flights + length sends) then refused s NetFull
+    else done) r.entries
     ∙ ap (λ (b : Bool). if b then refused s NetFull else done) r.messages
 
 -- an outcome at a home that is delivered is a row, and nothing is told
@@ -95,11 +108,13 @@ pub record IsRowOf (config : Config) (s : Fabric) (o : Outcome) : Type 0 where
   pub row : o ≡ AtHome reply
   pub room : HasRoomFor config s reply.after.log reply.sends
 
-row_of_step : (config : Config) (s : Fabric) (m : Message) (o : Outcome) → IsAtHome o → (delivers config s m o).answer ≡ Delivered → IsRowOf config s o
+row_of_step : (config : Config) (s : Fabric) (m : Message) (o : Outcome) → IsAtHome o → (delivers config s m o).answer ≡ Delivered →
+    IsRowOf config s o
 row_of_step config s m Busy is e = absurd (cc)
 row_of_step config s m (AtHome reply) is e = record { reply = reply; row = refl; room = room-for config s reply.after.log reply.sends _ e }
 row_of_step config s m (AtCache reply) is e = absurd is
 row_of_step config s m (Noted fabric told) is e = absurd is
 
-pub row-of : (config : Config) (s : Fabric) (m : Message) (at : LoggedEntry) (now : ℕ) (x : Body) → (delivers config s m (outcome_at at now m x)).answer ≡ Delivered → IsRowOf config s (outcome_at at now m x)
+pub row-of : (config : Config) (s : Fabric) (m : Message) (at : LoggedEntry) (now : ℕ) (x : Body) →
+    (delivers config s m (outcome_at at now m x)).answer ≡ Delivered → IsRowOf config s (outcome_at at now m x)
 row-of config s m at now x e = row_of_step config s m (outcome_at at now m x) (outcome_there at now m x) e

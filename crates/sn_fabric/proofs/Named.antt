@@ -32,30 +32,41 @@ module _ (config : Config) (p : Parts) (k : AreParts config p) (place block : �
   few = mod-lt block (few-nodes config k.whole.fits).some
 
   home-read : home ≡ home_at p.homes (block % config.nodes)
-  home-read = get_or_read p.homes (block % config.nodes) home (rw k.whole.count_homes few) (subst (λ (j : ℕ). home ≡ get_or p.homes j home) e eh) no_home
+  home-read =
+      get_or_read p.homes (block % config.nodes) home (rw k.whole.count_homes few)
+      (subst (λ (j : ℕ). home ≡ get_or p.homes j home) e eh) no_home
 
   -- the block is one of the home's
   pub block-here : block % home.nodes ≡ home.node
   block-here =
       let i = k.whole.homes (block % config.nodes) few in
-      ap (λ (y : HomeData). block % y.nodes) home-read ∙ ap (λ (j : ℕ). block % j) i.nodes ∙ sym (ap (λ (y : HomeData). y.node) home-read ∙ i.node)
+      ap (λ (y : HomeData). block % y.nodes) home-read ∙ ap (λ (j : ℕ). block % j) i.nodes
+      ∙ sym (ap (λ (y : HomeData). y.node) home-read ∙ i.node)
 
   -- the home has the block's entry
   pub entry-is : block < block_count → home_of (fabric_as p) block ≡ entry_of home block
-  entry-is b = entry-as p.homes block b ∙ ap (λ (j : ℕ). entry_of (home_at p.homes (block % j)) block) k.whole.count_homes ∙ ap (λ (y : HomeData). entry_of y block) (sym home-read)
+  entry-is b =
+      entry-as p.homes block b ∙ ap (λ (j : ℕ). entry_of (home_at p.homes (block % j)) block) k.whole.count_homes
+      ∙ ap (λ (y : HomeData). entry_of y block) (sym home-read)
 
   -- whom it names, by its log and its entry
-  pub names-are : (x : Seat) (cut : ℕ) → block < block_count → x ≡ get_or p.seats place x → names_at (fabric_as p) block cut ≡ named_by (old_at x.log.entries true block cut) (entry_of home block).holder
+  pub names-are : (x : Seat) (cut : ℕ) → block < block_count → x ≡ get_or p.seats place x →
+      names_at (fabric_as p) block cut ≡ named_by (old_at x.log.entries true block cut) (entry_of home block).holder
   names-are x cut b ex =
-      let r : x ≡ seat_at p.seats (block % config.nodes) = get_or_read p.seats (block % config.nodes) x (rw k.whole.count few) (subst (λ (j : ℕ). x ≡ get_or p.seats j x) e ex) no_seat in
+      let r : x ≡ seat_at p.seats (block % config.nodes) = get_or_read p.seats (block % config.nodes) x (rw k.whole.count few)
+      (subst (λ (j : ℕ). x ≡ get_or p.seats j x) e ex) no_seat in
       let g : length (fabric_as p).nodes ≡ config.nodes = count-nodes p ∙ k.whole.count in
       sym (
       ap (λ (o : Option Old). named_by o (entry_of home block).holder)
-      (ap (λ (y : Node). old_at y.log true block cut) (ap node_as r ∙ sym (node-at p (block % config.nodes) (rw k.whole.count few)) ∙ ap (λ (j : ℕ). node_at (fabric_as p) (block % j)) (sym g)))
-      ∙ ap (λ (y : HomeEntry). named_by (old_at (node_at (fabric_as p) (block % length (fabric_as p).nodes)).log true block cut) y.holder) (sym (entry-is b))
+      (ap (λ (y : Node). old_at y.log true block cut)
+      (ap node_as r ∙ sym (node-at p (block % config.nodes) (rw k.whole.count few))
+      ∙ ap (λ (j : ℕ). node_at (fabric_as p) (block % j)) (sym g)))
+      ∙ ap (λ (y : HomeEntry). named_by (old_at (node_at (fabric_as p) (block % length (fabric_as p).nodes)).log true block cut) y.holder)
+      (sym (entry-is b))
       )
 
-  pub named-is : (x : Seat) (old : Option Old) (owner said : Owner) (cut : ℕ) → block < block_count → x ≡ get_or p.seats place x → old ≡ old_at x.log.entries true block cut → owner ≡ owner_of (entry_of home block).holder →
+  pub named-is : (x : Seat) (old : Option Old) (owner said : Owner) (cut : ℕ) → block < block_count → x ≡ get_or p.seats place x →
+      old ≡ old_at x.log.entries true block cut → owner ≡ owner_of (entry_of home block).holder →
       said ≡ owner_by old owner → said ≡ owner_of (names_at (fabric_as p) block cut)
   named-is x old owner said cut b ex eo ew es =
       es

@@ -1,5 +1,6 @@
 -- What the parts say of the fabric that they stand for, and how they change.
-use Rattle.std.proofs.Common.{◌≡◌, ℕ, zero, suc, ◌<◌, List, [], ◌∷◌, length, get_or, set, refl, sym, ap, ◌∙◌, subst, arith, length-set, ⊎_elim}
+use Rattle.std.proofs.Common.{◌≡◌, ℕ, zero, suc, ◌<◌, List, [], ◌∷◌, length, get_or, set, refl, sym, ap, ◌∙◌, subst, arith, length-set}
+use Rattle.std.proofs.Common.{⊎_elim}
 use Rattle.std.specs.Prelude.{map}
 use Rattle.std.proofs.lemmas.List.{length-map, map-set, get_or-set_same, get_or-set_other, get_or_read}
 use Rattle.std.proofs.lemmas.Bool.{cases_eq}
@@ -38,7 +39,8 @@ routes-as config p w = ap (λ (k : ℕ). record p.net.routes { nodes = k }) (cou
 pub fabric-seat : (p : Parts) (n : ℕ) (x : Seat) → fabric_as (record p { seats = set p.seats n x }) ≡ with_node (fabric_as p) n (node_as x)
 fabric-seat p n x = ap (λ (nodes : List Node). record (fabric_as p) { nodes = nodes }) (map-set node_as p.seats n x)
 
-pub whole-seat : (config : Config) (p : Parts) (n : ℕ) (x : Seat) → AreWhole config p → n < length p.seats → IsSeat config n x → AreWhole config (record p { seats = set p.seats n x })
+pub whole-seat : (config : Config) (p : Parts) (n : ℕ) (x : Seat) → AreWhole config p → n < length p.seats → IsSeat config n x →
+    AreWhole config (record p { seats = set p.seats n x })
 whole-seat config p n x w l i = record {
   fits = w.fits;
   count = length-set p.seats n x ∙ w.count;
@@ -52,8 +54,17 @@ whole-seat config p n x w l i = record {
   homes = w.homes;
 }
 
-pub whole-net : (config : Config) (p : Parts) (net : NetData) → AreWhole config p → net.routes.nodes ≡ p.net.routes.nodes → AreWhole config (record p { net = net })
-whole-net config p net w e = record { fits = w.fits; count = w.count; count_homes = w.count_homes; count_routes = e ∙ w.count_routes; seats = w.seats; homes = w.homes }
+pub whole-net : (config : Config) (p : Parts) (net : NetData) → AreWhole config p → net.routes.nodes ≡ p.net.routes.nodes →
+    AreWhole config (record p { net = net })
+whole-net config p net w e =
+    record {
+      fits = w.fits;
+      count = w.count;
+      count_homes = w.count_homes;
+      count_routes = e ∙ w.count_routes;
+      seats = w.seats;
+      homes = w.homes;
+    }
 
 -- parts of these sizes, with what was sent, as a value
 abbrev pub data_of : Config → Parts → List Sent → FabricData
@@ -67,51 +78,69 @@ pub record Comes (config : Config) (p q : Parts) (sends : List Sent) (said : Ans
   pub answer : said ≡ moved.answer
 
 -- whole parts that stand for what an event comes to are parts as they may be
-pub comes : (config : Config) (p q : Parts) (sends : List Sent) (said : Answer) (event : FabricEvent) (moved : Moved) → AreParts config p → MayBe (fabric_as p) event → HasRoom config (fabric_as p) event →
-    moved_by config (fabric_as p) event ≡ moved → AreWhole config q → fabric_as q ≡ moved.fabric → sends ≡ moved.sent → said ≡ moved.answer → Comes config p q sends said moved
+pub comes : (config : Config) (p q : Parts) (sends : List Sent) (said : Answer) (event : FabricEvent) (moved : Moved) → AreParts config p →
+    MayBe (fabric_as p) event → HasRoom config (fabric_as p) event →
+    moved_by config (fabric_as p) event ≡ moved → AreWhole config q → fabric_as q ≡ moved.fabric → sends ≡ moved.sent →
+    said ≡ moved.answer → Comes config p q sends said moved
 comes config p q sends said event moved k m r e w f s a = record {
   parts = record {
     whole = w;
     keeps = subst (KeepsBounds config) (ap (λ (x : Moved). x.fabric) e ∙ sym f) (each_keeps_bounds config (fabric_as p) event k.keeps m r);
-    logs = subst AreOwnLogs (ap (λ (x : Moved). x.fabric) e ∙ sym f) (each-keeps-logs config (fabric_as p) k.keeps.0 event k.keeps.1 m k.logs);
+    logs =
+        subst AreOwnLogs (ap (λ (x : Moved). x.fabric) e ∙ sym f) (each-keeps-logs config (fabric_as p) k.keeps.0 event k.keeps.1 m k.logs);
   };
   fabric = f;
   sent = s;
   answer = a;
 }
 
-pub after-comes : (config : Config) (p q : Parts) (before sends : List Sent) (said : Answer) (moved : Moved) → Comes config p q sends said moved →
+pub after-comes : (config : Config) (p q : Parts) (before sends : List Sent) (said : Answer) (moved : Moved) →
+    Comes config p q sends said moved →
     IsAfter (data_of config p before) (data_of config q sends) said moved
 after-comes config p q before sends said moved c = record {
   answer = c.answer;
-  left = ap (λ (s : Fabric). record { config = config; fabric = s; sent = sends }) c.fabric ∙ ap (λ (xs : List Sent). record { config = config; fabric = moved.fabric; sent = xs }) c.sent;
+  left =
+      ap (λ (s : Fabric). record { config = config; fabric = s; sent = sends }) c.fabric
+      ∙ ap (λ (xs : List Sent). record { config = config; fabric = moved.fabric; sent = xs }) c.sent;
 }
 
 -- the same where what the event comes to is known whole
-pub comes-as : (config : Config) (p q : Parts) (sends : List Sent) (said : Answer) (told : Option Told) (event : FabricEvent) (moved : Moved) → AreParts config p → MayBe (fabric_as p) event → HasRoom config (fabric_as p) event →
-    moved_by config (fabric_as p) event ≡ moved → AreWhole config q → moved ≡ record { fabric = fabric_as q; answer = said; sent = sends; told = told } → Comes config p q sends said moved
+pub comes-as : (config : Config) (p q : Parts) (sends : List Sent) (said : Answer) (told : Option Told) (event : FabricEvent)
+    (moved : Moved) → AreParts config p → MayBe (fabric_as p) event → HasRoom config (fabric_as p) event →
+    moved_by config (fabric_as p) event ≡ moved → AreWhole config q →
+    moved ≡ record { fabric = fabric_as q; answer = said; sent = sends; told = told } → Comes config p q sends said moved
 comes-as config p q sends said told event moved k m r e w h =
-    comes config p q sends said event moved k m r e w (sym (ap (λ (x : Moved). x.fabric) h)) (sym (ap (λ (x : Moved). x.sent) h)) (sym (ap (λ (x : Moved). x.answer) h))
+    comes config p q sends said event moved k m r e w (sym (ap (λ (x : Moved). x.fabric) h)) (sym (ap (λ (x : Moved). x.sent) h))
+    (sym (ap (λ (x : Moved). x.answer) h))
 
 -- read through the view
-pub after-view : (config : Config) (p q : Parts) (before sends : List Sent) (said : Answer) (f : Fabric → Moved) (d : FabricData) → data_of config p before ≡ d → Comes config p q sends said (f (fabric_as p)) →
+pub after-view : (config : Config) (p q : Parts) (before sends : List Sent) (said : Answer) (f : Fabric → Moved) (d : FabricData) →
+    data_of config p before ≡ d → Comes config p q sends said (f (fabric_as p)) →
     IsAfter d (data_of config q sends) said (f d.fabric)
-after-view config p q before sends said f d v c = subst (λ (x : FabricData). IsAfter x (data_of config q sends) said (f x.fabric)) v (after-comes config p q before sends said (f (fabric_as p)) c)
+after-view config p q before sends said f d v c =
+    subst (λ (x : FabricData). IsAfter x (data_of config q sends) said (f x.fabric)) v
+    (after-comes config p q before sends said (f (fabric_as p)) c)
 
 -- a seat that was read
-pub seat-read : (p : Parts) (n place : ℕ) (x : Seat) → n < length (fabric_as p).nodes → place ≡ n → x ≡ get_or p.seats place x → x ≡ seat_at p.seats n
+pub seat-read : (p : Parts) (n place : ℕ) (x : Seat) → n < length (fabric_as p).nodes → place ≡ n → x ≡ get_or p.seats place x →
+    x ≡ seat_at p.seats n
 seat-read p n place x l e r =
     let h : n < length p.seats = subst (λ (k : ℕ). n < k) (count-nodes p) l in
     get_or_read p.seats n x h (subst (λ (k : ℕ). x ≡ get_or p.seats k x) e r) no_seat
 
 -- the same where the sizes are read through it too
-pub after-whole : (config : Config) (p q : Parts) (before sends : List Sent) (said : Answer) (f : FabricData → Moved) (d : FabricData) → data_of config p before ≡ d → Comes config p q sends said (f (data_of config p before)) →
+pub after-whole : (config : Config) (p q : Parts) (before sends : List Sent) (said : Answer) (f : FabricData → Moved) (d : FabricData) →
+    data_of config p before ≡ d → Comes config p q sends said (f (data_of config p before)) →
     IsAfter d (data_of config q sends) said (f d)
-after-whole config p q before sends said f d v c = subst (λ (x : FabricData). IsAfter x (data_of config q sends) said (f x)) v (after-comes config p q before sends said (f (data_of config p before)) c)
+after-whole config p q before sends said f d v c =
+    subst (λ (x : FabricData). IsAfter x (data_of config q sends) said (f x)) v
+    (after-comes config p q before sends said (f (data_of config p before)) c)
 
 -- a node that changes but for its place
-pub seat-comes : (config : Config) (p : Parts) (n : ℕ) (y : Seat) (said : Answer) (told : Option Told) (event : FabricEvent) (moved : Moved) → AreParts config p → MayBe (fabric_as p) event → HasRoom config (fabric_as p) event →
-    moved_by config (fabric_as p) event ≡ moved → n < length p.seats → IsSeat config n y → moved ≡ record { fabric = with_node (fabric_as p) n (node_as y); answer = said; sent = []; told = told } →
+pub seat-comes : (config : Config) (p : Parts) (n : ℕ) (y : Seat) (said : Answer) (told : Option Told) (event : FabricEvent)
+    (moved : Moved) → AreParts config p → MayBe (fabric_as p) event → HasRoom config (fabric_as p) event →
+    moved_by config (fabric_as p) event ≡ moved → n < length p.seats → IsSeat config n y →
+    moved ≡ record { fabric = with_node (fabric_as p) n (node_as y); answer = said; sent = []; told = told } →
     Comes config p (record p { seats = set p.seats n y }) [] said moved
 seat-comes config p n y said told event moved k m r e l i h =
     comes-as config p (record p { seats = set p.seats n y }) [] said told event moved k m r e (whole-seat config p n y k.whole l i)

@@ -1,5 +1,6 @@
 -- Messages that are sent one after another.
-use Rattle.std.proofs.Common.{◌≡◌, ℕ, zero, suc, ◌+◌, List, [], ◌∷◌, ◌++◌, length, refl, sym, ap, ◌∙◌, arith, add-zero, add-one, append_assoc}
+use Rattle.std.proofs.Common.{◌≡◌, ℕ, zero, suc, ◌+◌, List, [], ◌∷◌, ◌++◌, length, refl, sym, ap, ◌∙◌, arith, add-zero, add-one}
+use Rattle.std.proofs.Common.{append_assoc}
 use Rattle.route_plan.specs.Distances.{Switches}
 use Rattle.sn_msg.specs.declared.Body.TheVariants.{Advance}
 use Rattle.sn_model.specs.declared.cache.Out.{Out}
@@ -13,13 +14,16 @@ use Rattle.sn_fabric.specs.Points.{tellings}
 pub posted-last : (routes : Switches) (net : Net) (from tag block : ℕ) (outs : List Out) (out : Out) →
     posted routes net from tag block (outs ++ out ∷ []) ≡ posted routes (posted routes net from tag block outs) from tag block (out ∷ [])
 posted-last routes net from tag block [] out = refl
-posted-last routes net from tag block (o ∷ outs) out = posted-last routes (post routes net (message_of net from tag block o)) from tag block outs out
+posted-last routes net from tag block (o ∷ outs) out =
+    posted-last routes (post routes net (message_of net from tag block o)) from tag block outs out
 
 pub sent-last : (routes : Switches) (net : Net) (from tag block : ℕ) (outs : List Out) (out : Out) →
-    sent_by routes net from tag block (outs ++ out ∷ []) ≡ sent_by routes net from tag block outs ++ sent_by routes (posted routes net from tag block outs) from tag block (out ∷ [])
+    sent_by routes net from tag block (outs ++ out ∷ []) ≡ sent_by routes net from tag block outs
+    ++ sent_by routes (posted routes net from tag block outs) from tag block (out ∷ [])
 sent-last routes net from tag block [] out = refl
 sent-last routes net from tag block (o ∷ outs) out =
-    ap (λ (xs : List Sent). record { message = message_of net from tag block o; lost = is_lost routes net (message_of net from tag block o) } ∷ xs)
+    ap (λ (xs : List Sent).
+    record { message = message_of net from tag block o; lost = is_lost routes net (message_of net from tag block o) } ∷ xs)
     (sent-last routes (post routes net (message_of net from tag block o)) from tag block outs out)
 
 -- what is told to the nodes from one on
@@ -32,7 +36,8 @@ unfolding told_from
 told_last k to zero = ap (λ (j : ℕ). send j (Advance k) ∷ []) (add-zero to)
 told_last k to (suc n) =
     let e : to + suc n ≡ to + 1 + n = omega arith in
-    ap (λ (xs : List Out). send to (Advance k) ∷ xs) (ap (λ (j : ℕ). told_from k (to + 1) n ++ send j (Advance k) ∷ []) e ∙ told_last k (to + 1) n)
+    ap (λ (xs : List Out). send to (Advance k) ∷ xs)
+    (ap (λ (j : ℕ). told_from k (to + 1) n ++ send j (Advance k) ∷ []) e ∙ told_last k (to + 1) n)
 
 told_all : (k to : ℕ) (nodes : List Node) → advances k to nodes ≡ told_from k to (length nodes)
 unfolding told_from
@@ -44,7 +49,8 @@ unfolding told_from
 told_first k zero = refl
 told_first k (suc n) =
     let e : n ≡ 0 + n = omega arith in
-    ap (λ (xs : List Out). xs ++ send n (Advance k) ∷ []) (told_first k n) ∙ ap (λ (j : ℕ). told_from k 0 n ++ send j (Advance k) ∷ []) e ∙ told_last k 0 n
+    ap (λ (xs : List Out). xs ++ send n (Advance k) ∷ []) (told_first k n) ∙ ap (λ (j : ℕ). told_from k 0 n ++ send j (Advance k) ∷ []) e
+    ∙ told_last k 0 n
 
 -- each node is told, in order
 pub tellings-are : (k : ℕ) (nodes : List Node) → tellings k (length nodes) ≡ advances k 0 nodes
@@ -55,7 +61,8 @@ tellings-are k nodes = told_first k (length nodes) ∙ sym (told_all k 0 nodes)
 tellings-more : (k n : ℕ) → tellings k (n + 1) ≡ tellings k n ++ send n (Advance k) ∷ []
 tellings-more k n = rw add-one refl
 
-one_more : (routes others : Switches) (before net : Net) (from tag block k n : ℕ) (out : Out) → others ≡ routes → net ≡ posted routes before 0 tag 0 (tellings k n) → from ≡ 0 → block ≡ 0 → out ≡ send n (Advance k) →
+one_more : (routes others : Switches) (before net : Net) (from tag block k n : ℕ) (out : Out) → others ≡ routes →
+    net ≡ posted routes before 0 tag 0 (tellings k n) → from ≡ 0 → block ≡ 0 → out ≡ send n (Advance k) →
     posted others net from tag block (out ∷ []) ≡ posted routes before 0 tag 0 (tellings k (n + 1))
 one_more routes others before net from tag block k n out er en ef eb eo =
     ap (λ (r : Switches). posted r net from tag block (out ∷ [])) er
@@ -66,12 +73,16 @@ one_more routes others before net from tag block k n out er en ef eb eo =
     ∙ sym (posted-last routes before 0 tag 0 (tellings k n) (send n (Advance k)))
     ∙ ap (posted routes before 0 tag 0) (sym (tellings-more k n))
 
-pub tell-net : (routes others : Switches) (before net after : Net) (from tag block k n : ℕ) (out : Out) → others ≡ routes → net ≡ posted routes before 0 tag 0 (tellings k n) → from ≡ 0 → block ≡ 0 → out ≡ send n (Advance k) →
+pub tell-net : (routes others : Switches) (before net after : Net) (from tag block k n : ℕ) (out : Out) → others ≡ routes →
+    net ≡ posted routes before 0 tag 0 (tellings k n) → from ≡ 0 → block ≡ 0 → out ≡ send n (Advance k) →
     after ≡ posted others net from tag block (out ∷ []) → after ≡ posted routes before 0 tag 0 (tellings k (n + 1))
-tell-net routes others before net after from tag block k n out er en ef eb eo ea = ea ∙ one_more routes others before net from tag block k n out er en ef eb eo
+tell-net routes others before net after from tag block k n out er en ef eb eo ea =
+    ea ∙ one_more routes others before net from tag block k n out er en ef eb eo
 
-pub tell-sent : (routes others : Switches) (before net : Net) (olds sents after : List Sent) (from tag block k n : ℕ) (out : Out) → others ≡ routes → net ≡ posted routes before 0 tag 0 (tellings k n) → from ≡ 0 → block ≡ 0 →
-    out ≡ send n (Advance k) → sents ≡ olds ++ sent_by routes before 0 tag 0 (tellings k n) → after ≡ sents ++ sent_by others net from tag block (out ∷ []) → after ≡ olds ++ sent_by routes before 0 tag 0 (tellings k (n + 1))
+pub tell-sent : (routes others : Switches) (before net : Net) (olds sents after : List Sent) (from tag block k n : ℕ) (out : Out) →
+    others ≡ routes → net ≡ posted routes before 0 tag 0 (tellings k n) → from ≡ 0 → block ≡ 0 →
+    out ≡ send n (Advance k) → sents ≡ olds ++ sent_by routes before 0 tag 0 (tellings k n) →
+    after ≡ sents ++ sent_by others net from tag block (out ∷ []) → after ≡ olds ++ sent_by routes before 0 tag 0 (tellings k (n + 1))
 tell-sent routes others before net olds sents after from tag block k n out er en ef eb eo es ea =
     ea
     ∙ ap (λ (xs : List Sent). xs ++ sent_by others net from tag block (out ∷ [])) es
@@ -82,4 +93,6 @@ tell-sent routes others before net olds sents after from tag block k n out er en
     ∙ ap (λ (j : ℕ). sent_by routes (posted routes before 0 tag 0 (tellings k n)) j tag block (out ∷ [])) ef
     ∙ ap (λ (j : ℕ). sent_by routes (posted routes before 0 tag 0 (tellings k n)) 0 tag j (out ∷ [])) eb
     ∙ ap (λ (o : Out). sent_by routes (posted routes before 0 tag 0 (tellings k n)) 0 tag 0 (o ∷ [])) eo)
-    ∙ ap (λ (xs : List Sent). olds ++ xs) (sym (sent-last routes before 0 tag 0 (tellings k n) (send n (Advance k))) ∙ ap (sent_by routes before 0 tag 0) (sym (tellings-more k n)))
+    ∙ ap (λ (xs : List Sent). olds ++ xs)
+    (sym (sent-last routes before 0 tag 0 (tellings k n) (send n (Advance k)))
+    ∙ ap (sent_by routes before 0 tag 0) (sym (tellings-more k n)))

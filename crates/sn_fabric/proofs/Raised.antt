@@ -9,7 +9,7 @@ use Rattle.sn_model.specs.Fabric.{Fabric, refused}
 use Rattle.sn_model.specs.FabricEvents.{moved_by, Advance}
 use Rattle.sn_model.specs.Net.{is_full, posted, sent_by, sending}
 use Rattle.sn_model.specs.PointEvents.{advances, advanced}
-use Rattle.fabric_coherence.specs.Coherent.{IsFinished}
+use Rattle.fabric_coherence.specs.Coherent.{NothingUnfinished}
 use Rattle.sn_fabric.specs.declared.node.Seat.{Seat}
 use Rattle.sn_fabric.specs.Nets.{net_as}
 use Rattle.sn_fabric.specs.Parts.{Parts, fabric_as, AreWhole, AreParts}
@@ -24,11 +24,15 @@ unfolding moved_by
 advance_is_moved config s k = refl
 
 whole_point : (config : Config) (p : Parts) (k : ℕ) → AreWhole config p → AreWhole config (record p { point = k })
-whole_point config p k w = record { fits = w.fits; count = w.count; count_homes = w.count_homes; count_routes = w.count_routes; seats = w.seats; homes = w.homes }
+whole_point config p k w =
+    record { fits = w.fits; count = w.count; count_homes = w.count_homes; count_routes = w.count_routes; seats = w.seats; homes = w.homes }
 
-pub point-comes : (config : Config) (p : Parts) (now k : ℕ) (x : Seat) (net : NetData) (sends : List Sent) → AreParts config p → k ≡ (fabric_as p).point + 1 → IsFinished (fabric_as p) k →
-    is_full (fabric_as p) (length (fabric_as p).nodes) ≡ false → x ≡ get_or p.seats 0 x → now ≡ x.clock.interval → net.routes ≡ p.net.routes →
-    net_as net ≡ posted p.net.routes (net_as p.net) 0 now 0 (tellings k config.nodes) → sends ≡ sent_by p.net.routes (net_as p.net) 0 now 0 (tellings k config.nodes) →
+pub point-comes : (config : Config) (p : Parts) (now k : ℕ) (x : Seat) (net : NetData) (sends : List Sent) → AreParts config p →
+    k ≡ (fabric_as p).point + 1 → NothingUnfinished (fabric_as p) k →
+    is_full (fabric_as p) (length (fabric_as p).nodes) ≡ false → x ≡ get_or p.seats 0 x → now ≡ x.clock.interval →
+    net.routes ≡ p.net.routes →
+    net_as net ≡ posted p.net.routes (net_as p.net) 0 now 0 (tellings k config.nodes) →
+    sends ≡ sent_by p.net.routes (net_as p.net) 0 now 0 (tellings k config.nodes) →
     Comes config p (record p { net = net; point = k }) sends (Validated k) (advanced (fabric_as p) k)
 point-comes config p now k x net sends a next finished f ex en er ew es =
     let w = a.whole in
@@ -37,8 +41,10 @@ point-comes config p now k x net sends a next finished f ex en er ew es =
     let l : 0 < length (fabric_as p).nodes = omega (arith, c, some) in
     let h : 0 < length p.seats = omega (arith, w.count, some) in
     let o : tellings k config.nodes ≡ advances k 0 (fabric_as p).nodes = ap (tellings k) (sym c) ∙ tellings-are k (fabric_as p).nodes in
-    sends-come config p (record p { point = k }) net 0 0 now (advances k 0 (fabric_as p).nodes) (Validated k) sends None (Advance k) (advanced (fabric_as p) k) a (next, finished) tt
+    sends-come config p (record p { point = k }) net 0 0 now (advances k 0 (fabric_as p).nodes) (Validated k) sends None (Advance k)
+    (advanced (fabric_as p) k) a (next, finished) tt
     (advance_is_moved config (fabric_as p) k)
-    (ap (λ (b : Bool). if b then refused (fabric_as p) NetFull else sending (record (fabric_as p) { point = k }) 0 0 (advances k 0 (fabric_as p).nodes) (Validated k)) f)
+    (ap (λ (b : Bool). if b then refused (fabric_as p) NetFull
+    else sending (record (fabric_as p) { point = k }) 0 0 (advances k 0 (fabric_as p).nodes) (Validated k)) f)
     (whole_point config p k w) h (en ∙ ap (λ (y : Seat). y.clock.interval) (seat-read p 0 0 x l refl ex)) er
     (ew ∙ ap (posted p.net.routes (net_as p.net) 0 now 0) o) (es ∙ ap (sent_by p.net.routes (net_as p.net) 0 now 0) o)

@@ -23,37 +23,52 @@ use Rattle.sn_fabric.proofs.Parts.{count-nodes, Comes, seat-read}
 use Rattle.sn_fabric.proofs.Sends.{sends-come}
 use Rattle.sn_fabric.proofs.Entries.{ready-is}
 
-pub ready-found : (config : Config) (p : Parts) (n place : ℕ) (x : Seat) (home : HomeData) (now : ℕ) (begun issued : Option ℕ) (first last : ℕ) → AreParts config p → n < length (fabric_as p).nodes →
-    place ≡ n → x ≡ get_or p.seats place x → home ≡ get_or p.homes place home → now ≡ x.clock.interval → begun ≡ least_open home.entries → issued ≡ least_open_of x.cache.cache.miss x.cache.cache.put →
+pub ready-found : (config : Config) (p : Parts) (n place : ℕ) (x : Seat) (home : HomeData) (now : ℕ) (begun issued : Option ℕ)
+    (first last : ℕ) → AreParts config p → n < length (fabric_as p).nodes →
+    place ≡ n → x ≡ get_or p.seats place x → home ≡ get_or p.homes place home → now ≡ x.clock.interval → begun ≡ least_open home.entries →
+    issued ≡ least_open_of x.cache.cache.miss x.cache.cache.put →
     first ≡ at_most now begun → last ≡ at_most first issued → last ≡ ready_of (fabric_as p) n
 ready-found config p n place x home now begun issued first last k l ep ex eh en eb ei ef es =
     let h : n < length p.seats = subst (λ (k : ℕ). n < k) (count-nodes p) l in
     let r : x ≡ seat_at p.seats n = seat-read p n place x l ep ex in
     let c : length p.seats ≡ length p.homes = k.whole.count ∙ sym k.whole.count_homes in
-    let q : home ≡ home_at p.homes n = get_or_read p.homes n home (omega (arith, c)) (subst (λ (j : ℕ). home ≡ get_or p.homes j home) ep eh) no_home in
+    let q : home ≡ home_at p.homes n = get_or_read p.homes n home (omega (arith, c))
+    (subst (λ (j : ℕ). home ≡ get_or p.homes j home) ep eh) no_home in
     es
-    ∙ ap (λ (j : ℕ). at_most j issued) (ef ∙ ap (λ (j : ℕ). at_most j begun) (en ∙ ap (λ (y : Seat). y.clock.interval) r) ∙ ap (at_most (seat_at p.seats n).clock.interval) (eb ∙ ap (λ (y : HomeData). least_open y.entries) q))
-    ∙ ap (at_most (at_most (seat_at p.seats n).clock.interval (least_open (home_at p.homes n).entries))) (ei ∙ ap (λ (y : Seat). least_open_of y.cache.cache.miss y.cache.cache.put) r)
+    ∙ ap (λ (j : ℕ). at_most j issued)
+    (ef ∙ ap (λ (j : ℕ). at_most j begun) (en ∙ ap (λ (y : Seat). y.clock.interval) r)
+    ∙ ap (at_most (seat_at p.seats n).clock.interval) (eb ∙ ap (λ (y : HomeData). least_open y.entries) q))
+    ∙ ap (at_most (at_most (seat_at p.seats n).clock.interval (least_open (home_at p.homes n).entries)))
+    (ei ∙ ap (λ (y : Seat). least_open_of y.cache.cache.miss y.cache.cache.put) r)
     ∙ sym (ready-is config p n k.whole h)
 
 report_is_moved : (config : Config) (s : Fabric) (n : ℕ) → moved_by config s (Report n) ≡ reported s n
 unfolding moved_by
 report_is_moved config s n = refl
 
-pub report-comes : (config : Config) (p : Parts) (n place now ready : ℕ) (x : Seat) (net : NetData) (sends : List Sent) → AreParts config p → n < length (fabric_as p).nodes → is_full (fabric_as p) 1 ≡ false →
+pub report-comes : (config : Config) (p : Parts) (n place now ready : ℕ) (x : Seat) (net : NetData) (sends : List Sent) →
+    AreParts config p → n < length (fabric_as p).nodes → is_full (fabric_as p) 1 ≡ false →
     ready ≡ ready_of (fabric_as p) n → place ≡ n → x ≡ get_or p.seats place x → now ≡ x.clock.interval → net.routes ≡ p.net.routes →
-    net_as net ≡ posted p.net.routes (net_as p.net) n now 0 (send 0 (Ready ready) ∷ []) → sends ≡ sent_by p.net.routes (net_as p.net) n now 0 (send 0 (Ready ready) ∷ []) →
+    net_as net ≡ posted p.net.routes (net_as p.net) n now 0 (send 0 (Ready ready) ∷ []) →
+    sends ≡ sent_by p.net.routes (net_as p.net) n now 0 (send 0 (Ready ready) ∷ []) →
     Comes config p (record p { net = net }) sends (Reported ready) (reported (fabric_as p) n)
 report-comes config p n place now ready x net sends k l f e ep ex en er ew es =
     let h : n < length p.seats = subst (λ (k : ℕ). n < k) (count-nodes p) l in
-    sends-come config p p net n 0 now (send 0 (Ready ready) ∷ []) (Reported ready) sends None (Report n) (reported (fabric_as p) n) k l tt (report_is_moved config (fabric_as p) n)
-    (ap (λ (b : Bool). if b then refused (fabric_as p) NetFull else sending (fabric_as p) n 0 (send 0 (Ready (ready_of (fabric_as p) n)) ∷ []) (Reported (ready_of (fabric_as p) n))) f
+    sends-come config p p net n 0 now (send 0 (Ready ready) ∷ []) (Reported ready) sends None (Report n) (reported (fabric_as p) n) k l tt
+    (report_is_moved config (fabric_as p) n)
+    (ap (λ (b : Bool). if b then refused (fabric_as p) NetFull
+    else sending (fabric_as p) n 0 (send 0 (Ready (ready_of (fabric_as p) n)) ∷ []) (Reported (ready_of (fabric_as p) n))) f
     ∙ ap (λ (j : ℕ). sending (fabric_as p) n 0 (send 0 (Ready j) ∷ []) (Reported j)) (sym e))
     k.whole h (en ∙ ap (λ (y : Seat). y.clock.interval) (seat-read p n place x l ep ex)) er ew es
 
 -- a report that finds the network full
-pub full-after : (d e : FabricData) (n : ℕ) → is_full d.fabric 1 ≡ true → e ≡ record d { sent = [] } → IsAfter d e NetFull (reported d.fabric n)
+pub full-after : (d e : FabricData) (n : ℕ) → is_full d.fabric 1 ≡ true → e ≡ record d { sent = [] } →
+    IsAfter d e NetFull (reported d.fabric n)
 full-after d e n f ee =
     let u : reported d.fabric n ≡ refused d.fabric NetFull =
-    ap (λ (b : Bool). if b then refused d.fabric NetFull else sending d.fabric n 0 (send 0 (Ready (ready_of d.fabric n)) ∷ []) (Reported (ready_of d.fabric n))) f in
-    record { answer = sym (ap (λ (m : Moved). m.answer) u); left = ee ∙ ap (λ (m : Moved). record d { fabric = m.fabric; sent = m.sent }) (sym u) }
+    ap (λ (b : Bool). if b then refused d.fabric NetFull
+    else sending d.fabric n 0 (send 0 (Ready (ready_of d.fabric n)) ∷ []) (Reported (ready_of d.fabric n))) f in
+    record {
+      answer = sym (ap (λ (m : Moved). m.answer) u);
+      left = ee ∙ ap (λ (m : Moved). record d { fabric = m.fabric; sent = m.sent }) (sym u);
+    }

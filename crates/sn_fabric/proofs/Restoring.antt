@@ -1,5 +1,6 @@
 -- A recovery over the nodes: one node more is put back.
-use Rattle.std.proofs.Common.{◌≡◌, ◌≢◌, ℕ, ◌+◌, ◌-◌, ◌<◌, ◌≤◌, ◌++◌, List, [], ◌∷◌, length, get_or, set, map, take, drop, refl, sym, ap, ◌∙◌, subst, arith, ⊎_elim, get_or-set_same, get_or-set_other}
+use Rattle.std.proofs.Common.{◌≡◌, ◌≢◌, ℕ, ◌+◌, ◌-◌, ◌<◌, ◌≤◌, ◌++◌, List, [], ◌∷◌, length, get_or, set, map, take, drop, refl, sym, ap}
+use Rattle.std.proofs.Common.{◌∙◌, subst, arith, ⊎_elim, get_or-set_same, get_or-set_other}
 use Rattle.std.proofs.lemmas.Bool.{cases_eq}
 use Rattle.std.proofs.lemmas.List.{length-map, length-take-le, get_or-append_right, get_or-drop, get_or_default, get_or_read}
 use Rattle.std.proofs.lemmas.List.Edits.{map_over_more}
@@ -17,9 +18,11 @@ pub written : {A : Type 0} (n : ℕ) (new old : List A) → n ≡ length new →
 written n new old e = ap (λ (k : ℕ). take k (new ++ drop (length new) old)) e ∙ take_first new (drop (length new) old)
 
 -- a node that wasn't put back yet
-pub rest-read : (k : ℕ) (first now : List Seat) (i : ℕ) (x : Seat) → i < length first → now ≡ map (restored_seat k) (take i first) ++ drop i first → x ≡ get_or now i x → x ≡ seat_at first i
+pub rest-read : (k : ℕ) (first now : List Seat) (i : ℕ) (x : Seat) → i < length first →
+    now ≡ map (restored_seat k) (take i first) ++ drop i first → x ≡ get_or now i x → x ≡ seat_at first i
 rest-read k first now i x l e r =
-    let n : length (map (restored_seat k) (take i first)) ≡ i = length-map (take i first) (restored_seat k) ∙ length-take-le i first (omega arith) in
+    let n : length (map (restored_seat k) (take i first)) ≡ i = length-map (take i first) (restored_seat k)
+    ∙ length-take-le i first (omega arith) in
     let z : i + (i - i) ≡ i = omega arith in
     r
     ∙ ap (λ (seats : List Seat). get_or seats i x) e
@@ -28,7 +31,8 @@ rest-read k first now i x l e r =
     ∙ ap (λ (j : ℕ). get_or first j x) z
     ∙ get_or_default first i x no_seat l
 
-pub seats-more : (k : ℕ) (first now : List Seat) (i : ℕ) (x y : Seat) → i < length first → now ≡ map (restored_seat k) (take i first) ++ drop i first → x ≡ get_or now i x → y ≡ restored_seat k x →
+pub seats-more : (k : ℕ) (first now : List Seat) (i : ℕ) (x y : Seat) → i < length first →
+    now ≡ map (restored_seat k) (take i first) ++ drop i first → x ≡ get_or now i x → y ≡ restored_seat k x →
     set now i y ≡ map (restored_seat k) (take (i + 1) first) ++ drop (i + 1) first
 seats-more k first now i x y l e r s = ap (set now i) s ∙ map_over_more (restored_seat k) first now i x l e r
 
@@ -38,13 +42,17 @@ module _ (k i : ℕ) (seats : List Seat) (first now : List HomeData) (x : Seat) 
 
   here : IsRestoredHome (seat_at seats i).log.entries k (home_at first i) (home_at (set now i after) i)
   here = subst (IsRestoredHome (seat_at seats i).log.entries k (home_at first i)) (sym (get_or-set_same now i after no_home inside))
-      (subst (λ (h : HomeData). IsRestoredHome (seat_at seats i).log.entries k h after) home-is (subst (λ (s : Seat). IsRestoredHome s.log.entries k home after) seat back))
+      (subst (λ (h : HomeData). IsRestoredHome (seat_at seats i).log.entries k h after) home-is
+      (subst (λ (s : Seat). IsRestoredHome s.log.entries k home after) seat back))
 
-  pub before-more : ((n : ℕ) → n < i → IsRestoredHome (seat_at seats n).log.entries k (home_at first n) (home_at now n)) → (n : ℕ) → n < i + 1 →
+  pub before-more : ((n : ℕ) → n < i → IsRestoredHome (seat_at seats n).log.entries k (home_at first n) (home_at now n)) → (n : ℕ) →
+      n < i + 1 →
       IsRestoredHome (seat_at seats n).log.entries k (home_at first n) (home_at (set now i after) n)
   before-more before n l = ⊎_elim
-      (λ (e : n ≡ i). subst (λ (j : ℕ). IsRestoredHome (seat_at seats j).log.entries k (home_at first j) (home_at (set now i after) j)) (sym e) here)
-      (λ (ne : n ≢ i). subst (IsRestoredHome (seat_at seats n).log.entries k (home_at first n)) (sym (get_or-set_other now i n after no_home ne)) (before n (omega arith)))
+      (λ (e : n ≡ i). subst (λ (j : ℕ). IsRestoredHome (seat_at seats j).log.entries k (home_at first j) (home_at (set now i after) j))
+      (sym e) here)
+      (λ (ne : n ≢ i). subst (IsRestoredHome (seat_at seats n).log.entries k (home_at first n))
+      (sym (get_or-set_other now i n after no_home ne)) (before n (omega arith)))
       (cases_eq n i)
 
   pub after-more : (n : ℕ) → i + 1 ≤ n → home_at (set now i after) n ≡ home_at first n

@@ -31,38 +31,53 @@ module _ (config : Config) (p : Parts) (n place now : ℕ) (w : Written) (x : Se
   read : node_at (fabric_as p) n ≡ node_as x
   read = node-at p n inside ∙ ap node_as (sym (seat-read p n place x can.line.node ep ex))
 
-  pub store-ready : lacks_room config (node_at (fabric_as p) n) (block_of w.address) ToWrite ≡ false → probe_by x.cache x.log (block_of w.address) now ToWrite ≡ Ready
+  pub store-ready : lacks_room config (node_at (fabric_as p) n) (block_of w.address) ToWrite ≡ false →
+      probe_by x.cache x.log (block_of w.address) now ToWrite ≡ Ready
   store-ready room =
       let i = k.whole.seats n (subst (λ (k : ℕ). n < k) k.whole.count inside) in
-      let a : puts_on x.cache.cache.put (block_of w.address) ≡ false = subst (λ (y : Node). puts_on y.cache.put (block_of w.address) ≡ false) read can.line.no_put in
-      let b : is_writable_state (line_of x.cache.cache (block_of w.address)).state ≡ true = subst (λ (y : Node). is_writable_state (line_of y.cache (block_of w.address)).state ≡ true) read can.writable in
+      let a : puts_on x.cache.cache.put (block_of w.address)
+      ≡ false = subst (λ (y : Node). puts_on y.cache.put (block_of w.address) ≡ false) read can.line.no_put in
+      let b : is_writable_state (line_of x.cache.cache (block_of w.address)).state
+      ≡ true = subst (λ (y : Node). is_writable_state (line_of y.cache (block_of w.address)).state ≡ true) read can.writable in
       let e : x.log.limit ≡ config.log = ap (λ (y : Seat). y.log.limit) (seat-read p n place x can.line.node ep ex) ∙ i.limit in
       let d : nat_lt x.log.limit (length (log_with x.cache x.log.entries (block_of w.address) now)) ≡ false =
       ap (λ (j : ℕ). nat_lt j (length (log_with x.cache x.log.entries (block_of w.address) now))) e
       ∙ ap (λ (j : ℕ). nat_lt config.log (length (log_with x.cache x.log.entries (block_of w.address) j))) en
       ∙ subst (λ (y : Node). nat_lt config.log (length (prepared y (block_of w.address)).log) ≡ false) read room in
       ap (λ (c : Bool). if c then Waits else if is_writable_state (line_of x.cache.cache (block_of w.address)).state
-      then (if nat_lt x.log.limit (length (log_with x.cache x.log.entries (block_of w.address) now)) then LogFull else Ready) else probe_miss x.cache (block_of w.address)) a
-      ∙ ap (λ (c : Bool). if c then (if nat_lt x.log.limit (length (log_with x.cache x.log.entries (block_of w.address) now)) then LogFull else Ready) else probe_miss x.cache (block_of w.address)) b
+      then (if nat_lt x.log.limit (length (log_with x.cache x.log.entries (block_of w.address) now)) then LogFull else Ready)
+      else probe_miss x.cache (block_of w.address)) a
+      ∙ ap (λ (c : Bool). if c then
+      (if nat_lt x.log.limit (length (log_with x.cache x.log.entries (block_of w.address) now)) then LogFull else Ready)
+      else probe_miss x.cache (block_of w.address)) b
       ∙ ap (λ (c : Bool). if c then LogFull else Ready) d
 
   pub store-last : logged_to x.log.entries false (block_of w.address) ≤ now + 1
   store-last =
       let h : logged_to x.log.entries false (block_of w.address) ≤ x.clock.interval + 1 =
-      subst (λ (y : Node). logged_to y.log false (block_of w.address) ≤ y.now + 1) read ((k.keeps.1.blocks (block_of w.address) can.line.block).logs.own n) in
+      subst (λ (y : Node). logged_to y.log false (block_of w.address) ≤ y.now + 1) read
+      ((k.keeps.1.blocks (block_of w.address) can.line.block).logs.own n) in
       omega (arith, h, en)
 
-  pub store-comes : (cache : CacheData) (log : LogData) (sends : List Sent) → lacks_room config (node_at (fabric_as p) n) (block_of w.address) ToWrite ≡ false → cache ≡ cache_stored x.cache w → log ≡ record x.log { entries = log_with x.cache x.log.entries (block_of w.address) now } → sends ≡ [] →
-      Comes config p (record p { seats = set p.seats place (record x { cache = cache; log = log }) }) sends Retired (answered (stored (fabric_as p) n w) Retired)
+  pub store-comes : (cache : CacheData) (log : LogData) (sends : List Sent) →
+      lacks_room config (node_at (fabric_as p) n) (block_of w.address) ToWrite ≡ false → cache ≡ cache_stored x.cache w →
+      log ≡ record x.log { entries = log_with x.cache x.log.entries (block_of w.address) now } → sends ≡ [] →
+      Comes config p (record p { seats = set p.seats place (record x { cache = cache; log = log }) }) sends Retired
+      (answered (stored (fabric_as p) n w) Retired)
   store-comes cache log sends room ec el es =
       let r : x ≡ seat_at p.seats n = seat-read p n place x can.line.node ep ex in
       let i = k.whole.seats n (subst (λ (k : ℕ). n < k) k.whole.count inside) in
-      let y : Seat = record x { cache = cache_stored x.cache w; log = record x.log { entries = log_with x.cache x.log.entries (block_of w.address) x.clock.interval } } in
+      let y : Seat = record x {
+        cache = cache_stored x.cache w;
+        log = record x.log { entries = log_with x.cache x.log.entries (block_of w.address) x.clock.interval };
+      } in
       let c : record x { cache = cache; log = log } ≡ y =
       ap (λ (d : CacheData). record x { cache = d; log = log }) ec
-      ∙ ap (λ (d : LogData). record x { cache = cache_stored x.cache w; log = d }) (el ∙ ap (λ (j : ℕ). record x.log { entries = log_with x.cache x.log.entries (block_of w.address) j }) en) in
+      ∙ ap (λ (d : LogData). record x { cache = cache_stored x.cache w; log = d })
+      (el ∙ ap (λ (j : ℕ). record x.log { entries = log_with x.cache x.log.entries (block_of w.address) j }) en) in
       rw (c, ep, es)
-      (seat-comes config p n y Retired None (Write n w) (answered (stored (fabric_as p) n w) Retired) k can room (write_is_moved config (fabric_as p) n w) inside
+      (seat-comes config p n y Retired None (Write n w) (answered (stored (fabric_as p) n w) Retired) k can room
+      (write_is_moved config (fabric_as p) n w) inside
       (record {
         node = ap (λ (z : Seat). z.cache.node) r ∙ i.node;
         nodes = ap (λ (z : Seat). z.cache.nodes) r ∙ i.nodes;

@@ -69,14 +69,16 @@ module _ (config : Config) (p : Parts) (a : AreParts config p) (m : Message) (h 
   reply_as : row_by (logged_at s m.to) (home_node s m.block) m.block (node_at s m.to).now m.tag m.body ≡ reply
   reply_as =
       ap (λ (y : Node). row_by (record { cache = y.cache; log = y.log }) (home_node s m.block) m.block y.now m.tag m.body) read
-      ∙ ap (λ (k : ℕ). row_by (logged x.cache x.log.entries) (m.block % k) m.block x.clock.interval m.tag m.body) (count-nodes p ∙ a.whole.count ∙ sym is.nodes)
+      ∙ ap (λ (k : ℕ). row_by (logged x.cache x.log.entries) (m.block % k) m.block x.clock.interval m.tag m.body)
+      (count-nodes p ∙ a.whole.count ∙ sym is.nodes)
       ∙ ap (λ (i : ℕ). row_by (logged x.cache x.log.entries) (m.block % x.cache.nodes) m.block i m.tag m.body) (sym en)
 
   comes_as : outcome_of s m m.body ≡ AtCache reply
   comes_as = row-agrees s m m.body meets.0 ∙ ap AtCache reply_as
 
   -- the answer that is foreseen
-  pub cache-foreseen : (look : Look) (count : ℕ) (said : Answer) → look ≡ look_by x.log reply → count ≡ length p.net.flights → said ≡ look_answer look count → said ≡ answer_to config s m
+  pub cache-foreseen : (look : Look) (count : ℕ) (said : Answer) → look ≡ look_by x.log reply → count ≡ length p.net.flights →
+      said ≡ look_answer look count → said ≡ answer_to config s m
   cache-foreseen look count said el ec es =
       es
       ∙ ap (λ (l : Look). look_answer l count) el
@@ -99,7 +101,8 @@ module _ (config : Config) (p : Parts) (a : AreParts config p) (m : Message) (h 
     undead_done =
         come-reached config (undead s) m (undead-come s m h) (reached-of config s m h d)
         ∙ ap (delivers config (undead s) m) (row-agrees (undead s) m m.body meets.0 ∙ ap AtCache reply_as)
-        ∙ fits-then config (undead s) reply.after.log reply.sends (after_cache (undead s) m reply) (record { entries = room.entries; messages = room.messages })
+        ∙ fits-then config (undead s) reply.after.log reply.sends (after_cache (undead s) m reply)
+        (record { entries = room.entries; messages = room.messages })
 
     within : is_over x.log reply ≡ false
     within = ap (λ (k : ℕ). nat_lt k (length reply.after.log)) is.limit ∙ room.entries
@@ -114,14 +117,17 @@ module _ (config : Config) (p : Parts) (a : AreParts config p) (m : Message) (h 
 
       module _ (out : Option Out) (eo : out ≡ out_of step) (net : NetData) (et : net ≡ taken p m.id) where
         outs_are : outs_of out ≡ reply.sends
-        outs_are = ap outs_of (eo ∙ ap out_of took) ∙ one-sent (logged x.cache x.log.entries) (m.block % x.cache.nodes) m.block now m.tag m.body
+        outs_are =
+            ap outs_of (eo ∙ ap out_of took) ∙ one-sent (logged x.cache x.log.entries) (m.block % x.cache.nodes) m.block now m.tag m.body
 
         -- what is sent has the room, and goes to nodes that are there
         pub cache-room : length net.flights + length (outs_of out) ≤ 1024
         cache-room = taken-room config p m reply.after.log reply.sends (outs_of out) net h room outs_are et
 
         pub cache-goes : GoTo (outs_of out) net.routes.nodes
-        cache-goes = goes-there config p a m h (outs_of out) reply.sends net (cache-sends-go config s m reply (a.keeps.0, a.keeps.1) undead_done) outs_are et
+        cache-goes =
+            goes-there config p a m h (outs_of out) reply.sends net
+            (cache-sends-go config s m reply (a.keeps.0, a.keeps.1) undead_done) outs_are et
 
         abbrev left : Seat
         left = record x { cache = record x.cache { cache = reply.after.cache }; log = record x.log { entries = reply.after.log } }
@@ -132,29 +138,39 @@ module _ (config : Config) (p : Parts) (a : AreParts config p) (m : Message) (h 
         fabric_between : with_net (with_node s m.to (node_after (node_at s m.to) reply)) (without_flight s.net m.id) ≡ fabric_as between
         fabric_between =
             ap (λ (y : Node). with_net (with_node s m.to (node_after y reply)) (without_flight s.net m.id)) read
-            ∙ ap (λ (nodes : List Node). record s { nodes = nodes; net = without_flight s.net m.id }) (sym (map-set node_as p.seats m.to left))
+            ∙ ap (λ (nodes : List Node). record s { nodes = nodes; net = without_flight s.net m.id })
+            (sym (map-set node_as p.seats m.to left))
             ∙ ap (λ (n : Net). record (fabric_as between) { net = n }) (sym (taken-as p m.id))
 
         whole : AreWhole config between
         whole = whole-net config (record p { seats = set p.seats m.to left }) (taken p m.id)
-            (whole-seat config p m.to left a.whole (inside config p a m h) (record { node = is.node; nodes = is.nodes; sets = is.sets; ways = is.ways; limit = is.limit })) refl
+            (whole-seat config p m.to left a.whole (inside config p a m h)
+            (record { node = is.node; nodes = is.nodes; sets = is.sets; ways = is.ways; limit = is.limit })) refl
 
         same_now : now ≡ (seat_at (set p.seats m.to left) m.to).clock.interval
         same_now = en ∙ sym (ap (λ (y : Seat). y.clock.interval) (get_or-set_same p.seats m.to left no_seat (inside config p a m h)))
 
         -- what the delivery comes to
         pub cache-comes : (y : Seat) (after : NetData) (sends : List Sent) → y ≡ seat_after x reply → after.routes ≡ net.routes →
-            net_as after ≡ posted net.routes (net_as net) m.to now m.block (outs_of out) → sends ≡ sent_by net.routes (net_as net) m.to now m.block (outs_of out) →
+            net_as after ≡ posted net.routes (net_as net) m.to now m.block (outs_of out) →
+            sends ≡ sent_by net.routes (net_as net) m.to now m.block (outs_of out) →
             Comes config p (record p { seats = set p.seats place y; net = after }) sends Delivered (delivered config s m.id)
         cache-comes y after sends ey er ew ev =
             let e : y ≡ left =
-            ey ∙ ap (λ (b : Bool). record x { cache = if b then x.cache else record x.cache { cache = reply.after.cache }; log = if b then x.log else record x.log { entries = reply.after.log } }) within in
+            ey ∙ ap (λ (b : Bool). record x {
+              cache = if b then x.cache else record x.cache { cache = reply.after.cache };
+              log = if b then x.log else record x.log { entries = reply.after.log };
+            }) within in
             rw (e, ep)
-            (sends-come config p between after m.to m.block now reply.sends Delivered sends (copy_lost m.to reply) (Deliver m.id) (delivered config s m.id) a tt tt (deliver_is_moved config s m.id)
-            (done ∙ ap (λ (z : Fabric). record (sending z m.to m.block reply.sends Delivered) { told = copy_lost m.to reply }) fabric_between)
+            (sends-come config p between after m.to m.block now reply.sends Delivered sends (copy_lost m.to reply) (Deliver m.id)
+            (delivered config s m.id) a tt tt (deliver_is_moved config s m.id)
+            (done ∙ ap (λ (z : Fabric). record
+            (sending z m.to m.block reply.sends Delivered) { told = copy_lost m.to reply }) fabric_between)
             whole
             (subst (λ (k : ℕ). m.to < k) (sym (length-set p.seats m.to left)) (inside config p a m h))
             same_now
             (er ∙ ap (λ (z : NetData). z.routes) et)
-            (ew ∙ ap (λ (z : NetData). posted z.routes (net_as z) m.to now m.block (outs_of out)) et ∙ ap (posted p.net.routes (net_as (taken p m.id)) m.to now m.block) outs_are)
-            (ev ∙ ap (λ (z : NetData). sent_by z.routes (net_as z) m.to now m.block (outs_of out)) et ∙ ap (sent_by p.net.routes (net_as (taken p m.id)) m.to now m.block) outs_are))
+            (ew ∙ ap (λ (z : NetData). posted z.routes (net_as z) m.to now m.block (outs_of out)) et
+            ∙ ap (posted p.net.routes (net_as (taken p m.id)) m.to now m.block) outs_are)
+            (ev ∙ ap (λ (z : NetData). sent_by z.routes (net_as z) m.to now m.block (outs_of out)) et
+            ∙ ap (sent_by p.net.routes (net_as (taken p m.id)) m.to now m.block) outs_are))

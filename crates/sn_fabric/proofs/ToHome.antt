@@ -9,7 +9,8 @@ use Rattle.sn_msg.specs.declared.Message.{Message}
 use Rattle.switch_net.specs.Net.{NetData}
 use Rattle.home_directory.specs.declared.step.HomeStep.{HomeStep}
 use Rattle.home_directory.specs.Home.{HomeData, entry_of, with_entry}
-use Rattle.home_directory.specs.Receipt.{kept, HasRowAt, IsNotOlder, NotesLast, noting, HasRow, Verdict, Does, LacksRoom, judged, left_by, look_of, outcome_at, received, Tells}
+use Rattle.home_directory.specs.Receipt.{kept, HasRowAt, IsNotOlder, NotesLast, noting, HasRow, Verdict, Does, LacksRoom, judged, left_by}
+use Rattle.home_directory.specs.Receipt.{look_of, outcome_at, received, Tells}
 use Rattle.home_directory.proofs.Agrees.{outcome_agrees}
 use Rattle.sn_model.specs.declared.look.Look.{Look}
 use Rattle.sn_model.specs.declared.net.Sent.{Sent}
@@ -37,7 +38,8 @@ use Rattle.sn_fabric.proofs.Outs.{home-outs}
 use Rattle.sn_fabric.proofs.Parts.{count-nodes, whole-seat, whole-net, Comes}
 use Rattle.sn_fabric.proofs.Sends.{sends-come}
 
-module _ (config : Config) (p : Parts) (a : AreParts config p) (m : Message) (h : HasCome (fabric_as p) m) (c : receiver_of m.body ≡ Home) (place now : ℕ) (x : Seat) (ep : place ≡ m.to) (ex : x ≡ get_or p.seats place x) (en : now ≡ x.clock.interval)
+module _ (config : Config) (p : Parts) (a : AreParts config p) (m : Message) (h : HasCome (fabric_as p) m) (c : receiver_of m.body ≡ Home)
+    (place now : ℕ) (x : Seat) (ep : place ≡ m.to) (ex : x ≡ get_or p.seats place x) (en : now ≡ x.clock.interval)
     (home : HomeData) (eh : home ≡ get_or p.homes place home) where
   abbrev s : Fabric
   s = fabric_as p
@@ -62,7 +64,9 @@ module _ (config : Config) (p : Parts) (a : AreParts config p) (m : Message) (h 
   low = subst (λ (k : ℕ). m.to < k) a.whole.count (inside config p a m h)
 
   home_is : home ≡ home_at p.homes m.to
-  home_is = get_or_read p.homes m.to home (subst (λ (k : ℕ). m.to < k) (sym a.whole.count_homes) low) (subst (λ (k : ℕ). home ≡ get_or p.homes k home) ep eh) no_home
+  home_is =
+      get_or_read p.homes m.to home (subst (λ (k : ℕ). m.to < k) (sym a.whole.count_homes) low)
+      (subst (λ (k : ℕ). home ≡ get_or p.homes k home) ep eh) no_home
 
   it : IsHomeOf config m.to home
   it = subst (IsHomeOf config m.to) (sym home_is) (a.whole.homes m.to low)
@@ -107,7 +111,8 @@ module _ (config : Config) (p : Parts) (a : AreParts config p) (m : Message) (h 
   comes_as = sym (outcome_agrees s m m.body meets.1) ∙ outcome_as
 
   -- the answer that is foreseen
-  pub home-foreseen : (look : Look) (count : ℕ) (said : Answer) → look ≡ look_of (received home x.log now m).verdict → count ≡ length p.net.flights → said ≡ look_answer look count → said ≡ answer_to config s m
+  pub home-foreseen : (look : Look) (count : ℕ) (said : Answer) → look ≡ look_of (received home x.log now m).verdict →
+      count ≡ length p.net.flights → said ≡ look_answer look count → said ≡ answer_to config s m
   home-foreseen look count said el ec es =
       es
       ∙ ap (λ (l : Look). look_answer l count) el
@@ -134,7 +139,8 @@ module _ (config : Config) (p : Parts) (a : AreParts config p) (m : Message) (h 
     undead_done =
         come-reached config (undead s) m (undead-come s m h) (reached-of config s m h d)
         ∙ ap (delivers config (undead s) m) (sym (outcome_agrees (undead s) m m.body meets.1) ∙ outcome_as ∙ row.row)
-        ∙ fits-then config (undead s) reply.after.log reply.sends (after_home (undead s) m reply) (record { entries = row.room.entries; messages = row.room.messages })
+        ∙ fits-then config (undead s) reply.after.log reply.sends (after_home (undead s) m reply)
+        (record { entries = row.room.entries; messages = row.room.messages })
 
     -- nothing is told
     pub home-tells : (delivered config s m.id).told ≡ None
@@ -171,36 +177,56 @@ module _ (config : Config) (p : Parts) (a : AreParts config p) (m : Message) (h 
 
       fabric_between : with_net (home_after s m.to m.block reply) (without_flight s.net m.id) ≡ fabric_as between
       fabric_between =
-          ap (λ (y : Node). record s { nodes = set s.nodes m.to (record y { log = reply.after.log }); homes = set s.homes m.block reply.after.entry; net = without_flight s.net m.id }) read
-          ∙ ap (λ (nodes : List Node). record s { nodes = nodes; homes = set s.homes m.block reply.after.entry; net = without_flight s.net m.id }) (sym (map-set node_as p.seats m.to seat_left))
-          ∙ ap (λ (homes : List HomeEntry). record (fabric_as between) { homes = homes; net = without_flight s.net m.id }) (sym (homes-set config p a.whole m.block m.to reply.after.entry flight.block here))
+          ap (λ (y : Node). record s {
+            nodes = set s.nodes m.to (record y { log = reply.after.log });
+            homes = set s.homes m.block reply.after.entry;
+            net = without_flight s.net m.id;
+          }) read
+          ∙ ap (λ (nodes : List Node).
+          record s { nodes = nodes; homes = set s.homes m.block reply.after.entry; net = without_flight s.net m.id })
+          (sym (map-set node_as p.seats m.to seat_left))
+          ∙ ap (λ (homes : List HomeEntry). record (fabric_as between) { homes = homes; net = without_flight s.net m.id })
+          (sym (homes-set config p a.whole m.block m.to reply.after.entry flight.block here))
           ∙ ap (λ (n : Net). record (fabric_as between) { net = n }) (sym (taken-as p m.id))
 
       whole : AreWhole config between
       whole = whole-net config (record p { seats = set p.seats m.to seat_left; homes = homes_left }) (taken p m.id)
-          (whole-seat config (record p { homes = homes_left }) m.to seat_left (whole-home config p a.whole m.block m.to reply.after.entry flight.block here) (inside config p a m h)
+          (whole-seat config (record p { homes = homes_left }) m.to seat_left
+          (whole-home config p a.whole m.block m.to reply.after.entry flight.block here) (inside config p a m h)
           (record { node = is.node; nodes = is.nodes; sets = is.sets; ways = is.ways; limit = is.limit })) refl
 
       same_now : now ≡ (seat_at (set p.seats m.to seat_left) m.to).clock.interval
       same_now = en ∙ sym (ap (λ (y : Seat). y.clock.interval) (get_or-set_same p.seats m.to seat_left no_seat (inside config p a m h)))
 
       -- what the delivery comes to
-      pub home-comes : (y : Seat) (k : HomeData) (after : NetData) (sends : List Sent) → y ≡ record x { log = (received home x.log now m).log } → k ≡ (received home x.log now m).home → after.routes ≡ net.routes →
-          net_as after ≡ posted net.routes (net_as net) m.to now m.block (home_outs step) → sends ≡ sent_by net.routes (net_as net) m.to now m.block (home_outs step) →
-          Comes config p (record p { seats = set p.seats place y; homes = set p.homes place k; net = after }) sends Delivered (delivered config s m.id)
+      pub home-comes : (y : Seat) (k : HomeData) (after : NetData) (sends : List Sent) →
+          y ≡ record x { log = (received home x.log now m).log } → k ≡ (received home x.log now m).home → after.routes ≡ net.routes →
+          net_as after ≡ posted net.routes (net_as net) m.to now m.block (home_outs step) →
+          sends ≡ sent_by net.routes (net_as net) m.to now m.block (home_outs step) →
+          Comes config p (record p { seats = set p.seats place y; homes = set p.homes place k; net = after }) sends Delivered
+          (delivered config s m.id)
       home-comes y k after sends ey ek er ew ev =
           let e : y ≡ seat_left = ey ∙ ap (λ (v : Verdict). record x { log = record x.log { entries = (left_by at v).log } }) verdict_is in
           let f : k ≡ with_entry (home_at p.homes m.to) m.block reply.after.entry =
-          ek ∙ ap (λ (v : Verdict). with_entry home m.block (left_by at v).entry) verdict_is ∙ ap (λ (z : HomeData). with_entry z m.block reply.after.entry) home_is in
+          ek ∙ ap (λ (v : Verdict). with_entry home m.block (left_by at v).entry) verdict_is
+          ∙ ap (λ (z : HomeData). with_entry z m.block reply.after.entry) home_is in
           rw (e, f)
           (subst
-          (λ (j : ℕ). Comes config p (record p { seats = set p.seats j seat_left; homes = set p.homes j (with_entry (home_at p.homes m.to) m.block reply.after.entry); net = after }) sends Delivered (delivered config s m.id))
+          (λ (j : ℕ). Comes config p
+          (record p {
+            seats = set p.seats j seat_left;
+            homes = set p.homes j (with_entry (home_at p.homes m.to) m.block reply.after.entry);
+            net = after;
+          }) sends Delivered (delivered config s m.id))
           (sym ep)
-          (sends-come config p between after m.to m.block now reply.sends Delivered sends None (Deliver m.id) (delivered config s m.id) a tt tt (deliver_is_moved config s m.id)
+          (sends-come config p between after m.to m.block now reply.sends Delivered sends None (Deliver m.id)
+          (delivered config s m.id) a tt tt (deliver_is_moved config s m.id)
           (done ∙ ap (λ (z : Fabric). sending z m.to m.block reply.sends Delivered) fabric_between)
           whole
           (subst (λ (k : ℕ). m.to < k) (sym (length-set p.seats m.to seat_left)) (inside config p a m h))
           same_now
           (er ∙ ap (λ (z : NetData). z.routes) et)
-          (ew ∙ ap (λ (z : NetData). posted z.routes (net_as z) m.to now m.block (home_outs step)) et ∙ ap (posted p.net.routes (net_as (taken p m.id)) m.to now m.block) outs_are)
-          (ev ∙ ap (λ (z : NetData). sent_by z.routes (net_as z) m.to now m.block (home_outs step)) et ∙ ap (sent_by p.net.routes (net_as (taken p m.id)) m.to now m.block) outs_are)))
+          (ew ∙ ap (λ (z : NetData). posted z.routes (net_as z) m.to now m.block (home_outs step)) et
+          ∙ ap (posted p.net.routes (net_as (taken p m.id)) m.to now m.block) outs_are)
+          (ev ∙ ap (λ (z : NetData). sent_by z.routes (net_as z) m.to now m.block (home_outs step)) et
+          ∙ ap (sent_by p.net.routes (net_as (taken p m.id)) m.to now m.block) outs_are)))

@@ -47,12 +47,15 @@ module _ (config : Config) (p : Parts) (a : AreParts config p) (m : Message) (h 
     pub report-tells : (what : Told) → what ≡ told.Ready m.from k → Some what ≡ (delivered config s m.id).told
     report-tells what e = ap Some e ∙ sym (ap (λ (y : Moved). y.told) report_done)
 
-    pub report-taken : (net : NetData) (sends : List Sent) → net ≡ taken p m.id → sends ≡ [] → Comes config p (record p { net = net }) sends Delivered (delivered config s m.id)
+    pub report-taken : (net : NetData) (sends : List Sent) → net ≡ taken p m.id → sends ≡ [] →
+        Comes config p (record p { net = net }) sends Delivered (delivered config s m.id)
     report-taken net sends en es =
         rw (en, es)
-        (comes-as config p (record p { net = taken p m.id }) [] Delivered (Some (told.Ready m.from k)) (Deliver m.id) (delivered config s m.id) a tt tt (deliver_is_moved config s m.id)
+        (comes-as config p (record p { net = taken p m.id }) [] Delivered (Some (told.Ready m.from k)) (Deliver m.id)
+        (delivered config s m.id) a tt tt (deliver_is_moved config s m.id)
         (whole-net config p (taken p m.id) a.whole refl)
-        (report_done ∙ ap (λ (n : Net). record (heard s m s (told.Ready m.from k)) { fabric = record s { net = n } }) (sym (taken-as p m.id))))
+        (report_done ∙ ap (λ (n : Net). record (heard s m s (told.Ready m.from k)) { fabric = record s { net = n } })
+        (sym (taken-as p m.id))))
 
   -- a recovery point
   module _ (c : receiver_of m.body ≡ Clock k) where
@@ -67,14 +70,17 @@ module _ (config : Config) (p : Parts) (a : AreParts config p) (m : Message) (h 
 
     -- after it the node's known point is at most the recovery point, which its interval has reached
     keeps_after : Keeps (heard s m knowing (told.Advance m.to k)).fabric
-    keeps_after = subst Keeps (ap (λ (y : Moved). y.fabric) (deliver_is_moved config s m.id ∙ advance_done)) (each_keeps config s (Deliver m.id) (a.keeps.0, a.keeps.1) tt)
+    keeps_after =
+        subst Keeps (ap (λ (y : Moved). y.fabric) (deliver_is_moved config s m.id ∙ advance_done))
+        (each_keeps config s (Deliver m.id) (a.keeps.0, a.keeps.1) tt)
 
     there : m.to < length s.nodes
     there = (in-flight config p a m h).to
 
     known_after : (get_or (set s.nodes m.to (learned (node_at s m.to) k)) m.to first_node).known ≤ s.point
     known_after =
-        let clocks : Clocks (length (set s.nodes m.to (learned (node_at s m.to) k))) (block_seen (heard s m knowing (told.Advance m.to k)).fabric keeps_after.0 0) = (keeps_after.1.blocks 0 (omega arith)).clocks in
+        let clocks : Clocks (length (set s.nodes m.to (learned (node_at s m.to) k)))
+        (block_seen (heard s m knowing (told.Advance m.to k)).fabric keeps_after.0 0) = (keeps_after.1.blocks 0 (omega arith)).clocks in
         clocks.known_point m.to (subst (λ (n : ℕ). m.to < n) (sym (length-set s.nodes m.to (learned (node_at s m.to) k))) there)
 
     reached_before : s.point ≤ (node_at s m.to).now
@@ -92,14 +98,17 @@ module _ (config : Config) (p : Parts) (a : AreParts config p) (m : Message) (h 
       -- so it has reached what it hears of
       pub advance-reached : k ≤ x.clock.interval
       advance-reached =
-          let e : (get_or (set s.nodes m.to (learned (node_at s m.to) k)) m.to first_node).known ≡ max (node_at s m.to).known k = ap (λ (y : Node). y.known) (get_or-set_same s.nodes m.to (learned (node_at s m.to) k) first_node there) in
+          let e : (get_or (set s.nodes m.to (learned (node_at s m.to) k)) m.to first_node).known
+          ≡ max (node_at s m.to).known k = ap (λ (y : Node). y.known)
+          (get_or-set_same s.nodes m.to (learned (node_at s m.to) k) first_node there) in
           let n : (node_at s m.to).now ≡ x.clock.interval = ap (λ (y : Node). y.now) read in
           let l : (get_or (set s.nodes m.to (learned (node_at s m.to) k)) m.to first_node).known ≤ s.point = known_after in
           let r : s.point ≤ (node_at s m.to).now = reached_before in
           omega arith
 
       abbrev left : Seat
-      left = record x { clock = record x.clock { known = max x.clock.known k }; log = record x.log { entries = entries_from k x.log.entries } }
+      left =
+          record x { clock = record x.clock { known = max x.clock.known k }; log = record x.log { entries = entries_from k x.log.entries } }
 
       abbrev after : Parts
       after = record p { seats = set p.seats m.to left; net = taken p m.id }
@@ -107,14 +116,20 @@ module _ (config : Config) (p : Parts) (a : AreParts config p) (m : Message) (h 
       fabric_after : with_net knowing (without_flight s.net m.id) ≡ fabric_as after
       fabric_after =
           ap (λ (y : Node). with_net (with_node s m.to (learned y k)) (without_flight s.net m.id)) read
-          ∙ ap (λ (nodes : List Node). record s { nodes = nodes; net = without_flight s.net m.id }) (sym (map-set node_as p.seats m.to left))
+          ∙ ap (λ (nodes : List Node). record s { nodes = nodes; net = without_flight s.net m.id })
+          (sym (map-set node_as p.seats m.to left))
           ∙ ap (λ (n : Net). record (fabric_as after) { net = n }) (sym (taken-as p m.id))
 
-      pub advance-learned : (clock : ClockData) (log : LogData) (net : NetData) (sends : List Sent) → clock ≡ record x.clock { known = max x.clock.known k } → log ≡ record x.log { entries = entries_from k x.log.entries } →
-          net ≡ taken p m.id → sends ≡ [] → Comes config p (record p { seats = set p.seats place (record x { clock = clock; log = log }); net = net }) sends Delivered (delivered config s m.id)
+      pub advance-learned : (clock : ClockData) (log : LogData) (net : NetData) (sends : List Sent) →
+          clock ≡ record x.clock { known = max x.clock.known k } → log ≡ record x.log { entries = entries_from k x.log.entries } →
+          net ≡ taken p m.id → sends ≡ [] →
+          Comes config p (record p { seats = set p.seats place (record x { clock = clock; log = log }); net = net }) sends Delivered
+          (delivered config s m.id)
       advance-learned clock log net sends ec el en es =
           rw (ec, el, ep, en, es)
-          (comes-as config p after [] Delivered (Some (told.Advance m.to k)) (Deliver m.id) (delivered config s m.id) a tt tt (deliver_is_moved config s m.id)
+          (comes-as config p after [] Delivered (Some (told.Advance m.to k)) (Deliver m.id) (delivered config s m.id) a tt tt
+          (deliver_is_moved config s m.id)
           (whole-net config (record p { seats = set p.seats m.to left }) (taken p m.id)
-          (whole-seat config p m.to left a.whole (inside config p a m h) (record { node = is.node; nodes = is.nodes; sets = is.sets; ways = is.ways; limit = is.limit })) refl)
+          (whole-seat config p m.to left a.whole (inside config p a m h)
+          (record { node = is.node; nodes = is.nodes; sets = is.sets; ways = is.ways; limit = is.limit })) refl)
           (advance_done ∙ ap (λ (z : Fabric). record (heard s m knowing (told.Advance m.to k)) { fabric = z }) fabric_after))

@@ -1,14 +1,16 @@
 -- What a node's calls leave and answer, in its own words.
 use Rattle.std.specs.Prelude.{ℕ, ◌+◌, ◌-◌, Bool, nat_eq, if◌then◌else◌, List, Option, Some, None}
 use Rattle.sn_base.specs.declared.event.Answer.{Answer}
-use Rattle.sn_base.specs.declared.event.Answer.TheVariants.{Edged, CheckpointsFull, Retired, Waits, NeedsEvict, LogFull, NetFull, Missed, PutBegun}
+use Rattle.sn_base.specs.declared.event.Answer.TheVariants.{Edged, CheckpointsFull, Retired, Waits, NeedsEvict, LogFull, NetFull, Missed}
+use Rattle.sn_base.specs.declared.event.Answer.TheVariants.{PutBegun}
 use Rattle.sn_base.specs.declared.log.Old.{Old}
 use Rattle.sn_base.specs.declared.log.Old.TheVariants.{NotOwned, Owned, WasHome, WasCache}
 use Rattle.ckpt_clock.specs.Clock.{ClockData}
 use Rattle.sn_model.specs.declared.home.Owner.{Owner}
 use Rattle.sn_model.specs.declared.home.Owner.TheVariants.{Home, Cache}
 use Rattle.mosi_cache.specs.declared.step.Probe1.{Probe1}
-use Rattle.mosi_cache.specs.declared.step.Probe1.TheVariants.{Ready, Waits as HasToWait, Miss, NeedsEvict as HasNoFrame, LogFull as HasNoRoom}
+use Rattle.mosi_cache.specs.declared.step.Probe1.TheVariants.{Ready, Waits as HasToWait, Miss, NeedsEvict as HasNoFrame}
+use Rattle.mosi_cache.specs.declared.step.Probe1.TheVariants.{LogFull as HasNoRoom}
 
 -- whether a clock has as many checkpoints above the known point as it may
 abbrev pub is_full : ClockData → Bool

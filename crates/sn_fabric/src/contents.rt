@@ -4,7 +4,7 @@ ghost use Rattle.home_directory.specs.Home.{owner_of};
 ghost use Rattle.sn_model.specs.Cuts.{holds_at, names_at, transaction_before};
 ghost use Rattle.sn_model.specs.Fabric.{home_of};
 ghost use Rattle.sn_model.specs.Homes.{Itself};
-ghost use Rattle.sn_model.specs.RecoveryPoint.{IsHeld};
+ghost use Rattle.sn_model.specs.RecoveryPoint.{HasOneHolderWith};
 ghost use Rattle.sn_fabric.specs.Seats.{noted_content};
 
 use crate::{Fabric, Owner};
@@ -25,7 +25,7 @@ impl Fabric {
     pub fn block_at(&self, block: BlockNo, k: Interval) -> Block
         requires point { self.now.fabric.point ≤ k }
         requires settled { transaction_before (home_of self.now.fabric block).transaction k ≡ false }
-        ensures { IsHeld self.now.fabric block k result (names_at self.now.fabric block k) }
+        ensures { HasOneHolderWith self.now.fabric block k result (names_at self.now.fabric block k) }
     {
         let _config = &self.config;
         let _number = block.number();

@@ -78,7 +78,9 @@ impl Fabric {
     pub fn least_line(&self, node: NodeId, block: BlockNo) -> Option<BlockNo>
         requires { node < length self.now.fabric.nodes }
         ensures none { IsNone result → (b : ℕ) → b < block_count → can_go self.now.config self.now.fabric node block b ≡ false }
-        ensures some { IfSome result (λ least. (can_go self.now.config self.now.fabric node block least ≡ true) × ((b : ℕ) → b < least → can_go self.now.config self.now.fabric node block b ≡ false)) }
+        ensures some { IfSome result
+            (λ least. (can_go self.now.config self.now.fabric node block least ≡ true)
+            × ((b : ℕ) → b < least → can_go self.now.config self.now.fabric node block b ≡ false)) }
     {
         let is_net_full = lacks_room(&self.net, 1);
         let seat = &self.seats[usize::from(node.number())];

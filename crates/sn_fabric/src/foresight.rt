@@ -8,7 +8,7 @@ ghost use Rattle.sn_model.specs.PointEvents.{advanced, recovered};
 ghost use Rattle.switch_net.specs.Net.{find_flight};
 ghost use Rattle.log_buffer.specs.Log.{entries_from};
 ghost use Rattle.sn_model.specs.FabricEvents.{moved_by};
-ghost use Rattle.sn_fabric.specs.Foresight.{fabric_event, CanForesee};
+ghost use Rattle.sn_fabric.specs.Foresight.{fabric_event, IsForeseeable};
 ghost use Rattle.sn_fabric.specs.Parts.{seat_at};
 ghost use Rattle.sn_fabric.specs.Recovery.{undone_of};
 ghost use Rattle.sn_fabric.specs.Seats as seat;
@@ -75,7 +75,7 @@ impl Fabric {
     /// for Validate, and `recover` for Recover. Of an instruction and of an input the fabric knows nothing.
     #[tactic(auto, unfolding(sn_model::specs::FabricEvents::moved_by))]
     pub fn foresee(&self, event: Event, k: Interval) -> Answer
-        requires { CanForesee self.now.fabric event k }
+        requires { IsForeseeable self.now.fabric event k }
         ensures { result ≡ (moved_by self.now.config self.now.fabric (fabric_event event k)).answer }
     {
         match event {

@@ -61,9 +61,14 @@ impl Model for Fabric {
 
     ghost Value = { FabricData };
 
-    ghost view = { λ f. record { config = f.config; fabric = fabric_as (record { seats = f.seats.items; homes = f.homes.items; net = f.net; point = f.point }); sent = f.sent.items } };
+    ghost view = { λ f. record {
+      config = f.config;
+      fabric = fabric_as (record { seats = f.seats.items; homes = f.homes.items; net = f.net; point = f.point });
+      sent = f.sent.items;
+    } };
 
-    ghost invariant = { λ f. AreParts f.config (record { seats = f.seats.items; homes = f.homes.items; net = f.net; point = f.point }) × (17 ≤ vec_capacity f.sent) };
+    ghost invariant = { λ f. AreParts f.config (record { seats = f.seats.items; homes = f.homes.items; net = f.net; point = f.point })
+        × (17 ≤ vec_capacity f.sent) };
 }
 
 impl Fabric {

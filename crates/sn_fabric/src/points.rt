@@ -3,7 +3,7 @@ ghost use Rattle.std.specs.Prelude.{◌≡◌, ◌+◌, ◌<◌, ◌≤◌, ◌^
 ghost use Rattle.sn_base.specs.declared.event.Answer.TheVariants.{Validated};
 ghost use Rattle.sn_model.specs.Net.{posted, sent_by, is_full};
 ghost use Rattle.sn_model.specs.PointEvents.{advanced};
-ghost use Rattle.fabric_coherence.specs.Coherent.{IsFinished};
+ghost use Rattle.fabric_coherence.specs.Coherent.{NothingUnfinished};
 ghost use Rattle.sn_fabric.specs.Fabric.{IsAfter};
 ghost use Rattle.sn_fabric.specs.Nets.{net_as};
 ghost use Rattle.sn_fabric.specs.Points.{tellings};
@@ -43,7 +43,7 @@ impl Fabric {
     /// The recovery point rises to checkpoint k, and each node is told.
     pub fn advance(&mut self, k: Interval) -> Answer
         requires next { k ≡ self.old.fabric.point + 1 }
-        requires finished { IsFinished self.old.fabric k }
+        requires finished { NothingUnfinished self.old.fabric k }
         requires numbers { self.old.fabric.net.next_id ≤ 2 ^ 63 }
         ensures { IsAfter self.old self.new result (advanced self.old.fabric k) }
     {
@@ -64,7 +64,7 @@ impl Fabric {
 
     fn raise_point(&mut self, k: Interval)
         requires next { k ≡ self.old.fabric.point + 1 }
-        requires finished { IsFinished self.old.fabric k }
+        requires finished { NothingUnfinished self.old.fabric k }
         requires numbers { self.old.fabric.net.next_id ≤ 2 ^ 63 }
         requires room { is_full self.old.fabric (length self.old.fabric.nodes) ≡ false }
         ensures { IsAfter self.old self.new (Validated k) (advanced self.old.fabric k) }

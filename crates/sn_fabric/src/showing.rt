@@ -15,7 +15,8 @@ impl Fabric {
     pub fn line(&self, node: NodeId, block: BlockNo) -> Option<Line>
         requires { node < length self.now.fabric.nodes }
         ensures none { IsNone result → line_of (node_at self.now.fabric node).cache block ≡ no_line }
-        ensures some { IfSome result (λ line. (line ≡ line_of (node_at self.now.fabric node).cache block) × (is_present line.state ≡ true)) }
+        ensures some { IfSome result
+            (λ line. (line ≡ line_of (node_at self.now.fabric node).cache block) × (is_present line.state ≡ true)) }
     {
         self.seats[usize::from(node.number())].cache.line(block)
     }

@@ -4,7 +4,7 @@ ghost use Rattle.sn_base.specs.Config.{config_fits};
 ghost use Rattle.sn_base.specs.declared.event.Answer.TheVariants.{Retired};
 ghost use Rattle.sn_model.specs.Access.{accessed};
 ghost use Rattle.sn_model.specs.Fabric.{node_at};
-ghost use Rattle.fabric_coherence.specs.Coherent.{IsFinished};
+ghost use Rattle.fabric_coherence.specs.Coherent.{NothingUnfinished};
 
 mod calls;
 mod deliveries;
@@ -175,7 +175,7 @@ fn store(rt: &impl Abort, fabric: &mut Fabric, node: NodeId, address: u32, value
 
 /// Whether every node is ready for a checkpoint.
 fn is_finished(fabric: &Fabric, k: Interval) -> bool
-    ensures { result ≡ true → IsFinished fabric.now.fabric k }
+    ensures { result ≡ true → NothingUnfinished fabric.now.fabric k }
 {
     'nodes: for number in 0..fabric.config.nodes {
         let Some(node) = NodeId::new(number) else {

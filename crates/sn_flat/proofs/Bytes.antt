@@ -5,7 +5,8 @@ use Rattle.sn_base.specs.Image.{ImageData, SegmentData, byte_at, bytes_from}
 use Rattle.rv_core.specs.Flat.{initial_memory}
 
 -- one more byte
-pub bytes_from-push : (n : ℕ) (segments : List SegmentData) (address : ℕ) → bytes_from n segments address ++ byte_at segments (address + n) ∷ [] ≡ bytes_from (suc n) segments address
+pub bytes_from-push : (n : ℕ) (segments : List SegmentData) (address : ℕ) →
+    bytes_from n segments address ++ byte_at segments (address + n) ∷ [] ≡ bytes_from (suc n) segments address
 bytes_from-push zero segments address = ap (λ a. byte_at segments a ∷ []) (omega arith)
 bytes_from-push (suc n) segments address =
     ap (λ bytes. byte_at segments address ∷ bytes)

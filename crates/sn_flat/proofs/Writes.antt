@@ -18,15 +18,19 @@ in-memory-of : (want : Want) (done : Bool) (write : Option Write) → WriteFits 
 in-memory-of want done None h = tt
 in-memory-of want done (Some w) h = (h.2, h.3)
 
-pub written-in-memory : (image : ImageData) (core : CoreState) (seen : ℕ) (done : Bool) (read : Option ℕ) → IsInMemory (next_of image core seen done read).effect.write
-written-in-memory image core seen done read = in-memory-of (want_of image core) done (next_of image core seen done read).effect.write (write_fits image core seen done read)
+pub written-in-memory : (image : ImageData) (core : CoreState) (seen : ℕ) (done : Bool) (read : Option ℕ) →
+    IsInMemory (next_of image core seen done read).effect.write
+written-in-memory image core seen done read =
+    in-memory-of (want_of image core) done (next_of image core seen done read).effect.write (write_fits image core seen done read)
 
 -- without a write the cores stay
 pub nothing-written : (cores : List CoreState) → map (after_write None) cores ≡ cores
 nothing-written [] = refl
 nothing-written (core ∷ cores) = ap (λ rest. core ∷ rest) (nothing-written cores)
 
-pub unwritten : (flat : FlatState) (write : Option Write) → write ≡ None → flat ≡ record { memory = written flat.memory write; cores = map (after_write write) flat.cores }
+pub unwritten : (flat : FlatState) (write : Option Write) → write ≡ None →
+    flat ≡ record { memory = written flat.memory write; cores = map (after_write write) flat.cores }
 unwritten flat write e =
-    let start : flat ≡ record { memory = written flat.memory None; cores = map (after_write None) flat.cores } = ap (λ cores. record { memory = flat.memory; cores = cores }) (sym (nothing-written flat.cores)) in
+    let start : flat ≡ record { memory = written flat.memory None; cores = map (after_write None) flat.cores } = ap
+    (λ cores. record { memory = flat.memory; cores = cores }) (sym (nothing-written flat.cores)) in
     start ∙ ap (λ w. record { memory = written flat.memory w; cores = map (after_write w) flat.cores }) (sym e)

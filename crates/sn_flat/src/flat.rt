@@ -1,10 +1,12 @@
 //! The machine and its steps.
-ghost use Rattle.std.specs.Prelude.{◌≡◌, ◌+◌, ◌%◌, ◌<◌, ◌≤◌, ◌↔◌, length, map, Some, IfSome, IfOk, IsOk, OnErr, OnOk, IsTrue, is_some, true};
+ghost use Rattle.std.specs.Prelude.{◌≡◌, ◌+◌, ◌%◌, ◌<◌, ◌≤◌, ◌↔◌, length, map, Some, IfSome, IfOk, IsOk, OnErr, OnOk, IsTrue, is_some};
+ghost use Rattle.std.specs.Prelude.{true};
 ghost use Rattle.sn_base.specs.Blocks.{ram_start, ram_size, bytes_of};
 ghost use Rattle.rv_core.specs.Core.{start_of, block_of, is_input, holds_reservation};
 ghost use Rattle.sn_flat.specs.Reservations.{without};
 ghost use Rattle.rv_core.specs.Wanted.{IsInside, IsAddress};
-ghost use Rattle.rv_core.specs.Flat.{HasStep, flat_start, flat_step, first_cores, initial_memory, core_at, word_at, seen_by, written, after_write, next_by};
+ghost use Rattle.rv_core.specs.Flat.{HasStep, flat_start, flat_step, first_cores, initial_memory, core_at, word_at, seen_by, written};
+ghost use Rattle.rv_core.specs.Flat.{after_write, next_by};
 
 use byteorder::{ByteOrder, LittleEndian};
 use rv_core::{CoreState, End, Record, Want};
@@ -78,7 +80,8 @@ impl Flat {
     /// Whether a record of a core that wants this has the word seen, the success and the byte that it may have.
     fn agrees(&self, core: &CoreState, want: Want, taken: &Record) -> bool
         requires { IsInside want }
-        ensures { IsTrue result ↔ ((taken.now.seen ≡ seen_by want self.now.memory) × (taken.now.sc_done ≡ true → holds_reservation core.now want ≡ true) × (is_some taken.now.read ≡ is_input want)) }
+        ensures { IsTrue result ↔ ((taken.now.seen ≡ seen_by want self.now.memory)
+            × (taken.now.sc_done ≡ true → holds_reservation core.now want ≡ true) × (is_some taken.now.read ≡ is_input want)) }
     {
         taken.seen == seen_word(self.memory.as_slice(), want)
             && (!taken.sc_done || holds(core, want))

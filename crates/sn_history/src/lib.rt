@@ -36,7 +36,8 @@ impl Model for History {
 
     ghost invariant = { λ h.
         (length h.records.committed + length h.records.waiting + h.records.room < 2 ^ 32)
-        × ((n : ℕ) → n < 16 → slice_index h.reads n ≡ taken_by (record { pending = h.records.waiting; committed = h.records.committed; room = h.records.room }) n) };
+        × ((n : ℕ) → n < 16 → slice_index h.reads n
+        ≡ taken_by (record { pending = h.records.waiting; committed = h.records.committed; room = h.records.room }) n) };
 }
 
 impl History {
@@ -75,7 +76,10 @@ impl History {
     /// Adds the record of an instruction that retired in this interval.
     pub fn add(&mut self, interval: Interval, taken: Record)
         requires { 0 < self.old.room }
-        ensures { self.new ≡ record self.old { pending = self.old.pending ++ record { interval = interval; entry = taken } ∷ []; room = self.old.room - 1 } }
+        ensures { self.new ≡ record self.old {
+          pending = self.old.pending ++ record { interval = interval; entry = taken } ∷ [];
+          room = self.old.room - 1;
+        } }
     {
         note_read(&mut self.reads, &taken);
         self.records.add(interval, taken);
@@ -83,7 +87,10 @@ impl History {
 
     /// Commits the records of the intervals below k, once checkpoint k is validated.
     pub fn commit_below(&mut self, k: Interval)
-        ensures { self.new ≡ record self.old { pending = waiting_from k self.old.pending; committed = self.old.committed ++ entries_below k self.old.pending } }
+        ensures { self.new ≡ record self.old {
+          pending = waiting_from k self.old.pending;
+          committed = self.old.committed ++ entries_below k self.old.pending;
+        } }
     {
         self.records.commit_below(k);
     }

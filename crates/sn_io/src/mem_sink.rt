@@ -45,7 +45,8 @@ impl MemSink {
     }
 
     pub fn fail_call(&mut self, call: u64) -> Result<(), Memory>
-        ensures ok { OnOk result (self.new ≡ record self.old { calls = record self.old.calls { named = self.old.calls.named ++ call ∷ [] } }) }
+        ensures ok { OnOk result
+            (self.new ≡ record self.old { calls = record self.old.calls { named = self.old.calls.named ++ call ∷ [] } }) }
         ensures err { OnErr result (self.new ≡ self.old) }
     {
         self.calls.name(call)?;

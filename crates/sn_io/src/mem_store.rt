@@ -56,7 +56,8 @@ impl MemStore {
     }
 
     pub fn add(&mut self, name: &str, bytes: &[u8]) -> Result<(), Memory>
-        ensures ok { OnOk result (self.new ≡ record self.old { files = self.old.files ++ (record { name = name.now; bytes = bytes.now }) ∷ [] }) }
+        ensures ok { OnOk result
+            (self.new ≡ record self.old { files = self.old.files ++ (record { name = name.now; bytes = bytes.now }) ∷ [] }) }
         ensures err { OnErr result (self.new ≡ self.old) }
     {
         let name = String::from_str(self.alloc, name)?;
@@ -66,7 +67,8 @@ impl MemStore {
     }
 
     pub fn fail_call(&mut self, call: u64) -> Result<(), Memory>
-        ensures ok { OnOk result (self.new ≡ record self.old { calls = record self.old.calls { named = self.old.calls.named ++ call ∷ [] } }) }
+        ensures ok { OnOk result
+            (self.new ≡ record self.old { calls = record self.old.calls { named = self.old.calls.named ++ call ∷ [] } }) }
         ensures err { OnErr result (self.new ≡ self.old) }
     {
         self.calls.name(call)?;

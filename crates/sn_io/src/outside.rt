@@ -65,7 +65,8 @@ pub trait Sink {
     /// Appends the piece. Where it fails, some first bytes of the piece may have been appended.
     fn put(&mut self, piece: &[u8]) -> Result<(), Failed>
         ensures whole { OnOk result (written self.new ≡ followed_by (written self.old) piece.now) }
-        ensures part { OnErr result ((n : ℕ) × (n ≤ length piece.now) × (written self.new ≡ followed_by (written self.old) (take n piece.now))) }
+        ensures part { OnErr result
+            ((n : ℕ) × (n ≤ length piece.now) × (written self.new ≡ followed_by (written self.old) (take n piece.now))) }
         ensures later { faults self.old ≤ faults self.new }
         ensures cause { OnErr result (Rose (faults self.old) (faults self.new)) }
         ensures empty { length piece.now ≡ 0 → IsOk result × (self.new ≡ self.old) };

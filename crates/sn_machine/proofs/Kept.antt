@@ -1,5 +1,6 @@
 -- What holds of a machine's parts is enough for each event, and each event keeps it.
-use Rattle.std.proofs.Common.{◌≡◌, ℕ, suc, ◌+◌, ◌-◌, ◌<◌, ◌≤◌, ◌^◌, Bool, true, false, cond, List, [], ◌∷◌, ◌++◌, length, Option, Some, None, refl, sym, ap, ◌∙◌, subst, arith}
+use Rattle.std.proofs.Common.{◌≡◌, ℕ, suc, ◌+◌, ◌-◌, ◌<◌, ◌≤◌, ◌^◌, Bool, true, false, cond, List, [], ◌∷◌, ◌++◌, length, Option, Some}
+use Rattle.std.proofs.Common.{None, refl, sym, ap, ◌∙◌, subst, arith}
 use Rattle.std.specs.Prelude.{nat_le, flat_map, max}
 use Rattle.std.specs.List.{All}
 use Rattle.std.proofs.lemmas.Bool.Decides.{nat_tests}
@@ -42,21 +43,27 @@ use Rattle.sn_machine.proofs.Sends.{ready_advances, event_few}
 
 -- what waits is of no interval below the point
 
-late_cons : (point : ℕ) (e : Retired) (es : List Retired) → All (λ (x : Retired). point ≤ x.interval) es → (b : Bool) → nat_le point e.interval ≡ b → All (λ (x : Retired). point ≤ x.interval) (cond b (e ∷ es) es)
-late_cons point e es h true is = let l : point ≤ e.interval = grind (arith, nat_tests, is) in All-cons (λ (x : Retired). point ≤ x.interval) e es l h
+late_cons : (point : ℕ) (e : Retired) (es : List Retired) → All (λ (x : Retired). point ≤ x.interval) es → (b : Bool) →
+    nat_le point e.interval ≡ b → All (λ (x : Retired). point ≤ x.interval) (cond b (e ∷ es) es)
+late_cons point e es h true is =
+    let l : point ≤ e.interval = grind (arith, nat_tests, is) in All-cons (λ (x : Retired). point ≤ x.interval) e es l h
 late_cons point e es h false is = h
 
 late : (point : ℕ) (trace : List Retired) → All (λ (x : Retired). point ≤ x.interval) (not_validated point trace)
 late point [] = All-nil (λ (x : Retired). point ≤ x.interval)
 late point (e ∷ trace) = late_cons point e (not_validated point trace) (late point trace) (nat_le point e.interval) refl
 
-held_one : (point interval : ℕ) (out : Option ℕ) (rest : List HeldByte) → point ≤ interval → All (λ (b : HeldByte). point ≤ b.interval) rest → All (λ (b : HeldByte). point ≤ b.interval) (held_in interval out ++ rest)
+held_one : (point interval : ℕ) (out : Option ℕ) (rest : List HeldByte) → point ≤ interval →
+    All (λ (b : HeldByte). point ≤ b.interval) rest → All (λ (b : HeldByte). point ≤ b.interval) (held_in interval out ++ rest)
 held_one point interval None rest l h = h
-held_one point interval (Some byte) rest l h = All-cons (λ (b : HeldByte). point ≤ b.interval) (record { interval = interval; byte = byte }) rest l h
+held_one point interval (Some byte) rest l h =
+    All-cons (λ (b : HeldByte). point ≤ b.interval) (record { interval = interval; byte = byte }) rest l h
 
-held_late : (point : ℕ) (es : List Retired) → All (λ (x : Retired). point ≤ x.interval) es → All (λ (b : HeldByte). point ≤ b.interval) (flat_map held_of es)
+held_late : (point : ℕ) (es : List Retired) → All (λ (x : Retired). point ≤ x.interval) es →
+    All (λ (b : HeldByte). point ≤ b.interval) (flat_map held_of es)
 held_late point [] h = All-nil (λ (b : HeldByte). point ≤ b.interval)
-held_late point (e ∷ es) h = held_one point e.interval e.out (flat_map held_of es) (h 0 e (omega arith)) (held_late point es (λ k d l. h (suc k) d (omega arith)))
+held_late point (e ∷ es) h =
+    held_one point e.interval e.out (flat_map held_of es) (h 0 e (omega arith)) (held_late point es (λ k d l. h (suc k) d (omega arith)))
 
 -- the numbers
 
@@ -73,10 +80,12 @@ more s m n l c = record {
   point = let a = c.point in omega (arith, a, l);
 }
 
-counts : (image : ImageData) (config : Config) (s : Fabric) (applied : ℕ) → config_fits config ≡ true → GoesBy config (first_fabric image config.nodes) s applied → CountsTo applied s
+counts : (image : ImageData) (config : Config) (s : Fabric) (applied : ℕ) → config_fits config ≡ true →
+    GoesBy config (first_fabric image config.nodes) s applied → CountsTo applied s
 counts image config s applied fits goes = more s (length goes.events) applied goes.few
     (subst (CountsTo (length goes.events)) goes.after
-    (counts_from_the_start config (first_fabric image config.nodes) goes.events (first_beside, start-kept image config.nodes (some_nodes config fits) (few_nodes config fits)) (start_counts image config.nodes)
+    (counts_from_the_start config (first_fabric image config.nodes) goes.events
+    (first_beside, start-kept image config.nodes (some_nodes config fits) (few_nodes config fits)) (start_counts image config.nodes)
     (served_run config (first_fabric image config.nodes) goes.events goes.served)))
 
 far : (next : ℕ) → next < 9223372036854775808 → next ≤ 2 ^ 63
@@ -87,26 +96,33 @@ in_time s t k n l =
     let clocks : Clocks (length s.nodes) (block_seen s t 0) = (k.blocks 0 (omega arith)).clocks in
     record { known = clocks.known_point n l; reached = clocks.point_now n l; few = clocks.now_known n l }
 
-joined_sound : (image : ImageData) (config : Config) (s : State) (r : ℕ → Records) (list : ℕ → List Entry) (trace : List Retired) (j : IsJoined image s r list trace) (applied : ℕ) → CountsTo applied s.fabric → applied ≤ 4000000000 → IsSound s
+joined_sound : (image : ImageData) (config : Config) (s : State) (r : ℕ → Records) (list : ℕ → List Entry) (trace : List Retired)
+    (j : IsJoined image s r list trace) (applied : ℕ) → CountsTo applied s.fabric → applied ≤ 4000000000 → IsSound s
 joined_sound image config s r list trace j applied c few = record {
   numbers = far s.fabric.net.next_id (far_from_the_end s.fabric applied c few);
   nows = λ n l. let a = c.nows n l in omega (arith, a, few);
   keeps = (j.fabric.0, j.fabric.1);
   shape = j.shape;
   times = in_time s.fabric j.fabric.0 j.fabric.1;
-  pending = rw j.traced.pending (All-map (λ (x : Retirement). s.fabric.point ≤ x.interval) retirement_of (not_validated s.fabric.point trace) (late s.fabric.point trace));
+  pending =
+      rw j.traced.pending (All-map (λ (x : Retirement). s.fabric.point ≤ x.interval) retirement_of (not_validated s.fabric.point trace)
+      (late s.fabric.point trace));
   held = rw j.traced.held (held_late s.fabric.point (not_validated s.fabric.point trace) (late s.fabric.point trace));
   finished = λ e. (ready_advances image config s r list trace j e).1;
 }
 
-pub sound : (image : ImageData) (config : Config) (h : Hardware) (applied spare : ℕ) → IsMachine image config h applied spare → IsSound (state_of h)
+pub sound : (image : ImageData) (config : Config) (h : Hardware) (applied spare : ℕ) → IsMachine image config h applied spare →
+    IsSound (state_of h)
 sound image config h applied spare m = go m.holds
   where
     go : Holds image config.nodes (state_of h) m.trace → IsSound (state_of h)
-    go (count, (r, list, j)) = joined_sound image config (state_of h) r list m.trace j applied (counts image config h.fabric.fabric applied m.fits m.goes) (let a = m.life in omega (arith, a))
+    go (count, (r, list, j)) =
+        joined_sound image config (state_of h) r list m.trace j applied (counts image config h.fabric.fabric applied m.fits m.goes)
+        (let a = m.life in omega (arith, a))
 
 -- the start
-pub starts : (image : ImageData) (config : Config) (h : Hardware) → config_fits config ≡ true → IsFirst h image config → IsMachine image config h 0 0
+pub starts : (image : ImageData) (config : Config) (h : Hardware) → config_fits config ≡ true → IsFirst h image config →
+    IsMachine image config h 0 0
 starts image config h fits first = record {
   fits = fits;
   sizes = first.sizes;
@@ -115,12 +131,17 @@ starts image config h fits first = record {
   life = omega arith;
   sent = rw first.sent (omega arith);
   trace = [];
-  holds = subst (λ s. Holds image config.nodes s []) (sym first.state) (start_holds image config.nodes (some_nodes config fits) (few_nodes config fits));
-  goes = subst (λ s. GoesBy config (first_fabric image config.nodes) s.fabric 0) (sym first.state) (record { events = []; few = omega arith; served = tt; after = refl });
+  holds =
+      subst (λ s. Holds image config.nodes s []) (sym first.state)
+      (start_holds image config.nodes (some_nodes config fits) (few_nodes config fits));
+  goes =
+      subst (λ s. GoesBy config (first_fabric image config.nodes) s.fabric 0) (sym first.state)
+      (record { events = []; few = omega arith; served = tt; after = refl });
 }
 
 -- more room
-pub reserves : (image : ImageData) (config : Config) (h g : Hardware) (applied spare events : ℕ) → IsMachine image config h applied spare → IsRoomier h g → HasRoom events g → applied + events ≤ 4000000000 → IsMachine image config g applied (max spare events)
+pub reserves : (image : ImageData) (config : Config) (h g : Hardware) (applied spare events : ℕ) → IsMachine image config h applied spare →
+    IsRoomier h g → HasRoom events g → applied + events ≤ 4000000000 → IsMachine image config g applied (max spare events)
 reserves image config h g applied spare events m roomier room few = record {
   fits = m.fits;
   sizes = roomier.sizes ∙ m.sizes;
@@ -137,7 +158,8 @@ reserves image config h g applied spare events m roomier room few = record {
   goes = subst (λ s. GoesBy config (first_fabric image config.nodes) s.fabric applied) (sym roomier.state) m.goes;
 }
 
-pub keeps_room : (image : ImageData) (config : Config) (h g : Hardware) (applied spare : ℕ) → IsMachine image config h applied spare → IsRoomier h g → IsMachine image config g applied spare
+pub keeps_room : (image : ImageData) (config : Config) (h g : Hardware) (applied spare : ℕ) → IsMachine image config h applied spare →
+    IsRoomier h g → IsMachine image config g applied spare
 keeps_room image config h g applied spare m roomier = record {
   fits = m.fits;
   sizes = roomier.sizes ∙ m.sizes;
@@ -152,7 +174,8 @@ keeps_room image config h g applied spare m roomier = record {
 
 -- an event
 
-module _ (image : ImageData) (config : Config) (h g : Hardware) (applied spare : ℕ) (event : Event) (said : Answer) (m : IsMachine image config h applied spare) (some : 1 ≤ spare)
+module _ (image : ImageData) (config : Config) (h g : Hardware) (applied spare : ℕ) (event : Event) (said : Answer)
+    (m : IsMachine image config h applied spare) (some : 1 ≤ spare)
     (fits : Fits config.nodes event) (does : Does h g said (step_of image config (state_of h) event)) where
   few : length (step_of image config (state_of h) event).sent ≤ 17
   few = go m.holds
@@ -163,8 +186,11 @@ module _ (image : ImageData) (config : Config) (h g : Hardware) (applied spare :
   goes : GoesBy config (first_fabric image config.nodes) (step_of image config (state_of h) event).state.fabric (applied + 1)
   goes = go m.holds
     where
-      go : Holds image config.nodes (state_of h) m.trace → GoesBy config (first_fabric image config.nodes) (step_of image config (state_of h) event).state.fabric (applied + 1)
-      go (count, (r, list, j)) = goes_then config (first_fabric image config.nodes) h.fabric.fabric (step_of image config (state_of h) event).state.fabric applied 1 (applied + 1) m.goes
+      go : Holds image config.nodes (state_of h) m.trace →
+          GoesBy config (first_fabric image config.nodes) (step_of image config (state_of h) event).state.fabric (applied + 1)
+      go (count, (r, list, j)) =
+          goes_then config (first_fabric image config.nodes) h.fabric.fabric
+          (step_of image config (state_of h) event).state.fabric applied 1 (applied + 1) m.goes
           (event_goes image config (state_of h) r list m.trace j event (subst (λ n. Fits n event) (sym count) fits)) (omega arith)
 
   pub applies : IsMachine image config g (applied + 1) (spare - 1)
@@ -176,14 +202,17 @@ module _ (image : ImageData) (config : Config) (h g : Hardware) (applied spare :
     life = let a = m.life in omega (arith, a, some);
     sent = rw does.sent few;
     trace = traced image (state_of h) event (step_of image config (state_of h) event).answer m.trace;
-    holds = subst (λ s. Holds image config.nodes s (traced image (state_of h) event (step_of image config (state_of h) event).answer m.trace)) (sym does.state) (step_holds image config config.nodes (state_of h) m.trace event m.holds fits);
+    holds =
+        subst (λ s. Holds image config.nodes s (traced image (state_of h) event (step_of image config (state_of h) event).answer m.trace))
+        (sym does.state) (step_holds image config config.nodes (state_of h) m.trace event m.holds fits);
     goes = subst (λ s. GoesBy config (first_fabric image config.nodes) s.fabric (applied + 1)) (sym does.state) goes;
   }
 
 -- through the view
 
 abbrev pub data_of : ImageData → Config → Hardware → ℕ → ℕ → MachineData
-data_of image config h applied spare = record { image = image; config = config; state = state_of h; sent = sent_of h; applied = applied; spare = spare }
+data_of image config h applied spare =
+    record { image = image; config = config; state = state_of h; sent = sent_of h; applied = applied; spare = spare }
 
 module _ (image : ImageData) (config : Config) (h g : Hardware) (applied spare : ℕ) (event : Event) (said : Answer) (does : Does h g said (step_of image config (state_of h) event)) where
   pub is-applied : IsApplied (data_of image config h applied spare) (data_of image config g (applied + 1) (spare - 1)) event said
@@ -192,8 +221,11 @@ module _ (image : ImageData) (config : Config) (h g : Hardware) (applied spare :
   pub refused-same : is_refusal said ≡ true → state_of g ≡ state_of h
   refused-same is = does.state ∙ (refusal-changes_nothing image config (state_of h) event).unchanged (ap is_refusal (sym does.says) ∙ is)
 
-pub step-of-run : (image : ImageData) (config : Config) (h : Hardware) (applied spare : ℕ) (event : Event) → IsMachine image config h applied spare → Fits config.nodes event → IsStepOfRun image config (state_of h) event (step_of image config (state_of h) event)
+pub step-of-run : (image : ImageData) (config : Config) (h : Hardware) (applied spare : ℕ) (event : Event) →
+    IsMachine image config h applied spare → Fits config.nodes event →
+    IsStepOfRun image config (state_of h) event (step_of image config (state_of h) event)
 step-of-run image config h applied spare event m fits = holds_next image config (state_of h) m.trace event m.holds fits
 
-pub consistent-now : (image : ImageData) (config : Config) (h : Hardware) (applied spare : ℕ) → IsMachine image config h applied spare → IsConsistentNow (data_of image config h applied spare)
+pub consistent-now : (image : ImageData) (config : Config) (h : Hardware) (applied spare : ℕ) → IsMachine image config h applied spare →
+    IsConsistentNow (data_of image config h applied spare)
 consistent-now image config h applied spare m = (m.trace, holds_consistent image config.nodes (state_of h) m.trace m.holds)

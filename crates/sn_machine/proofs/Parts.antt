@@ -16,7 +16,8 @@ at_map f [] n d e l = absurd (omega arith)
 at_map f (x ∷ xs) zero d e l = refl
 at_map f (x ∷ xs) (suc n) d e l = at_map f xs n d e (omega arith)
 
-pub processor-at : (h : Hardware) (n : ℕ) → n < length h.processors.items → processor_at (state_of h) n ≡ processor_as (seat_at h.processors.items n)
+pub processor-at : (h : Hardware) (n : ℕ) → n < length h.processors.items →
+    processor_at (state_of h) n ≡ processor_as (seat_at h.processors.items n)
 processor-at h n l = at_map processor_as h.processors.items n no_seat (first_processor 0 0) l
 
 -- the node of an event has a processor
@@ -24,7 +25,8 @@ pub is_here : (h : Hardware) (n : ℕ) → IsWhole h → n < length h.fabric.fab
 is_here h n w l = let e = w.count in omega (arith, e, l)
 
 -- a processor that was read
-pub seat-read : (h : Hardware) (n place : ℕ) (x : Seat) → IsWhole h → n < length h.fabric.fabric.nodes → place ≡ n → x ≡ get_or h.processors.items place x → x ≡ seat_at h.processors.items n
+pub seat-read : (h : Hardware) (n place : ℕ) (x : Seat) → IsWhole h → n < length h.fabric.fabric.nodes → place ≡ n →
+    x ≡ get_or h.processors.items place x → x ≡ seat_at h.processors.items n
 seat-read h n place x w l e r =
     let here = is_here h n w l in
     get_or_read h.processors.items n x here (subst (λ (k : ℕ). x ≡ get_or h.processors.items k x) e r) no_seat
@@ -44,7 +46,8 @@ less_room h g same events room = record {
 }
 
 -- an event of the fabric of which the rest doesn't hear
-pub carried-does : (h g : Hardware) (said : Answer) (moved : Moved) → IsWhole h → IsAfter h.fabric g.fabric said moved → IsSameClocks h.fabric.fabric moved.fabric → HasSameRest h g → g.is_carried ≡ true →
+pub carried-does : (h g : Hardware) (said : Answer) (moved : Moved) → IsWhole h → IsAfter h.fabric g.fabric said moved →
+    IsSameClocks h.fabric.fabric moved.fabric → HasSameRest h g → g.is_carried ≡ true →
     Does h g said (carried (state_of h) moved)
 carried-does h g said moved w after clocks same is = record {
   state = rw (same.processors, same.controller, same.history, same.output, after.left) refl;

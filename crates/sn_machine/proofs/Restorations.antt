@@ -1,5 +1,6 @@
 -- What a recovery comes to.
-use Rattle.std.proofs.Common.{◌≡◌, ◌≢◌, ℕ, zero, suc, ◌+◌, ◌-◌, ◌<◌, true, List, [], ◌∷◌, ◌++◌, length, map, max, take, drop, get_or, set, replicate, Option, Some, None, refl, sym, ap, ◌∙◌, arith, drop-cons}
+use Rattle.std.proofs.Common.{◌≡◌, ◌≢◌, ℕ, zero, suc, ◌+◌, ◌-◌, ◌<◌, true, List, [], ◌∷◌, ◌++◌, length, map, max, take, drop, get_or, set}
+use Rattle.std.proofs.Common.{replicate, Option, Some, None, refl, sym, ap, ◌∙◌, arith, drop-cons}
 use Rattle.std.proofs.lemmas.List.{length-map}
 use Rattle.std.proofs.lemmas.List.Edits.{map_over_more}
 use Rattle.std.proofs.lemmas.Option.{get_or_from_slice_get}
@@ -30,7 +31,8 @@ use Rattle.sn_machine.proofs.Parts.{processor-at, HasSameRest, carried-does}
 one_left : (xs : List CoreState) (i : ℕ) (d : CoreState) → i < length xs → take 1 (drop i xs) ≡ get_or xs i d ∷ []
 one_left xs i d l = ap (take 1) (drop-cons xs i d l)
 
-pub restored-one : (x : Seat) (k : ℕ) (core : CoreState) (kept : Checkpoints) → HasCheckpoint x.checkpoints k → core_at x.checkpoints k ≡ Some core → kept ≡ dropped_above (freed_below x.checkpoints k) k →
+pub restored-one : (x : Seat) (k : ℕ) (core : CoreState) (kept : Checkpoints) → HasCheckpoint x.checkpoints k →
+    core_at x.checkpoints k ≡ Some core → kept ≡ dropped_above (freed_below x.checkpoints k) k →
     record { core = core; checkpoints = kept; input = x.input } ≡ restored_seat k x
 restored-one x k core kept is at leaves =
     let first : max x.checkpoints.first k ≡ k = (let a = is.from in omega (arith, a)) in
@@ -40,22 +42,28 @@ restored-one x k core kept is at leaves =
     rw (leaves, first, one, one_left x.checkpoints.cores (k - x.checkpoints.first) x.core i, c) refl
 
 -- and all of them
-pub restored-more : (k : ℕ) (old mid : List Seat) (i : ℕ) (x y : Seat) → i < length old → mid ≡ map (restored_seat k) (take i old) ++ drop i old → x ≡ get_or mid i x → y ≡ restored_seat k x →
+pub restored-more : (k : ℕ) (old mid : List Seat) (i : ℕ) (x y : Seat) → i < length old →
+    mid ≡ map (restored_seat k) (take i old) ++ drop i old → x ≡ get_or mid i x → y ≡ restored_seat k x →
     set mid i y ≡ map (restored_seat k) (take (i + 1) old) ++ drop (i + 1) old
 restored-more k old mid i x y l is at restores = rw restores (map_over_more (restored_seat k) old mid i x l is at)
 
 -- as the definitions restore them
 
-core_as : (x : Seat) (known k : ℕ) → x.checkpoints.first ≡ known → processor_as (restored_seat k x) ≡ restored_processor (processor_as x) known k
+core_as : (x : Seat) (known k : ℕ) → x.checkpoints.first ≡ known →
+    processor_as (restored_seat k x) ≡ restored_processor (processor_as x) known k
 core_as x known k e = rw (← e) refl
 
-pub restored-shown : (fabric : Fabric) (k n : ℕ) (xs : List Seat) → ((m : ℕ) → m < length xs → (seat_at xs m).checkpoints.first ≡ (node_at fabric (n + m)).known) →
+pub restored-shown : (fabric : Fabric) (k n : ℕ) (xs : List Seat) →
+    ((m : ℕ) → m < length xs → (seat_at xs m).checkpoints.first ≡ (node_at fabric (n + m)).known) →
     map processor_as (map (restored_seat k) xs) ≡ restored_processors fabric k n (map processor_as xs)
 restored-shown fabric k n [] first = refl
 restored-shown fabric k n (x ∷ xs) first =
-    let here : x.checkpoints.first ≡ (node_at fabric n).known = (let e : n + 0 ≡ n = omega arith in first 0 (omega arith) ∙ ap (λ j. (node_at fabric j).known) e) in
-    let rest = restored-shown fabric k (n + 1) xs (λ m l. (let e : n + suc m ≡ n + 1 + m = omega arith in first (suc m) (omega (arith, l)) ∙ ap (λ j. (node_at fabric j).known) e)) in
-    ap (λ p. p ∷ map processor_as (map (restored_seat k) xs)) (core_as x (node_at fabric n).known k here) ∙ ap (λ ps. restored_processor (processor_as x) (node_at fabric n).known k ∷ ps) rest
+    let here : x.checkpoints.first
+    ≡ (node_at fabric n).known = (let e : n + 0 ≡ n = omega arith in first 0 (omega arith) ∙ ap (λ j. (node_at fabric j).known) e) in
+    let rest = restored-shown fabric k (n + 1) xs
+    (λ m l. (let e : n + suc m ≡ n + 1 + m = omega arith in first (suc m) (omega (arith, l)) ∙ ap (λ j. (node_at fabric j).known) e)) in
+    ap (λ p. p ∷ map processor_as (map (restored_seat k) xs)) (core_as x (node_at fabric n).known k here)
+    ∙ ap (λ ps. restored_processor (processor_as x) (node_at fabric n).known k ∷ ps) rest
 
 all_same : (p : ℕ) (xs : List ℕ) → replicate (length xs) p ≡ map (λ (k : ℕ). p) xs
 all_same p [] = refl
@@ -67,11 +75,13 @@ seat-mapped k (x ∷ xs) zero l = refl
 seat-mapped k (x ∷ xs) (suc n) l = seat-mapped k xs n (omega (arith, l))
 
 -- checkpoint k is kept at each node, where k is the recovery point
-pub kept-all : (h : Hardware) → IsWhole h → IsSound (state_of h) → (n : ℕ) → n < length h.processors.items → HasCheckpoint (seat_at h.processors.items n).checkpoints h.fabric.fabric.point
+pub kept-all : (h : Hardware) → IsWhole h → IsSound (state_of h) → (n : ℕ) → n < length h.processors.items →
+    HasCheckpoint (seat_at h.processors.items n).checkpoints h.fabric.fabric.point
 kept-all h w sound n l =
     let here : n < length h.fabric.fabric.nodes = (let e = w.count in omega (arith, e, l)) in
     let first = w.known n l in
-    let count = ap (λ (p : Processor). (node_at h.fabric.fabric n).known + length p.checkpoints) (sym (processor-at h n l)) ∙ sound.shape.checkpoints n here in
+    let count = ap (λ (p : Processor). (node_at h.fabric.fabric n).known + length p.checkpoints) (sym (processor-at h n l))
+    ∙ sound.shape.checkpoints n here in
     let low = (sound.times n here).known in
     let high = (sound.times n here).reached in
     record { from = omega (arith, first, low); below = omega (arith, first, count, high) }
@@ -93,37 +103,63 @@ module _ (h g : Hardware) (w : IsWhole h) (sound : IsSound (state_of h)) where
   s = h.fabric.fabric
 
   -- a machine whose nodes aren't joined
-  pub recover-refused : (answer : Answer) → ((undo : Undo) → answer ≢ Recovered undo) → IsAfter h.fabric g.fabric answer (recovered s s.point) → HasSameRest h g → g.is_carried ≡ true → Does h g answer (restores (state_of h) (recovered s s.point))
+  pub recover-refused : (answer : Answer) → ((undo : Undo) → answer ≢ Recovered undo) →
+      IsAfter h.fabric g.fabric answer (recovered s s.point) → HasSameRest h g → g.is_carried ≡ true →
+      Does h g answer (restores (state_of h) (recovered s s.point))
   recover-refused answer not after same is = go (first_cut_off (living_switches s)) after
     where
-      go : (cut : Option (ℕ × ℕ)) → IsAfter h.fabric g.fabric answer (recovers s s.point cut) → Does h g answer (restores (state_of h) (recovers s s.point cut))
+      go : (cut : Option (ℕ × ℕ)) → IsAfter h.fabric g.fabric answer (recovers s s.point cut) →
+          Does h g answer (restores (state_of h) (recovers s s.point cut))
       go (Some pair) a = carried-does h g answer (refused s (CutOff pair.0 pair.1)) w a (same_clocks s) same is
       go None a = absurd (not (record { to = s.point; undone = undone s s.point; dropped = length s.net.flights }) a.answer)
 
   -- one that is back
-  pub recover-done : (answer : Answer) (undo : Undo) → answer ≡ Recovered undo → IsAfter h.fabric g.fabric answer (recovered s s.point) → g.processors.items ≡ map (restored_seat s.point) h.processors.items →
-      g.controller ≡ record h.controller { reported = replicate (length h.controller.reported) h.controller.point } → g.history ≡ record h.history { pending = [] } → g.output ≡ record h.output { held = waiting_below s.point h.output.held } → g.is_carried ≡ true →
+  pub recover-done : (answer : Answer) (undo : Undo) → answer ≡ Recovered undo → IsAfter h.fabric g.fabric answer (recovered s s.point) →
+      g.processors.items ≡ map (restored_seat s.point) h.processors.items →
+      g.controller ≡ record h.controller { reported = replicate (length h.controller.reported) h.controller.point } →
+      g.history ≡ record h.history { pending = [] } → g.output ≡ record h.output { held = waiting_below s.point h.output.held } →
+      g.is_carried ≡ true →
       Does h g answer (restores (state_of h) (recovered s s.point))
   unfolding restored_rest
   recover-done answer undo said after processors controller history output is = go (first_cut_off (living_switches s)) after
     where
-      go : (cut : Option (ℕ × ℕ)) → IsAfter h.fabric g.fabric answer (recovers s s.point cut) → Does h g answer (restores (state_of h) (recovers s s.point cut))
+      go : (cut : Option (ℕ × ℕ)) → IsAfter h.fabric g.fabric answer (recovers s s.point cut) →
+          Does h g answer (restores (state_of h) (recovers s s.point cut))
       go (Some pair) a = absurd (let e = sym said ∙ a.answer in cc)
       go None a = record {
-        state = rw (a.left, processors, controller, history, output, restored-shown s s.point 0 h.processors.items (λ m l. w.known m l ∙ (let e : m ≡ 0 + m = omega arith in ap (λ j. (node_at s j).known) e)), w.point, all_same s.point h.controller.reported, held-dropped s.point h.output.held sound.held) refl;
+        state =
+            rw (
+              a.left,
+              processors,
+              controller,
+              history,
+              output,
+              restored-shown s s.point 0 h.processors.items
+                  (λ m l. w.known m l ∙ (let e : m ≡ 0 + m = omega arith in ap (λ j. (node_at s j).known) e)),
+              w.point,
+              all_same s.point h.controller.reported,
+              held-dropped s.point h.output.held sound.held,
+            ) refl;
         says = a.answer;
         sent = rw (is, a.left) refl;
         sizes = rw a.left refl;
         whole = record {
-          count = rw (processors, a.left) (length-map h.processors.items (restored_seat s.point) ∙ w.count ∙ sym (restored_count s s.point));
-          known = rw (processors, a.left) (λ n l. let here : n < length h.processors.items = (let e = length-map h.processors.items (restored_seat s.point) in omega (arith, e, l)) in
-              ap (λ (x : Seat). x.checkpoints.first) (seat-mapped s.point h.processors.items n here) ∙ sym (restored_known s n (let e = w.count in omega (arith, e, here))));
+          count =
+              rw (processors, a.left) (length-map h.processors.items (restored_seat s.point) ∙ w.count ∙ sym (restored_count s s.point));
+          known =
+              rw (processors, a.left)
+              (λ n l. let here : n < length h.processors.items = (let e = length-map h.processors.items (restored_seat s.point) in
+              omega (arith, e, l)) in
+              ap (λ (x : Seat). x.checkpoints.first) (seat-mapped s.point h.processors.items n here)
+              ∙ sym (restored_known s n (let e = w.count in omega (arith, e, here))));
           point = rw (controller, a.left) (w.point ∙ sym (restored_point s s.point));
         };
         room = λ events room. record {
           records = rw history (let x = room.records in omega (arith, x));
           bytes = rw output (let x = room.bytes in omega (arith, x));
-          given = rw processors (λ n l. let here : n < length h.processors.items = (let e = length-map h.processors.items (restored_seat s.point) in omega (arith, e, l)) in
+          given =
+              rw processors (λ n l. let here : n < length h.processors.items = (let e = length-map h.processors.items
+              (restored_seat s.point) in omega (arith, e, l)) in
               rw (seat-mapped s.point h.processors.items n here) (let x = room.given n here in omega (arith, x)));
         };
       }

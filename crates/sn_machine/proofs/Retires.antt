@@ -1,5 +1,6 @@
 -- An instruction that retires: what its core and its line need, and what it comes to.
-use Rattle.std.proofs.Common.{◌≡◌, ℕ, ◌+◌, ◌-◌, ◌<◌, ◌≤◌, Bool, true, false, [], ◌∷◌, ◌++◌, get_or, Option, Some, None, refl, sym, ap, ◌∙◌, subst, arith}
+use Rattle.std.proofs.Common.{◌≡◌, ℕ, ◌+◌, ◌-◌, ◌<◌, ◌≤◌, Bool, true, false, [], ◌∷◌, ◌++◌, get_or, Option, Some, None, refl, sym, ap, ◌∙◌}
+use Rattle.std.proofs.Common.{subst, arith}
 use Rattle.std.specs.Prelude.{◌%◌}
 use Rattle.std.proofs.lemmas.List.{map-append, map-set}
 use Rattle.sn_base.specs.Blocks.{ram_start, ram_size, bytes_of}
@@ -40,7 +41,8 @@ inside a Half l = omega (arith, l)
 inside a Word l = omega (arith, l)
 
 module _ (config : Config) (s : State) (n : ℕ) where
-  writes : (a : ℕ) (x : Write) → x.address ≡ a → ram_start ≤ x.address → x.address + bytes_of x.width ≤ ram_start + ram_size → x.address % bytes_of x.width ≡ 0 →
+  writes : (a : ℕ) (x : Write) → x.address ≡ a → ram_start ≤ x.address → x.address + bytes_of x.width ≤ ram_start + ram_size →
+      x.address % bytes_of x.width ≡ 0 →
       CanServe config s.fabric n (block_of a) need.Write → CanBeWritten config s.fabric n x
   writes a x e low high aligned can = record {
     low = low;
@@ -50,7 +52,8 @@ module _ (config : Config) (s : State) (n : ℕ) where
     room = rw e can.room;
   }
 
-  writes_wanting : (w : Want) (done : Bool) (x : Option Write) → WriteFits w done x → CanServeWant w done config s n → CanWriteAny config s.fabric n x
+  writes_wanting : (w : Want) (done : Bool) (x : Option Write) → WriteFits w done x → CanServeWant w done config s n →
+      CanWriteAny config s.fabric n x
   writes_wanting w done None fits can = tt
   writes_wanting want.Nothing done (Some x) fits can = absurd (let h = fits.0 in cc)
   writes_wanting want.Input done (Some x) fits can = absurd (let h = fits.0 in cc)
@@ -61,20 +64,32 @@ module _ (config : Config) (s : State) (n : ℕ) where
   writes_wanting (want.Sc a) true (Some x) fits can = writes a x fits.1 fits.2 fits.3 fits.4 can
   writes_wanting (want.Sc a) false (Some x) fits can = absurd (let h = fits.0 in cc)
 
-pub can-write : (image : ImageData) (h : Hardware) (n : ℕ) (did : Record) (core : CoreState) (effect : Effect) → IsWhole h → CanRetire image h.fabric.config (state_of h) n → did ≡ record_with n (found_at image (state_of h) n) →
-    core ≡ (seat_at h.processors.items n).core → effect ≡ (next_of image core did.seen did.sc_done did.read).effect → CanWriteAny h.fabric.config h.fabric.fabric n effect.write
+pub can-write : (image : ImageData) (h : Hardware) (n : ℕ) (did : Record) (core : CoreState) (effect : Effect) → IsWhole h →
+    CanRetire image h.fabric.config (state_of h) n → did ≡ record_with n (found_at image (state_of h) n) →
+    core ≡ (seat_at h.processors.items n).core → effect ≡ (next_of image core did.seen did.sc_done did.read).effect →
+    CanWriteAny h.fabric.config h.fabric.fabric n effect.write
 can-write image h n did core effect w can found is does =
     let p = processor-at h n (is_here h n w can.node) in
-    let e : effect ≡ (next_with image (processor_at (state_of h) n) (found_at image (state_of h) n)).effect = does ∙ rw (is, found, p) refl in
-    rw e (writes_wanting h.fabric.config (state_of h) n (want_of image (processor_at (state_of h) n).core) (found_at image (state_of h) n).sc_done _
-    (write_fits image (processor_at (state_of h) n).core (found_at image (state_of h) n).seen (found_at image (state_of h) n).sc_done (found_at image (state_of h) n).read) can.served)
+    let e : effect ≡ (next_with image (processor_at (state_of h) n) (found_at image (state_of h) n)).effect = does
+    ∙ rw (is, found, p) refl in
+    rw e (writes_wanting h.fabric.config (state_of h) n (want_of image (processor_at (state_of h) n).core)
+    (found_at image (state_of h) n).sc_done _
+    (write_fits image (processor_at (state_of h) n).core (found_at image (state_of h) n).seen (found_at image (state_of h) n).sc_done
+    (found_at image (state_of h) n).read) can.served)
 
 -- what it comes to
 
-pub retire-does : (image : ImageData) (h g : Hardware) (n place interval : ℕ) (did : Record) (x : Seat) (core : CoreState) (effect : Effect) → IsWhole h → CanRetire image h.fabric.config (state_of h) n → did ≡ record_with n (found_at image (state_of h) n) →
-    interval ≡ (node_at h.fabric.fabric n).now → place ≡ n → x ≡ get_or h.processors.items place x → core ≡ (next_of image x.core did.seen did.sc_done did.read).core → effect ≡ (next_of image x.core did.seen did.sc_done did.read).effect →
-    g.fabric.fabric ≡ written_by h.fabric.fabric n effect.write → g.fabric.config ≡ h.fabric.config → HasSeat h (record g { history = h.history; output = h.output }) place (record x { core = core }) →
-    g.history ≡ record h.history { pending = h.history.pending ++ record { interval = interval; entry = did } ∷ []; room = h.history.room - 1 } → PutsOut h.output g.output interval effect.out → g.is_carried ≡ false →
+pub retire-does : (image : ImageData) (h g : Hardware) (n place interval : ℕ) (did : Record) (x : Seat) (core : CoreState)
+    (effect : Effect) → IsWhole h → CanRetire image h.fabric.config (state_of h) n → did ≡ record_with n (found_at image (state_of h) n) →
+    interval ≡ (node_at h.fabric.fabric n).now → place ≡ n → x ≡ get_or h.processors.items place x →
+    core ≡ (next_of image x.core did.seen did.sc_done did.read).core →
+    effect ≡ (next_of image x.core did.seen did.sc_done did.read).effect →
+    g.fabric.fabric ≡ written_by h.fabric.fabric n effect.write → g.fabric.config ≡ h.fabric.config →
+    HasSeat h (record g { history = h.history; output = h.output }) place (record x { core = core }) →
+    g.history ≡ record h.history {
+      pending = h.history.pending ++ record { interval = interval; entry = did } ∷ [];
+      room = h.history.room - 1;
+    } → PutsOut h.output g.output interval effect.out → g.is_carried ≡ false →
     Does h g Retired (retired image (state_of h) n)
 retire-does image h g n place interval did x core effect w can found at i r cores effects fabric sizes seat history puts is =
     let here = is_here h n w can.node in
@@ -89,12 +104,31 @@ retire-does image h g n place interval did x core effect w can found at i r core
     } in
     let whole = seat-whole h middle n y same here w keeps refl in
     let p = processor-at h n here in
-    let core_is : core ≡ (next_with image (processor_at (state_of h) n) (found_at image (state_of h) n)).core = cores ∙ rw (e, found, p) refl in
-    let effect_is : effect ≡ (next_with image (processor_at (state_of h) n) (found_at image (state_of h) n)).effect = effects ∙ rw (e, found, p) refl in
-    let checkpoints_are : (processor_at (state_of h) n).checkpoints ≡ (seat_at h.processors.items n).checkpoints.cores = ap (λ (q : Processor). q.checkpoints) p in
+    let core_is : core ≡ (next_with image (processor_at (state_of h) n) (found_at image (state_of h) n)).core = cores
+    ∙ rw (e, found, p) refl in
+    let effect_is : effect ≡ (next_with image (processor_at (state_of h) n) (found_at image (state_of h) n)).effect = effects
+    ∙ rw (e, found, p) refl in
+    let checkpoints_are : (processor_at (state_of h) n).checkpoints
+    ≡ (seat_at h.processors.items n).checkpoints.cores = ap (λ (q : Processor). q.checkpoints) p in
     let given_is : (processor_at (state_of h) n).given ≡ (seat_at h.processors.items n).input.given = ap (λ (q : Processor). q.given) p in
     record {
-      state = rw (fabric, same.processors, same.controller, history, puts.held, puts.released, map-set processor_as h.processors.items n y, map-append, at, found, core_is, effect_is, checkpoints_are, given_is) refl;
+      state =
+          rw (
+            fabric,
+            same.processors,
+            same.controller,
+            history,
+            puts.held,
+            puts.released,
+            map-set processor_as h.processors.items n y,
+            map-append,
+            at,
+            found,
+            core_is,
+            effect_is,
+            checkpoints_are,
+            given_is,
+          ) refl;
       says = refl;
       sent = rw is refl;
       sizes = sizes;

@@ -1,6 +1,7 @@
 -- What an event comes to that changes one processor.
 use Rattle.std.specs.Prelude.{nat_eq}
-use Rattle.std.proofs.Common.{◌≡◌, ◌≢◌, ℕ, ◌+◌, ◌-◌, ◌<◌, ◌≤◌, Bool, true, false, [], ◌∷◌, ◌++◌, length, get_or, set, Some, None, refl, sym, ap, ◌∙◌, subst, arith, length-set, ⊎_elim, if◌then◌else◌}
+use Rattle.std.proofs.Common.{◌≡◌, ◌≢◌, ℕ, ◌+◌, ◌-◌, ◌<◌, ◌≤◌, Bool, true, false, [], ◌∷◌, ◌++◌, length, get_or, set, Some, None, refl, sym}
+use Rattle.std.proofs.Common.{ap, ◌∙◌, subst, arith, length-set, ⊎_elim, if◌then◌else◌}
 use Rattle.std.proofs.lemmas.List.{map-set, get_or-set_same, get_or-set_other}
 use Rattle.std.proofs.lemmas.Bool.{cases_eq}
 use Rattle.std.proofs.lemmas.Bool.Decides.{nat_tests}
@@ -49,14 +50,19 @@ pub record HasSeat (old new : Hardware) (n : ℕ) (y : Seat) : Type 0 where
 
 module _ (h g : Hardware) (n : ℕ) (y : Seat) (same : HasSeat h g n y) where
   pub seat-state : state_of g ≡ with_processor (record (state_of h) { fabric = g.fabric.fabric }) n (processor_as y)
-  seat-state = rw (same.processors, same.controller, same.history, same.output) (ap (λ ps. record (state_of h) { fabric = g.fabric.fabric; processors = ps }) (map-set processor_as h.processors.items n y))
+  seat-state =
+      rw (same.processors, same.controller, same.history, same.output)
+      (ap (λ ps. record (state_of h) { fabric = g.fabric.fabric; processors = ps }) (map-set processor_as h.processors.items n y))
 
   module _ (l : n < length h.processors.items) where
-    pub each_seat : (P : ℕ → Seat → Type 0) → P n y → ((m : ℕ) → m ≢ n → P m (seat_at h.processors.items m)) → (m : ℕ) → P m (seat_at g.processors.items m)
+    pub each_seat : (P : ℕ → Seat → Type 0) → P n y → ((m : ℕ) → m ≢ n → P m (seat_at h.processors.items m)) → (m : ℕ) →
+        P m (seat_at g.processors.items m)
     each_seat P here there m = rw same.processors
-        (⊎_elim (λ (e : m ≡ n). rw e (rw (get_or-set_same h.processors.items n y no_seat l) here)) (λ ne. rw (get_or-set_other h.processors.items n m y no_seat ne) (there m ne)) (cases_eq m n))
+        (⊎_elim (λ (e : m ≡ n). rw e (rw (get_or-set_same h.processors.items n y no_seat l) here))
+        (λ ne. rw (get_or-set_other h.processors.items n m y no_seat ne) (there m ne)) (cases_eq m n))
 
-    pub seat-whole : IsWhole h → KeepsKnown h.fabric.fabric g.fabric.fabric → y.checkpoints.first ≡ (seat_at h.processors.items n).checkpoints.first → IsWhole g
+    pub seat-whole : IsWhole h → KeepsKnown h.fabric.fabric g.fabric.fabric →
+        y.checkpoints.first ≡ (seat_at h.processors.items n).checkpoints.first → IsWhole g
     seat-whole w keeps first = record {
       count = rw same.processors (length-set h.processors.items n y ∙ w.count ∙ sym keeps.count);
       known = λ m lm. each_seat (λ k x. k < length g.processors.items → x.checkpoints.first ≡ (node_at g.fabric.fabric k).known)
@@ -83,19 +89,25 @@ pub seat_placed : (h g : Hardware) (n place : ℕ) (y : Seat) → place ≡ n �
 seat_placed h g n place y i same = subst (λ (k : ℕ). HasSeat h g k y) i same
 
 -- a byte is given
-given-there : (h g : Hardware) (n byte : ℕ) (input : InputData) → IsWhole h → n < length h.processors.items → HasSeat h g n (record (seat_at h.processors.items n) { input = input }) →
-    input ≡ record { given = (seat_at h.processors.items n).input.given ++ byte ∷ []; room = (seat_at h.processors.items n).input.room - 1 } → g.fabric ≡ h.fabric → g.is_carried ≡ false →
+given-there : (h g : Hardware) (n byte : ℕ) (input : InputData) → IsWhole h → n < length h.processors.items →
+    HasSeat h g n (record (seat_at h.processors.items n) { input = input }) →
+    input ≡ record {
+      given = (seat_at h.processors.items n).input.given ++ byte ∷ [];
+      room = (seat_at h.processors.items n).input.room - 1;
+    } → g.fabric ≡ h.fabric → g.is_carried ≡ false →
     Does h g Given (given (state_of h) n byte)
 given-there h g n byte input w here same gives fabric is = record {
   state = seat-state h g n (record (seat_at h.processors.items n) { input = input }) same ∙ rw (fabric, gives, processor-at h n here) refl;
   says = refl;
   sent = rw is refl;
   sizes = rw fabric refl;
-  whole = seat-whole h g n (record (seat_at h.processors.items n) { input = input }) same here w (rw fabric (keeps-same h.fabric.fabric)) refl;
+  whole =
+      seat-whole h g n (record (seat_at h.processors.items n) { input = input }) same here w (rw fabric (keeps-same h.fabric.fabric)) refl;
   room = seat-room h g n (record (seat_at h.processors.items n) { input = input }) same here (rw gives (omega arith));
 }
 
-pub given-does : (h g : Hardware) (n byte place : ℕ) (x : Seat) (input : InputData) → IsWhole h → n < length h.fabric.fabric.nodes → place ≡ n → x ≡ get_or h.processors.items place x → HasSeat h g place (record x { input = input }) →
+pub given-does : (h g : Hardware) (n byte place : ℕ) (x : Seat) (input : InputData) → IsWhole h → n < length h.fabric.fabric.nodes →
+    place ≡ n → x ≡ get_or h.processors.items place x → HasSeat h g place (record x { input = input }) →
     input ≡ record { given = x.input.given ++ byte ∷ []; room = x.input.room - 1 } → g.fabric ≡ h.fabric → g.is_carried ≡ false →
     Does h g Given (given (state_of h) n byte)
 given-does h g n byte place x input w l i r same gives fabric is =
@@ -109,12 +121,16 @@ module _ (h g : Hardware) (n : ℕ) (w : IsWhole h) (l : n < length h.fabric.fab
   s = h.fabric.fabric
 
   -- one that is refused
-  pub edge-refused : (answer : Answer) → ((k : ℕ) → answer ≢ Edged k) → IsAfter h.fabric g.fabric answer (edged s n) → HasSameRest h g → g.is_carried ≡ true →
+  pub edge-refused : (answer : Answer) → ((k : ℕ) → answer ≢ Edged k) → IsAfter h.fabric g.fabric answer (edged s n) → HasSameRest h g →
+      g.is_carried ≡ true →
       Does h g answer (edges (state_of h) n (edged s n))
   edge-refused answer not after same is = go (nat_eq ((node_at s n).now - (node_at s n).known) checkpoint_limit) after
     where
-      go : (full : Bool) → IsAfter h.fabric g.fabric answer (if full then refused s CheckpointsFull else answered (with_node s n (after_edge (node_at s n))) (Edged ((node_at s n).now + 1))) →
-          Does h g answer (edges (state_of h) n (if full then refused s CheckpointsFull else answered (with_node s n (after_edge (node_at s n))) (Edged ((node_at s n).now + 1))))
+      go : (full : Bool) → IsAfter h.fabric g.fabric answer
+          (if full then refused s CheckpointsFull
+          else answered (with_node s n (after_edge (node_at s n))) (Edged ((node_at s n).now + 1))) →
+          Does h g answer (edges (state_of h) n
+          (if full then refused s CheckpointsFull else answered (with_node s n (after_edge (node_at s n))) (Edged ((node_at s n).now + 1))))
       go true a = carried-does h g answer (refused s CheckpointsFull) w a (same_clocks s) same is
       go false a = absurd (not ((node_at s n).now + 1) a.answer)
 
@@ -126,15 +142,20 @@ module _ (h g : Hardware) (n : ℕ) (w : IsWhole h) (l : n < length h.fabric.fab
     point = refl;
   }
 
-  pub edge-done : (k : ℕ) (y : Seat) → IsAfter h.fabric g.fabric (Edged k) (edged s n) → HasSeat h g n y → processor_as y ≡ with_checkpoint (processor_as (seat_at h.processors.items n)) →
-      y.checkpoints.first ≡ (seat_at h.processors.items n).checkpoints.first → y.input ≡ (seat_at h.processors.items n).input → g.is_carried ≡ true → Does h g (Edged k) (edges (state_of h) n (edged s n))
+  pub edge-done : (k : ℕ) (y : Seat) → IsAfter h.fabric g.fabric (Edged k) (edged s n) → HasSeat h g n y →
+      processor_as y ≡ with_checkpoint (processor_as (seat_at h.processors.items n)) →
+      y.checkpoints.first ≡ (seat_at h.processors.items n).checkpoints.first → y.input ≡ (seat_at h.processors.items n).input →
+      g.is_carried ≡ true → Does h g (Edged k) (edges (state_of h) n (edged s n))
   edge-done k y after same is first input carried = go (nat_eq ((node_at s n).now - (node_at s n).known) checkpoint_limit) after
     where
       here : n < length h.processors.items
       here = is_here h n w l
 
-      go : (full : Bool) → IsAfter h.fabric g.fabric (Edged k) (if full then refused s CheckpointsFull else answered (with_node s n (after_edge (node_at s n))) (Edged ((node_at s n).now + 1))) →
-          Does h g (Edged k) (edges (state_of h) n (if full then refused s CheckpointsFull else answered (with_node s n (after_edge (node_at s n))) (Edged ((node_at s n).now + 1))))
+      go : (full : Bool) → IsAfter h.fabric g.fabric (Edged k)
+          (if full then refused s CheckpointsFull
+          else answered (with_node s n (after_edge (node_at s n))) (Edged ((node_at s n).now + 1))) →
+          Does h g (Edged k) (edges (state_of h) n
+          (if full then refused s CheckpointsFull else answered (with_node s n (after_edge (node_at s n))) (Edged ((node_at s n).now + 1))))
       go true a = absurd (let e = a.answer in cc)
       go false a = record {
         state = seat-state h g n y same ∙ rw (a.left, is, processor-at h n here) refl;
@@ -146,7 +167,8 @@ module _ (h g : Hardware) (n : ℕ) (w : IsWhole h) (l : n < length h.fabric.fab
       }
 
   -- which has the number after that of the newest checkpoint, and there is room for it
-  pub edge-number : (k : ℕ) → IsSound (state_of h) → Edged k ≡ (edged s n).answer → (k ≡ next (seat_at h.processors.items n).checkpoints) × (length (seat_at h.processors.items n).checkpoints.cores < 5)
+  pub edge-number : (k : ℕ) → IsSound (state_of h) → Edged k ≡ (edged s n).answer →
+      (k ≡ next (seat_at h.processors.items n).checkpoints) × (length (seat_at h.processors.items n).checkpoints.cores < 5)
   edge-number k sound e = go (nat_eq ((node_at s n).now - (node_at s n).known) checkpoint_limit) refl e
     where
       here : n < length h.processors.items
@@ -155,7 +177,9 @@ module _ (h g : Hardware) (n : ℕ) (w : IsWhole h) (l : n < length h.fabric.fab
       count : (node_at s n).known + length (seat_at h.processors.items n).checkpoints.cores ≡ (node_at s n).now + 1
       count = ap (λ (p : Processor). (node_at s n).known + length p.checkpoints) (sym (processor-at h n here)) ∙ sound.shape.checkpoints n l
 
-      go : (full : Bool) → nat_eq ((node_at s n).now - (node_at s n).known) checkpoint_limit ≡ full → Edged k ≡ (if full then refused s CheckpointsFull else answered (with_node s n (after_edge (node_at s n))) (Edged ((node_at s n).now + 1))).answer →
+      go : (full : Bool) → nat_eq ((node_at s n).now - (node_at s n).known) checkpoint_limit ≡ full →
+          Edged k ≡ (if full then refused s CheckpointsFull
+          else answered (with_node s n (after_edge (node_at s n))) (Edged ((node_at s n).now + 1))).answer →
           (k ≡ next (seat_at h.processors.items n).checkpoints) × (length (seat_at h.processors.items n).checkpoints.cores < 5)
       go true full e = absurd cc
       go false full e =
@@ -175,7 +199,8 @@ module _ (s : Fabric) (n block : ℕ) where
   abbrev Tells : Moved → Type 0
   Tells moved = (moved.answer ≡ Evicted → moved.told ≡ Some (LostCopy n block)) × (moved.answer ≢ Evicted → moved.told ≡ None)
 
-  putting_tells : (a b : Bool) (moved : Moved) → moved.answer ≡ PutBegun → moved.told ≡ None → Tells (if a then refused s PutOpen else if b then refused s NetFull else moved)
+  putting_tells : (a b : Bool) (moved : Moved) → moved.answer ≡ PutBegun → moved.told ≡ None →
+      Tells (if a then refused s PutOpen else if b then refused s NetFull else moved)
   putting_tells true b moved is told = (λ e. absurd cc, λ e. refl)
   putting_tells false true moved is told = (λ e. absurd cc, λ e. refl)
   putting_tells false false moved is told = (λ e. absurd cc, λ e. told)
@@ -198,30 +223,39 @@ module _ (s : Fabric) (n block : ℕ) where
   evicted-tells = evicting_tells (misses_on (node_at s n).cache.miss block)
 
 -- what is heard, where nothing is and where a copy is lost
-pub hearing-none : (h g : Hardware) (said : Answer) (moved : Moved) → IsWhole h → IsAfter h.fabric g.fabric said moved → Rightly h.fabric.fabric moved.fabric moved.told → moved.told ≡ None → HasSameRest h g → g.is_carried ≡ true →
+pub hearing-none : (h g : Hardware) (said : Answer) (moved : Moved) → IsWhole h → IsAfter h.fabric g.fabric said moved →
+    Rightly h.fabric.fabric moved.fabric moved.told → moved.told ≡ None → HasSameRest h g → g.is_carried ≡ true →
     Does h g said (hearing (state_of h) moved)
 hearing-none h g said moved w after right none same is =
     subst (λ t. Does h g said (carried (heard (state_of h) t) moved)) (sym none)
     (carried-does h g said moved w after (subst (Rightly h.fabric.fabric moved.fabric) none right) same is)
 
-pub hearing-lost : (h g : Hardware) (said : Answer) (moved : Moved) (n block : ℕ) (core : CoreState) → IsWhole h → n < length h.fabric.fabric.nodes → IsAfter h.fabric g.fabric said moved → Rightly h.fabric.fabric moved.fabric moved.told →
-    moved.told ≡ Some (LostCopy n block) → HasSeat h g n (record (seat_at h.processors.items n) { core = core }) → core ≡ unreserved (seat_at h.processors.items n).core block → g.is_carried ≡ true →
+pub hearing-lost : (h g : Hardware) (said : Answer) (moved : Moved) (n block : ℕ) (core : CoreState) → IsWhole h →
+    n < length h.fabric.fabric.nodes → IsAfter h.fabric g.fabric said moved → Rightly h.fabric.fabric moved.fabric moved.told →
+    moved.told ≡ Some (LostCopy n block) → HasSeat h g n (record (seat_at h.processors.items n) { core = core }) →
+    core ≡ unreserved (seat_at h.processors.items n).core block → g.is_carried ≡ true →
     Does h g said (hearing (state_of h) moved)
 hearing-lost h g said moved n block core w l after right lost same un is =
     let here = is_here h n w l in
     let clocks : IsSameClocks h.fabric.fabric moved.fabric = (subst (Rightly h.fabric.fabric moved.fabric) lost right).1 in
     record {
-      state = seat-state h g n (record (seat_at h.processors.items n) { core = core }) same ∙ rw (lost, after.left, un, processor-at h n here) refl;
+      state =
+          seat-state h g n (record (seat_at h.processors.items n) { core = core }) same
+          ∙ rw (lost, after.left, un, processor-at h n here) refl;
       says = after.answer;
       sent = rw (is, after.left) refl;
       sizes = rw after.left refl;
-      whole = seat-whole h g n (record (seat_at h.processors.items n) { core = core }) same here w (rw after.left (keeps_by_clocks h.fabric.fabric moved.fabric clocks)) refl;
+      whole =
+          seat-whole h g n (record (seat_at h.processors.items n) { core = core }) same here w
+          (rw after.left (keeps_by_clocks h.fabric.fabric moved.fabric clocks)) refl;
       room = seat-room h g n (record (seat_at h.processors.items n) { core = core }) same here (omega arith);
     }
 
 -- the same of a processor that was read
-pub hearing-lost-at : (h g : Hardware) (said : Answer) (moved : Moved) (n block place : ℕ) (x : Seat) (core : CoreState) → IsWhole h → n < length h.fabric.fabric.nodes → IsAfter h.fabric g.fabric said moved → Rightly h.fabric.fabric moved.fabric moved.told →
-    moved.told ≡ Some (LostCopy n block) → place ≡ n → x ≡ get_or h.processors.items place x → HasSeat h g place (record x { core = core }) → core ≡ unreserved x.core block → g.is_carried ≡ true →
+pub hearing-lost-at : (h g : Hardware) (said : Answer) (moved : Moved) (n block place : ℕ) (x : Seat) (core : CoreState) → IsWhole h →
+    n < length h.fabric.fabric.nodes → IsAfter h.fabric g.fabric said moved → Rightly h.fabric.fabric moved.fabric moved.told →
+    moved.told ≡ Some (LostCopy n block) → place ≡ n → x ≡ get_or h.processors.items place x →
+    HasSeat h g place (record x { core = core }) → core ≡ unreserved x.core block → g.is_carried ≡ true →
     Does h g said (hearing (state_of h) moved)
 hearing-lost-at h g said moved n block place x core w l after right lost i r same un is =
     let e = seat-read h n place x w l i r in

@@ -38,7 +38,9 @@ module _ (image : ImageData) (config : Config) (s : State) (r : ℕ → Records)
 
   stepped_few : (n : ℕ) → n < N → Few (stepped image config s n)
   unfolding moved_by
-  stepped_few n l = stepped_cases image config s n l Few (λ can. none) (λ block access low leaves. few (fabric.Access n block access) (l, low)) (λ a leaves. none)
+  stepped_few n l =
+      stepped_cases image config s n l Few (λ can. none) (λ block access low leaves. few (fabric.Access n block access) (l, low))
+      (λ a leaves. none)
 
   is_node : (n : ℕ) → nat_lt n N ≡ true → n < N
   is_node n e = grind (arith, nat_tests)

@@ -1,5 +1,6 @@
 -- What a machine shows of its recovery point is the flat machine after the committed trace.
-use Rattle.std.proofs.Common.{◌≡◌, ◌⊎◌, inl, inr, Bool, not, ◌&&◌, zero, suc, ℕ, ◌+◌, ◌-◌, ◌*◌, ◌/◌, ◌%◌, ◌<◌, ◌≤◌, true, false, List, length, get_or, drop, Some, refl, sym, ap, ◌∙◌, subst, arith}
+use Rattle.std.proofs.Common.{◌≡◌, ◌⊎◌, inl, inr, Bool, not, ◌&&◌, zero, suc, ℕ, ◌+◌, ◌-◌, ◌*◌, ◌/◌, ◌%◌, ◌<◌, ◌≤◌, true, false, List}
+use Rattle.std.proofs.Common.{length, get_or, drop, Some, refl, sym, ap, ◌∙◌, subst, arith}
 use Rattle.std.specs.Prelude.{slice_get}
 use Rattle.std.proofs.lemmas.Bool.{cases_lt}
 use Rattle.sn_base.specs.Image.{ImageData}
@@ -18,7 +19,7 @@ use Rattle.sn_model.specs.Caches.{block_count}
 use Rattle.sn_model.specs.Cuts.{names_at}
 use Rattle.sn_model.specs.Fabric.{Fabric, node_at}
 use Rattle.sn_model.specs.Homes.{Holder, Itself, OfCache}
-use Rattle.sn_model.specs.RecoveryPoint.{IsHeld, block_in}
+use Rattle.sn_model.specs.RecoveryPoint.{HasOneHolderWith, block_in}
 use Rattle.consistent_cuts.proofs.Run.{holds_consistent}
 use Rattle.sn_machine.specs.declared.processor.Processor.{Processor as Seat}
 use Rattle.sn_machine.specs.declared.hardware.Hardware.{Hardware}
@@ -35,7 +36,8 @@ module _ (image : ImageData) (config : Config) (h : Hardware) (applied spare : �
   pub here : (n : ℕ) → n < config.nodes → n < length h.fabric.fabric.nodes
   here n l = let e = m.holds.0 in omega (arith, e, l)
 
-  pub core-shown : (n place : ℕ) (x : Seat) (core : CoreState) → n < config.nodes → place ≡ n → x ≡ get_or h.processors.items place x → core_at x.checkpoints h.fabric.fabric.point ≡ Some core →
+  pub core-shown : (n place : ℕ) (x : Seat) (core : CoreState) → n < config.nodes → place ≡ n → x ≡ get_or h.processors.items place x →
+      core_at x.checkpoints h.fabric.fabric.point ≡ Some core →
       core ≡ bare (flat_core (end_of image config.nodes h.history.committed) n)
   core-shown n place x core l i r at =
       let lh = here n l in
@@ -43,18 +45,22 @@ module _ (image : ImageData) (config : Config) (h : Hardware) (applied spare : �
       let keeps = (holds_consistent image config.nodes (state_of h) m.trace m.holds).cut.cores n lh in
       let p = processor-at h n (is_here h n m.whole lh) in
       let first = m.whole.known n (is_here h n m.whole lh) in
-      let a : slice_get (seat_at h.processors.items n).checkpoints.cores (h.fabric.fabric.point - (node_at h.fabric.fabric n).known) ≡ Some (bare (flat_core (end_of image config.nodes h.history.committed) n)) =
+      let a : slice_get (seat_at h.processors.items n).checkpoints.cores (h.fabric.fabric.point - (node_at h.fabric.fabric n).known)
+      ≡ Some (bare (flat_core (end_of image config.nodes h.history.committed) n)) =
       ap (λ (q : Processor). slice_get q.checkpoints (h.fabric.fabric.point - (node_at h.fabric.fabric n).known)) (sym p) ∙ keeps.same in
-      let b : slice_get (seat_at h.processors.items n).checkpoints.cores (h.fabric.fabric.point - (seat_at h.processors.items n).checkpoints.first) ≡ Some core = (rw e at at) in
+      let b : slice_get (seat_at h.processors.items n).checkpoints.cores
+      (h.fabric.fabric.point - (seat_at h.processors.items n).checkpoints.first) ≡ Some core = (rw e at at) in
       injected core _ (sym b ∙ ap (λ k. slice_get (seat_at h.processors.items n).checkpoints.cores (h.fabric.fabric.point - k)) first ∙ a)
 
 -- a word of memory
 
-contents : (s : Fabric) (b k : ℕ) (x y : List ℕ) (holder : Holder) → IsHeld s b k x holder → IsHeld s b k y holder → x ≡ y
+contents : (s : Fabric) (b k : ℕ) (x y : List ℕ) (holder : Holder) → HasOneHolderWith s b k x holder → HasOneHolderWith s b k y holder →
+    x ≡ y
 contents s b k x y (Itself named) p q = sym p.0 ∙ q.0
 contents s b k x y (OfCache owner) p q = let a = p.1 in let c = q.1 in cc
 
-word_of : (memory : List ℕ) (address place : ℕ) (content : List ℕ) → place ≡ (address - ram_start) % 64 → address % 4 ≡ 0 → ram_start ≤ address → content ≡ block_in memory (block_of address) →
+word_of : (memory : List ℕ) (address place : ℕ) (content : List ℕ) → place ≡ (address - ram_start) % 64 → address % 4 ≡ 0 →
+    ram_start ≤ address → content ≡ block_in memory (block_of address) →
     little_number 4 (drop place content) ≡ word_at memory address
 unfolding sorted_block_in block_word
 word_of memory address place content i aligned low is =
@@ -62,17 +68,22 @@ word_of memory address place content i aligned low is =
     sym (word_block memory address ∙ rw (e, is, i) refl)
 
 module _ (image : ImageData) (config : Config) (h : Hardware) (applied spare : ℕ) (m : IsMachine image config h applied spare) where
-  pub word-shown : (address place block point value : ℕ) (content : List ℕ) → ram_start ≤ address → address < ram_start + ram_size → address % 4 ≡ 0 → place ≡ (address - ram_start) % 64 → block ≡ block_of address → point ≡ h.fabric.fabric.point →
-      IsHeld h.fabric.fabric block point content (names_at h.fabric.fabric block point) → value ≡ little_number 4 (drop place content) → value ≡ word_at (end_of image config.nodes h.history.committed).memory address
+  pub word-shown : (address place block point value : ℕ) (content : List ℕ) → ram_start ≤ address → address < ram_start + ram_size →
+      address % 4 ≡ 0 → place ≡ (address - ram_start) % 64 → block ≡ block_of address → point ≡ h.fabric.fabric.point →
+      HasOneHolderWith h.fabric.fabric block point content (names_at h.fabric.fabric block point) →
+      value ≡ little_number 4 (drop place content) → value ≡ word_at (end_of image config.nodes h.history.committed).memory address
   word-shown address place block point value content low high aligned i b p held is =
       let inside : block_of address < block_count = omega (arith, low, high) in
       let blocks = (holds_consistent image config.nodes (state_of h) m.trace m.holds).cut.blocks (block_of address) inside in
-      let same = contents h.fabric.fabric (block_of address) h.fabric.fabric.point content (block_in (end_of image config.nodes h.history.committed).memory (block_of address)) (names_at h.fabric.fabric (block_of address) h.fabric.fabric.point) (rw (b, p) at held) blocks in
+      let same = contents h.fabric.fabric (block_of address) h.fabric.fabric.point content
+      (block_in (end_of image config.nodes h.history.committed).memory (block_of address))
+      (names_at h.fabric.fabric (block_of address) h.fabric.fabric.point) (rw (b, p) at held) blocks in
       is ∙ word_of (end_of image config.nodes h.history.committed).memory address place content i aligned low same
 
 -- one core that runs
 
-ended_step : (flat : FlatState) (k n : ℕ) → n < suc k → is_running (flat_core flat n).end ≡ true → (n < k → have_ended k flat ≡ false) → have_ended (suc k) flat ≡ false
+ended_step : (flat : FlatState) (k n : ℕ) → n < suc k → is_running (flat_core flat n).end ≡ true → (n < k → have_ended k flat ≡ false) →
+    have_ended (suc k) flat ≡ false
 ended_step flat k n l is below = go (cases_lt n k)
   where
     last : (b : Bool) → is_running (flat_core flat k).end ≡ true → b && not (is_running (flat_core flat k).end) ≡ false
@@ -81,13 +92,17 @@ ended_step flat k n l is below = go (cases_lt n k)
 
     go : ((n < k) ⊎ (k ≤ n)) → have_ended (suc k) flat ≡ false
     go (inl h) = rw (below h) refl
-    go (inr h) = let e : n ≡ k = omega (arith, l, h) in last (have_ended k flat) (subst (λ j. is_running (flat_core flat j).end ≡ true) e is)
+    go (inr h) =
+        let e : n ≡ k = omega (arith, l, h) in last (have_ended k flat) (subst (λ j. is_running (flat_core flat j).end ≡ true) e is)
 
 not_ended : (flat : FlatState) (nodes n : ℕ) → n < nodes → is_running (flat_core flat n).end ≡ true → have_ended nodes flat ≡ false
 not_ended flat zero n l is = absurd (omega (arith, l))
 not_ended flat (suc k) n l is = ended_step flat k n l is (λ h. not_ended flat k n h is)
 
-pub one-runs : (m view : MachineData) (number node : ℕ) (core : CoreState) (running : Bool) → view ≡ m → node ≡ number → core ≡ bare (flat_core (flat_of view) node) → running ≡ is_running core.end → running ≡ true → number < m.config.nodes →
+pub one-runs : (m view : MachineData) (number node : ℕ) (core : CoreState) (running : Bool) → view ≡ m → node ≡ number →
+    core ≡ bare (flat_core (flat_of view) node) → running ≡ is_running core.end → running ≡ true → number < m.config.nodes →
     have_ended m.config.nodes (flat_of m) ≡ false
 one-runs m view number node core running v i is e runs l =
-    not_ended (flat_of m) m.config.nodes number l (ap (λ (d : MachineData). is_running (flat_core (flat_of d) number).end) (sym v) ∙ ap (λ k. is_running (flat_core (flat_of view) k).end) (sym i) ∙ ap (λ (c : CoreState). is_running c.end) (sym is) ∙ sym e ∙ runs)
+    not_ended (flat_of m) m.config.nodes number l
+    (ap (λ (d : MachineData). is_running (flat_core (flat_of d) number).end) (sym v)
+    ∙ ap (λ k. is_running (flat_core (flat_of view) k).end) (sym i) ∙ ap (λ (c : CoreState). is_running c.end) (sym is) ∙ sym e ∙ runs)

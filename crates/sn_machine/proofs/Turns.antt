@@ -1,5 +1,6 @@
 -- What a node's step comes to.
-use Rattle.std.proofs.Common.{◌≡◌, ◌≢◌, ℕ, ◌<◌, ◌≤◌, Bool, true, false, not, ◌&&◌, nat_le, if◌then◌else◌, List, length, get_or, Some, None, refl, sym, ap, ◌∙◌, subst, arith}
+use Rattle.std.proofs.Common.{◌≡◌, ◌≢◌, ℕ, ◌<◌, ◌≤◌, Bool, true, false, not, ◌&&◌, nat_le, if◌then◌else◌, List, length, get_or, Some, None}
+use Rattle.std.proofs.Common.{refl, sym, ap, ◌∙◌, subst, arith}
 use Rattle.std.specs.Prelude.{nat_lt, slice_index}
 use Rattle.std.proofs.lemmas.Bool.Decides.{nat_tests}
 use Rattle.sn_base.specs.Image.{ImageData}
@@ -19,7 +20,8 @@ use Rattle.sn_model.specs.declared.cache.Need.TheVariants as needs
 use Rattle.sn_model.specs.Access.{accessed, missed, has_miss, serves, lacks_room, loaded}
 use Rattle.sn_model.specs.Caches.{block_count, line_of, is_present, puts_on, frames_taken}
 use Rattle.sn_model.specs.Fabric.{Fabric, node_at, refused, answered}
-use Rattle.sn_model.specs.Instructions.{Found, nothing_found, found_by, record_with, stepped, step_wanting, accessing, is_retired, next_byte, taken_by}
+use Rattle.sn_model.specs.Instructions.{Found, nothing_found, found_by, record_with, stepped, step_wanting, accessing, is_retired}
+use Rattle.sn_model.specs.Instructions.{next_byte, taken_by}
 use Rattle.sn_model.specs.Machine.{State, Processor, processor_at}
 use Rattle.sn_model.specs.Net.{is_full}
 use Rattle.consistent_cuts.specs.Accesses.{CanServe, CanServeWant, CanRetire}
@@ -37,8 +39,12 @@ use Rattle.sn_machine.proofs.Lists.{taken-is}
 -- an access that neither is served nor misses leaves all as it is
 module _ (config : Config) (s : Fabric) (n b : ℕ) (need : Need) where
   refused_by : (a p c d e f : Bool) (answer : Answer) → answer ≢ Retired → answer ≢ Missed →
-      answer ≡ (if a then refused s Waits else if p then refused s Waits else if c then (if d then refused s LogFull else answered s Retired) else if e then refused s NeedsEvict else if f then refused s NetFull else missed s n b need).answer →
-      (is_retired answer ≡ false) × ((if a then refused s Waits else if p then refused s Waits else if c then (if d then refused s LogFull else answered s Retired) else if e then refused s NeedsEvict else if f then refused s NetFull else missed s n b need) ≡ refused s answer)
+      answer ≡ (if a then refused s Waits else if p then refused s Waits
+      else if c then (if d then refused s LogFull else answered s Retired) else if e then refused s NeedsEvict
+      else if f then refused s NetFull else missed s n b need).answer →
+      (is_retired answer ≡ false)
+      × ((if a then refused s Waits else if p then refused s Waits else if c then (if d then refused s LogFull else answered s Retired)
+      else if e then refused s NeedsEvict else if f then refused s NetFull else missed s n b need) ≡ refused s answer)
   refused_by true p c d e f answer r m is = (rw is refl, rw is refl)
   refused_by false true c d e f answer r m is = (rw is refl, rw is refl)
   refused_by false false true true e f answer r m is = (rw is refl, rw is refl)
@@ -47,17 +53,21 @@ module _ (config : Config) (s : Fabric) (n b : ℕ) (need : Need) where
   refused_by false false false d false true answer r m is = (rw is refl, rw is refl)
   refused_by false false false d false false answer r m is = absurd (m is)
 
-  pub access-refused : (answer : Answer) → answer ≢ Retired → answer ≢ Missed → answer ≡ (accessed config s n b need).answer → (is_retired answer ≡ false) × (accessed config s n b need ≡ refused s answer)
+  pub access-refused : (answer : Answer) → answer ≢ Retired → answer ≢ Missed → answer ≡ (accessed config s n b need).answer →
+      (is_retired answer ≡ false) × (accessed config s n b need ≡ refused s answer)
   access-refused answer r m is =
-      refused_by (has_miss (node_at s n).cache.miss) (puts_on (node_at s n).cache.put b) (serves need (line_of (node_at s n).cache b).state) (lacks_room config (node_at s n) b need)
-      (not (is_present (line_of (node_at s n).cache b).state) && nat_le config.ways (frames_taken (node_at s n).cache config.sets b)) (is_full s 1) answer r m is
+      refused_by (has_miss (node_at s n).cache.miss) (puts_on (node_at s n).cache.put b) (serves need (line_of (node_at s n).cache b).state)
+      (lacks_room config (node_at s n) b need)
+      (not (is_present (line_of (node_at s n).cache b).state) && nat_le config.ways (frames_taken (node_at s n).cache config.sets b))
+      (is_full s 1) answer r m is
 
   -- a line that serves a read or a write is there
   serving-present : (k : Need) → CanServe config s n b k → is_present (line_of (node_at s n).cache b).state ≡ true
   serving-present needs.Read can = can.serving
   serving-present needs.Write can = writable_present (line_of (node_at s n).cache b).state can.serving
 
-  pub served-present : n < length s.nodes → b < block_count → (accessed config s n b need).answer ≡ Retired → is_present (line_of (node_at s n).cache b).state ≡ true
+  pub served-present : n < length s.nodes → b < block_count → (accessed config s n b need).answer ≡ Retired →
+      is_present (line_of (node_at s n).cache b).state ≡ true
   served-present l low is = serving-present need (served_by_line config s n b l low need (ap is_retired is))
 
 -- what the access that an instruction wants makes of the step
@@ -69,12 +79,21 @@ module _ (image : ImageData) (config : Config) (s : State) (n : ℕ) (l : n < le
   step_is : (w : Want) → want_of image (processor_at s n).core ≡ w → stepped image config s n ≡ step_wanting image config s n w
   step_is w e = rw (running, no_miss, e) refl
 
-  pub can-retire : (w : Want) → want_of image (processor_at s n).core ≡ w → CanServeWant w (found_by s n w).sc_done config s n → CanRetire image config s n
-  can-retire w e served = record { node = l; running = running; no_miss = no_miss; served = subst (λ w. CanServeWant w (found_by s n w).sc_done config s n) (sym e) served }
+  pub can-retire : (w : Want) → want_of image (processor_at s n).core ≡ w → CanServeWant w (found_by s n w).sc_done config s n →
+      CanRetire image config s n
+  can-retire w e served =
+      record {
+        node = l;
+        running = running;
+        no_miss = no_miss;
+        served = subst (λ w. CanServeWant w (found_by s n w).sc_done config s n) (sym e) served;
+      }
 
-  module _ (w : Want) (a : ℕ) (k : Need) (found : Found) (e : want_of image (processor_at s n).core ≡ w) (inside : IsAddress a) (is : step_wanting image config s n w ≡ accessing image config s n a k) (finds : found_by s n w ≡ found)
+  module _ (w : Want) (a : ℕ) (k : Need) (found : Found) (e : want_of image (processor_at s n).core ≡ w) (inside : IsAddress a)
+      (is : step_wanting image config s n w ≡ accessing image config s n a k) (finds : found_by s n w ≡ found)
       (serve : CanServe config s.fabric n (block_of a) k → CanServeWant w found.sc_done config s n) where
-    pub access-comes : (turn : NodeStep) → IsAccess config s.fabric n (block_of a) k found turn → ComesTo image config s n (stepped image config s n) turn
+    pub access-comes : (turn : NodeStep) → IsAccess config s.fabric n (block_of a) k found turn →
+        ComesTo image config s n (stepped image config s n) turn
     access-comes (Retires did) h = (
       can-retire w e (rw finds (serve (served_by_line config s.fabric n (block_of a) l (block_low a inside) k (ap is_retired h.0)))),
       h.1 ∙ ap (record_with n) (sym finds ∙ ap (found_by s n) (sym e)),
@@ -83,26 +102,51 @@ module _ (image : ImageData) (config : Config) (s : State) (n : ℕ) (l : n < le
     access-comes (Misses b need) h = (rw (h.0, h.1) h.2, step_is w e ∙ is ∙ rw (h.0, h.1, h.2) refl)
     access-comes (Refused answer) h = step_is w e ∙ is ∙ rw (h.1, h.0) refl
 
-  pub load-comes : (a : ℕ) (turn : NodeStep) → want_of image (processor_at s n).core ≡ Load a → IsAccess config s.fabric n (block_of a) needs.Read (record nothing_found { seen = loaded s.fabric n a }) turn → ComesTo image config s n (stepped image config s n) turn
-  load-comes a turn e h = access-comes (Load a) a needs.Read (record nothing_found { seen = loaded s.fabric n a }) e (subst IsInside e (want_inside image (processor_at s n).core)) refl refl (λ can. can) turn h
+  pub load-comes : (a : ℕ) (turn : NodeStep) → want_of image (processor_at s n).core ≡ Load a →
+      IsAccess config s.fabric n (block_of a) needs.Read (record nothing_found { seen = loaded s.fabric n a }) turn →
+      ComesTo image config s n (stepped image config s n) turn
+  load-comes a turn e h =
+      access-comes (Load a) a needs.Read (record nothing_found { seen = loaded s.fabric n a }) e
+      (subst IsInside e (want_inside image (processor_at s n).core)) refl refl (λ can. can) turn h
 
-  pub reserved-comes : (a : ℕ) (turn : NodeStep) → want_of image (processor_at s n).core ≡ Lr a → IsAccess config s.fabric n (block_of a) needs.Read (record nothing_found { seen = loaded s.fabric n a }) turn → ComesTo image config s n (stepped image config s n) turn
-  reserved-comes a turn e h = access-comes (Lr a) a needs.Read (record nothing_found { seen = loaded s.fabric n a }) e (subst IsInside e (want_inside image (processor_at s n).core)) refl refl (λ can. can) turn h
+  pub reserved-comes : (a : ℕ) (turn : NodeStep) → want_of image (processor_at s n).core ≡ Lr a →
+      IsAccess config s.fabric n (block_of a) needs.Read (record nothing_found { seen = loaded s.fabric n a }) turn →
+      ComesTo image config s n (stepped image config s n) turn
+  reserved-comes a turn e h =
+      access-comes (Lr a) a needs.Read (record nothing_found { seen = loaded s.fabric n a }) e
+      (subst IsInside e (want_inside image (processor_at s n).core)) refl refl (λ can. can) turn h
 
-  pub store-comes : (a : ℕ) (turn : NodeStep) → want_of image (processor_at s n).core ≡ Store a → IsAccess config s.fabric n (block_of a) needs.Write nothing_found turn → ComesTo image config s n (stepped image config s n) turn
-  store-comes a turn e h = access-comes (Store a) a needs.Write nothing_found e (subst IsInside e (want_inside image (processor_at s n).core)) refl refl (λ can. can) turn h
+  pub store-comes : (a : ℕ) (turn : NodeStep) → want_of image (processor_at s n).core ≡ Store a →
+      IsAccess config s.fabric n (block_of a) needs.Write nothing_found turn → ComesTo image config s n (stepped image config s n) turn
+  store-comes a turn e h =
+      access-comes (Store a) a needs.Write nothing_found e (subst IsInside e (want_inside image (processor_at s n).core)) refl refl
+      (λ can. can) turn h
 
-  pub amo-comes : (a : ℕ) (turn : NodeStep) → want_of image (processor_at s n).core ≡ Amo a → IsAccess config s.fabric n (block_of a) needs.Write (record nothing_found { seen = loaded s.fabric n a }) turn → ComesTo image config s n (stepped image config s n) turn
-  amo-comes a turn e h = access-comes (Amo a) a needs.Write (record nothing_found { seen = loaded s.fabric n a }) e (subst IsInside e (want_inside image (processor_at s n).core)) refl refl (λ can. can) turn h
+  pub amo-comes : (a : ℕ) (turn : NodeStep) → want_of image (processor_at s n).core ≡ Amo a →
+      IsAccess config s.fabric n (block_of a) needs.Write (record nothing_found { seen = loaded s.fabric n a }) turn →
+      ComesTo image config s n (stepped image config s n) turn
+  amo-comes a turn e h =
+      access-comes (Amo a) a needs.Write (record nothing_found { seen = loaded s.fabric n a }) e
+      (subst IsInside e (want_inside image (processor_at s n).core)) refl refl (λ can. can) turn h
 
-  pub conditional-comes : (a : ℕ) (turn : NodeStep) → want_of image (processor_at s n).core ≡ Sc a → IsConditional config s n a turn → ComesTo image config s n (stepped image config s n) turn
+  pub conditional-comes : (a : ℕ) (turn : NodeStep) → want_of image (processor_at s n).core ≡ Sc a → IsConditional config s n a turn →
+      ComesTo image config s n (stepped image config s n) turn
   conditional-comes a turn e h = go (is_reserved (processor_at s n).core.reservation (block_of a)) refl
     where
-      unreserved : is_reserved (processor_at s n).core.reservation (block_of a) ≡ false → ComesTo image config s n (stepped image config s n) (Retires (record_with n nothing_found))
-      unreserved q = (can-retire (Sc a) e (subst (λ (done : Bool). CanServeWant (Sc a) done config s n) (sym q) tt), rw e (rw q refl), step_is (Sc a) e ∙ rw q refl)
+      unreserved : is_reserved (processor_at s n).core.reservation (block_of a) ≡ false →
+          ComesTo image config s n (stepped image config s n) (Retires (record_with n nothing_found))
+      unreserved q = (
+        can-retire (Sc a) e (subst (λ (done : Bool). CanServeWant (Sc a) done config s n) (sym q) tt),
+        rw e (rw q refl),
+        step_is (Sc a) e
+            ∙ rw q refl,
+      )
 
-      go : (b : Bool) → is_reserved (processor_at s n).core.reservation (block_of a) ≡ b → ComesTo image config s n (stepped image config s n) turn
-      go true q = access-comes (Sc a) a needs.Write (record nothing_found { sc_done = true }) e (subst IsInside e (want_inside image (processor_at s n).core)) (rw q refl) (rw q refl) (λ can. can) turn (h.done q)
+      go : (b : Bool) → is_reserved (processor_at s n).core.reservation (block_of a) ≡ b →
+          ComesTo image config s n (stepped image config s n) turn
+      go true q =
+          access-comes (Sc a) a needs.Write (record nothing_found { sc_done = true }) e
+          (subst IsInside e (want_inside image (processor_at s n).core)) (rw q refl) (rw q refl) (λ can. can) turn (h.done q)
       go false q = rw (h.undone q) (unreserved q)
 
 pub inside-of : (image : ImageData) (core : CoreState) (found v : Want) → found ≡ want_of image core → found ≡ v → IsInside v
@@ -112,12 +156,14 @@ inside-of image core found v e is = subst IsInside (sym e ∙ is) (want_inside i
 
 module _ (h : Hardware) (n place : ℕ) (x : Seat) (w : IsWhole h) (l : n < length h.fabric.fabric.nodes) (i : place ≡ n) (r : x ≡ get_or h.processors.items place x) where
   pub core-read : x.core ≡ (processor_at (state_of h) n).core
-  core-read = ap (λ (y : Seat). y.core) (seat-read h n place x w l i r) ∙ ap (λ (p : Processor). p.core) (sym (processor-at h n (is_here h n w l)))
+  core-read =
+      ap (λ (y : Seat). y.core) (seat-read h n place x w l i r) ∙ ap (λ (p : Processor). p.core) (sym (processor-at h n (is_here h n w l)))
 
   pub running-read : (b : Bool) → b ≡ is_running x.core.end → b ≡ true → is_running (processor_at (state_of h) n).core.end ≡ true
   running-read b e is = ap (λ (c : CoreState). is_running c.end) (sym core-read) ∙ sym e ∙ is
 
-  pub want-read : (image : ImageData) (found v : Want) → found ≡ want_of image x.core → found ≡ v → want_of image (processor_at (state_of h) n).core ≡ v
+  pub want-read : (image : ImageData) (found v : Want) → found ≡ want_of image x.core → found ≡ v →
+      want_of image (processor_at (state_of h) n).core ≡ v
   want-read image found v e is = ap (want_of image) (sym core-read) ∙ sym e ∙ is
 
   pub inside-read : (image : ImageData) (found v : Want) → found ≡ want_of image x.core → found ≡ v → IsInside v
@@ -125,10 +171,13 @@ module _ (h : Hardware) (n place : ℕ) (x : Seat) (w : IsWhole h) (l : n < leng
 
 -- the next byte of input
 
-module _ (h : Hardware) (n place : ℕ) (x : Seat) (given : List ℕ) (taken : ℕ) (w : IsWhole h) (l : n < length h.fabric.fabric.nodes) (i : place ≡ n) (r : x ≡ get_or h.processors.items place x)
+module _ (h : Hardware) (n place : ℕ) (x : Seat) (given : List ℕ) (taken : ℕ) (w : IsWhole h) (l : n < length h.fabric.fabric.nodes)
+    (i : place ≡ n) (r : x ≡ get_or h.processors.items place x)
     (gives : given ≡ x.input.given) (takes : taken ≡ history.taken_by h.history n) where
   given_is : (processor_at (state_of h) n).given ≡ given
-  given_is = ap (λ (p : Processor). p.given) (processor-at h n (is_here h n w l)) ∙ ap (λ (y : Seat). y.input.given) (sym (seat-read h n place x w l i r)) ∙ sym gives
+  given_is =
+      ap (λ (p : Processor). p.given) (processor-at h n (is_here h n w l))
+      ∙ ap (λ (y : Seat). y.input.given) (sym (seat-read h n place x w l i r)) ∙ sym gives
 
   taken_is : taken_by (state_of h) n ≡ taken
   taken_is = sym (takes ∙ taken-is h n)

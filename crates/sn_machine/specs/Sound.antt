@@ -4,7 +4,7 @@ use Rattle.std.specs.List.{All}
 use Rattle.sn_model.specs.Fabric.{node_at}
 use Rattle.sn_model.specs.Machine.{State}
 use Rattle.sn_model.specs.MachineEvents.{unready_node}
-use Rattle.fabric_coherence.specs.Coherent.{Keeps, IsFinished, IsInTime}
+use Rattle.fabric_coherence.specs.Coherent.{Keeps, NothingUnfinished, IsInTime}
 use Rattle.consistent_cuts.specs.Outlined.{IsRestShaped}
 
 -- numbers that don't run out; all sentences of coherence; a processor for each node, with the register checkpoints from the
@@ -18,4 +18,4 @@ pub record IsSound (s : State) : Type 0 where
   pub times : (n : ℕ) → n < length s.fabric.nodes → IsInTime s.fabric n
   pub pending : All (λ r. s.fabric.point ≤ r.interval) s.pending
   pub held : All (λ b. s.fabric.point ≤ b.interval) s.held
-  pub finished : unready_node s ≡ None → IsFinished s.fabric (s.fabric.point + 1)
+  pub finished : unready_node s ≡ None → NothingUnfinished s.fabric (s.fabric.point + 1)

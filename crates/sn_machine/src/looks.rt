@@ -76,7 +76,8 @@ impl Machine {
     pub fn line(&self, node: NodeId, block: BlockNo) -> Option<Line>
         requires { node < self.now.config.nodes }
         ensures none { IsNone result → line_of (node_at self.now.state.fabric node).cache block ≡ no_line }
-        ensures some { IfSome result (λ line. (line ≡ line_of (node_at self.now.state.fabric node).cache block) × (is_present line.state ≡ true)) }
+        ensures some { IfSome result
+            (λ line. (line ≡ line_of (node_at self.now.state.fabric node).cache block) × (is_present line.state ≡ true)) }
     {
         self.hardware.fabric.line(node, block)
     }

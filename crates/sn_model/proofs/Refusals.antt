@@ -20,7 +20,8 @@ use Rattle.sn_model.specs.Caches.{line_of}
 use Rattle.sn_model.specs.Fabric.{Fabric, Flight, Moved, node_at, refused}
 use Rattle.sn_model.specs.Access.{accessed, misses}
 use Rattle.sn_model.specs.NodeEvents.{evicts, evicted, begins_put, edged, reported}
-use Rattle.sn_model.specs.NetEvents.{Outcome, Busy, AtCache, AtHome, Noted, hops, delivers, delivers_flight, outcome_of, fits_in, loses, killed}
+use Rattle.sn_model.specs.NetEvents.{Outcome, Busy, AtCache, AtHome, Noted, hops, delivers, delivers_flight, outcome_of, fits_in, loses}
+use Rattle.sn_model.specs.NetEvents.{killed}
 use Rattle.sn_model.specs.PointEvents.{advanced, recovers}
 use Rattle.sn_model.specs.Machine.{State, processor_at}
 use Rattle.sn_model.specs.Instructions.{Stepped, refused as declined, stepped, step_wanting, takes_input, accessing, carried}
@@ -43,7 +44,8 @@ differs true f t = cc
 differs false f t = cc
 
 moves : (s : Fabric) (x : Moved) → is_refusal x.answer ≡ false → Stays s x
-moves s x a = record { unchanged = λ r. absurd (differs (is_refusal x.answer) a r); untold = λ r. absurd (differs (is_refusal x.answer) a r) }
+moves s x a =
+    record { unchanged = λ r. absurd (differs (is_refusal x.answer) a r); untold = λ r. absurd (differs (is_refusal x.answer) a r) }
 
 same : (s : Fabric) (answer : Answer) → Stays s (refused s answer)
 same s answer = record { unchanged = λ r. refl; untold = λ r. refl }
@@ -52,7 +54,11 @@ stays-misses : (config : Config) (s : Fabric) (n block : ℕ) (need : Need) → 
 stays-misses config s n block need = record { unchanged = λ r. grind (arith); untold = λ r. grind (arith) }
 
 stays-accessed : (config : Config) (s : Fabric) (n block : ℕ) (need : Need) → Stays s (accessed config s n block need)
-stays-accessed config s n block need = record { unchanged = λ r. grind (arith, (stays-misses config s n block need).unchanged); untold = λ r. grind (arith, (stays-misses config s n block need).untold) }
+stays-accessed config s n block need =
+    record {
+      unchanged = λ r. grind (arith, (stays-misses config s n block need).unchanged);
+      untold = λ r. grind (arith, (stays-misses config s n block need).untold);
+    }
 
 stays-begins_put : (s : Fabric) (n block : ℕ) → Stays s (begins_put s n block)
 stays-begins_put s n block = record { unchanged = λ r. grind (arith); untold = λ r. grind (arith) }
@@ -65,7 +71,11 @@ stays-evicts s n block Modified = stays-begins_put s n block
 stays-evicts s n block Exclusive = stays-begins_put s n block
 
 stays-evicted : (s : Fabric) (n block : ℕ) → Stays s (evicted s n block)
-stays-evicted s n block = record { unchanged = λ r. grind (arith, (stays-evicts s n block (line_of (node_at s n).cache block).state).unchanged); untold = λ r. grind (arith, (stays-evicts s n block (line_of (node_at s n).cache block).state).untold) }
+stays-evicted s n block =
+    record {
+      unchanged = λ r. grind (arith, (stays-evicts s n block (line_of (node_at s n).cache block).state).unchanged);
+      untold = λ r. grind (arith, (stays-evicts s n block (line_of (node_at s n).cache block).state).untold);
+    }
 
 stays-edged : (s : Fabric) (n : ℕ) → Stays s (edged s n)
 stays-edged s n = record { unchanged = λ r. grind (arith); untold = λ r. grind (arith) }
@@ -84,7 +94,8 @@ stays-loses s (Some f) = moves s _ refl
 stays-killed : (s : Fabric) (switch : ℕ) → Stays s (killed s switch)
 stays-killed s switch = record { unchanged = λ r. grind (arith); untold = λ r. grind (arith) }
 
-stays-fits_in : (config : Config) (s : Fabric) (log : List LogEntry) (sends : List Out) (done : Moved) → Stays s done → Stays s (fits_in config s log sends done)
+stays-fits_in : (config : Config) (s : Fabric) (log : List LogEntry) (sends : List Out) (done : Moved) → Stays s done →
+    Stays s (fits_in config s log sends done)
 stays-fits_in config s log sends done l = record { unchanged = λ r. grind (arith, (l).unchanged); untold = λ r. grind (arith, (l).untold) }
 
 stays-delivers : (config : Config) (s : Fabric) (m : Message) (outcome : Outcome) → Stays s (delivers config s m outcome)
@@ -95,7 +106,11 @@ stays-delivers config s m (Noted fabric told) = moves s _ refl
 
 stays-flight : (config : Config) (s : Fabric) (f : Option Flight) → Stays s (delivers_flight config s f)
 stays-flight config s None = same s _
-stays-flight config s (Some f) = record { unchanged = λ r. grind (arith, (stays-delivers config s f.message (outcome_of s f.message f.message.body)).unchanged); untold = λ r. grind (arith, (stays-delivers config s f.message (outcome_of s f.message f.message.body)).untold) }
+stays-flight config s (Some f) =
+    record {
+      unchanged = λ r. grind (arith, (stays-delivers config s f.message (outcome_of s f.message f.message.body)).unchanged);
+      untold = λ r. grind (arith, (stays-delivers config s f.message (outcome_of s f.message f.message.body)).untold);
+    }
 
 stays-advanced : (s : Fabric) (k : ℕ) → Stays s (advanced s k)
 stays-advanced s k = record { unchanged = λ r. grind (arith); untold = λ r. grind (arith) }
@@ -115,8 +130,10 @@ declines s answer = record { unchanged = λ r. refl }
 leaves-carried : (s : State) (moved : Moved) → Stays s.fabric moved → Leaves s (carried s moved)
 leaves-carried s moved l = record { unchanged = λ r. grind (arith, l.unchanged) }
 
-leaves-accessing : (image : ImageData) (config : Config) (s : State) (n address : ℕ) (need : Need) → Leaves s (accessing image config s n address need)
-leaves-accessing image config s n address need = record { unchanged = λ r. grind (arith, (leaves-carried s _ (stays-accessed config s.fabric n (block_of address) need)).unchanged) }
+leaves-accessing : (image : ImageData) (config : Config) (s : State) (n address : ℕ) (need : Need) →
+    Leaves s (accessing image config s n address need)
+leaves-accessing image config s n address need =
+    record { unchanged = λ r. grind (arith, (leaves-carried s _ (stays-accessed config s.fabric n (block_of address) need)).unchanged) }
 
 leaves-takes_input : (image : ImageData) (s : State) (n : ℕ) (byte : Option ℕ) → Leaves s (takes_input image s n byte)
 leaves-takes_input image s n None = declines s _
@@ -128,11 +145,13 @@ leaves-wanting image config s n (Load address) = leaves-accessing image config s
 leaves-wanting image config s n (Store address) = leaves-accessing image config s n address ToWrite
 leaves-wanting image config s n (Amo address) = leaves-accessing image config s n address ToWrite
 leaves-wanting image config s n (Lr address) = leaves-accessing image config s n address Read
-leaves-wanting image config s n (Sc address) = record { unchanged = λ r. grind (arith, (leaves-accessing image config s n address ToWrite).unchanged) }
+leaves-wanting image config s n (Sc address) =
+    record { unchanged = λ r. grind (arith, (leaves-accessing image config s n address ToWrite).unchanged) }
 leaves-wanting image config s n TakesByte = leaves-takes_input image s n _
 
 leaves-stepped : (image : ImageData) (config : Config) (s : State) (n : ℕ) → Leaves s (stepped image config s n)
-leaves-stepped image config s n = record { unchanged = λ r. grind (arith, (leaves-wanting image config s n (want_of image (processor_at s n).core)).unchanged) }
+leaves-stepped image config s n =
+    record { unchanged = λ r. grind (arith, (leaves-wanting image config s n (want_of image (processor_at s n).core)).unchanged) }
 
 leaves-hearing : (s : State) (moved : Moved) → Stays s.fabric moved → Leaves s (hearing s moved)
 leaves-hearing s moved l = record { unchanged = λ r. grind (arith, l.unchanged, l.untold) }

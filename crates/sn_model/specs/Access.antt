@@ -1,5 +1,6 @@
 -- An access of a node to a block: whether its line serves it now, or what it comes to else; and a write to a line.
-use Rattle.std.specs.Prelude.{ℕ, ◌-◌, ◌*◌, ◌/◌, ◌%◌, Bool, true, false, not, ◌&&◌, nat_lt, nat_le, if◌then◌else◌, List, [], ◌∷◌, length, drop, Option, Some, None}
+use Rattle.std.specs.Prelude.{ℕ, ◌-◌, ◌*◌, ◌/◌, ◌%◌, Bool, true, false, not, ◌&&◌, nat_lt, nat_le, if◌then◌else◌, List, [], ◌∷◌, length}
+use Rattle.std.specs.Prelude.{drop, Option, Some, None}
 use Rattle.byteorder.specs.Endian.{little_number, little_bytes}
 use Rattle.sn_base.specs.Blocks.{ram_start, bytes_of, stored_in}
 use Rattle.sn_base.specs.declared.block.Write.{Write}
@@ -44,7 +45,9 @@ prepared node block = record node {
 }
 
 abbrev pub written_to : Cache → Write → Cache
-written_to cache w = with_line cache (block_of w.address) (line_of cache (block_of w.address)).state (written_in (line_of cache (block_of w.address)).content w)
+written_to cache w =
+    with_line cache (block_of w.address) (line_of cache (block_of w.address)).state
+    (written_in (line_of cache (block_of w.address)).content w)
 
 abbrev pub with_write : Node → Write → Node
 with_write node w = record (prepared node (block_of w.address)) { cache = written_to (prepared node (block_of w.address)).cache w }
@@ -65,11 +68,13 @@ abbrev pub missing : Node → ℕ → Need → Node
 missing node block need = record node { cache = record node.cache { miss = Some (new_miss block need node.now) } }
 
 abbrev pub missed : Fabric → ℕ → ℕ → Need → Moved
-missed s n block need = sending (with_node s n (missing (node_at s n) block need)) n block (send (home_node s block) (request_for need) ∷ []) Missed
+missed s n block need =
+    sending (with_node s n (missing (node_at s n) block need)) n block (send (home_node s block) (request_for need) ∷ []) Missed
 
 abbrev pub misses : Config → Fabric → ℕ → ℕ → Need → Moved
 misses config s n block need =
-    if not (is_present (line_of (node_at s n).cache block).state) && nat_le config.ways (frames_taken (node_at s n).cache config.sets block) then refused s NeedsEvict
+    if not (is_present (line_of (node_at s n).cache block).state)
+    && nat_le config.ways (frames_taken (node_at s n).cache config.sets block) then refused s NeedsEvict
     else if is_full s 1 then refused s NetFull
     else missed s n block need
 

@@ -65,7 +65,12 @@ line_when_done Exclusive Write = Modified
 -- the miss is complete: its home gets the interval of atomicity
 abbrev pub completed : Logged → ℕ → Miss → ℕ → CacheReply
 completed at home miss fixed = record {
-  after = record at { cache = record (with_line at.cache miss.block (line_when_done (line_of at.cache miss.block).state miss.need) (content_of at miss.block)) { miss = None } };
+  after =
+      record at {
+        cache = record
+            (with_line at.cache miss.block (line_when_done (line_of at.cache miss.block).state miss.need)
+            (content_of at miss.block)) { miss = None };
+      };
   sends = send home (Unblock fixed) ∷ [];
   lost = None;
 }
@@ -75,13 +80,13 @@ abbrev pub waiting : Logged → Miss → CacheReply
 waiting at miss = record { after = with_miss at (Some miss); sends = []; lost = None }
 
 -- the miss with what it knows now: complete where it is fixed and all acknowledgements due are in
-abbrev pub settled_by : Logged → ℕ → Miss → Option ℕ → CacheReply
-settled_by at home miss None = waiting at miss
-settled_by at home miss (Some fixed) = if nat_eq miss.acks miss.due then completed at home miss fixed else waiting at miss
+abbrev pub completed_or_waiting_by : Logged → ℕ → Miss → Option ℕ → CacheReply
+completed_or_waiting_by at home miss None = waiting at miss
+completed_or_waiting_by at home miss (Some fixed) = if nat_eq miss.acks miss.due then completed at home miss fixed else waiting at miss
 
-abbrev pub settled : Logged → ℕ → Option Miss → CacheReply
-settled at home None = record { after = at; sends = []; lost = None }
-settled at home (Some miss) = settled_by at home miss miss.fixed
+abbrev pub completed_or_waiting : Logged → ℕ → Option Miss → CacheReply
+completed_or_waiting at home None = record { after = at; sends = []; lost = None }
+completed_or_waiting at home (Some miss) = completed_or_waiting_by at home miss miss.fixed
 
 -- the open miss, fixed at an interval with so many acknowledgements due
 abbrev pub fixed_at : Option Miss → ℕ → ℕ → Option Miss
@@ -140,7 +145,7 @@ invalidate at block r = record {
 -- DataS: the line is Shared; the read is complete
 abbrev pub data_shared : Logged → ℕ → ℕ → ℕ → List ℕ → CacheReply
 data_shared at home block tag content =
-    settled (record at { cache = with_line at.cache block Shared content }) home (fixed_at at.cache.miss tag 0)
+    completed_or_waiting (record at { cache = with_line at.cache block Shared content }) home (fixed_at at.cache.miss tag 0)
 
 abbrev pub MayTakeCopy : Logged → ℕ → Type 0
 MayTakeCopy at block = AwaitsAnswer at.cache.miss block Read × ((line_of at.cache block).state ≡ Absent)
@@ -148,21 +153,21 @@ MayTakeCopy at block = AwaitsAnswer at.cache.miss block Read × ((line_of at.cac
 -- DataM with a acknowledgements due: that nothing was owned is noted under the tag; the line is Modified
 abbrev pub data_modified : Logged → ℕ → ℕ → ℕ → List ℕ → ℕ → CacheReply
 data_modified at home block tag content a =
-    settled (taken_over at block tag Modified content) home (fixed_at at.cache.miss tag a)
+    completed_or_waiting (taken_over at block tag Modified content) home (fixed_at at.cache.miss tag a)
 
 abbrev pub MayTakeOwnership : Logged → ℕ → Type 0
 MayTakeOwnership at block = AwaitsAnswer at.cache.miss block Write × (is_absent_or_shared (line_of at.cache block).state ≡ true)
 
 -- UpgOk with a acknowledgements due: the owner may write once they are in
 abbrev pub upgrade_granted : Logged → ℕ → ℕ → ℕ → CacheReply
-upgrade_granted at home tag a = settled at home (fixed_at at.cache.miss tag a)
+upgrade_granted at home tag a = completed_or_waiting at home (fixed_at at.cache.miss tag a)
 
 abbrev pub MayUpgrade : Logged → ℕ → Type 0
 MayUpgrade at block = AwaitsAnswer at.cache.miss block Write × ((line_of at.cache block).state ≡ Owned)
 
 -- InvAck: one more acknowledgement is in
 abbrev pub acknowledge : Logged → ℕ → CacheReply
-acknowledge at home = settled at home (acknowledged at.cache.miss)
+acknowledge at home = completed_or_waiting at home (acknowledged at.cache.miss)
 
 abbrev pub MayCount : Option Miss → ℕ → Type 0
 MayCount None block = ⊥
@@ -189,4 +194,4 @@ MayClosePut at block = puts_on at.cache.put block ≡ true
 -- DataE: that nothing was owned is noted under the tag; the line is Exclusive; the read is complete
 abbrev pub data_exclusive : Logged → ℕ → ℕ → ℕ → List ℕ → CacheReply
 data_exclusive at home block tag content =
-    settled (taken_over at block tag Exclusive content) home (fixed_at at.cache.miss tag 0)
+    completed_or_waiting (taken_over at block tag Exclusive content) home (fixed_at at.cache.miss tag 0)

@@ -1,5 +1,6 @@
 -- A cache as a value: its lines, its open miss and its open put. A map from blocks is a list in order of block numbers.
-use Rattle.std.specs.Prelude.{ℕ, zero, suc, ◌+◌, ◌%◌, Bool, true, false, ◌&&◌, ◌||◌, nat_eq, if◌then◌else◌, List, [], slice_index_or, slice_set, replicate, Option, Some, None}
+use Rattle.std.specs.Prelude.{ℕ, zero, suc, ◌+◌, ◌%◌, Bool, true, false, ◌&&◌, ◌||◌, nat_eq, if◌then◌else◌, List, [], slice_index_or}
+use Rattle.std.specs.Prelude.{slice_set, replicate, Option, Some, None}
 use Rattle.sn_base.specs.declared.limits.TheConstants.{BLOCKS}
 use Rattle.sn_model.specs.declared.cache.LineState.{LineState}
 use Rattle.sn_model.specs.declared.cache.LineState.TheVariants.{Absent, Shared, Owned, Modified, Exclusive}
@@ -91,7 +92,8 @@ takes_frame cache block = is_present (line_of cache block).state || misses_on ca
 -- how many of the first blocks take a frame of a set
 abbrev pub frames_below : ℕ → Cache → ℕ → ℕ → ℕ
 frames_below zero cache sets set = 0
-frames_below (suc block) cache sets set = frames_below block cache sets set + (if nat_eq (block % sets) set && takes_frame cache block then 1 else 0)
+frames_below (suc block) cache sets set =
+    frames_below block cache sets set + (if nat_eq (block % sets) set && takes_frame cache block then 1 else 0)
 
 -- how many frames of the set of a block are taken
 unfoldable pub frames_taken : Cache → ℕ → ℕ → ℕ

@@ -1,6 +1,7 @@
 -- The fabric as a value: what carries and keeps the blocks. A map from blocks is a list in order of block numbers, and what
 -- nodes have stands in order of their numbers; a look-up past the end gives something that is nobody's. It knows no core.
-use Rattle.std.specs.Prelude.{ℕ, zero, suc, ◌+◌, ◌*◌, ◌%◌, Bool, false, List, [], ◌∷◌, ◌++◌, slice_index_or, slice_set, replicate, length, Option, None}
+use Rattle.std.specs.Prelude.{ℕ, zero, suc, ◌+◌, ◌*◌, ◌%◌, Bool, false, List, [], ◌∷◌, ◌++◌, slice_index_or, slice_set, replicate, length}
+use Rattle.std.specs.Prelude.{Option, None}
 use Rattle.sn_base.specs.Blocks.{ram_start}
 use Rattle.sn_base.specs.Image.{ImageData, bytes_from}
 use Rattle.sn_base.specs.declared.log.LogEntry.{LogEntry}

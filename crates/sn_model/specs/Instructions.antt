@@ -1,5 +1,6 @@
 -- An instruction of a node: what it finds, and what it leaves when it retires.
-use Rattle.std.specs.Prelude.{ℕ, ◌+◌, Bool, true, false, not, nat_lt, if◌then◌else◌, List, [], ◌∷◌, ◌++◌, map, length, slice_index, slice_set, Option, Some, None, option_to_list}
+use Rattle.std.specs.Prelude.{ℕ, ◌+◌, Bool, true, false, not, nat_lt, if◌then◌else◌, List, [], ◌∷◌, ◌++◌, map, length, slice_index}
+use Rattle.std.specs.Prelude.{slice_set, Option, Some, None, option_to_list}
 use Rattle.sn_base.specs.Image.{ImageData}
 use Rattle.sn_base.specs.declared.block.Write.{Write}
 use Rattle.sn_base.specs.declared.config.Config.{Config}
@@ -54,7 +55,8 @@ taken_by s n = length (in_of n s.committed) + length (in_of n (records_of s.pend
 
 -- the next byte of a node's input, where it hasn't taken all that it was given
 abbrev pub next_byte : State → ℕ → Option ℕ
-next_byte s n = if nat_lt (taken_by s n) (length (processor_at s n).given) then Some (slice_index (processor_at s n).given (taken_by s n)) else None
+next_byte s n =
+    if nat_lt (taken_by s n) (length (processor_at s n).given) then Some (slice_index (processor_at s n).given (taken_by s n)) else None
 
 abbrev pub found_by : State → ℕ → Want → Found
 found_by s n Nothing = nothing_found

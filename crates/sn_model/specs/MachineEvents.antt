@@ -1,5 +1,6 @@
 -- The events of the machine beside an instruction: each is an event of the fabric, and what the rest makes of its answer.
-use Rattle.std.specs.Prelude.{ℕ, ◌+◌, ◌-◌, Bool, true, false, not, nat_eq, nat_le, max, if◌then◌else◌, List, [], ◌∷◌, ◌++◌, map, filter, drop, get_or, position, slice_index, slice_set, Option, Some, None}
+use Rattle.std.specs.Prelude.{ℕ, ◌+◌, ◌-◌, Bool, true, false, not, nat_eq, nat_le, max, if◌then◌else◌, List, [], ◌∷◌, ◌++◌, map, filter}
+use Rattle.std.specs.Prelude.{drop, get_or, position, slice_index, slice_set, Option, Some, None}
 use Rattle.sn_base.specs.declared.event.Answer.{Answer}
 use Rattle.sn_base.specs.declared.event.Answer.TheVariants.{Edged, Validated, NotReady, Recovered, Given}
 use Rattle.rv_core.specs.declared.state.CoreState.{CoreState}
@@ -91,12 +92,14 @@ abbrev pub checkpoint_of : Processor → ℕ → ℕ → CoreState
 checkpoint_of processor known k = get_or processor.checkpoints (k - known) processor.core
 
 abbrev pub restored_processor : Processor → ℕ → ℕ → Processor
-restored_processor processor known k = record processor { core = checkpoint_of processor known k; checkpoints = checkpoint_of processor known k ∷ [] }
+restored_processor processor known k =
+    record processor { core = checkpoint_of processor known k; checkpoints = checkpoint_of processor known k ∷ [] }
 
 -- the processors at checkpoint k, from a node on
 abbrev pub restored_processors : Fabric → ℕ → ℕ → List Processor → List Processor
 restored_processors fabric k n [] = []
-restored_processors fabric k n (processor ∷ processors) = restored_processor processor (node_at fabric n).known k ∷ restored_processors fabric k (n + 1) processors
+restored_processors fabric k n (processor ∷ processors) =
+    restored_processor processor (node_at fabric n).known k ∷ restored_processors fabric k (n + 1) processors
 
 -- what wasn't committed is dropped
 unfoldable pub restored_rest : State → State

@@ -1,5 +1,6 @@
 -- What the network does with messages: it sends, carries and loses them.
-use Rattle.std.specs.Prelude.{ℕ, ◌+◌, Bool, not, nat_eq, nat_lt, if◌then◌else◌, List, [], ◌∷◌, ◌++◌, length, filter, find, map, Option, Some, None}
+use Rattle.std.specs.Prelude.{ℕ, ◌+◌, Bool, not, nat_eq, nat_lt, if◌then◌else◌, List, [], ◌∷◌, ◌++◌, length, filter, find, map, Option}
+use Rattle.std.specs.Prelude.{Some, None}
 use Rattle.sn_base.specs.declared.event.Answer.{Answer}
 use Rattle.sn_base.specs.declared.limits.TheConstants.{MESSAGES}
 use Rattle.sn_msg.specs.declared.Message.{Message}

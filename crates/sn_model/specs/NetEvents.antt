@@ -2,20 +2,25 @@
 use Rattle.std.specs.Prelude.{ℕ, ◌+◌, true, not, nat_eq, nat_lt, max, if◌then◌else◌, List, length, filter, slice_set, Option, Some, None}
 use Rattle.std.specs.Option.{option_map}
 use Rattle.sn_base.specs.declared.config.Config.{Config}
-use Rattle.sn_base.specs.declared.event.Answer.TheVariants.{LogFull, NetFull, Hopped, LostInDead, Arrived, NotArrived, NoMessage, Delivered, Held, HomeBusy, Lost, Killed, AlreadyDead}
+use Rattle.sn_base.specs.declared.event.Answer.TheVariants.{LogFull, NetFull, Hopped, LostInDead, Arrived, NotArrived, NoMessage, Delivered}
+use Rattle.sn_base.specs.declared.event.Answer.TheVariants.{Held, HomeBusy, Lost, Killed, AlreadyDead}
 use Rattle.sn_base.specs.declared.log.LogEntry.{LogEntry}
 use Rattle.sn_msg.specs.declared.Message.{Message}
 use Rattle.sn_msg.specs.declared.Body.{Body}
-use Rattle.sn_msg.specs.declared.Body.TheVariants.{GetS, GetM, FwdGetS, FwdGetM, Inv, DataS, DataM, DataE, UpgOk, InvAck, Unblock, PutReq, PutGo, PutData, PutDone, Ready, Advance}
+use Rattle.sn_msg.specs.declared.Body.TheVariants.{GetS, GetM, FwdGetS, FwdGetM, Inv, DataS, DataM, DataE, UpgOk, InvAck, Unblock, PutReq}
+use Rattle.sn_msg.specs.declared.Body.TheVariants.{PutGo, PutData, PutDone, Ready, Advance}
 use Rattle.log_buffer.specs.Log.{entries_from}
 use Rattle.route_plan.specs.Distances.{is_dead}
 use Rattle.sn_model.specs.declared.cache.Out.{Out}
 use Rattle.sn_model.specs.declared.net.Told.{Told}
 use Rattle.sn_model.specs.declared.net.Told.TheVariants as told
 use Rattle.sn_model.specs.Homes.{Holder, Itself, OfCache, Transaction, is_owner}
-use Rattle.sn_model.specs.CacheRows.{Logged, CacheReply, forward_read, forward_write, invalidate, data_shared, data_modified, upgrade_granted, acknowledge, put_go, put_done, data_exclusive}
-use Rattle.sn_model.specs.HomeRows.{LoggedEntry, HomeReply, count_others, read_at_home, read_at_owner, take, move_ownership, upgrade, unblock, put_begins, put_is_stale, put_data, grant_exclusive}
-use Rattle.sn_model.specs.Fabric.{Fabric, Node, Flight, Moved, node_at, with_node, home_of, with_home, home_node, with_net, refused, answered}
+use Rattle.sn_model.specs.CacheRows.{Logged, CacheReply, forward_read, forward_write, invalidate, data_shared, data_modified}
+use Rattle.sn_model.specs.CacheRows.{upgrade_granted, acknowledge, put_go, put_done, data_exclusive}
+use Rattle.sn_model.specs.HomeRows.{LoggedEntry, HomeReply, count_others, read_at_home, read_at_owner, take, move_ownership, upgrade}
+use Rattle.sn_model.specs.HomeRows.{unblock, put_begins, put_is_stale, put_data, grant_exclusive}
+use Rattle.sn_model.specs.Fabric.{Fabric, Node, Flight, Moved, node_at, with_node, home_of, with_home, home_node, with_net, refused}
+use Rattle.sn_model.specs.Fabric.{answered}
 use Rattle.sn_model.specs.Net.{net_limit, routes_of, flight_of, without_flight, moved, is_there, next_switch, sending}
 
 -- hop i
@@ -46,7 +51,8 @@ lost s id = loses s (flight_of s.net.flights id)
 abbrev pub killed : Fabric → ℕ → Moved
 killed s switch =
     if is_dead s.net.dead switch then refused s AlreadyDead
-    else answered (with_net s (record s.net { dead = slice_set s.net.dead switch true; flights = filter (λ f. not (nat_eq f.place switch)) s.net.flights })) Killed
+    else answered (with_net s
+    (record s.net { dead = slice_set s.net.dead switch true; flights = filter (λ f. not (nat_eq f.place switch)) s.net.flights })) Killed
 
 -- deliver i
 
@@ -66,7 +72,8 @@ kept_at s n block = record { entry = home_of s block; log = (node_at s n).log }
 
 -- the home's row for a GetS
 abbrev pub get_shared : LoggedEntry → ℕ → ℕ → ℕ → Holder → HomeReply
-get_shared at block now r (Itself content) = if nat_eq (count_others at.entry.sharers r) 0 then grant_exclusive at block now r content else read_at_home at now r content
+get_shared at block now r (Itself content) =
+    if nat_eq (count_others at.entry.sharers r) 0 then grant_exclusive at block now r content else read_at_home at now r content
 get_shared at block now r (OfCache owner) = read_at_owner at now r owner
 
 -- the home's row for a GetM
@@ -88,8 +95,12 @@ abbrev pub learned : Node → ℕ → Node
 learned node k = record node { known = max node.known k; log = entries_from k node.log }
 
 abbrev pub outcome_of : Fabric → Message → Body → Outcome
-outcome_of s m GetS = unless_busy (home_of s m.block).transaction (get_shared (kept_at s m.to m.block) m.block (node_at s m.to).now m.from (home_of s m.block).holder)
-outcome_of s m GetM = unless_busy (home_of s m.block).transaction (get_modified (kept_at s m.to m.block) m.block (node_at s m.to).now m.from (home_of s m.block).holder)
+outcome_of s m GetS =
+    unless_busy (home_of s m.block).transaction
+    (get_shared (kept_at s m.to m.block) m.block (node_at s m.to).now m.from (home_of s m.block).holder)
+outcome_of s m GetM =
+    unless_busy (home_of s m.block).transaction
+    (get_modified (kept_at s m.to m.block) m.block (node_at s m.to).now m.from (home_of s m.block).holder)
 outcome_of s m (FwdGetS r) = AtCache (forward_read (logged_at s m.to) m.block r)
 outcome_of s m (FwdGetM r a) = AtCache (forward_write (logged_at s m.to) m.block (node_at s m.to).now r a)
 outcome_of s m (Inv r) = AtCache (invalidate (logged_at s m.to) m.block r)
@@ -126,7 +137,8 @@ copy_lost n reply = option_map (λ (block : ℕ). told.LostCopy n block) reply.l
 abbrev pub delivers : Config → Fabric → Message → Outcome → Moved
 delivers config s m Busy = refused s HomeBusy
 delivers config s m (AtCache reply) = fits_in config s reply.after.log reply.sends
-    (record (sending (with_net (with_node s m.to (node_after (node_at s m.to) reply)) (without_flight s.net m.id)) m.to m.block reply.sends Delivered) { told = copy_lost m.to reply })
+    (record (sending (with_net (with_node s m.to (node_after (node_at s m.to) reply))
+    (without_flight s.net m.id)) m.to m.block reply.sends Delivered) { told = copy_lost m.to reply })
 delivers config s m (AtHome reply) = fits_in config s reply.after.log reply.sends
     (sending (with_net (home_after s m.to m.block reply) (without_flight s.net m.id)) m.to m.block reply.sends Delivered)
 delivers config s m (Noted fabric told) = record (answered (with_net fabric (without_flight s.net m.id)) Delivered) { told = Some told }

@@ -1,6 +1,7 @@
 -- The other events of one node: an eviction, a clock edge, a report.
 use Rattle.std.specs.Prelude.{ℕ, ◌+◌, ◌-◌, ◌%◌, Bool, true, false, nat_eq, min, if◌then◌else◌, List, [], ◌∷◌, length, Option, Some, None}
-use Rattle.sn_base.specs.declared.event.Answer.TheVariants.{NetFull, Evicted, PutBegun, NotCached, PutOpen, MissOpen, Edged, CheckpointsFull, Reported}
+use Rattle.sn_base.specs.declared.event.Answer.TheVariants.{NetFull, Evicted, PutBegun, NotCached, PutOpen, MissOpen, Edged}
+use Rattle.sn_base.specs.declared.event.Answer.TheVariants.{CheckpointsFull, Reported}
 use Rattle.sn_msg.specs.declared.Body.TheVariants.{PutReq, Ready}
 use Rattle.sn_model.specs.declared.cache.LineState.{LineState}
 use Rattle.sn_model.specs.declared.cache.LineState.TheVariants.{Absent, Shared, Owned, Modified, Exclusive}
@@ -71,7 +72,8 @@ begun_by now (Some transaction) = min now transaction.begun
 abbrev pub least_begun : ℕ → ℕ → ℕ → ℕ → List HomeEntry → ℕ
 least_begun now nodes n block [] = now
 least_begun now nodes n block (entry ∷ homes) =
-    if nat_eq (block % nodes) n then begun_by (least_begun now nodes n (block + 1) homes) entry.transaction else least_begun now nodes n (block + 1) homes
+    if nat_eq (block % nodes) n then begun_by (least_begun now nodes n (block + 1) homes) entry.transaction
+    else least_begun now nodes n (block + 1) homes
 
 abbrev pub issued_by : ℕ → Option Miss → ℕ
 issued_by now None = now
@@ -83,7 +85,8 @@ put_issued_by now (Some put) = min now put.issued
 
 -- the least of the node's interval, of its open miss and put, and of its home's open transactions
 unfoldable pub ready_of : Fabric → ℕ → ℕ
-ready_of s n = put_issued_by (issued_by (least_begun (node_at s n).now (length s.nodes) n 0 s.homes) (node_at s n).cache.miss) (node_at s n).cache.put
+ready_of s n =
+    put_issued_by (issued_by (least_begun (node_at s n).now (length s.nodes) n 0 s.homes) (node_at s n).cache.miss) (node_at s n).cache.put
 
 abbrev pub reported : Fabric → ℕ → Moved
 reported s n =

@@ -24,9 +24,9 @@ pub record KeepsCheckpoint (node : Node) (processor : Processor) (k : ℕ) (core
   pub same : slice_get processor.checkpoints (k - node.known) ≡ Some (bare core)
 
 -- exactly one holder: the home itself, which names itself, while no cache holds the block; or the one cache that it names
-abbrev pub IsHeld : Fabric → ℕ → ℕ → List ℕ → Holder → Type 0
-IsHeld s block k content (Itself named) = (named ≡ content) × ((n : ℕ) → n < length s.nodes → holds_at s n block k ≡ None)
-IsHeld s block k content (OfCache owner) =
+abbrev pub HasOneHolderWith : Fabric → ℕ → ℕ → List ℕ → Holder → Type 0
+HasOneHolderWith s block k content (Itself named) = (named ≡ content) × ((n : ℕ) → n < length s.nodes → holds_at s n block k ≡ None)
+HasOneHolderWith s block k content (OfCache owner) =
     (owner < length s.nodes) × (holds_at s owner block k ≡ Some content)
     × ((n : ℕ) → n < length s.nodes → n ≢ owner → holds_at s n block k ≡ None)
 
@@ -34,7 +34,8 @@ IsHeld s block k content (OfCache owner) =
 -- with its content there
 pub record IsCut (s : State) (k : ℕ) (flat : FlatState) : Type 0 where
   pub cores : (n : ℕ) → n < length s.fabric.nodes → KeepsCheckpoint (node_at s.fabric n) (processor_at s n) k (core_at flat n)
-  pub blocks : (block : ℕ) → block < block_count → IsHeld s.fabric block k (block_in flat.memory block) (names_at s.fabric block k)
+  pub blocks : (block : ℕ) → block < block_count →
+      HasOneHolderWith s.fabric block k (block_in flat.memory block) (names_at s.fabric block k)
 
 -- a node after a recovery to its point: nothing of a transaction is left
 pub record IsRestoredNode (node : Node) (point : ℕ) : Type 0 where
@@ -46,7 +47,8 @@ pub record IsRestoredNode (node : Node) (point : ℕ) : Type 0 where
 
 -- a block after a recovery: its home or one cache has it, in Modified and with this content, and no other cache has a line
 abbrev pub IsOwned : Fabric → ℕ → List ℕ → Holder → Type 0
-IsOwned s block content (Itself named) = (named ≡ content) × ((n : ℕ) → n < length s.nodes → (line_of (node_at s n).cache block).state ≡ Absent)
+IsOwned s block content (Itself named) =
+    (named ≡ content) × ((n : ℕ) → n < length s.nodes → (line_of (node_at s n).cache block).state ≡ Absent)
 IsOwned s block content (OfCache owner) =
     (owner < length s.nodes) × (line_of (node_at s owner).cache block ≡ record { state = Modified; content = content })
     × ((n : ℕ) → n < length s.nodes → n ≢ owner → (line_of (node_at s n).cache block).state ≡ Absent)

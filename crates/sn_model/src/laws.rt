@@ -9,5 +9,6 @@ ghost use Rattle.sn_model.specs.Refusals.{is_refusal};
 
 /// An event that is refused changes nothing: the machine is as it was.
 pub fn refusal_changes_nothing()
-    ensures { (image : ImageData) (config : Config) (s : State) (event : Event) → is_refusal (step_of image config s event).answer ≡ true → (step_of image config s event).state ≡ s }
+    ensures { (image : ImageData) (config : Config) (s : State) (event : Event) → is_refusal (step_of image config s event).answer ≡ true →
+        (step_of image config s event).state ≡ s }
 {}

@@ -10,19 +10,23 @@ use Rattle.sn_probe.specs.Probes.{Meter, told_of}
 abbrev pub IsToldUpTo : {B : Type 0} → (B → Meter) → (Meter → Meter) → ℕ → List B → List B → Type 0
 IsToldUpTo meter f i old now = map meter now ≡ map f (take i (map meter old)) ++ drop i (map meter old)
 
-pub told-one : (old new : Meter) (number : ℕ) (event : Event) (answer : Answer) → new.tally ≡ old.step old.tally number event answer → new.first ≡ old.first → new.step ≡ old.step → new ≡ told_of number event answer old
+pub told-one : (old new : Meter) (number : ℕ) (event : Event) (answer : Answer) → new.tally ≡ old.step old.tally number event answer →
+    new.first ≡ old.first → new.step ≡ old.step → new ≡ told_of number event answer old
 told-one old new number event answer tally first step =
     ap (λ t. record new { tally = t }) tally
     ∙ ap (λ t. record new { tally = old.step old.tally number event answer; first = t }) first
     ∙ ap (λ t. record { first = old.first; tally = old.step old.tally number event answer; step = t }) step
 
-pub told-next : {B : Type 0} (meter : B → Meter) (f : Meter → Meter) (i : ℕ) (old now : List B) (a b : B) → i < length old → i < length now → a ≡ get_or now i a → meter b ≡ f (meter a) → IsToldUpTo meter f i old now → IsToldUpTo meter f (i + 1) old (set now i b)
+pub told-next : {B : Type 0} (meter : B → Meter) (f : Meter → Meter) (i : ℕ) (old now : List B) (a b : B) → i < length old →
+    i < length now → a ≡ get_or now i a → meter b ≡ f (meter a) → IsToldUpTo meter f i old now →
+    IsToldUpTo meter f (i + 1) old (set now i b)
 told-next meter f i old now a b below there read is h =
     map-set meter now i b ∙ ap (set (map meter now) i) is
     ∙ map_over_more f (map meter old) (map meter now) i (meter a) (subst (λ n. i < n) (sym (length-map old meter)) below) h
     (ap meter read ∙ sym (get_or-map meter now i a (meter a) there))
 
-pub told-all : {B : Type 0} (meter : B → Meter) (f : Meter → Meter) (i : ℕ) (old new : List B) → length old ≡ i → IsToldUpTo meter f i old new → map meter new ≡ map f (map meter old)
+pub told-all : {B : Type 0} (meter : B → Meter) (f : Meter → Meter) (i : ℕ) (old new : List B) → length old ≡ i →
+    IsToldUpTo meter f i old new → map meter new ≡ map f (map meter old)
 told-all meter f i old new e h =
     let short : length (map meter old) ≡ i = length-map old meter ∙ e in
     h ∙ ap (λ t. map f t ++ drop i (map meter old)) (take_all i (map meter old) (omega (arith, short)))

@@ -16,8 +16,10 @@ abbrev pub meters_of : {B : Type 0} → (B → List ℕ) → (B → List ℕ) �
 meters_of first tally step probes = map (λ b. record { first = first b; tally = tally b; step = step b }) probes
 
 -- the same of probes in boxes, where these are known by what stands in the boxes
-abbrev pub meters_in : {I : Type 0} → {D : I → Type 0} → ((x : I) × D x → List ℕ) → ((x : I) × D x → List ℕ) → ((x : I) × D x → List ℕ → ℕ → Event → Answer → List ℕ) → List (DynBox I Global D) → List Meter
-meters_in first tally step boxes = meters_of (λ b. first (b.vtable, b.value)) (λ b. tally (b.vtable, b.value)) (λ b. step (b.vtable, b.value)) boxes
+abbrev pub meters_in : {I : Type 0} → {D : I → Type 0} → ((x : I) × D x → List ℕ) → ((x : I) × D x → List ℕ) →
+    ((x : I) × D x → List ℕ → ℕ → Event → Answer → List ℕ) → List (DynBox I Global D) → List Meter
+meters_in first tally step boxes =
+    meters_of (λ b. first (b.vtable, b.value)) (λ b. tally (b.vtable, b.value)) (λ b. step (b.vtable, b.value)) boxes
 
 -- one that has been told one more event
 abbrev pub told_of : ℕ → Event → Answer → Meter → Meter

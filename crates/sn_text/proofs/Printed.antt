@@ -1,5 +1,6 @@
 -- What numbers and words look like as text, and that they are read back.
-use Rattle.std.proofs.Common.{◌≡◌, ℕ, zero, suc, ◌+◌, ◌-◌, ◌*◌, ◌/◌, ◌%◌, ◌^◌, ◌<◌, ◌≤◌, List, [], ◌∷◌, ◌++◌, take, drop, length, get_or, refl, ap, ◌∙◌, arith}
+use Rattle.std.proofs.Common.{◌≡◌, ℕ, zero, suc, ◌+◌, ◌-◌, ◌*◌, ◌/◌, ◌%◌, ◌^◌, ◌<◌, ◌≤◌, List, [], ◌∷◌, ◌++◌, take, drop, length, get_or}
+use Rattle.std.proofs.Common.{refl, ap, ◌∙◌, arith}
 use Rattle.std.proofs.lemmas.Bool.Decides.{nat_tests}
 use Rattle.std.proofs.lemmas.Fmt.{decimal_by_steps, decimal_nonempty, first_decimal, length-decimal-le}
 use Rattle.std.proofs.lemmas.List.{length-append}
@@ -26,23 +27,29 @@ from-lower low high (x ∷ xs) l a = (omega (arith, l, a.0), from-lower low high
 
 -- decimal digits
 pub from-decimal : (n : ℕ) → n < 2 ^ 64 → From 48 (decimal n)
-from-decimal = decimal_by_steps (λ n ds. From 48 ds) (λ n l. (omega arith, tt)) (λ n ds l before. from-append 48 ds ((48 + n % 10) ∷ []) before (omega arith, tt))
+from-decimal =
+    decimal_by_steps (λ n ds. From 48 ds) (λ n l. (omega arith, tt))
+    (λ n ds l before. from-append 48 ds ((48 + n % 10) ∷ []) before (omega arith, tt))
 
 -- one more digit
-number_from-push : (start n digit : ℕ) (ds : List ℕ) → digit < 10 → number_from start ds ≡ Some n → number_from start (ds ++ (48 + digit) ∷ []) ≡ Some (10 * n + digit)
+number_from-push : (start n digit : ℕ) (ds : List ℕ) → digit < 10 → number_from start ds ≡ Some n →
+    number_from start (ds ++ (48 + digit) ∷ []) ≡ Some (10 * n + digit)
 number_from-push start n digit [] l e =
     let is : is_digit (48 + digit) ≡ true = grind (arith, nat_tests) in
     let same : start ≡ n = cc in
     let value : 10 * start + (48 + digit - 48) ≡ 10 * n + digit = omega arith in
     rw is (ap (λ t. Some t) value)
 number_from-push start n digit (d ∷ ds) l e = by_test (is_digit d) (number_from-push (10 * start + (d - 48)) n digit ds l) e where
-  by_test : (b : Bool) → (number_from (10 * start + (d - 48)) ds ≡ Some n → number_from (10 * start + (d - 48)) (ds ++ (48 + digit) ∷ []) ≡ Some (10 * n + digit)) →
-      (if b then number_from (10 * start + (d - 48)) ds else None) ≡ Some n → (if b then number_from (10 * start + (d - 48)) (ds ++ (48 + digit) ∷ []) else None) ≡ Some (10 * n + digit)
+  by_test : (b : Bool) → (number_from (10 * start + (d - 48)) ds ≡ Some n →
+      number_from (10 * start + (d - 48)) (ds ++ (48 + digit) ∷ []) ≡ Some (10 * n + digit)) →
+      (if b then number_from (10 * start + (d - 48)) ds else None) ≡ Some n →
+      (if b then number_from (10 * start + (d - 48)) (ds ++ (48 + digit) ∷ []) else None) ≡ Some (10 * n + digit)
   by_test true on h = on h
   by_test false on h = absurd cc
 
 number_from-decimal : (n : ℕ) → n < 2 ^ 64 → number_from 0 (decimal n) ≡ Some n
-number_from-decimal = decimal_by_steps (λ n ds. number_from 0 ds ≡ Some n) (λ n l. number_from-push 0 0 n [] l refl ∙ ap (λ t. Some t) (omega arith))
+number_from-decimal =
+    decimal_by_steps (λ n ds. number_from 0 ds ≡ Some n) (λ n l. number_from-push 0 0 n [] l refl ∙ ap (λ t. Some t) (omega arith))
     (λ n ds l before. number_from-push 0 (n / 10) (n % 10) ds (omega arith) before ∙ ap (λ t. Some t) (omega arith))
 
 decimal-plain : (n : ℕ) → n < 2 ^ 64 → get_or (decimal n) 0 0 ≡ 48 → length (decimal n) ≤ 1
@@ -98,8 +105,13 @@ word_of-text word l =
 
 pub from-word : (word : ℕ) → From 48 (word_text word)
 unfolding word_text
-from-word word =
-    (from-hex_digit _, (from-hex_digit _, (from-hex_digit _, (from-hex_digit _, (from-hex_digit _, (from-hex_digit _, (from-hex_digit _, (from-hex_digit _, tt))))))))
+from-word word = (
+  from-hex_digit _,
+  (
+    from-hex_digit _,
+    (from-hex_digit _, (from-hex_digit _, (from-hex_digit _, (from-hex_digit _, (from-hex_digit _, (from-hex_digit _, tt)))))),
+  ),
+)
 
 -- words with a blank between them are parted there
 first_blank : (xs ys : List ℕ) → From 33 xs → position_or_len (λ byte. nat_eq byte 32) (xs ++ 32 ∷ ys) ≡ length xs

@@ -8,10 +8,14 @@ use Rattle.sn_text.specs.Items.{followed, items_from, IsRefusedAs}
 
 module _ {A : Type 0} (item_of : List ℕ → Result A Fault) (items : List A) (number : ℕ) (left : List (List ℕ)) (whole : Result (List A) ScriptCause) (h : followed items (items_from item_of number (length items) left) ≡ whole) where
   pub refused-at : (line : List ℕ) (more : List (List ℕ)) (fault : ScriptFault) → left ≡ line ∷ more →
-      ((lines : List (List ℕ)) → IsRefusedAs (followed items (items_from item_of number (length items) (line ∷ lines))) fault) → IsRefusedAs whole fault
+      ((lines : List (List ℕ)) → IsRefusedAs (followed items (items_from item_of number (length items) (line ∷ lines))) fault) →
+      IsRefusedAs whole fault
   refused-at line more fault e r =
-      subst (λ (meaning : Result (List A) ScriptCause). IsRefusedAs meaning fault) (ap (λ (lines : List (List ℕ)). followed items (items_from item_of number (length items) lines)) (sym e) ∙ h) (r more)
+      subst (λ (meaning : Result (List A) ScriptCause). IsRefusedAs meaning fault)
+      (ap (λ (lines : List (List ℕ)). followed items (items_from item_of number (length items) lines)) (sym e) ∙ h) (r more)
 
   pub whole-at_end : left ≡ [] → whole ≡ Ok items
   unfolding items_from
-  whole-at_end e = sym h ∙ ap (λ (lines : List (List ℕ)). followed items (items_from item_of number (length items) lines)) e ∙ ap (λ (all : List A). Ok all) (append-nil items)
+  whole-at_end e =
+      sym h ∙ ap (λ (lines : List (List ℕ)). followed items (items_from item_of number (length items) lines)) e
+      ∙ ap (λ (all : List A). Ok all) (append-nil items)

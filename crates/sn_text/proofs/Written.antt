@@ -1,8 +1,10 @@
 -- Events and records that are written are read back.
-use Rattle.std.proofs.Common.{◌≡◌, ℕ, ◌+◌, ◌*◌, ◌/◌, ◌%◌, ◌^◌, ◌<◌, ◌≤◌, List, [], ◌∷◌, ◌++◌, length, All, refl, ap, sym, subst, ◌∙◌, append_assoc, arith}
+use Rattle.std.proofs.Common.{◌≡◌, ℕ, ◌+◌, ◌*◌, ◌/◌, ◌%◌, ◌^◌, ◌<◌, ◌≤◌, List, [], ◌∷◌, ◌++◌, length, All, refl, ap, sym, subst, ◌∙◌}
+use Rattle.std.proofs.Common.{append_assoc, arith}
 use Rattle.std.proofs.lemmas.Bool.Decides.{nat_tests}
 use Rattle.std.proofs.lemmas.Fmt.{decimal_nonempty}
-use Rattle.std.specs.Prelude.{Bool, true, false, nat_eq, nat_lt, nat_le, ◌&&◌, if◌then◌else◌, codes, decimal, Option, Some, None, IfSome, Ok}
+use Rattle.std.specs.Prelude.{Bool, true, false, nat_eq, nat_lt, nat_le, ◌&&◌, if◌then◌else◌, codes, decimal, Option, Some, None, IfSome}
+use Rattle.std.specs.Prelude.{Ok}
 use Rattle.sn_base.specs.Events.{event_fits}
 use Rattle.sn_base.specs.declared.event.Event.{Event}
 use Rattle.sn_base.specs.declared.event.Event.TheVariants.{Step, Evict, Edge, Hop, Deliver, Lose, Kill, Report, Validate, Recover, Input}
@@ -14,7 +16,8 @@ use Rattle.sn_text.specs.Text.{event_text, switch_text, byte_text, word_text, fl
 use Rattle.sn_text.specs.Trace.{record_by, with_last, record_of, trace_of}
 use Rattle.sn_text.specs.Written.{HasNumbers, IsEventOf, IsRecordOf, script_text, trace_text}
 use Rattle.sn_text.proofs.Lines.{IsLine, text-read_back}
-use Rattle.sn_text.proofs.Printed.{From, from-append, from-lower, from-decimal, from-byte, from-word, number_of-decimal, byte_of-text, word_of-text, parted-words}
+use Rattle.sn_text.proofs.Printed.{From, from-append, from-lower, from-decimal, from-byte, from-word, number_of-decimal, byte_of-text}
+use Rattle.sn_text.proofs.Printed.{word_of-text, parted-words}
 
 small : (nodes n : ℕ) → nodes ≤ 16 → nat_lt n nodes ≡ true → n < 2 ^ 64
 small nodes n few fits = grind (arith, nat_tests)
@@ -40,20 +43,35 @@ switch-back nodes switch few fits = by_test (nat_eq (switch % 2) 0) refl where
 node-word : (nodes n : ℕ) → nodes ≤ 16 → nat_lt n nodes ≡ true → From 33 (decimal n)
 node-word nodes n few fits = from-lower 33 48 (decimal n) (omega arith) (from-decimal n (small nodes n few fits))
 
-eviction-back : (nodes n block : ℕ) → nodes ≤ 16 → nat_lt n nodes ≡ true → block < block_count → eviction_in nodes (decimal n ++ 32 ∷ decimal block) ≡ Ok (Evict n block)
+eviction-back : (nodes n block : ℕ) → nodes ≤ 16 → nat_lt n nodes ≡ true → block < block_count →
+    eviction_in nodes (decimal n ++ 32 ∷ decimal block) ≡ Ok (Evict n block)
 eviction-back nodes n block few fits l =
     let there : nat_lt block block_count ≡ true = grind (arith, nat_tests) in
-    rw (parted-words (decimal n) (decimal block) (node-word nodes n few fits), number_of-decimal n (small nodes n few fits), number_of-decimal block (omega arith), fits, there) refl
+    rw (
+      parted-words (decimal n) (decimal block) (node-word nodes n few fits),
+      number_of-decimal n (small nodes n few fits),
+      number_of-decimal block (omega arith),
+      fits,
+      there,
+    ) refl
 
-input-back : (nodes n byte : ℕ) → nodes ≤ 16 → nat_lt n nodes ≡ true → byte < 256 → input_in nodes (decimal n ++ 32 ∷ byte_text byte) ≡ Ok (Input n byte)
+input-back : (nodes n byte : ℕ) → nodes ≤ 16 → nat_lt n nodes ≡ true → byte < 256 →
+    input_in nodes (decimal n ++ 32 ∷ byte_text byte) ≡ Ok (Input n byte)
 input-back nodes n byte few fits l =
-    rw (parted-words (decimal n) (byte_text byte) (node-word nodes n few fits), number_of-decimal n (small nodes n few fits), byte_of-text byte l, fits) refl
+    rw (
+      parted-words (decimal n) (byte_text byte) (node-word nodes n few fits),
+      number_of-decimal n (small nodes n few fits),
+      byte_of-text byte l,
+      fits,
+    ) refl
 
 -- an event's line is read back as the event
-pub event-back : (nodes : ℕ) (event : Event) → nodes ≤ 16 → event_fits nodes event ≡ true → HasNumbers event → event_of nodes (event_text event) ≡ Ok event
+pub event-back : (nodes : ℕ) (event : Event) → nodes ≤ 16 → event_fits nodes event ≡ true → HasNumbers event →
+    event_of nodes (event_text event) ≡ Ok event
 unfolding event_of
 event-back nodes (Step n) few fits numbers = ap (said Step) (node-back nodes n few fits)
-event-back nodes (Evict n block) few fits numbers = ap (eviction_in nodes) (append_assoc (decimal n) (32 ∷ []) (decimal block)) ∙ eviction-back nodes n block few fits numbers
+event-back nodes (Evict n block) few fits numbers =
+    ap (eviction_in nodes) (append_assoc (decimal n) (32 ∷ []) (decimal block)) ∙ eviction-back nodes n block few fits numbers
 event-back nodes (Edge n) few fits numbers = ap (said Edge) (node-back nodes n few fits)
 event-back nodes (Hop id) few fits numbers = ap (said Hop) (message-back id numbers)
 event-back nodes (Deliver id) few fits numbers = ap (said Deliver) (message-back id numbers)
@@ -62,7 +80,8 @@ event-back nodes (Kill switch) few fits numbers = ap (said Kill) (switch-back no
 event-back nodes (Report n) few fits numbers = ap (said Report) (node-back nodes n few fits)
 event-back nodes Validate few fits numbers = refl
 event-back nodes Recover few fits numbers = refl
-event-back nodes (Input n byte) few fits numbers = ap (input_in nodes) (append_assoc (decimal n) (32 ∷ []) (byte_text byte)) ∙ input-back nodes n byte few fits numbers
+event-back nodes (Input n byte) few fits numbers =
+    ap (input_in nodes) (append_assoc (decimal n) (32 ∷ []) (byte_text byte)) ∙ input-back nodes n byte few fits numbers
 
 abbrev is_from : ℕ → List ℕ → Bool
 is_from low [] = true
@@ -124,7 +143,8 @@ event-line nodes (Input n byte) few fits numbers =
 -- the words of a record's line
 joined : (a b c d s : List ℕ) → ((((a ++ s) ++ b) ++ s) ++ c) ++ d ≡ a ++ (s ++ (b ++ (s ++ (c ++ d))))
 joined a b c d s =
-    append_assoc (((a ++ s) ++ b) ++ s) c d ∙ append_assoc ((a ++ s) ++ b) s (c ++ d) ∙ append_assoc (a ++ s) b (s ++ (c ++ d)) ∙ append_assoc a s (b ++ (s ++ (c ++ d)))
+    append_assoc (((a ++ s) ++ b) ++ s) c d ∙ append_assoc ((a ++ s) ++ b) s (c ++ d) ∙ append_assoc (a ++ s) b (s ++ (c ++ d))
+    ∙ append_assoc a s (b ++ (s ++ (c ++ d)))
 
 abbrev last_words : Bool → Option ℕ → List ℕ
 last_words sc_done read = flag_text sc_done ++ read_text read
@@ -136,20 +156,23 @@ text-is : (taken : Record) → record_text taken ≡ record_words taken.core tak
 text-is taken = joined (decimal taken.core) (word_text taken.seen) (flag_text taken.sc_done) (read_text taken.read) (32 ∷ [])
 
 last-back : (nodes : ℕ) (core seen : Option ℕ) (sc_done : Bool) (read : Option ℕ) → IfSome read (λ byte. byte < 256) →
-    with_last nodes core seen (last_words sc_done read) (parted (last_words sc_done read)) ≡ record_by nodes core seen (Some sc_done) (Some read)
+    with_last nodes core seen (last_words sc_done read) (parted (last_words sc_done read))
+    ≡ record_by nodes core seen (Some sc_done) (Some read)
 last-back nodes core seen true None l = refl
 last-back nodes core seen false None l = refl
 last-back nodes core seen true (Some byte) l = rw (parted-words (49 ∷ []) (byte_text byte) (omega arith, tt), byte_of-text byte l) refl
 last-back nodes core seen false (Some byte) l = rw (parted-words (48 ∷ []) (byte_text byte) (omega arith, tt), byte_of-text byte l) refl
 
-words-back : (nodes core seen : ℕ) (sc_done : Bool) (read : Option ℕ) → nodes ≤ 16 → core < nodes → seen < 2 ^ 32 → IfSome read (λ byte. byte < 256) →
+words-back : (nodes core seen : ℕ) (sc_done : Bool) (read : Option ℕ) → nodes ≤ 16 → core < nodes → seen < 2 ^ 32 →
+    IfSome read (λ byte. byte < 256) →
     record_of nodes (record_words core seen sc_done read) ≡ Ok (record { core = core; seen = seen; sc_done = sc_done; read = read })
 unfolding record_of
 words-back nodes core seen sc_done read few there word byte =
     let wide : core < 2 ^ 64 = omega arith in
     let fits : nat_lt core nodes ≡ true = grind (arith, nat_tests) in
     rw (
-      parted-words (decimal core) (word_text seen ++ (32 ∷ last_words sc_done read)) (from-lower 33 48 (decimal core) (omega arith) (from-decimal core wide)),
+      parted-words (decimal core) (word_text seen ++ (32 ∷ last_words sc_done read))
+          (from-lower 33 48 (decimal core) (omega arith) (from-decimal core wide)),
       number_of-decimal core wide,
       parted-words (word_text seen) (last_words sc_done read) (from-lower 33 48 (word_text seen) (omega arith) (from-word seen)),
       word_of-text seen word,
@@ -159,7 +182,8 @@ words-back nodes core seen sc_done read few there word byte =
 
 -- a record's line is read back as the record
 pub record-back : (nodes : ℕ) (taken : Record) → nodes ≤ 16 → IsRecordOf nodes taken → record_of nodes (record_text taken) ≡ Ok taken
-record-back nodes taken few is = ap (record_of nodes) (text-is taken) ∙ words-back nodes taken.core taken.seen taken.sc_done taken.read few is.core is.seen is.read
+record-back nodes taken few is =
+    ap (record_of nodes) (text-is taken) ∙ words-back nodes taken.core taken.seen taken.sc_done taken.read few is.core is.seen is.read
 
 plain-last : (sc_done : Bool) (read : Option ℕ) → From 32 (last_words sc_done read)
 plain-last true None = (omega arith, tt)
@@ -171,17 +195,21 @@ plain-last false (Some byte) = (omega arith, (omega arith, plain-byte byte))
 pub record-line : (nodes : ℕ) (taken : Record) → nodes ≤ 16 → IsRecordOf nodes taken → IsLine (record_text taken)
 record-line nodes taken few is =
     let wide : taken.core < 2 ^ 64 = omega (arith, is.core) in
-    subst IsLine (sym (text-is taken)) (begun_by_number (decimal taken.core) _ (decimal_nonempty taken.core wide) (from-decimal taken.core wide)
+    subst IsLine (sym (text-is taken))
+    (begun_by_number (decimal taken.core) _ (decimal_nonempty taken.core wide) (from-decimal taken.core wide)
     (omega arith, from-append 32 (word_text taken.seen) _ (plain-word taken.seen) (omega arith, plain-last taken.sc_done taken.read)))
 
 -- whole texts
-pub script-back : (nodes : ℕ) (events : List Event) → nodes ≤ 16 → All (IsEventOf nodes) events → length events ≤ most_items → script_of nodes (script_text events) ≡ Ok events
+pub script-back : (nodes : ℕ) (events : List Event) → nodes ≤ 16 → All (IsEventOf nodes) events → length events ≤ most_items →
+    script_of nodes (script_text events) ≡ Ok events
 unfolding script_line
 script-back nodes events few are short =
-    text-read_back (event_of nodes) event_text script_line (IsEventOf nodes) (λ event. refl) (λ event is. event-line nodes event few is.fits is.numbers)
+    text-read_back (event_of nodes) event_text script_line (IsEventOf nodes) (λ event. refl)
+    (λ event is. event-line nodes event few is.fits is.numbers)
     (λ event is. event-back nodes event few is.fits is.numbers) events are short
 
-pub trace-back : (nodes : ℕ) (records : List Record) → nodes ≤ 16 → All (IsRecordOf nodes) records → length records ≤ most_items → trace_of nodes (trace_text records) ≡ Ok records
+pub trace-back : (nodes : ℕ) (records : List Record) → nodes ≤ 16 → All (IsRecordOf nodes) records → length records ≤ most_items →
+    trace_of nodes (trace_text records) ≡ Ok records
 unfolding trace_line
 trace-back nodes records few are short =
     text-read_back (record_of nodes) record_text trace_line (IsRecordOf nodes) (λ taken. refl) (λ taken is. record-line nodes taken few is)

@@ -1,5 +1,6 @@
 -- Scripts: one event a line.
-use Rattle.std.specs.Prelude.{ℕ, ◌+◌, ◌*◌, ◌-◌, Bool, ◌&&◌, nat_eq, nat_lt, nat_le, if◌then◌else◌, List, [], ◌∷◌, take, drop, length, codes, bytes_eq, Option, Some, None, Result, Ok, Err, slice_index}
+use Rattle.std.specs.Prelude.{ℕ, ◌+◌, ◌*◌, ◌-◌, Bool, ◌&&◌, nat_eq, nat_lt, nat_le, if◌then◌else◌, List, [], ◌∷◌, take, drop, length, codes}
+use Rattle.std.specs.Prelude.{bytes_eq, Option, Some, None, Result, Ok, Err, slice_index}
 use Rattle.std.specs.List.{position}
 use Rattle.sn_base.specs.declared.event.Event.{Event}
 use Rattle.sn_base.specs.declared.event.Event.TheVariants.{Step, Evict, Edge, Hop, Deliver, Lose, Kill, Report, Validate, Recover, Input}

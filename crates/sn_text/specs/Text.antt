@@ -1,18 +1,24 @@
 -- The texts that are written. Numbers are decimal; words and addresses have eight lower-case hexadecimal digits.
-use Rattle.std.specs.Prelude.{ℕ, ◌+◌, ◌/◌, ◌%◌, Bool, nat_eq, nat_lt, if◌then◌else◌, List, [], ◌∷◌, ◌++◌, drop, codes, decimal, Option, Some, None}
+use Rattle.std.specs.Prelude.{ℕ, ◌+◌, ◌/◌, ◌%◌, Bool, nat_eq, nat_lt, if◌then◌else◌, List, [], ◌∷◌, ◌++◌, drop, codes, decimal, Option}
+use Rattle.std.specs.Prelude.{Some, None}
 use Rattle.sn_base.specs.declared.event.Event.{Event}
 use Rattle.sn_base.specs.declared.event.Event.TheVariants.{Step, Evict, Edge, Hop, Deliver, Lose, Kill, Report, Validate, Recover, Input}
 use Rattle.sn_base.specs.declared.event.Answer.{Answer}
-use Rattle.sn_base.specs.declared.event.Answer.TheVariants.{Retired, Missed, Waits, NeedsEvict, LogFull, NetFull, Ended, Evicted, PutBegun, NotCached, PutOpen, MissOpen, Edged, CheckpointsFull, Hopped, LostInDead, Arrived, NotArrived, NoMessage, Delivered, Held, HomeBusy, Lost, Killed, AlreadyDead, Reported, Validated, NotReady, Recovered, CutOff, Given, NoInput}
+use Rattle.sn_base.specs.declared.event.Answer.TheVariants.{Retired, Missed, Waits, NeedsEvict, LogFull, NetFull, Ended, Evicted, PutBegun}
+use Rattle.sn_base.specs.declared.event.Answer.TheVariants.{NotCached, PutOpen, MissOpen, Edged, CheckpointsFull, Hopped, LostInDead}
+use Rattle.sn_base.specs.declared.event.Answer.TheVariants.{Arrived, NotArrived, NoMessage, Delivered, Held, HomeBusy, Lost, Killed}
+use Rattle.sn_base.specs.declared.event.Answer.TheVariants.{AlreadyDead, Reported, Validated, NotReady, Recovered, CutOff, Given, NoInput}
 use Rattle.rv_core.specs.declared.step.Record.{Record}
 use Rattle.rv_core.specs.declared.state.CoreState.{CoreState}
 use Rattle.rv_core.specs.declared.state.End.{End}
 use Rattle.rv_core.specs.declared.state.End.TheVariants.{Running, Exited, Trapped}
 use Rattle.rv_core.specs.declared.state.Cause.{Cause}
-use Rattle.rv_core.specs.declared.state.Cause.TheVariants.{Illegal, FetchFault, MisalignedTarget, MisalignedAccess, AccessFault, UnknownCall, Break}
+use Rattle.rv_core.specs.declared.state.Cause.TheVariants.{Illegal, FetchFault, MisalignedTarget, MisalignedAccess, AccessFault}
+use Rattle.rv_core.specs.declared.state.Cause.TheVariants.{UnknownCall, Break}
 use Rattle.sn_msg.specs.declared.Message.{Message}
 use Rattle.sn_msg.specs.declared.Body.{Body}
-use Rattle.sn_msg.specs.declared.Body.TheVariants.{GetS, GetM, FwdGetS, FwdGetM, Inv, DataS, DataM, DataE, UpgOk, InvAck, Unblock, PutReq, PutGo, PutData, PutDone, Ready, Advance}
+use Rattle.sn_msg.specs.declared.Body.TheVariants.{GetS, GetM, FwdGetS, FwdGetM, Inv, DataS, DataM, DataE, UpgOk, InvAck, Unblock, PutReq}
+use Rattle.sn_msg.specs.declared.Body.TheVariants.{PutGo, PutData, PutDone, Ready, Advance}
 use Rattle.sn_model.specs.declared.net.Sent.{Sent}
 
 abbrev pub hex_digit : ℕ → ℕ

@@ -1,5 +1,6 @@
 -- Traces: one record a line, `CORE SEEN F` or `CORE SEEN F BB`.
-use Rattle.std.specs.Prelude.{ℕ, ◌+◌, ◌*◌, Bool, true, false, nat_eq, nat_lt, if◌then◌else◌, List, take, drop, length, codes, bytes_eq, Option, Some, None, option_map, Result, Ok, Err}
+use Rattle.std.specs.Prelude.{ℕ, ◌+◌, ◌*◌, Bool, true, false, nat_eq, nat_lt, if◌then◌else◌, List, take, drop, length, codes, bytes_eq}
+use Rattle.std.specs.Prelude.{Option, Some, None, option_map, Result, Ok, Err}
 use Rattle.rv_core.specs.declared.step.Record.{Record}
 use Rattle.sn_text.specs.Digits.{number_of}
 use Rattle.sn_text.specs.Items.{items_of}

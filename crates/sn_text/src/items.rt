@@ -49,10 +49,15 @@ fn add_line<F: Form>(
     number: u64,
     line: &[u8],
 ) -> Result<(), ScriptFault>
-    ensures ok { OnOk result ((lines : List (List ℕ)) → followed items.old.items (items_from (F.item_of form.now) number (length items.old.items) (line.now ∷ lines)) ≡ followed items.new.items (items_from (F.item_of form.now) (number + 1) (length items.new.items) lines)) }
+    ensures ok { OnOk result
+        ((lines : List (List ℕ)) →
+        followed items.old.items (items_from (F.item_of form.now) number (length items.old.items) (line.now ∷ lines))
+        ≡ followed items.new.items (items_from (F.item_of form.now) (number + 1) (length items.new.items) lines)) }
     ensures good { OnOk result (All (F.good form.now) items.old.items → All (F.good form.now) items.new.items) }
     ensures few { OnOk result (length items.old.items ≤ 1000000 → length items.new.items ≤ 1000000) }
-    ensures refused { IfErr result (λ fault. (lines : List (List ℕ)) → IsRefusedAs (followed items.old.items (items_from (F.item_of form.now) number (length items.old.items) (line.now ∷ lines))) fault) }
+    ensures refused { IfErr result
+        (λ fault. (lines : List (List ℕ)) →
+        IsRefusedAs (followed items.old.items (items_from (F.item_of form.now) number (length items.old.items) (line.now ∷ lines))) fault) }
 {
     if is_skipped(line) {
         return Ok(());

@@ -4,7 +4,7 @@ ghost use Rattle.sn_base.specs.declared.event.Event.{Event};
 ghost use Rattle.rv_core.specs.declared.step.Record.{Record};
 ghost use Rattle.sn_text.specs.Items.{most_items};
 ghost use Rattle.sn_text.specs.Script.{event_of, script_of};
-ghost use Rattle.sn_text.specs.Text.{event_text, record_text, script_line, trace_line};
+ghost use Rattle.sn_text.specs.Text.{event_text, record_text};
 ghost use Rattle.sn_text.specs.Trace.{record_of, trace_of};
 ghost use Rattle.sn_text.specs.Written.{IsEventOf, IsRecordOf, script_text, trace_text};
 

@@ -1,10 +1,11 @@
 //! The words of lines: nodes, messages, switches, blocks and bytes, and where a blank parts two of them.
-ghost use Rattle.std.specs.Prelude.{◌≡◌, ◌*◌, ◌<◌, ◌≤◌, nat_eq, nat_lt, if◌then◌else◌, IfOk, IfSome, MatchOption, Ok, Err, Some, None, length, true};
+ghost use Rattle.std.specs.Prelude.{◌≡◌, ◌*◌, ◌<◌, ◌≤◌, nat_eq, nat_lt, if◌then◌else◌, IfOk, IfSome, MatchOption, Ok, Err, Some, None};
+ghost use Rattle.std.specs.Prelude.{length, true};
 ghost use Rattle.std.specs.List.{position};
 ghost use Rattle.sn_base.specs.Events.{event_fits};
 ghost use Rattle.sn_model.specs.Caches.{block_count};
-ghost use Rattle.sn_text.specs.Digits.{number_of};
-ghost use Rattle.sn_text.specs.Script.{node_in, message_in, switch_in, parted, evicted_at, eviction_in, hex_value, byte_of, given_to, input_in};
+ghost use Rattle.sn_text.specs.Script.{node_in, message_in, switch_in, parted, evicted_at, eviction_in, hex_value, byte_of, given_to};
+ghost use Rattle.sn_text.specs.Script.{input_in};
 
 use crate::cause::Fault;
 use crate::numbers::number_in;

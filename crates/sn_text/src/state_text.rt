@@ -1,6 +1,7 @@
 //! Messages and cores as text.
 ghost use Rattle.std.specs.Prelude.{◌≡◌, ◌+◌, ◌*◌, ◌≤◌, ◌++◌, [], length, drop, codes, if◌then◌else◌};
-ghost use Rattle.sn_text.specs.Text.{body_name, body_place, body_fields, message_head, message_route, lost_mark, sent_line, sent_lines, cause_text, end_text, register_text, registers_text, core_head, core_line};
+ghost use Rattle.sn_text.specs.Text.{body_name, body_place, body_fields, message_head, message_route, lost_mark, sent_line, sent_lines};
+ghost use Rattle.sn_text.specs.Text.{cause_text, end_text, register_text, registers_text, core_head, core_line};
 
 use crate::line::Line;
 use rv_core::{Cause, CoreState, End};

@@ -1,7 +1,7 @@
 //! Reads traces: one record a line.
 ghost use Rattle.std.specs.Prelude.{◌≡◌, ◌<◌, ◌≤◌, ◌^◌, All, IfOk, IfErr, MatchOption, Some, None, length, Ok};
 ghost use Rattle.sn_text.specs.Items.{IsRefusedAs};
-ghost use Rattle.sn_text.specs.Trace.{word_of, flag_of, record_by, with_last, record_of, trace_of};
+ghost use Rattle.sn_text.specs.Trace.{word_of, flag_of, record_by, record_of, trace_of};
 
 use crate::cause::{Fault, ScriptFault};
 use crate::items::{Form, read_items};

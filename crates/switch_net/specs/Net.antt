@@ -1,5 +1,6 @@
 -- The network: messages in flight, each in a switch, in order of their numbers.
-use Rattle.std.specs.Prelude.{◌≡◌, ℕ, ◌+◌, ◌<◌, ◌≤◌, Bool, true, not, ◌==◌, if◌then◌else◌, Option, Some, None, Result, Ok, Err, List, [], ◌∷◌, ◌++◌, length}
+use Rattle.std.specs.Prelude.{◌≡◌, ℕ, ◌+◌, ◌<◌, ◌≤◌, Bool, true, not, ◌==◌, if◌then◌else◌, Option, Some, None, Result, Ok, Err, List, []}
+use Rattle.std.specs.Prelude.{◌∷◌, ◌++◌, length}
 use Rattle.std.specs.List.{All, filter, find}
 use Rattle.sn_msg.specs.declared.Message.{Message}
 use Rattle.route_plan.specs.Grid.{node_of}
@@ -55,7 +56,8 @@ entry_of n message = enter_of n.routes message.from message.to
 abbrev pub after_send : NetData → Message → NetData
 after_send n message = record n {
   next = n.next + 1;
-  flights = if is_dead n.dead (entry_of n message) then n.flights else n.flights ++ record { message = message; at = entry_of n message } ∷ [];
+  flights =
+      if is_dead n.dead (entry_of n message) then n.flights else n.flights ++ record { message = message; at = entry_of n message } ∷ [];
 }
 
 -- a message hops

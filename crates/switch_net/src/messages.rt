@@ -3,7 +3,8 @@
 //! They stand in a map in the order in which they were sent. The map is made with room for all, but it doesn't promise to
 //! give room back where a message goes; so what it hands back for want of memory goes into a list with room for all beside
 //! it, and so does each message after that while the list has one. Seen from above, the map's messages come first.
-ghost use Rattle.std.specs.Prelude.{nat_eq, not, true, false, ◌≡◌, ◌<◌, ◌++◌, [], ◌∷◌, None, Some, length, slice_get, IfOk, vec_capacity, ◌≤◌, ◌==◌};
+ghost use Rattle.std.specs.Prelude.{nat_eq, not, true, false, ◌≡◌, ◌<◌, ◌++◌, [], ◌∷◌, None, Some, length, slice_get, IfOk, vec_capacity};
+ghost use Rattle.std.specs.Prelude.{◌≤◌, ◌==◌};
 ghost use Rattle.std.specs.List.{position, filter};
 ghost use Rattle.std.specs.Option.{option_copied};
 ghost use Rattle.indexmap.specs.IndexMap.{get, insert_entry, shift_remove_entry};

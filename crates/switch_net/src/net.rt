@@ -1,10 +1,13 @@
 //! The network.
-ghost use Rattle.std.specs.Prelude.{◌≡◌, ℕ, ◌+◌, ◌-◌, ◌*◌, ◌<◌, ◌≤◌, ◌^◌, ◌↔◌, Bool, true, false, not, Option, Some, None, Ok, Err, IsNone, IsSome, IfSome, IsOk, OnErr, IfOk, IfErr, IsTrue, MatchResult, List, [], length, replicate, slice_get, slice_set};
+ghost use Rattle.std.specs.Prelude.{◌≡◌, ℕ, ◌+◌, ◌-◌, ◌*◌, ◌<◌, ◌≤◌, ◌^◌, ◌↔◌, Bool, true, false, not, Option, Some, None, Ok, Err, IsNone};
+ghost use Rattle.std.specs.Prelude.{IsSome, IfSome, IsOk, OnErr, IfOk, IfErr, IsTrue, MatchResult, List, [], length, replicate, slice_get};
+ghost use Rattle.std.specs.Prelude.{slice_set};
 ghost use Rattle.std.specs.Option.{option_copied};
 ghost use Rattle.route_plan.specs.Distances.{is_dead, is_living};
 ghost use Rattle.route_plan.specs.Routes.{first_cut_off};
 ghost use Rattle.route_plan.specs.Paths.{AreJoined, IsFirstCutOff};
-ghost use Rattle.switch_net.specs.Net.{NetData, IsNet, IsPlaced, has_arrived, next_switch, find_flight, without, moved, outside, entry_of, after_send, hop_answer, after_hop, take_answer, living_now};
+ghost use Rattle.switch_net.specs.Net.{NetData, IsNet, IsPlaced, has_arrived, next_switch, find_flight, without, moved, outside, entry_of};
+ghost use Rattle.switch_net.specs.Net.{after_send, hop_answer, after_hop, take_answer, living_now};
 
 use crate::answers::{HopAnswer, TakeFault};
 use crate::flight::Flight;
@@ -41,7 +44,8 @@ impl Net {
     pub fn new(alloc: Global, nodes: u8) -> Result<Net, Memory>
         requires some { 1 ≤ nodes }
         requires few { nodes ≤ 16 }
-        ensures { IfOk result (λ n. n ≡ record { routes = record { nodes = nodes; dead = replicate 32 false }; dead = replicate 32 false; next = 1; flights = [] }) }
+        ensures { IfOk result (λ n. n
+            ≡ record { routes = record { nodes = nodes; dead = replicate 32 false }; dead = replicate 32 false; next = 1; flights = [] }) }
     {
         let dead = Dead::none();
         let routes = match plan(alloc, nodes, dead) {
@@ -123,8 +127,11 @@ impl Net {
         requires numbers { self.old.next + 1 < 2 ^ 64 }
         requires sender { from < self.old.routes.nodes }
         requires receiver { to < self.old.routes.nodes }
-        ensures sent { self.new ≡ after_send self.old (record { id = self.old.next; from = from; to = to; tag = tag; block = block; body = body }) }
-        ensures lost { result ≡ not (is_dead self.old.dead (entry_of self.old (record { id = self.old.next; from = from; to = to; tag = tag; block = block; body = body }))) }
+        ensures sent { self.new
+            ≡ after_send self.old (record { id = self.old.next; from = from; to = to; tag = tag; block = block; body = body }) }
+        ensures lost { result ≡
+            not (is_dead self.old.dead
+            (entry_of self.old (record { id = self.old.next; from = from; to = to; tag = tag; block = block; body = body }))) }
     {
         let message = Message {
             id: self.next,
@@ -229,7 +236,8 @@ impl Net {
     pub fn kill(&mut self, switch: SwitchId) -> bool
         requires { switch < 2 * self.old.routes.nodes }
         ensures killed { result ≡ not (is_dead self.old.dead switch) }
-        ensures after { result ≡ true → self.new ≡ record self.old { dead = slice_set self.old.dead switch true; flights = outside self.old.flights switch } }
+        ensures after { result ≡ true →
+            self.new ≡ record self.old { dead = slice_set self.old.dead switch true; flights = outside self.old.flights switch } }
         ensures already { result ≡ false → self.new ≡ self.old }
     {
         if self.dead.has(switch) {
@@ -251,7 +259,8 @@ impl Net {
     pub fn cut_off(&self) -> Option<(NodeId, NodeId)>
         ensures pair { result ≡ first_cut_off (living_now self.now) }
         ensures first { IfSome result (λ p. IsFirstCutOff (living_now self.now) p.0 p.1) }
-        ensures none { IsNone result ↔ ((a b : ℕ) → a < self.now.routes.nodes → b < self.now.routes.nodes → AreJoined (living_now self.now) a b) }
+        ensures none { IsNone result ↔ ((a b : ℕ) → a < self.now.routes.nodes → b < self.now.routes.nodes →
+            AreJoined (living_now self.now) a b) }
     {
         cut_off(self.nodes, self.dead)
     }

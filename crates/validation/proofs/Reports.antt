@@ -1,5 +1,6 @@
 -- The reports are the first numbers of an array of sixteen.
-use Rattle.std.proofs.Common.{◌≡◌, ℕ, zero, suc, ◌+◌, ◌≤◌, ◌<◌, max, List, [], ◌∷◌, Some, None, Ok, Err, length, take, set, get_or, replicate, refl, sym, ap, ◌∙◌, arith}
+use Rattle.std.proofs.Common.{◌≡◌, ℕ, zero, suc, ◌+◌, ◌≤◌, ◌<◌, max, List, [], ◌∷◌, Some, None, Ok, Err, length, take, set, get_or}
+use Rattle.std.proofs.Common.{replicate, refl, sym, ap, ◌∙◌, arith}
 use Rattle.std.proofs.lemmas.List.{get_or-take, length-take, take-replicate}
 use Rattle.std.proofs.lemmas.List.Quantifiers.{position-Some}
 use Rattle.std.specs.Prelude.{nat_le}
@@ -28,9 +29,11 @@ pub one_more : (point n i k : ℕ) (rs : List ℕ) (v : Reports) → reports poi
 one_more point n i k rs v e l =
     let f : length (take n rs) ≡ length v.reported = ap (λ (x : Reports). length x.reported) e in
     let h : i < n = omega (arith, length-take n rs) in
-    rw (← e) (ap (reports point) (set-take n i rs (max (get_or rs i 0) k) h ∙ ap (λ (x : ℕ). set (take n rs) i (max x k)) (sym (get_or-take n rs i 0 h))))
+    rw (← e) (ap (reports point)
+    (set-take n i rs (max (get_or rs i 0) k) h ∙ ap (λ (x : ℕ). set (take n rs) i (max x k)) (sym (get_or-take n rs i 0 h))))
 
-pub ready-checked : (point n : ℕ) (rs : List ℕ) (v : Reports) → reports point (take n rs) ≡ v → least_behind point (take n rs) ≡ None → Ok (point + 1) ≡ checked v
+pub ready-checked : (point n : ℕ) (rs : List ℕ) (v : Reports) → reports point (take n rs) ≡ v → least_behind point (take n rs) ≡ None →
+    Ok (point + 1) ≡ checked v
 ready-checked point n rs v e h = rw (← e) (ap (next_or_behind (reports point (take n rs))) (sym h))
 
 pub behind-checked : (point n i : ℕ) (rs : List ℕ) (v : Reports) → reports point (take n rs) ≡ v → least_behind point (take n rs) ≡ Some i →
@@ -38,4 +41,5 @@ pub behind-checked : (point n i : ℕ) (rs : List ℕ) (v : Reports) → reports
 behind-checked point n i rs v e h =
     let m : i < length (take n rs) = (position-Some (λ k. nat_le k point) (take n rs) i 0 h).0 in
     let l : i < n = omega (arith, length-take n rs) in
-    rw (← e) (ap (λ (x : ℕ). Err (record { node = i; reported = x })) (sym (get_or-take n rs i 0 l)) ∙ ap (next_or_behind (reports point (take n rs))) (sym h))
+    rw (← e) (ap (λ (x : ℕ). Err (record { node = i; reported = x })) (sym (get_or-take n rs i 0 l))
+    ∙ ap (next_or_behind (reports point (take n rs))) (sym h))

@@ -1,10 +1,12 @@
 //! What the core asks of the cache: an access, an eviction, and what is open.
-ghost use Rattle.std.specs.Prelude.{◌≡◌, ℕ, ◌+◌, ◌-◌, ◌*◌, ◌/◌, ◌%◌, ◌<◌, ◌≤◌, true, false, nat_lt, nat_le, length, if◌then◌else◌, IfSome, IsNone};
+ghost use Rattle.std.specs.Prelude.{◌≡◌, ℕ, ◌+◌, ◌-◌, ◌*◌, ◌/◌, ◌%◌, ◌<◌, ◌≤◌, true, false, nat_lt, nat_le, length, if◌then◌else◌, IfSome};
+ghost use Rattle.std.specs.Prelude.{IsNone};
 ghost use Rattle.std.specs.Option.{option_map};
 ghost use Rattle.sn_base.specs.Blocks.{ram_start, ram_size, bytes_of};
 ghost use Rattle.log_buffer.specs.Log.{LogData, logged_to};
 ghost use Rattle.rv_core.specs.Core.{block_of};
-ghost use Rattle.sn_model.specs.Caches.{line_of, without_line, is_present, is_owned, is_writable_state, misses_on, puts_on, frames_taken, block_count};
+ghost use Rattle.sn_model.specs.Caches.{line_of, without_line, is_present, is_owned, is_writable_state, misses_on, puts_on, frames_taken};
+ghost use Rattle.sn_model.specs.Caches.{block_count};
 ghost use Rattle.sn_model.specs.CacheRows.{send};
 ghost use Rattle.sn_model.specs.Access.{word_in, request_for};
 ghost use Rattle.mosi_cache.specs.Probe.{log_with, probe_by, probe_miss, with_miss, stored, evict_by, with_put, may_go, least_open_of};
@@ -79,7 +81,8 @@ impl Cache {
     }
 
     fn probe_log(&self, block: BlockNo, now: Interval, log: &LogBuffer) -> Probe1
-        ensures { result ≡ (if nat_lt log.now.limit (length (log_with self.now log.now.entries block now)) then Probe1.LogFull else Probe1.Ready) }
+        ensures { result ≡ (if nat_lt log.now.limit (length (log_with self.now log.now.entries block now)) then Probe1.LogFull
+            else Probe1.Ready) }
     {
         let room = log.room();
         if room == 0 && !log.has(now, false, block) {
@@ -122,7 +125,8 @@ impl Cache {
     /// None where no line of the set can go.
     pub fn least_line(&self, block: BlockNo, puts: bool) -> Option<BlockNo>
         ensures none { IsNone result → (k : ℕ) → k < block_count → may_go self.now block puts k ≡ false }
-        ensures some { IfSome result (λ b. (may_go self.now block puts b ≡ true) × ((k : ℕ) → k < b → may_go self.now block puts k ≡ false)) }
+        ensures some { IfSome result
+            (λ b. (may_go self.now block puts b ≡ true) × ((k : ℕ) → k < b → may_go self.now block puts k ≡ false)) }
     {
         let owned_too = puts && self.transactions.put().is_none();
         self.lines.least(block, self.open_block(), owned_too)
@@ -225,7 +229,8 @@ impl Cache {
     /// The content of a block that is owned here. None where it isn't.
     pub fn owned(&self, block: BlockNo) -> Option<&Block>
         ensures none { IsNone result → is_owned (line_of self.now.cache block).state ≡ false }
-        ensures some { IfSome result (λ b. (is_owned (line_of self.now.cache block).state ≡ true) × (b.now ≡ (line_of self.now.cache block).content)) }
+        ensures some { IfSome result
+            (λ b. (is_owned (line_of self.now.cache block).state ≡ true) × (b.now ≡ (line_of self.now.cache block).content)) }
     {
         match self.lines.find(block) {
             Some(frame) if is_owner(frame.state) => Some(&frame.content),

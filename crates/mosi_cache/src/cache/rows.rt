@@ -3,7 +3,9 @@ ghost use Rattle.std.specs.Prelude.{◌≡◌, ◌+◌, ◌%◌, ◌<◌, ◌≤
 ghost use Rattle.sn_base.specs.declared.log.LogEntry.{LogEntry};
 ghost use Rattle.log_buffer.specs.Log.{logged_to, has_entry, noted};
 ghost use Rattle.sn_model.specs.Caches.{line_of};
-ghost use Rattle.sn_model.specs.CacheRows.{forward_read, forward_write, invalidate, data_shared, data_modified, upgrade_granted, acknowledge, put_go, put_done, data_exclusive, settled, MayForward, MayTakeCopy, MayTakeOwnership, MayUpgrade, MayCount, MayGiveBack, MayClosePut};
+ghost use Rattle.sn_model.specs.CacheRows.{forward_read, forward_write, invalidate, data_shared, data_modified, upgrade_granted};
+ghost use Rattle.sn_model.specs.CacheRows.{acknowledge, put_go, put_done, data_exclusive, completed_or_waiting, MayForward, MayTakeCopy};
+ghost use Rattle.sn_model.specs.CacheRows.{MayTakeOwnership, MayUpgrade, MayCount, MayGiveBack, MayClosePut};
 ghost use Rattle.mosi_cache.specs.Controller.{logged};
 ghost use Rattle.mosi_cache.specs.Rows.{IsDone};
 
@@ -44,8 +46,10 @@ impl Cache {
         requires owned { MayForward (logged self.old []) block }
         requires room { has_entry log.old.entries now false block ≡ false → length log.old.entries < log.old.limit }
         requires last { logged_to log.old.entries false block ≤ now + 1 }
-        ensures done { (entries : List LogEntry) → IsDone self.old self.new result (forward_write (logged self.old entries) block now requester due) }
-        ensures log { log.new ≡ record log.old { entries = noted log.old.entries now block (Old.Owned (line_of self.old.cache block).content) } }
+        ensures done { (entries : List LogEntry) →
+            IsDone self.old self.new result (forward_write (logged self.old entries) block now requester due) }
+        ensures log { log.new ≡
+            record log.old { entries = noted log.old.entries now block (Old.Owned (line_of self.old.cache block).content) } }
     {
         let content = self.lines.content(block);
         log.note(now, block, Old::Owned(content));
@@ -66,11 +70,12 @@ impl Cache {
     /// The content to read: the line is Shared, the message's tag is the interval of atomicity, and the read is complete.
     pub(super) fn data_shared(&mut self, block: BlockNo, tag: Interval, content: Block) -> CacheStep
         requires { MayTakeCopy (logged self.old []) block }
-        ensures { (entries : List LogEntry) → IsDone self.old self.new result (data_shared (logged self.old entries) (block % self.old.nodes) block tag content) }
+        ensures { (entries : List LogEntry) →
+            IsDone self.old self.new result (data_shared (logged self.old entries) (block % self.old.nodes) block tag content) }
     {
         self.lines.put(block, LineState::Shared, content);
         let _ = self.transactions.answer(tag, 0);
-        self.settle(block)
+        self.complete_or_wait(block)
     }
 
     /// The content to own and write, with so many acknowledgements due: that nothing was owned is noted under the tag, which
@@ -86,32 +91,35 @@ impl Cache {
         requires missed { MayTakeOwnership (logged self.old []) block }
         requires room { has_entry log.old.entries tag false block ≡ false → length log.old.entries < log.old.limit }
         requires last { logged_to log.old.entries false block ≤ tag + 1 }
-        ensures done { (entries : List LogEntry) → IsDone self.old self.new result (data_modified (logged self.old entries) (block % self.old.nodes) block tag content due) }
+        ensures done { (entries : List LogEntry) →
+            IsDone self.old self.new result (data_modified (logged self.old entries) (block % self.old.nodes) block tag content due) }
         ensures log { log.new ≡ record log.old { entries = noted log.old.entries tag block Old.NotOwned } }
     {
         log.note(tag, block, Old::NotOwned);
         self.lines.put(block, LineState::Modified, content);
         let _ = self.transactions.answer(tag, due);
-        self.settle(block)
+        self.complete_or_wait(block)
     }
 
     /// The owner may write, with so many acknowledgements due: the tag is the interval of atomicity, and the write is
     /// complete once they are in.
     pub(super) fn upgrade_granted(&mut self, block: BlockNo, tag: Interval, due: u8) -> CacheStep
         requires { MayUpgrade (logged self.old []) block }
-        ensures { (entries : List LogEntry) → IsDone self.old self.new result (upgrade_granted (logged self.old entries) (block % self.old.nodes) tag due) }
+        ensures { (entries : List LogEntry) →
+            IsDone self.old self.new result (upgrade_granted (logged self.old entries) (block % self.old.nodes) tag due) }
     {
         let _ = self.transactions.answer(tag, due);
-        self.settle(block)
+        self.complete_or_wait(block)
     }
 
     /// An acknowledgement: one more is in, and the miss is complete where it is fixed and all that are due are in.
     pub(super) fn acknowledge(&mut self, block: BlockNo) -> CacheStep
         requires { MayCount self.old.cache.miss block }
-        ensures { (entries : List LogEntry) → IsDone self.old self.new result (acknowledge (logged self.old entries) (block % self.old.nodes)) }
+        ensures { (entries : List LogEntry) →
+            IsDone self.old self.new result (acknowledge (logged self.old entries) (block % self.old.nodes)) }
     {
         let _ = self.transactions.ack();
-        self.settle(block)
+        self.complete_or_wait(block)
     }
 
     /// The home lets the block be given up: the content is noted under now, the copy is lost, the put is closed, and the home
@@ -120,8 +128,10 @@ impl Cache {
         requires owned { MayGiveBack (logged self.old []) block }
         requires room { has_entry log.old.entries now false block ≡ false → length log.old.entries < log.old.limit }
         requires last { logged_to log.old.entries false block ≤ now + 1 }
-        ensures done { (entries : List LogEntry) → IsDone self.old self.new result (put_go (logged self.old entries) (block % self.old.nodes) block now) }
-        ensures log { log.new ≡ record log.old { entries = noted log.old.entries now block (Old.Owned (line_of self.old.cache block).content) } }
+        ensures done { (entries : List LogEntry) →
+            IsDone self.old self.new result (put_go (logged self.old entries) (block % self.old.nodes) block now) }
+        ensures log { log.new ≡
+            record log.old { entries = noted log.old.entries now block (Old.Owned (line_of self.old.cache block).content) } }
     {
         let content = self.lines.content(block);
         log.note(now, block, Old::Owned(content));
@@ -151,20 +161,22 @@ impl Cache {
         requires missed { MayTakeCopy (logged self.old []) block }
         requires room { has_entry log.old.entries tag false block ≡ false → length log.old.entries < log.old.limit }
         requires last { logged_to log.old.entries false block ≤ tag + 1 }
-        ensures done { (entries : List LogEntry) → IsDone self.old self.new result (data_exclusive (logged self.old entries) (block % self.old.nodes) block tag content) }
+        ensures done { (entries : List LogEntry) →
+            IsDone self.old self.new result (data_exclusive (logged self.old entries) (block % self.old.nodes) block tag content) }
         ensures log { log.new ≡ record log.old { entries = noted log.old.entries tag block Old.NotOwned } }
     {
         log.note(tag, block, Old::NotOwned);
         self.lines.put(block, LineState::Exclusive, content);
         let _ = self.transactions.answer(tag, 0);
-        self.settle(block)
+        self.complete_or_wait(block)
     }
 
     /// Completes the miss on the block where it is fixed and all acknowledgements due are in: its home gets the interval of
     /// atomicity, the line, if any, is Modified where it was wanted for a write, and the miss is closed.
-    fn settle(&mut self, block: BlockNo) -> CacheStep
+    fn complete_or_wait(&mut self, block: BlockNo) -> CacheStep
         requires { IfSome self.old.cache.miss (λ m. m.block ≡ block) }
-        ensures { (entries : List LogEntry) → IsDone self.old self.new result (settled (logged self.old entries) (block % self.old.nodes) self.old.cache.miss) }
+        ensures { (entries : List LogEntry) →
+            IsDone self.old self.new result (completed_or_waiting (logged self.old entries) (block % self.old.nodes) self.old.cache.miss) }
     {
         let Some(miss) = self.transactions.miss() else {
             return CacheStep::Took(None, None);

@@ -1,7 +1,7 @@
 //! The lines once a recovery begins: each that owns its block is Modified, and the Shared copies are gone.
 ghost use Rattle.std.specs.Prelude.{◌≡◌, ℕ, ◌*◌, ◌<◌, length, map, slice_index_or, slice_set};
-ghost use Rattle.cache_array.specs.Slots.{FrameSlots, AreSlots, block_at};
-ghost use Rattle.mosi_cache.specs.Frames.{LinesData, FrameLine};
+ghost use Rattle.cache_array.specs.Slots.{AreSlots, block_at};
+ghost use Rattle.mosi_cache.specs.Frames.{FrameLine};
 ghost use Rattle.mosi_cache.specs.Restored.{begun_line};
 ghost use Rattle.mosi_cache.specs.Unshared.{unshared, AreUnshared, modified};
 
@@ -13,7 +13,8 @@ use sn_model::LineState;
 fn free_if_shared(frames: &mut Frames, frame: usize, state: LineState)
     requires inside { frame < frames.old.sets * frames.old.ways }
     requires slots { AreSlots frames.old }
-    ensures freed { frames.new ≡ record frames.old { slots = slice_set frames.old.slots frame (unshared state (block_at frames.old frame)) } }
+    ensures freed { frames.new
+        ≡ record frames.old { slots = slice_set frames.old.slots frame (unshared state (block_at frames.old frame)) } }
     ensures slots { AreSlots frames.new }
 {
     if !matches!(state, LineState::Shared) {
@@ -35,7 +36,8 @@ fn free_shared(frames: &mut Frames, kept: &[FrameLine])
 }
 
 fn make_modified(kept: &mut [FrameLine])
-    ensures { (frame : ℕ) (d : FrameLine) → frame < length kept.old → slice_index_or kept.new frame d ≡ modified (slice_index_or kept.old frame d) }
+    ensures { (frame : ℕ) (d : FrameLine) → frame < length kept.old →
+        slice_index_or kept.new frame d ≡ modified (slice_index_or kept.old frame d) }
 {
     'frames: for line in kept.iter_mut() {
         line.state = LineState::Modified;

@@ -11,8 +11,11 @@ places-preserved g c =
     elim c.if-entry-k.branch [
       | then-entry-k w ↦
           let t : nat_le c.args.k c.entry.result.now.interval ≡ true = let h = w.if-entry-k.true in grind (arith, nat_tests) in
-          w.count-is ∙ w.saturating_add-count.ensures ∙ count-more (g.E.Entries.entries c.args.log.now) c.places.place c.args.k c.places.count c.entry.result.now true l c.entry.ensures t c.places.invariant
+          w.count-is ∙ w.saturating_add-count.ensures
+          ∙ count-more
+          (g.E.Entries.entries c.args.log.now) c.places.place c.args.k c.places.count c.entry.result.now true l c.entry.ensures t c.places.invariant
       | else-entry-k w ↦
           let t : nat_le c.args.k c.entry.result.now.interval ≡ false = let h = w.if-entry-k.false in grind (arith, nat_tests) in
-          w.count-is ∙ count-more (g.E.Entries.entries c.args.log.now) c.places.place c.args.k c.places.count c.entry.result.now false l c.entry.ensures t c.places.invariant
+          w.count-is ∙ count-more
+          (g.E.Entries.entries c.args.log.now) c.places.place c.args.k c.places.count c.entry.result.now false l c.entry.ensures t c.places.invariant
     ]

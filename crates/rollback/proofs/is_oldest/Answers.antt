@@ -11,7 +11,8 @@ pub returns-then-other-k : goal.returns-then-other-k
 returns-then-other-k g c =
     let f = changed-found (g.E.Entries.entries c.args.log.now) c.places.before c.args.place c.entry-other.result.now c.is_home_side-home_side.result c.args.entry.now.block c.args.k
     c.places-test.true c.requires c.entry-other.ensures (sym c.is_about.ensures ∙ c.if-is_about.true) c.if-other-k.true in
-    ap not (sym f ∙ ap (λ (s : Bool). is_changed (take c.args.place (g.E.Entries.entries c.args.log.now)) s c.args.entry.now.block c.args.k) c.is_home_side-home_side.ensures)
+    ap not (sym f ∙ ap (λ (s : Bool). is_changed
+    (take c.args.place (g.E.Entries.entries c.args.log.now)) s c.args.entry.now.block c.args.k) c.is_home_side-home_side.ensures)
 
 pub places-preserved : goal.places-preserved
 places-preserved g c =
@@ -20,10 +21,13 @@ places-preserved g c =
     elim c.else-is_about.branch [
       | else-is_about-via-then-is_about+else-other-k w ↦
           let h = w.if-other-k.false in
-          let n : (is_about c.is_home_side-home_side.result c.args.entry.now.block c.entry-other.result.now && nat_le c.args.k c.entry-other.result.now.interval) ≡ false = grind (arith, nat_tests) in
+          let n : (is_about c.is_home_side-home_side.result c.args.entry.now.block c.entry-other.result.now
+          && nat_le c.args.k c.entry-other.result.now.interval) ≡ false = grind (arith, nat_tests) in
           changed-passed es c.places.before c.entry-other.result.now c.is_home_side-home_side.result c.args.entry.now.block c.args.k l c.entry-other.ensures n c.places.invariant
       | else-is_about-via-else-is_about w ↦
-          let h : is_about c.is_home_side-home_side.result c.args.entry.now.block c.entry-other.result.now ≡ false = sym c.is_about.ensures ∙ w.if-is_about.false in
-          let n : (is_about c.is_home_side-home_side.result c.args.entry.now.block c.entry-other.result.now && nat_le c.args.k c.entry-other.result.now.interval) ≡ false = grind arith in
+          let h : is_about c.is_home_side-home_side.result c.args.entry.now.block c.entry-other.result.now ≡ false = sym c.is_about.ensures
+          ∙ w.if-is_about.false in
+          let n : (is_about c.is_home_side-home_side.result c.args.entry.now.block c.entry-other.result.now
+          && nat_le c.args.k c.entry-other.result.now.interval) ≡ false = grind arith in
           changed-passed es c.places.before c.entry-other.result.now c.is_home_side-home_side.result c.args.entry.now.block c.args.k l c.entry-other.ensures n c.places.invariant
     ]

@@ -6,7 +6,8 @@ use Rattle.sink_pieces.proofs.put_console.Goals as goal
 pub returns-in_err-put-clause-err : goal.returns-in_err-put-clause-err
 returns-in_err-put-clause-err g c =
     let p = err_from_is_err_and c.from_residual.result c.from_residual.ensures.1 in
-    rw p.1 (λ r. Breaks-console_piece _ _ r _ c.in_err-put.ensures.part.0 (sym c.is_empty.ensures ∙ c.if-is_empty.false) c.in_err-put.ensures.part.2)
+    rw p.1 (λ r. Breaks-console_piece _ _ r _ c.in_err-put.ensures.part.0
+    (sym c.is_empty.ensures ∙ c.if-is_empty.false) c.in_err-put.ensures.part.2)
 
 pub returns-clause-ok : goal.returns-clause-ok
 returns-clause-ok g c = λ r. after-console_piece _ _ r _ c.in_ok-put.ensures.whole

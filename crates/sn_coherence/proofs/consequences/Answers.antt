@@ -17,7 +17,8 @@ pub returns-clause-coherent : goal.returns-clause-coherent
 returns-clause-coherent c = kept_coherent
 
 -- what every node has reported is unfinished nowhere, so the next cut is settled
-validated : (N : ℕ) (b : Block) (r : Records) → AllSentences N b → KeptRecords b r → NothingUnfinished N b (b.point + 1) → NothingUnfinished N b (b.point + 1) × HasOneHolder N b (b.point + 1) × HasContent b r (b.point + 1)
+validated : (N : ℕ) (b : Block) (r : Records) → AllSentences N b → KeptRecords b r → NothingUnfinished N b (b.point + 1) →
+    NothingUnfinished N b (b.point + 1) × HasOneHolder N b (b.point + 1) × HasContent b r (b.point + 1)
 validated N b r k v u = (u, kept_one_holder N b k (b.point + 1) (omega arith) u.home, kept_content N b r v (b.point + 1) (omega arith))
 
 pub returns-clause-validated : goal.returns-clause-validated

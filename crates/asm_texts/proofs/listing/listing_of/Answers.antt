@@ -23,10 +23,14 @@ places-preserved c =
           c.in_ok-add_lines.ensures
           ∙ ap (λ (t : List ℕ). t ++ lines_at c.places.is_next here c.fetch-word.result) c.places.invariant.written
           ∙ ap (λ (b : Bool). first_lines segments place ++ lines_at b here c.fetch-word.result) c.places.invariant.next
-          ∙ ap (λ (w : Option ℕ). first_lines segments place ++ lines_at (is_some (fetched segments (here - 4))) here w) c.fetch-word.ensures
+          ∙ ap (λ (w : Option ℕ). first_lines segments place
+          ++ lines_at (is_some (fetched segments (here - 4))) here w) c.fetch-word.ensures
           ∙ sym (lines-more segments place);
-      next = c.is_some-is_next-in-places.ensures ∙ ap is_some c.fetch-word.ensures ∙ ap (λ (a : ℕ). is_some (fetched segments a)) (sym same);
+      next =
+          c.is_some-is_next-in-places.ensures ∙ ap is_some c.fetch-word.ensures ∙ ap (λ (a : ℕ). is_some (fetched segments a)) (sym same);
     }
 
 pub returns : goal.returns
-returns c = c.places.invariant.written ∙ lines-all c.args.image.now.segments c.places.place (omega (arith, c.places-test.false, c.places.auto.place-end))
+returns c =
+    c.places.invariant.written
+    ∙ lines-all c.args.image.now.segments c.places.place (omega (arith, c.places-test.false, c.places.auto.place-end))

@@ -6,10 +6,16 @@ use Rattle.cache_array.proofs.Frames.find.Goals as goal
 
 pub returns-in_err-way-clause-frame : goal.returns-in_err-way-clause-frame
 returns-in_err-way-clause-frame c =
-    c.from_residual.ensures ∙ sym (none-in-set c.args.self.now c.args.block c.ways_of.ensures.good (ap (position (is_of c.args.block)) (sym c.ways_of.ensures.ways) ∙ sym c.way_of.ensures ∙ c.in_err-way.was))
+    c.from_residual.ensures
+    ∙ sym (none-in-set c.args.self.now c.args.block c.ways_of.ensures.good
+    (ap (position (is_of c.args.block)) (sym c.ways_of.ensures.ways) ∙ sym c.way_of.ensures ∙ c.in_err-way.was))
 
-found : (c : goal.After-first_of) → (c.in_ok-way.way < c.args.self.now.ways) × (frame_of c.args.self.now c.args.block ≡ Some (first_of c.args.self.now c.args.block + c.in_ok-way.way))
-found c = found-in-set c.args.self.now c.args.block c.in_ok-way.way c.ways_of.ensures.good (ap (position (is_of c.args.block)) (sym c.ways_of.ensures.ways) ∙ sym c.way_of.ensures ∙ c.in_ok-way.was)
+found : (c : goal.After-first_of) →
+    (c.in_ok-way.way < c.args.self.now.ways)
+    × (frame_of c.args.self.now c.args.block ≡ Some (first_of c.args.self.now c.args.block + c.in_ok-way.way))
+found c =
+    found-in-set c.args.self.now c.args.block c.in_ok-way.way c.ways_of.ensures.good
+    (ap (position (is_of c.args.block)) (sym c.ways_of.ensures.ways) ∙ sym c.way_of.ensures ∙ c.in_ok-way.was)
 
 pub overflow_add-result : goal.overflow_add-result
 overflow_add-result c = omega (arith, (found c).0, c.first_of.ensures.small)

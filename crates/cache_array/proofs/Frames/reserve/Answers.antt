@@ -17,10 +17,12 @@ least c =
     (ap (position is_none) (sym c.ways_of.ensures.ways) ∙ sym c.free_way_of.ensures ∙ c.unwrap-way.ensures))
 
 after : (c : goal.After-self-1) → AreSlots (taken c.args.self.now (c.first_of.result + c.unwrap-way.result) c.args.block)
-after c = slots-taken c.args.self.now (c.first_of.result + c.unwrap-way.result) c.args.block c.first_of.ensures.good c.requires.new (least c).own
+after c =
+    slots-taken c.args.self.now (c.first_of.result + c.unwrap-way.result) c.args.block c.first_of.ensures.good c.requires.new (least c).own
 
 pub invariant_of-self : goal.invariant_of-self
-invariant_of-self c = subst (λ (d : FrameSlots). AreSlots (taken d (c.first_of.result + c.unwrap-way.result) c.args.block)) (sym c.self.view_is) (after c)
+invariant_of-self c =
+    subst (λ (d : FrameSlots). AreSlots (taken d (c.first_of.result + c.unwrap-way.result) c.args.block)) (sym c.self.view_is) (after c)
 
 pub returns-clause-own : goal.returns-clause-own
 returns-clause-own c = (least c).own
@@ -32,4 +34,5 @@ pub returns-clause-least : goal.returns-clause-least
 returns-clause-least c = (least c).least
 
 pub returns-clause-good : goal.returns-clause-good
-returns-clause-good c = subst (λ (d : FrameSlots). AreSlots (taken d (c.first_of.result + c.unwrap-way.result) c.args.block)) (sym c.self.view_is) (after c)
+returns-clause-good c =
+    subst (λ (d : FrameSlots). AreSlots (taken d (c.first_of.result + c.unwrap-way.result) c.args.block)) (sym c.self.view_is) (after c)

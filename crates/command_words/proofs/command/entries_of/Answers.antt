@@ -8,7 +8,8 @@ use Rattle.command_words.proofs.command.entries_of.Goals as goal
 abbrev failed : {T : Type 0} → WordsFault → Result T WordsFault
 failed fault = Err fault
 
-untaken : {T : Type 0} (taken : Bool) (fault : WordsFault) (kind : ErrorKind) → ((fault ≡ Memory) ↔ (kind ≡ OutOfMemory)) → (taken ≡ true → kind ≡ OutOfMemory)
+untaken : {T : Type 0} (taken : Bool) (fault : WordsFault) (kind : ErrorKind) → ((fault ≡ Memory) ↔ (kind ≡ OutOfMemory)) →
+    (taken ≡ true → kind ≡ OutOfMemory)
     → failed {T = T} fault ≡ failed {T = T} Usage → taken ≡ false
 untaken false fault kind is h e = refl
 untaken true fault kind is h e = grind (arith, is, h refl, e)

@@ -14,7 +14,8 @@ pub returns-clause-taken : goal.returns-clause-taken
 returns-clause-taken c =
     let words = map string_bytes c.args.words.now in
     let same = c.in_ok-command.ensures in
-    if_ok c.try_get_matches_from.result _ (takes the_app words ≡ true) (λ none. taken the_app words refl refl refl (ap (λ (a : App). fault_of a words) (sym same) ∙ none))
+    if_ok c.try_get_matches_from.result _ (takes the_app words ≡ true)
+    (λ none. taken the_app words refl refl refl (ap (λ (a : App). fault_of a words) (sym same) ∙ none))
     (c.try_get_matches_from.ensures.kinds (ap (λ (a : App). is_simple_and_free a) same))
 
 pub returns-clause-refusal : goal.returns-clause-refusal

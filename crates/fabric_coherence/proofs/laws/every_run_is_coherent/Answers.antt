@@ -7,7 +7,9 @@ use Rattle.fabric_coherence.proofs.KeptStart.{start-kept}
 use Rattle.fabric_coherence.proofs.laws.every_run_is_coherent.Goals as goal
 
 pub returns-clause-kept : goal.returns-clause-kept
-returns-clause-kept c = λ image config nodes events some few run. run_keeps config (first_fabric image nodes) events (first_beside, start-kept image nodes some few) run
+returns-clause-kept c =
+    λ image config nodes events some few run. run_keeps config (first_fabric image nodes) events
+    (first_beside, start-kept image nodes some few) run
 
 pub returns-clause-coherent : goal.returns-clause-coherent
 returns-clause-coherent c = λ image config nodes events some few run b l.

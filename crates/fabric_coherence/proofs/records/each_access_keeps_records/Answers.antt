@@ -11,7 +11,8 @@ pub returns-clause-store : goal.returns-clause-store
 returns-clause-store c = λ s r n w k can. (k.0, stored_kept s k.0 k.1 n w can, store_recorded s k.0 k.1 n w can r k.2)
 
 pub returns-clause-store_conditional : goal.returns-clause-store_conditional
-returns-clause-store_conditional c = λ s r n w k can reserved. (k.0, stored_kept s k.0 k.1 n w can, store_conditional_recorded s k.0 k.1 n w can r k.2 reserved)
+returns-clause-store_conditional c =
+    λ s r n w k can reserved. (k.0, stored_kept s k.0 k.1 n w can, store_conditional_recorded s k.0 k.1 n w can r k.2 reserved)
 
 pub returns-clause-undone : goal.returns-clause-undone
 returns-clause-undone c = λ s r n k l. (k.0, k.1, undone s k.0 r k.1 k.2 n l)

@@ -12,8 +12,12 @@ turns-init c = record {
   room = omega (arith, c.requires.room);
   count = ap length c.in_ok-events.ensures.items;
   fit = none_fit 4 c.in_ok-events.events.items c.in_ok-events.ensures.items;
-  rest = λ left e. first_rest c.args.size left c.args.machine.state c.args.driver.numbers c.seed_from_u64-generator.result c.in_ok-events.events.items (omega (arith, e)) c.in_ok-events.ensures.items
-      c.requires.fresh.state (ap (λ (d : DriverData). d.numbers) c.requires.driver) (c.seed_from_u64-generator.ensures ∙ ap (λ n. pcg32_of_seed (pcg32_seed 16 n)) c.from.ensures);
+  rest =
+      λ left e.
+      first_rest c.args.size left c.args.machine.state c.args.driver.numbers c.seed_from_u64-generator.result c.in_ok-events.events.items
+      (omega (arith, e)) c.in_ok-events.ensures.items
+      c.requires.fresh.state (ap (λ (d : DriverData). d.numbers) c.requires.driver)
+      (c.seed_from_u64-generator.ensures ∙ ap (λ n. pcg32_of_seed (pcg32_seed 16 n)) c.from.ensures);
 }
 
 pub turns-preserved : goal.turns-preserved
@@ -21,9 +25,14 @@ turns-preserved c = record {
   running = c.turn-event.ensures.running;
   done = omega (arith, c.turns.invariant.done, c.turn-event.ensures.done);
   room = omega (arith, c.turns.invariant.room, c.turn-event.ensures.spare);
-  count = ap length c.in_ok-push.ensures.items ∙ length-append c.turns.events.items (c.turn-event.result ∷ []) ∙ ap (λ n. n + 1) c.turns.invariant.count;
-  fit = next_fit 4 c.turns.events.items c.push.new.self.items c.turn-event.result c.turns.invariant.fit c.turn-event.ensures.fits c.in_ok-push.ensures.items;
-  rest = λ left e. next_rest c.turns.number left c.next_word-pick.result c.turns.machine.state c.turn-event.new.machine.state c.turns.driver.numbers c.turn-event.new.driver.numbers
+  count =
+      ap length c.in_ok-push.ensures.items ∙ length-append c.turns.events.items (c.turn-event.result ∷ [])
+      ∙ ap (λ n. n + 1) c.turns.invariant.count;
+  fit =
+      next_fit 4 c.turns.events.items c.push.new.self.items c.turn-event.result c.turns.invariant.fit c.turn-event.ensures.fits c.in_ok-push.ensures.items;
+  rest =
+      λ left e.
+      next_rest c.turns.number left c.next_word-pick.result c.turns.machine.state c.turn-event.new.machine.state c.turns.driver.numbers c.turn-event.new.driver.numbers
       c.turns.generator c.next_word-pick.new.self c.turns.events.items c.push.new.self.items c.turn-event.result
       c.turn-event.ensures.due c.next_word-pick.ensures c.turn-event.ensures.applied c.turn-event.ensures.counted c.in_ok-push.ensures.items
       ∙ c.turns.invariant.rest (suc left) (omega (arith, e));
@@ -31,7 +40,9 @@ turns-preserved c = record {
 
 pub returns : goal.returns
 returns c = record {
-  due = last_rest c.turns.machine.state c.turns.driver.numbers c.turns.number c.turns.generator c.turns.events.items ∙ c.turns.invariant.rest 0 (omega arith);
+  due =
+      last_rest c.turns.machine.state c.turns.driver.numbers c.turns.number c.turns.generator c.turns.events.items
+      ∙ c.turns.invariant.rest 0 (omega arith);
   count = omega (arith, c.turns.invariant.count, c.turns-test.false, c.turns.auto.number-end);
   fit = c.turns.invariant.fit;
 }

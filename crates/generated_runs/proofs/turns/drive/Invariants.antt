@@ -12,5 +12,6 @@ invariant-turns l = record {
   room : l.size ≤ l.machine.spare + l.number;
   count : length l.events.items ≡ l.number;
   fit : AllFit 4 l.events.items;
-  rest : (left : ℕ) → left + l.number ≡ l.size → l.events.items ++ still_due l.machine.state l.driver.numbers left l.number l.generator ≡ generated_events l.size;
+  rest : (left : ℕ) → left + l.number ≡ l.size →
+      l.events.items ++ still_due l.machine.state l.driver.numbers left l.number l.generator ≡ generated_events l.size;
 }

@@ -11,10 +11,12 @@ pub returns-clause-due : goal.returns-clause-due
 returns-clause-due c = due_now c.args.driver.now c.args.machine.now c.args.worker c.args.pick _ c.requires.running c.in-Did.ensures.took.0
 
 pub returns-clause-fits : goal.returns-clause-fits
-returns-clause-fits c = fits_now c.args.driver.now c.args.machine.now c.args.worker c.args.pick _ c.requires.running c.requires.worker c.in-Did.ensures.took.0
+returns-clause-fits c =
+    fits_now c.args.driver.now c.args.machine.now c.args.worker c.args.pick _ c.requires.running c.requires.worker c.in-Did.ensures.took.0
 
 pub returns-clause-counted : goal.returns-clause-counted
-returns-clause-counted c = numbers_now c.args.driver.now _ c.args.machine.now _ _ _ c.requires.running c.in-Did.ensures.took.1 c.in-Did.ensures.took.2
+returns-clause-counted c =
+    numbers_now c.args.driver.now _ c.args.machine.now _ _ _ c.requires.running c.in-Did.ensures.took.1 c.in-Did.ensures.took.2
 
 pub returns-clause-applied : goal.returns-clause-applied
 returns-clause-applied c = state_now c.args.driver.now c.args.machine.now _ _ _ c.requires.running c.in-Did.ensures.took.1

@@ -2,7 +2,7 @@ use Rattle.std.proofs.Common.{◌≡◌, ◌<◌, length, ap, ◌∙◌, arith, 
 use Rattle.home_directory.specs.Home.{HomeData}
 use Rattle.home_directory.specs.Open.{relisted}
 use Rattle.home_directory.proofs.Opens.{short_is, relisted_is}
-use Rattle.home_directory.proofs.Listing.{settled-touched}
+use Rattle.home_directory.proofs.Listing.{cleared-touched}
 use Rattle.home_directory.proofs.Home.receive.Goals as goal
 
 -- the place has room in the list
@@ -29,5 +29,6 @@ invariant_of-self c =
           ∙ ap (relisted c.place-place.result _) c.self.invariant.1
           ∙ relisted_is c.self.inside.entries.items c.place-place.result c.receive-step.new.entry l,
       omega (arith, s, c.self.invariant.2, c.relist.ensures.room),
-      rw c.touch.ensures (settled-touched c.self.inside.touched c.self.inside.entries.items c.place-place.result c.receive-step.new.entry l c.self.invariant.3),
+      rw c.touch.ensures
+          (cleared-touched c.self.inside.touched c.self.inside.entries.items c.place-place.result c.receive-step.new.entry l c.self.invariant.3),
     )

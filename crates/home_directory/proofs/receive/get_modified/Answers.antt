@@ -10,10 +10,12 @@ pub returns-then-eq-clause-did : goal.returns-then-eq-clause-did
 returns-then-eq-clause-did c =
     let n : cache_of c.args.entry.now.holder ≡ Some c.in-Some.owner = cc in
     let q : nat_eq c.in-Some.owner c.args.message.now.from ≡ true = grind (arith, nat_tests) in
-    did_upgrade (kept c.args.entry.now c.args.log.now.entries) _ _ _ _ _ _ _ (cache_owns c.args.entry.now.holder c.in-Some.owner n) q (c.upgrade.ensures c.args.log.now.entries)
+    did_upgrade (kept c.args.entry.now c.args.log.now.entries) _ _ _ _ _ _ _ (cache_owns c.args.entry.now.holder c.in-Some.owner n) q
+    (c.upgrade.ensures c.args.log.now.entries)
 
 pub returns-else-eq-clause-did : goal.returns-else-eq-clause-did
 returns-else-eq-clause-did c =
     let n : cache_of c.args.entry.now.holder ≡ Some c.in-Some.owner = cc in
     let q : nat_eq c.in-Some.owner c.args.message.now.from ≡ false = grind (arith, nat_tests) in
-    did_move (kept c.args.entry.now c.args.log.now.entries) _ _ _ _ _ _ _ (cache_owns c.args.entry.now.holder c.in-Some.owner n) q (c.move_ownership.ensures c.args.log.now.entries)
+    did_move (kept c.args.entry.now c.args.log.now.entries) _ _ _ _ _ _ _ (cache_owns c.args.entry.now.holder c.in-Some.owner n) q
+    (c.move_ownership.ensures c.args.log.now.entries)

@@ -12,9 +12,12 @@ pub returns-in_default-clause-did : goal.returns-in_default-clause-did
 returns-in_default-clause-did c =
     let n : cache_of c.args.entry.now.holder ≡ None = cc in
     let q : nat_eq (count_others c.args.entry.now.sharers c.args.message.now.from) 0 ≡ false = grind (arith, nat_tests) in
-    did_copy (kept c.args.entry.now c.args.log.now.entries) _ _ _ _ _ _ _ (home_owns c.entry.inside.owner c.entry.inside.memory c.args.entry.now.holder (ap (λ (e : HomeEntry). e.holder) c.entry.view_is) n) q (c.read_at_home.ensures c.args.log.now.entries)
+    did_copy (kept c.args.entry.now c.args.log.now.entries) _ _ _ _ _ _ _
+    (home_owns c.entry.inside.owner c.entry.inside.memory c.args.entry.now.holder (ap (λ (e : HomeEntry). e.holder) c.entry.view_is) n) q
+    (c.read_at_home.ensures c.args.log.now.entries)
 
 pub returns-clause-did : goal.returns-clause-did
 returns-clause-did c =
     let n : cache_of c.args.entry.now.holder ≡ Some c.in-Some.owner = cc in
-    did_forward (kept c.args.entry.now c.args.log.now.entries) _ _ _ _ _ _ _ (cache_owns c.args.entry.now.holder c.in-Some.owner n) (c.read_at_owner.ensures c.args.log.now.entries)
+    did_forward (kept c.args.entry.now c.args.log.now.entries) _ _ _ _ _ _ _ (cache_owns c.args.entry.now.holder c.in-Some.owner n)
+    (c.read_at_owner.ensures c.args.log.now.entries)

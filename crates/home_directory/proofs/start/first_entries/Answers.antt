@@ -10,5 +10,6 @@ pub places-preserved : goal.places-preserved
 places-preserved c =
     c.in_ok-push.ensures.items
     ∙ ap (λ (es : List HomeEntry). es ++ c.first_entry-entry.result ∷ []) c.places.invariant
-    ∙ ap (λ (e : HomeEntry). entries_below c.places.place c.args.image.now c.args.node c.args.nodes ++ e ∷ []) (c.first_entry-entry.ensures ∙ ap (first_home c.args.image.now) c.block_of.ensures)
+    ∙ ap (λ (e : HomeEntry). entries_below c.places.place c.args.image.now c.args.node c.args.nodes ++ e ∷ [])
+    (c.first_entry-entry.ensures ∙ ap (first_home c.args.image.now) c.block_of.ensures)
     ∙ sym (entries_more c.places.place c.args.image.now c.args.node c.args.nodes)

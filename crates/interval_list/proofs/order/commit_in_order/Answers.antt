@@ -12,7 +12,12 @@ intervals-init g c = (
 
 pub commit_interval-requires : goal.commit_interval-requires
 commit_interval-requires g c =
-    omega (arith, ap length c.intervals.invariant.1, length-append c.args.committed.now.items (entries_below c.intervals.interval c.args.waiting.now), next_fits c.intervals.interval c.args.waiting.now)
+    omega (
+      arith,
+      ap length c.intervals.invariant.1,
+      length-append c.args.committed.now.items (entries_below c.intervals.interval c.args.waiting.now),
+      next_fits c.intervals.interval c.args.waiting.now,
+    )
 
 pub intervals-preserved : goal.intervals-preserved
 intervals-preserved g c = (

@@ -7,7 +7,8 @@ use Rattle.log_buffer.proofs.LastPlace.{take-take}
 use Rattle.log_buffer.proofs.LogBuffer.free_below.Goals as goal
 
 -- the list is cut after the entries that stay
-cut : (now new rest was old : List Stored) (w n k : ℕ) → now ≡ take w (take n (new ++ rest)) → w ≤ length new → w ≤ n → entries_of (take w new) ≡ entries_from k (entries_of old) → old ≡ was →
+cut : (now new rest was old : List Stored) (w n k : ℕ) → now ≡ take w (take n (new ++ rest)) → w ≤ length new → w ≤ n →
+    entries_of (take w new) ≡ entries_from k (entries_of old) → old ≡ was →
     (now ≡ take w new) × (entries_of now ≡ entries_from k (entries_of was))
 cut now new rest was old w n k h l m e o =
     let t = h ∙ (take-take w n (new ++ rest) m ∙ take-append-le w new rest l) in
@@ -15,7 +16,8 @@ cut now new rest was old w n k h l m e o =
 
 pub invariant_of-self : goal.invariant_of-self
 invariant_of-self c =
-    let e = cut _ _ _ c.self.inside.stored.items _ _ _ c.args.k c.truncate.ensures.items c.close_up-kept.ensures.within (omega arith) c.close_up-kept.ensures.kept c.as_mut_slice.ensures.value in
+    let e = cut _ _ _ c.self.inside.stored.items _ _ _ c.args.k c.truncate.ensures.items c.close_up-kept.ensures.within
+    (omega arith) c.close_up-kept.ensures.kept c.as_mut_slice.ensures.value in
     record {
       log = rw e.1 (IsLog-from c.args.k (entries_of c.self.inside.stored.items) c.self.inside.limit c.self.invariant.log);
       index = rw e.0 c.close_up-kept.ensures.indexed;
@@ -25,5 +27,6 @@ invariant_of-self c =
 
 pub returns : goal.returns
 returns c =
-    let e = cut _ _ _ c.self.inside.stored.items _ _ _ c.args.k c.truncate.ensures.items c.close_up-kept.ensures.within (omega arith) c.close_up-kept.ensures.kept c.as_mut_slice.ensures.value in
+    let e = cut _ _ _ c.self.inside.stored.items _ _ _ c.args.k c.truncate.ensures.items c.close_up-kept.ensures.within
+    (omega arith) c.close_up-kept.ensures.kept c.as_mut_slice.ensures.value in
     rw (← c.self.view_is, e.1)

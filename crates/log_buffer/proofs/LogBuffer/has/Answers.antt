@@ -17,7 +17,8 @@ returns-then-stored-interval c =
     let h : StandsAt c.self.inside.stored.items c.args.home_side c.args.block c.in-Some.at c.index-stored.result.now =
     stands_here _ _ _ _ _ _ _ c.self.invariant.index.linked c.older.invariant.is c.in-Some.is c.from.ensures c.index-stored.ensures in
     has_here _ _ _ _ c.args.interval _ h c.self.invariant.log.growing c.if-stored-interval.true
-    ∙ (ap (λ o. has_entry (take (upto o) (entries_of c.self.inside.stored.items)) c.args.interval c.args.home_side c.args.block) (sym c.in-Some.is)
+    ∙ (ap (λ o. has_entry (take (upto o) (entries_of c.self.inside.stored.items)) c.args.interval c.args.home_side c.args.block)
+    (sym c.in-Some.is)
     ∙ (c.older.invariant.same
     ∙ ap (λ (d : LogData). has_entry d.entries c.args.interval c.args.home_side c.args.block) c.self.view_is))
 
@@ -38,6 +39,7 @@ older-preserved c =
       same =
           k.has c.args.interval
           ∙ (has_newer _ _ _ _ c.args.interval _ h c.if-stored-interval.false
-          ∙ (ap (λ o. has_entry (take (upto o) (entries_of c.self.inside.stored.items)) c.args.interval c.args.home_side c.args.block) (sym c.in-Some.is)
+          ∙ (ap (λ o. has_entry (take (upto o) (entries_of c.self.inside.stored.items)) c.args.interval c.args.home_side c.args.block)
+          (sym c.in-Some.is)
           ∙ c.older.invariant.same));
     }

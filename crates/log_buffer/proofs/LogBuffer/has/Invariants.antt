@@ -8,7 +8,8 @@ use Rattle.log_buffer.proofs.LogBuffer.has.Given as goal
 abbrev pub invariant-older : goal.invariant-older
 invariant-older l = record {
   is : IsPlaceOf (entries_of l.self-inside.stored.items) l.home_side l.fn.block l.place;
-  same : has_entry (take (upto l.place) (entries_of l.self-inside.stored.items)) l.interval l.home_side l.fn.block ≡ has_entry (entries_of l.self-inside.stored.items) l.interval l.home_side l.fn.block;
+  same : has_entry (take (upto l.place) (entries_of l.self-inside.stored.items)) l.interval l.home_side l.fn.block
+      ≡ has_entry (entries_of l.self-inside.stored.items) l.interval l.home_side l.fn.block;
 }
 
 abbrev pub decreases-older : goal.decreases-older

@@ -18,7 +18,8 @@ returns-then-stored-k-clause-old c =
     let h : StandsAt c.self.inside.stored.items c.args.home_side c.args.block c.in-Some.at c.index-stored.result.now =
     stands_here _ _ _ _ _ _ _ c.self.invariant.index.linked c.older.invariant.is c.in-Some.is c.from.ensures c.index-stored.ensures in
     ap (λ o. or_else o (option_copied c.older.found)) (sym (old_older _ _ _ _ c.args.k _ h c.self.invariant.log.growing c.if-stored-k.true))
-    ∙ (ap (λ o. or_else (old_at (take (upto o) (entries_of c.self.inside.stored.items)) c.args.home_side c.args.block c.args.k) (option_copied c.older.found)) (sym c.in-Some.is)
+    ∙ (ap (λ o. or_else (old_at (take (upto o) (entries_of c.self.inside.stored.items)) c.args.home_side c.args.block c.args.k)
+    (option_copied c.older.found)) (sym c.in-Some.is)
     ∙ (c.older.invariant.same
     ∙ ap (λ (d : LogData). old_at d.entries c.args.home_side c.args.block c.args.k) c.self.view_is))
 
@@ -39,6 +40,7 @@ older-preserved c =
       same =
           ap (λ o. or_else o (Some c.index-stored.result.now.entry.old)) (k.old c.args.k)
           ∙ (old_here _ _ _ _ c.args.k _ (option_copied c.older.found) h c.self.invariant.log.growing c.if-stored-k.false
-          ∙ (ap (λ o. or_else (old_at (take (upto o) (entries_of c.self.inside.stored.items)) c.args.home_side c.args.block c.args.k) (option_copied c.older.found)) (sym c.in-Some.is)
+          ∙ (ap (λ o. or_else (old_at (take (upto o) (entries_of c.self.inside.stored.items)) c.args.home_side c.args.block c.args.k)
+          (option_copied c.older.found)) (sym c.in-Some.is)
           ∙ c.older.invariant.same));
     }

@@ -9,7 +9,8 @@ use Rattle.log_buffer.proofs.LogBuffer.old_at.Given as goal
 abbrev pub invariant-older : goal.invariant-older
 invariant-older l = record {
   is : IsPlaceOf (entries_of l.self-inside.stored.items) l.home_side l.fn.block l.place;
-  same : or_else (old_at (take (upto l.place) (entries_of l.self-inside.stored.items)) l.home_side l.fn.block l.k) (option_copied l.found) ≡ old_at (entries_of l.self-inside.stored.items) l.home_side l.fn.block l.k;
+  same : or_else (old_at (take (upto l.place) (entries_of l.self-inside.stored.items)) l.home_side l.fn.block l.k) (option_copied l.found)
+      ≡ old_at (entries_of l.self-inside.stored.items) l.home_side l.fn.block l.k;
 }
 
 abbrev pub decreases-older : goal.decreases-older

@@ -20,4 +20,5 @@ pub returns-in-Trace-clause-numbers : goal.returns-in-Trace-clause-numbers
 returns-in-Trace-clause-numbers g c = trace-numbers c.args.journal.now c.args.showing.now c.put_end.result c.in-Trace.is
 
 pub returns-in-Journal-clause-numbers : goal.returns-in-Journal-clause-numbers
-returns-in-Journal-clause-numbers g c = script-numbers c.args.journal.now c.args.showing.now c.put_script.result c.put_script.ensures.numbers
+returns-in-Journal-clause-numbers g c =
+    script-numbers c.args.journal.now c.args.showing.now c.put_script.result c.put_script.ensures.numbers

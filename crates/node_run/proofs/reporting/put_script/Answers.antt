@@ -10,7 +10,10 @@ returns-in_err-put_journal-clause-err g c =
 pub returns-in_err-put_summary-clause-err : goal.returns-in_err-put_summary-clause-err
 returns-in_err-put_summary-clause-err g c =
     let p = err_from_is_err_and c.from_residual-in_err-put_summary.result c.from_residual-in_err-put_summary.ensures.1 in
-    rw p.1 (λ r. script-breaks_second c.args.machine.now c.args.journal.now c.args.watch _ _ _ _ (c.in_ok-put_journal.ensures.ok r) (c.in_err-put_summary.ensures.err r))
+    rw p.1 (λ r. script-breaks_second c.args.machine.now c.args.journal.now c.args.watch _ _ _ _ (c.in_ok-put_journal.ensures.ok r)
+    (c.in_err-put_summary.ensures.err r))
 
 pub returns-clause-ok : goal.returns-clause-ok
-returns-clause-ok g c = λ r. script-all c.args.machine.now c.args.journal.now c.args.watch _ _ _ _ (c.in_ok-put_journal.ensures.ok r) (c.in_ok-put_summary.ensures.ok r)
+returns-clause-ok g c =
+    λ r. script-all c.args.machine.now c.args.journal.now c.args.watch _ _ _ _ (c.in_ok-put_journal.ensures.ok r)
+    (c.in_ok-put_summary.ensures.ok r)

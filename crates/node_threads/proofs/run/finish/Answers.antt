@@ -19,7 +19,9 @@ returns-clause-ends g c = λ before was h.
     c.put_rest-put.result c.close-closed.result c.finish_after.result c.finish_after.ensures
     (λ sound. finish-kept c.audit-count.new.self g.L.RunName.began c.end-machine.result.journal.items c.close-closed.result
     c.end-machine.ensures.kept c.end-machine.ensures.began c.end-machine.ensures.same.1
-    (subst (λ (s : LockedData). refusal_of s.driver s.machine (nat_le s.budget (length s.journal)) ≡ Some c.close-closed.result) (sym c.audit-count.ensures.same.0)
+    (subst (λ (s : LockedData). refusal_of s.driver s.machine (nat_le s.budget (length s.journal)) ≡ Some c.close-closed.result)
+    (sym c.audit-count.ensures.same.0)
     (c.close-closed.ensures.finish (drained-ok c.args.drained c.put_rest-put.result c.put_rest-put.ensures.failed sound))))
-    (subst (λ (t : List ℕ). Put c.put_rest-put.result t before (g.C.Sink.written c.put_rest-put.new.console) was (g.C.Sink.faults c.put_rest-put.new.console)) shown
+    (subst (λ (t : List ℕ). Put c.put_rest-put.result t before (g.C.Sink.written c.put_rest-put.new.console) was
+    (g.C.Sink.faults c.put_rest-put.new.console)) shown
     (c.put_rest-put.ensures.put before was h))

@@ -9,4 +9,5 @@ finish-requires-clause-ends g c = λ outbox here.
 
 pub returns-clause-ends : goal.returns-clause-ends
 returns-clause-ends g c =
-    c.finish.ensures.ends (g.C.Sink.written c.args.console.now) (g.C.Sink.faults c.args.console.now) (c.turns-drained.ensures.put c.requires.fresh.1)
+    c.finish.ensures.ends (g.C.Sink.written c.args.console.now) (g.C.Sink.faults c.args.console.now)
+    (c.turns-drained.ensures.put c.requires.fresh.1)

@@ -13,4 +13,5 @@ entries-preserved g c =
 
 pub returns : goal.returns
 returns g c =
-    told-all _ _ c.entries.place _ _ (omega (arith, c.entries-test.false, c.entries.auto.place-end, c.len-place-end.ensures)) c.entries.invariant
+    told-all _ _ c.entries.place _ _
+    (omega (arith, c.entries-test.false, c.entries.auto.place-end, c.len-place-end.ensures)) c.entries.invariant

@@ -10,7 +10,9 @@ pub returns-clause-some : goal.returns-clause-some
 returns-clause-some c = λ image nodes s h rs q p a b l. first_refused image nodes s h rs q p a b l
 
 pub returns-clause-start_all : goal.returns-clause-start_all
-returns-clause-start_all c = λ image nodes rs q p a b e. all_done image nodes (flat_start image nodes) (start_shows image nodes) rs q p a b e
+returns-clause-start_all c =
+    λ image nodes rs q p a b e. all_done image nodes (flat_start image nodes) (start_shows image nodes) rs q p a b e
 
 pub returns-clause-start_some : goal.returns-clause-start_some
-returns-clause-start_some c = λ image nodes rs q p a b l. first_refused image nodes (flat_start image nodes) (start_shows image nodes) rs q p a b l
+returns-clause-start_some c =
+    λ image nodes rs q p a b l. first_refused image nodes (flat_start image nodes) (start_shows image nodes) rs q p a b l

@@ -20,4 +20,5 @@ returns c = λ s l.
       c.b.ensures,
       level-first (record { nodes = c.args.grid.now; dead = c.args.dead }) c.args.to s,
     )
-    (first_table (record { nodes = c.args.grid.now; dead = c.args.dead }) c.args.to s (replicate 32 32) refl all_apart c.requires.few c.requires.there l)
+    (first_table (record { nodes = c.args.grid.now; dead = c.args.dead }) c.args.to s
+    (replicate 32 32) refl all_apart c.requires.few c.requires.there l)

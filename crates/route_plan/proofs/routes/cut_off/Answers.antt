@@ -13,7 +13,9 @@ named : (c : goal.After-first_cut_off) → c.first_cut_off.result ≡ first_cut_
 named c = c.first_cut_off.ensures ∙ ap (λ m. first_cut_off m) c.find.ensures
 
 pub returns-clause-first : goal.returns-clause-first
-returns-clause-first c = if-some c.first_cut_off.result _ (λ p e. first-pair (record { nodes = c.args.nodes; dead = c.args.dead }) p.0 p.1 (sized c) (sym (named c) ∙ e))
+returns-clause-first c =
+    if-some c.first_cut_off.result _
+    (λ p e. first-pair (record { nodes = c.args.nodes; dead = c.args.dead }) p.0 p.1 (sized c) (sym (named c) ∙ e))
 
 pub returns-clause-none : goal.returns-clause-none
 returns-clause-none c = (
@@ -22,4 +24,5 @@ returns-clause-none c = (
 )
 
 pub returns-clause-all_living : goal.returns-clause-all_living
-returns-clause-all_living c = λ e. is-none c.first_cut_off.result (named c ∙ whole (record { nodes = c.args.nodes; dead = c.args.dead }) (sized c) e)
+returns-clause-all_living c =
+    λ e. is-none c.first_cut_off.result (named c ∙ whole (record { nodes = c.args.nodes; dead = c.args.dead }) (sized c) e)

@@ -8,5 +8,6 @@ none_found c e = c.first_cut_off.ensures ∙ (ap (λ m. first_cut_off m) c.find-
 
 pub returns-in-Some-clause-all_living : goal.returns-in-Some-clause-all_living
 returns-in-Some-clause-all_living c = λ e.
-    let n = none_found c (whole (record { nodes = c.args.nodes; dead = c.args.dead }) (record { some = c.requires.some; few = c.requires.few }) e) in
+    let n = none_found c (whole (record { nodes = c.args.nodes; dead = c.args.dead })
+    (record { some = c.requires.some; few = c.requires.few }) e) in
     cc (sym c.in-Some.is ∙ n)

@@ -8,4 +8,5 @@ pub returns-clause-word : goal.returns-clause-word
 returns-clause-word c = subst (IsWordOf c.args.instr.now) (sym c.written.ensures) (word_of-right c.args.instr.now c.requires)
 
 pub returns-clause-back : goal.returns-clause-back
-returns-clause-back c = subst (λ word. decoded word ≡ Some c.args.instr.now) (sym c.written.ensures) (decoded-word_of c.args.instr.now c.requires)
+returns-clause-back c =
+    subst (λ word. decoded word ≡ Some c.args.instr.now) (sym c.written.ensures) (decoded-word_of c.args.instr.now c.requires)

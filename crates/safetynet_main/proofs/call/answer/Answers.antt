@@ -6,12 +6,15 @@ use Rattle.safetynet_main.proofs.call.answer.Goals as goal
 
 pub returns-in-Err-Usage-clause-comes : goal.returns-in-Err-Usage-clause-comes
 returns-in-Err-Usage-clause-comes g c = λ no.
-    comes-none (Fetches g.S.Store.files g.S.Store.sure g.S.Store.faults g.S.Store.gave) _ _ _ _ (c.in-Err-Usage.ensures.usage (ap (λ t. Err t) c.in-Err-Usage.field-0-is))
+    comes-none (Fetches g.S.Store.files g.S.Store.sure g.S.Store.faults g.S.Store.gave) _ _ _ _
+    (c.in-Err-Usage.ensures.usage (ap (λ t. Err t) c.in-Err-Usage.field-0-is))
 
 pub returns-clause-comes : goal.returns-clause-comes
 returns-clause-comes g c = λ no.
-    comes-some (Fetches g.S.Store.files g.S.Store.sure g.S.Store.faults g.S.Store.gave) _ _ _ (Err c.in-Err.status) _ _ _ _ _ c.in-Ok.ensures.ok (c.in-Err.ensures.loads (λ m. no cc)) (refl, refl)
+    comes-some (Fetches g.S.Store.files g.S.Store.sure g.S.Store.faults g.S.Store.gave) _ _ _
+    (Err c.in-Err.status) _ _ _ _ _ c.in-Ok.ensures.ok (c.in-Err.ensures.loads (λ m. no cc)) (refl, refl)
 
 pub returns-in-Ok-load-clause-comes : goal.returns-in-Ok-load-clause-comes
 returns-in-Ok-load-clause-comes g c = λ m.
-    comes-some (Fetches g.S.Store.files g.S.Store.sure g.S.Store.faults g.S.Store.gave) _ _ _ (Ok c.in-Ok-load.job) _ _ _ _ _ c.in-Ok.ensures.ok (c.in-Ok-load.ensures.loads (λ e. cc)) (c.perform.ensures.follows m)
+    comes-some (Fetches g.S.Store.files g.S.Store.sure g.S.Store.faults g.S.Store.gave) _ _ _
+    (Ok c.in-Ok-load.job) _ _ _ _ _ c.in-Ok.ensures.ok (c.in-Ok-load.ensures.loads (λ e. cc)) (c.perform.ensures.follows m)

@@ -5,7 +5,8 @@ use Rattle.safetynet_main.proofs.call.perform.Goals as goal
 
 pub returns-in-Check-clause-follows : goal.returns-in-Check-clause-follows
 returns-in-Check-clause-follows g c = λ m.
-    follows-check _ c.args.job c.in-Check.job c.check.result _ _ c.in-Check.is (λ given. c.check.ensures.follows m given (g.C.Sink.written c.args.console.now))
+    follows-check _ c.args.job c.in-Check.job c.check.result _ _ c.in-Check.is
+    (λ given. c.check.ensures.follows m given (g.C.Sink.written c.args.console.now))
 
 pub returns-in-Ok-run-clause-follows : goal.returns-in-Ok-run-clause-follows
 returns-in-Ok-run-clause-follows g c = λ m.
@@ -13,4 +14,5 @@ returns-in-Ok-run-clause-follows g c = λ m.
 
 pub returns-in-Err-Sink-run-clause-follows : goal.returns-in-Err-Sink-run-clause-follows
 returns-in-Err-Sink-run-clause-follows g c = λ m.
-    follows-run_broken _ _ c.args.job c.in-Run.job _ _ _ c.in-Run.is refl (c.in-Err-Sink-run.ensures.sink (ap (λ t. Err t) c.in-Err-Sink-run.field-0-is))
+    follows-run_broken _ _ c.args.job c.in-Run.job _ _ _ c.in-Run.is refl
+    (c.in-Err-Sink-run.ensures.sink (ap (λ t. Err t) c.in-Err-Sink-run.field-0-is))

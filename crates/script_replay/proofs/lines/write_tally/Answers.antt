@@ -9,10 +9,12 @@ places-init g c =
 
 pub returns-in_default : goal.returns-in_default
 returns-in_default g c =
-    tally-ends _ c.args.before.now c.args.probe c.places.place 16 c.places.line c.line.result (omega (arith, c.places-test.true)) c.line.ensures c.in_default.not-Some c.places.invariant.written
+    tally-ends _ c.args.before.now c.args.probe c.places.place 16 c.places.line c.line.result
+    (omega (arith, c.places-test.true)) c.line.ensures c.in_default.not-Some c.places.invariant.written
 
 pub places-preserved : goal.places-preserved
 places-preserved g c = record {
-  written = tally-next _ c.args.before.now c.args.probe c.places.place c.in-Some.value c.places.line c.probe.new.self c.line.result c.line.ensures c.in-Some.is c.probe.ensures.text c.places.invariant.written;
+  written =
+      tally-next _ c.args.before.now c.args.probe c.places.place c.in-Some.value c.places.line c.probe.new.self c.line.result c.line.ensures c.in-Some.is c.probe.ensures.text c.places.invariant.written;
   short = omega (arith, c.probe.ensures.short, c.places.invariant.short);
 }

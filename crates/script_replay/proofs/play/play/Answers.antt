@@ -24,11 +24,21 @@ turn-requires-clause-fits g c =
 
 pub events-preserved : goal.events-preserved
 events-preserved g c = record {
-  played = SoFar-next _ c.events.machine c.turn.new.machine c.args.showing.now _ c.args.events.now c.events.event-index c.event-item.result _ _ _ c.events-test.true c.event-item.is c.turn.ensures.next c.events.invariant.played c.in_ok-turn.ensures.ok;
-  put = put-next c.args.machine.now c.events.machine c.args.showing.now _ c.args.events.now c.events.event-index c.event-item.result _ _ c.events-test.true c.event-item.is c.events.invariant.put c.turn.new.machine _ c.turn.ensures.next c.in_ok-turn.ensures.ok;
-  told = told-next c.args.machine.now c.events.machine c.turn.new.machine c.args.events.now _ _ _ c.events.event-index c.event-item.result c.events-test.true c.event-item.is c.turn.ensures.next c.turn.ensures.told c.events.invariant.told;
-  sizes = sizes-next c.events.machine c.turn.new.machine c.event-item.result c.args.machine.now.config c.turn.ensures.next c.events.invariant.sizes;
-  room = omega (arith, spare-next c.events.machine c.turn.new.machine c.event-item.result c.turn.ensures.next, c.events.invariant.room, c.events-test.true);
+  played =
+      SoFar-next _ c.events.machine c.turn.new.machine c.args.showing.now _ c.args.events.now c.events.event-index c.event-item.result _ _ _ c.events-test.true c.event-item.is c.turn.ensures.next c.events.invariant.played c.in_ok-turn.ensures.ok;
+  put =
+      put-next c.args.machine.now c.events.machine c.args.showing.now _ c.args.events.now c.events.event-index c.event-item.result _ _ c.events-test.true c.event-item.is c.events.invariant.put c.turn.new.machine _ c.turn.ensures.next c.in_ok-turn.ensures.ok;
+  told =
+      told-next c.args.machine.now c.events.machine c.turn.new.machine c.args.events.now _ _ _ c.events.event-index c.event-item.result c.events-test.true c.event-item.is c.turn.ensures.next c.turn.ensures.told c.events.invariant.told;
+  sizes =
+      sizes-next c.events.machine c.turn.new.machine c.event-item.result c.args.machine.now.config c.turn.ensures.next c.events.invariant.sizes;
+  room =
+      omega (
+        arith,
+        spare-next c.events.machine c.turn.new.machine c.event-item.result c.turn.ensures.next,
+        c.events.invariant.room,
+        c.events-test.true,
+      );
   console_later = omega (arith, c.turn.ensures.console_later, c.events.invariant.console_later);
   report_later = omega (arith, c.turn.ensures.report_later, c.events.invariant.report_later);
 }
@@ -36,7 +46,8 @@ events-preserved g c = record {
 pub returns-in_err-turn-clause-err : goal.returns-in_err-turn-clause-err
 returns-in_err-turn-clause-err g c =
     let p = err_from_is_err_and c.from_residual.result c.from_residual.ensures.1 in
-    rw p.1 (SoFar-breaks_event _ c.events.machine c.args.showing.now _ c.args.events.now c.events.event-index c.event-item.result _ _ _ c.events-test.true c.event-item.is c.events.invariant.played c.in_err-turn.ensures.err)
+    rw p.1
+    (SoFar-breaks_event _ c.events.machine c.args.showing.now _ c.args.events.now c.events.event-index c.event-item.result _ _ _ c.events-test.true c.event-item.is c.events.invariant.played c.in_err-turn.ensures.err)
 
 pub returns-in_err-turn-clause-stops : goal.returns-in_err-turn-clause-stops
 returns-in_err-turn-clause-stops g c =
@@ -50,21 +61,28 @@ returns-in_err-turn-clause-stops g c =
 pub returns-in_err-put_end-clause-err : goal.returns-in_err-put_end-clause-err
 returns-in_err-put_end-clause-err g c =
     let p = err_from_is_err_and c.from_residual-in_err-put_end.result c.from_residual-in_err-put_end.ensures.1 in
-    rw p.1 (SoFar-breaks_end _ c.events.machine c.args.showing.now _ _ c.args.events.now c.events.event-index _ _ _ (omega (arith, c.events-test.false, c.events.auto.event-index-end))
-    (told-all c.args.machine.now c.events.machine c.args.events.now _ _ c.events.event-index (omega (arith, c.events-test.false, c.events.auto.event-index-end)) c.events.invariant.told)
+    rw p.1 (SoFar-breaks_end _ c.events.machine c.args.showing.now _ _ c.args.events.now c.events.event-index _ _ _
+    (omega (arith, c.events-test.false, c.events.auto.event-index-end))
+    (told-all c.args.machine.now c.events.machine c.args.events.now _ _ c.events.event-index
+    (omega (arith, c.events-test.false, c.events.auto.event-index-end)) c.events.invariant.told)
     c.events.invariant.played (c.in_err-put_end.ensures.err _))
 
 pub returns-in_err-put_end-clause-stops : goal.returns-in_err-put_end-clause-stops
 returns-in_err-put_end-clause-stops g c =
     let p = err_from_is_err_and c.from_residual-in_err-put_end.result c.from_residual-in_err-put_end.ensures.1 in
-    rw p.1 (inr (stops-at_end c.args.machine.now c.events.machine c.args.showing.now c.args.events.now c.events.event-index _ _ _ _ _ (omega (arith, c.events-test.false, c.events.auto.event-index-end)) c.events.invariant.told c.events.invariant.put (c.in_err-put_end.ensures.err _)))
+    rw p.1 (inr (stops-at_end c.args.machine.now c.events.machine c.args.showing.now c.args.events.now c.events.event-index _ _ _ _ _
+    (omega (arith, c.events-test.false, c.events.auto.event-index-end)) c.events.invariant.told c.events.invariant.put
+    (c.in_err-put_end.ensures.err _)))
 
 pub returns-clause-ok : goal.returns-clause-ok
 returns-clause-ok g c =
-    SoFar-end _ c.events.machine c.args.showing.now _ _ c.args.events.now c.events.event-index _ _ _ (omega (arith, c.events-test.false, c.events.auto.event-index-end))
-    (told-all c.args.machine.now c.events.machine c.args.events.now _ _ c.events.event-index (omega (arith, c.events-test.false, c.events.auto.event-index-end)) c.events.invariant.told)
+    SoFar-end _ c.events.machine c.args.showing.now _ _ c.args.events.now c.events.event-index _ _ _
+    (omega (arith, c.events-test.false, c.events.auto.event-index-end))
+    (told-all c.args.machine.now c.events.machine c.args.events.now _ _ c.events.event-index
+    (omega (arith, c.events-test.false, c.events.auto.event-index-end)) c.events.invariant.told)
     c.events.invariant.played (c.in_ok-put_end.ensures.ok _)
 
 pub returns-clause-told : goal.returns-clause-told
 returns-clause-told g c =
-    told-all c.args.machine.now c.events.machine c.args.events.now _ _ c.events.event-index (omega (arith, c.events-test.false, c.events.auto.event-index-end)) c.events.invariant.told
+    told-all c.args.machine.now c.events.machine c.args.events.now _ _ c.events.event-index
+    (omega (arith, c.events-test.false, c.events.auto.event-index-end)) c.events.invariant.told

@@ -9,14 +9,21 @@ use Rattle.script_replay.proofs.play.play.Given as goal
 
 abbrev pub invariant-events : goal.invariant-events
 invariant-events g l =
-    let before = meters_of (λ b. (goal.Probe-dyn g (b.vtable, b.value)).first b.value) (λ b. (goal.Probe-dyn g (b.vtable, b.value)).tally b.value) (λ b. (goal.Probe-dyn g (b.vtable, b.value)).step b.value) l.initial.probes.probes.items in
-    let meters = meters_of (λ b. (goal.Probe-dyn g (b.vtable, b.value)).first b.value) (λ b. (goal.Probe-dyn g (b.vtable, b.value)).tally b.value) (λ b. (goal.Probe-dyn g (b.vtable, b.value)).step b.value) l.probes.probes.items in
+    let before = meters_of (λ b. (goal.Probe-dyn g (b.vtable, b.value)).first b.value)
+    (λ b. (goal.Probe-dyn g (b.vtable, b.value)).tally b.value)
+    (λ b. (goal.Probe-dyn g (b.vtable, b.value)).step b.value) l.initial.probes.probes.items in
+    let meters = meters_of (λ b. (goal.Probe-dyn g (b.vtable, b.value)).first b.value)
+    (λ b. (goal.Probe-dyn g (b.vtable, b.value)).tally b.value)
+    (λ b. (goal.Probe-dyn g (b.vtable, b.value)).step b.value) l.probes.probes.items in
     let tallies = tallies_of (told_left l.initial.machine l.events before) in
     record {
-      played : SoFar (pieces_left l.initial.machine l.showing tallies l.events) (pieces_left l.machine l.showing tallies (drop l.event-index l.events))
-          (ends (g.C.Sink.written l.initial.console) (g.R.Sink.written l.initial.report)) (ends (g.C.Sink.written l.console) (g.R.Sink.written l.report));
+      played : SoFar (pieces_left l.initial.machine l.showing tallies l.events)
+          (pieces_left l.machine l.showing tallies (drop l.event-index l.events))
+          (ends (g.C.Sink.written l.initial.console) (g.R.Sink.written l.initial.report))
+          (ends (g.C.Sink.written l.console) (g.R.Sink.written l.report));
       put : IsPutSoFar l.initial.machine l.showing tallies l.events l.event-index l.machine
-          (ends (g.C.Sink.written l.initial.console) (g.R.Sink.written l.initial.report)) (ends (g.C.Sink.written l.console) (g.R.Sink.written l.report));
+          (ends (g.C.Sink.written l.initial.console) (g.R.Sink.written l.initial.report))
+          (ends (g.C.Sink.written l.console) (g.R.Sink.written l.report));
       told : IsToldSoFar l.initial.machine l.events before l.event-index l.machine meters;
       sizes : l.machine.config ≡ l.initial.machine.config;
       room : length l.events ≤ l.event-index + l.machine.spare;

@@ -6,12 +6,16 @@ use Rattle.script_replay.proofs.play.put_summary.Goals as goal
 pub returns-in_err-put_report-clause-err : goal.returns-in_err-put_report-clause-err
 returns-in_err-put_report-clause-err g c =
     let p = err_from_is_err_and c.from_residual.result c.from_residual.ensures.1 in
-    rw p.1 (λ r. summed-breaks_first c.args.machine.now c.args.watch c.args.before.now _ c.bytes.result.now (c.bytes.ensures ∙ c.write_summary.ensures) _ _ (c.in_err-put_report.ensures.err r))
+    rw p.1 (λ r. summed-breaks_first c.args.machine.now c.args.watch c.args.before.now _ c.bytes.result.now
+    (c.bytes.ensures ∙ c.write_summary.ensures) _ _ (c.in_err-put_report.ensures.err r))
 
 pub returns-in_err-put_tallies-clause-err : goal.returns-in_err-put_tallies-clause-err
 returns-in_err-put_tallies-clause-err g c =
     let p = err_from_is_err_and c.from_residual-in_err-put_tallies.result c.from_residual-in_err-put_tallies.ensures.1 in
-    rw p.1 (λ r. summed-breaks_second c.args.machine.now c.args.watch c.args.before.now _ c.bytes.result.now (c.bytes.ensures ∙ c.write_summary.ensures) _ _ _ (c.in_ok-put_report.ensures.ok r) (c.in_err-put_tallies.ensures.err r))
+    rw p.1 (λ r. summed-breaks_second c.args.machine.now c.args.watch c.args.before.now _ c.bytes.result.now
+    (c.bytes.ensures ∙ c.write_summary.ensures) _ _ _ (c.in_ok-put_report.ensures.ok r) (c.in_err-put_tallies.ensures.err r))
 
 pub returns-clause-ok : goal.returns-clause-ok
-returns-clause-ok g c = λ r. summed-all c.args.machine.now c.args.watch c.args.before.now _ c.bytes.result.now (c.bytes.ensures ∙ c.write_summary.ensures) _ _ _ (c.in_ok-put_report.ensures.ok r) (c.in_ok-put_tallies.ensures.ok r)
+returns-clause-ok g c =
+    λ r. summed-all c.args.machine.now c.args.watch c.args.before.now _ c.bytes.result.now (c.bytes.ensures ∙ c.write_summary.ensures) _ _ _
+    (c.in_ok-put_report.ensures.ok r) (c.in_ok-put_tallies.ensures.ok r)

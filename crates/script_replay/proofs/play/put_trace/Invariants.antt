@@ -7,6 +7,8 @@ use Rattle.script_replay.proofs.play.put_trace.Given as goal
 
 abbrev pub invariant-records : goal.invariant-records
 invariant-records g l = record {
-  put : (c : Option (List ℕ)) → SoFar (trace_pieces l.records) (trace_pieces (drop l.taken-index l.records)) (ends c (g.R.Sink.written l.initial.report)) (ends c (g.R.Sink.written l.report));
+  put : (c : Option (List ℕ)) →
+      SoFar (trace_pieces l.records) (trace_pieces (drop l.taken-index l.records)) (ends c (g.R.Sink.written l.initial.report))
+      (ends c (g.R.Sink.written l.report));
   later : g.R.Sink.faults l.initial.report ≤ g.R.Sink.faults l.report;
 }

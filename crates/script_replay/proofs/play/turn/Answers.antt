@@ -23,7 +23,8 @@ returns-in_err-put_console-clause-err g c =
 pub returns-in_err-put_group-clause-err : goal.returns-in_err-put_group-clause-err
 returns-in_err-put_group-clause-err g c =
     let p = err_from_is_err_and c.from_residual-in_err-put_group.result c.from_residual-in_err-put_group.ensures.1 in
-    rw p.1 (turn-breaks_second c.args.machine.now c.apply-answer.new.self c.args.showing.now c.args.event.now c.apply-answer.result c.fresh.result.now _ _ _
+    rw p.1
+    (turn-breaks_second c.args.machine.now c.apply-answer.new.self c.args.showing.now c.args.event.now c.apply-answer.result c.fresh.result.now _ _ _
     (fresh-is c.args.machine.now c.apply-answer.new.self c.recovered.result c.recovered-view.result c.args.event.now c.apply-answer.result c.released-had.result.now c.released.result.now c.fresh.result.now
     c.recovered.ensures.shown c.released-had.ensures c.recovered-view.ensures.shown c.released.ensures c.fresh.ensures c.apply-answer.ensures.applied)
     c.apply-answer.ensures.applied

@@ -2,7 +2,8 @@ use Rattle.script_replay.proofs.Performed.{ready-fit, performed-all, performed-p
 use Rattle.script_replay.proofs.replaying.replay.Goals as goal
 
 pub play-requires-clause-fit : goal.play-requires-clause-fit
-play-requires-clause-fit g c = ready-fit c.in-Some.machine c.args.job.program c.args.job.config c.events-events.result.now c.args.job.script _ c.in-Some.ensures c.events-events.ensures c.requires.run.events_fit
+play-requires-clause-fit g c =
+    ready-fit c.in-Some.machine c.args.job.program c.args.job.config c.events-events.result.now c.args.job.script _ c.in-Some.ensures c.events-events.ensures c.requires.run.events_fit
 
 pub returns-in-Ok-play-clause-ok : goal.returns-in-Ok-play-clause-ok
 returns-in-Ok-play-clause-ok g c =

@@ -9,7 +9,8 @@ pub bytes-preserved : goal.bytes-preserved
 bytes-preserved c =
     let i : c.bytes.place < 64 = omega arith in
     let m : c.from-in-bytes.result % 256 ≡ c.byte-byte.result = omega arith in
-    let v : c.from-in-bytes.result % 256 ≡ byte_at c.args.image.now.segments (2147483648 + 64 * c.from.result + c.bytes.place) = m ∙ c.byte-byte.ensures in
+    let v : c.from-in-bytes.result % 256 ≡ byte_at c.args.image.now.segments (2147483648 + 64 * c.from.result + c.bytes.place) = m
+    ∙ c.byte-byte.ensures in
     let s : c.store.new.self ≡ stored_in c.bytes.content c.bytes.place (c.from-in-bytes.result % 256 ∷ []) = c.store.ensures in
     record {
       whole = rw s (whole_stored c.bytes.content c.bytes.place _ c.bytes.invariant.whole i);

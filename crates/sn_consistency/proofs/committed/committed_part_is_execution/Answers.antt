@@ -11,7 +11,9 @@ pub returns-clause-last_state : goal.returns-clause-last_state
 returns-clause-last_state c = committed_end
 
 pub returns-clause-from_start : goal.returns-clause-from_start
-returns-clause-from_start c = λ image nodes. committed_execution image nodes (flat_start image nodes) (places_of (flat_start image nodes)) (start_shows image nodes)
+returns-clause-from_start c =
+    λ image nodes. committed_execution image nodes (flat_start image nodes) (places_of (flat_start image nodes)) (start_shows image nodes)
 
 pub returns-clause-end_from_start : goal.returns-clause-end_from_start
-returns-clause-end_from_start c = λ image nodes. committed_end image nodes (flat_start image nodes) (places_of (flat_start image nodes)) (start_shows image nodes)
+returns-clause-end_from_start c =
+    λ image nodes. committed_end image nodes (flat_start image nodes) (places_of (flat_start image nodes)) (start_shows image nodes)

@@ -8,4 +8,5 @@ pub returns-clause-output : goal.returns-clause-output
 returns-clause-output c = committed_out
 
 pub returns-clause-from_start : goal.returns-clause-from_start
-returns-clause-from_start c = λ image nodes. committed_out image nodes (flat_start image nodes) (places_of (flat_start image nodes)) (start_shows image nodes)
+returns-clause-from_start c =
+    λ image nodes. committed_out image nodes (flat_start image nodes) (places_of (flat_start image nodes)) (start_shows image nodes)

@@ -7,4 +7,8 @@ pub returns-clause-from_state : goal.returns-clause-from_state
 returns-clause-from_state c = λ image nodes s h rs. (law_to image nodes s h rs, law_from image nodes s h rs)
 
 pub returns-clause-from_start : goal.returns-clause-from_start
-returns-clause-from_start c = λ image nodes rs. (law_to image nodes (flat_start image nodes) (start_shows image nodes) rs, law_from image nodes (flat_start image nodes) (start_shows image nodes) rs)
+returns-clause-from_start c =
+    λ image nodes rs. (
+      law_to image nodes (flat_start image nodes) (start_shows image nodes) rs,
+      law_from image nodes (flat_start image nodes) (start_shows image nodes) rs,
+    )

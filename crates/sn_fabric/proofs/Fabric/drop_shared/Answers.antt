@@ -8,15 +8,36 @@ use Rattle.sn_fabric.proofs.Fabric.drop_shared.Goals as goal
 
 pub invariant_of-self : goal.invariant_of-self
 invariant_of-self c = (
-  (drop-comes c.self.inside.config (record { seats = c.self.inside.seats.items; homes = c.self.inside.homes.items; net = c.self.inside.net; point = c.self.inside.point }) c.args.node c.from.result c.args.block c.index_mut-seat.result.now c.drop_shared.new.self c.clear.new.self.items c.self.invariant.0 (rw (← c.self.view_is) at c.requires.here)
-      (omega (arith, c.number-number.ensures.small, c.number-number.ensures.same)) (rw (← c.self.view_is) at c.requires.drops) (c.from.ensures ∙ c.number.ensures.same) c.index_mut-seat.ensures.value c.drop_shared.ensures c.clear.ensures.items).parts,
+  (drop-comes c.self.inside.config
+      (record {
+        seats = c.self.inside.seats.items;
+        homes = c.self.inside.homes.items;
+        net = c.self.inside.net;
+        point = c.self.inside.point;
+      }) c.args.node c.from.result c.args.block c.index_mut-seat.result.now c.drop_shared.new.self c.clear.new.self.items c.self.invariant.0 (rw (← c.self.view_is) at c.requires.here)
+      (omega (arith, c.number-number.ensures.small, c.number-number.ensures.same)) (rw (← c.self.view_is) at c.requires.drops)
+      (c.from.ensures ∙ c.number.ensures.same) c.index_mut-seat.ensures.value c.drop_shared.ensures c.clear.ensures.items).parts,
   omega (arith, c.self.invariant.1, c.clear.ensures.capacity),
 )
 
 pub returns : goal.returns
 returns c =
-    after-view c.self.inside.config (record { seats = c.self.inside.seats.items; homes = c.self.inside.homes.items; net = c.self.inside.net; point = c.self.inside.point })
-    (record { seats = set c.self.inside.seats.items c.from.result (record c.index_mut-seat.result.now { cache = c.drop_shared.new.self }); homes = c.self.inside.homes.items; net = c.self.inside.net; point = c.self.inside.point })
-    c.self.inside.sent.items c.clear.new.self.items Evicted (λ (s : Fabric). evicted s c.args.node c.args.block) c.args.self.now c.self.view_is
-    (drop-comes c.self.inside.config (record { seats = c.self.inside.seats.items; homes = c.self.inside.homes.items; net = c.self.inside.net; point = c.self.inside.point }) c.args.node c.from.result c.args.block c.index_mut-seat.result.now c.drop_shared.new.self c.clear.new.self.items c.self.invariant.0 (rw (← c.self.view_is) at c.requires.here)
-    (omega (arith, c.number-number.ensures.small, c.number-number.ensures.same)) (rw (← c.self.view_is) at c.requires.drops) (c.from.ensures ∙ c.number.ensures.same) c.index_mut-seat.ensures.value c.drop_shared.ensures c.clear.ensures.items)
+    after-view c.self.inside.config
+    (record { seats = c.self.inside.seats.items; homes = c.self.inside.homes.items; net = c.self.inside.net; point = c.self.inside.point })
+    (record {
+      seats = set c.self.inside.seats.items c.from.result (record c.index_mut-seat.result.now { cache = c.drop_shared.new.self });
+      homes = c.self.inside.homes.items;
+      net = c.self.inside.net;
+      point = c.self.inside.point;
+    })
+    c.self.inside.sent.items c.clear.new.self.items Evicted
+    (λ (s : Fabric). evicted s c.args.node c.args.block) c.args.self.now c.self.view_is
+    (drop-comes c.self.inside.config
+    (record {
+      seats = c.self.inside.seats.items;
+      homes = c.self.inside.homes.items;
+      net = c.self.inside.net;
+      point = c.self.inside.point;
+    }) c.args.node c.from.result c.args.block c.index_mut-seat.result.now c.drop_shared.new.self c.clear.new.self.items c.self.invariant.0 (rw (← c.self.view_is) at c.requires.here)
+    (omega (arith, c.number-number.ensures.small, c.number-number.ensures.same)) (rw (← c.self.view_is) at c.requires.drops)
+    (c.from.ensures ∙ c.number.ensures.same) c.index_mut-seat.ensures.value c.drop_shared.ensures c.clear.ensures.items)

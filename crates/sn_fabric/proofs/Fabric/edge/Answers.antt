@@ -7,11 +7,31 @@ use Rattle.sn_fabric.proofs.Fabric.edge.Goals as goal
 
 pub invariant_of-self : goal.invariant_of-self
 invariant_of-self c = (
-  (edge-comes c.self.inside.config (record { seats = c.self.inside.seats.items; homes = c.self.inside.homes.items; net = c.self.inside.net; point = c.self.inside.point }) c.args.node c.from.result c.index_mut-seat.result.now c.tick.new.clock c.tick.result c.clear.new.self.items c.self.invariant.0 (rw (← c.self.view_is) at c.requires.here) (c.from.ensures ∙ c.number.ensures.same) c.index_mut-seat.ensures.value c.tick.ensures.clock c.tick.ensures.answer c.clear.ensures.items).parts,
+  (edge-comes c.self.inside.config
+      (record {
+        seats = c.self.inside.seats.items;
+        homes = c.self.inside.homes.items;
+        net = c.self.inside.net;
+        point = c.self.inside.point;
+      }) c.args.node c.from.result c.index_mut-seat.result.now c.tick.new.clock c.tick.result c.clear.new.self.items c.self.invariant.0 (rw (← c.self.view_is) at c.requires.here) (c.from.ensures ∙ c.number.ensures.same) c.index_mut-seat.ensures.value c.tick.ensures.clock c.tick.ensures.answer c.clear.ensures.items).parts,
   omega (arith, c.self.invariant.1, c.clear.ensures.capacity),
 )
 
 pub returns : goal.returns
 returns c =
-    after-view c.self.inside.config (record { seats = c.self.inside.seats.items; homes = c.self.inside.homes.items; net = c.self.inside.net; point = c.self.inside.point }) (record { seats = set c.self.inside.seats.items c.from.result (record c.index_mut-seat.result.now { clock = c.tick.new.clock }); homes = c.self.inside.homes.items; net = c.self.inside.net; point = c.self.inside.point }) c.self.inside.sent.items c.clear.new.self.items c.tick.result (λ (s : Fabric). edged s c.args.node) c.args.self.now c.self.view_is
-    (edge-comes c.self.inside.config (record { seats = c.self.inside.seats.items; homes = c.self.inside.homes.items; net = c.self.inside.net; point = c.self.inside.point }) c.args.node c.from.result c.index_mut-seat.result.now c.tick.new.clock c.tick.result c.clear.new.self.items c.self.invariant.0 (rw (← c.self.view_is) at c.requires.here) (c.from.ensures ∙ c.number.ensures.same) c.index_mut-seat.ensures.value c.tick.ensures.clock c.tick.ensures.answer c.clear.ensures.items)
+    after-view c.self.inside.config
+    (record { seats = c.self.inside.seats.items; homes = c.self.inside.homes.items; net = c.self.inside.net; point = c.self.inside.point })
+    (record {
+      seats = set c.self.inside.seats.items c.from.result (record c.index_mut-seat.result.now { clock = c.tick.new.clock });
+      homes = c.self.inside.homes.items;
+      net = c.self.inside.net;
+      point = c.self.inside.point;
+    }) c.self.inside.sent.items c.clear.new.self.items c.tick.result
+    (λ (s : Fabric). edged s c.args.node) c.args.self.now c.self.view_is
+    (edge-comes c.self.inside.config
+    (record {
+      seats = c.self.inside.seats.items;
+      homes = c.self.inside.homes.items;
+      net = c.self.inside.net;
+      point = c.self.inside.point;
+    }) c.args.node c.from.result c.index_mut-seat.result.now c.tick.new.clock c.tick.result c.clear.new.self.items c.self.invariant.0 (rw (← c.self.view_is) at c.requires.here) (c.from.ensures ∙ c.number.ensures.same) c.index_mut-seat.ensures.value c.tick.ensures.clock c.tick.ensures.answer c.clear.ensures.items)

@@ -7,4 +7,10 @@ use Rattle.sn_fabric.proofs.Fabric.foresee_recover.Goals as goal
 pub count_all_undone-requires-clause-logs : goal.count_all_undone-requires-clause-logs
 count_all_undone-requires-clause-logs c n l =
     subst (λ (seats : List Seat). n < length seats → length (seat_at seats n).log.entries < 2 ^ 16) (sym c.as_slice.ensures.value)
-    (small-logs c.self.inside.config (record { seats = c.self.inside.seats.items; homes = c.self.inside.homes.items; net = c.self.inside.net; point = c.self.inside.point }) c.self.invariant.0 n) l
+    (small-logs c.self.inside.config
+    (record {
+      seats = c.self.inside.seats.items;
+      homes = c.self.inside.homes.items;
+      net = c.self.inside.net;
+      point = c.self.inside.point;
+    }) c.self.invariant.0 n) l

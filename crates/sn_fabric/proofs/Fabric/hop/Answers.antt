@@ -7,11 +7,31 @@ use Rattle.sn_fabric.proofs.Fabric.hop.Goals as goal
 
 pub invariant_of-self : goal.invariant_of-self
 invariant_of-self c = (
-  (hop-comes c.self.inside.config (record { seats = c.self.inside.seats.items; homes = c.self.inside.homes.items; net = c.self.inside.net; point = c.self.inside.point }) c.args.id c.hop-answer.new.self c.hop-answer.result c.hop_answer.result c.clear.new.self.items c.self.invariant.0 c.hop-answer.ensures.after c.hop-answer.ensures.answer c.hop_answer.ensures c.clear.ensures.items).parts,
+  (hop-comes c.self.inside.config
+      (record {
+        seats = c.self.inside.seats.items;
+        homes = c.self.inside.homes.items;
+        net = c.self.inside.net;
+        point = c.self.inside.point;
+      }) c.args.id c.hop-answer.new.self c.hop-answer.result c.hop_answer.result c.clear.new.self.items c.self.invariant.0 c.hop-answer.ensures.after c.hop-answer.ensures.answer c.hop_answer.ensures c.clear.ensures.items).parts,
   omega (arith, c.self.invariant.1, c.clear.ensures.capacity),
 )
 
 pub returns : goal.returns
 returns c =
-    after-view c.self.inside.config (record { seats = c.self.inside.seats.items; homes = c.self.inside.homes.items; net = c.self.inside.net; point = c.self.inside.point }) (record { seats = c.self.inside.seats.items; homes = c.self.inside.homes.items; net = c.hop-answer.new.self; point = c.self.inside.point }) c.self.inside.sent.items c.clear.new.self.items c.hop_answer.result (λ (s : Fabric). hopped s c.args.id) c.args.self.now c.self.view_is
-    (hop-comes c.self.inside.config (record { seats = c.self.inside.seats.items; homes = c.self.inside.homes.items; net = c.self.inside.net; point = c.self.inside.point }) c.args.id c.hop-answer.new.self c.hop-answer.result c.hop_answer.result c.clear.new.self.items c.self.invariant.0 c.hop-answer.ensures.after c.hop-answer.ensures.answer c.hop_answer.ensures c.clear.ensures.items)
+    after-view c.self.inside.config
+    (record { seats = c.self.inside.seats.items; homes = c.self.inside.homes.items; net = c.self.inside.net; point = c.self.inside.point })
+    (record {
+      seats = c.self.inside.seats.items;
+      homes = c.self.inside.homes.items;
+      net = c.hop-answer.new.self;
+      point = c.self.inside.point;
+    }) c.self.inside.sent.items c.clear.new.self.items c.hop_answer.result
+    (λ (s : Fabric). hopped s c.args.id) c.args.self.now c.self.view_is
+    (hop-comes c.self.inside.config
+    (record {
+      seats = c.self.inside.seats.items;
+      homes = c.self.inside.homes.items;
+      net = c.self.inside.net;
+      point = c.self.inside.point;
+    }) c.args.id c.hop-answer.new.self c.hop-answer.result c.hop_answer.result c.clear.new.self.items c.self.invariant.0 c.hop-answer.ensures.after c.hop-answer.ensures.answer c.hop_answer.ensures c.clear.ensures.items)

@@ -7,11 +7,31 @@ use Rattle.sn_fabric.proofs.Fabric.kill.Goals as goal
 
 pub invariant_of-self : goal.invariant_of-self
 invariant_of-self c = (
-  (kill-comes c.self.inside.config (record { seats = c.self.inside.seats.items; homes = c.self.inside.homes.items; net = c.self.inside.net; point = c.self.inside.point }) c.args.switch c.kill-killed.new.self c.kill-killed.result c.kill_answer.result c.clear.new.self.items c.self.invariant.0 c.kill-killed.ensures.killed c.kill-killed.ensures.after c.kill-killed.ensures.already c.kill_answer.ensures c.clear.ensures.items).parts,
+  (kill-comes c.self.inside.config
+      (record {
+        seats = c.self.inside.seats.items;
+        homes = c.self.inside.homes.items;
+        net = c.self.inside.net;
+        point = c.self.inside.point;
+      }) c.args.switch c.kill-killed.new.self c.kill-killed.result c.kill_answer.result c.clear.new.self.items c.self.invariant.0 c.kill-killed.ensures.killed c.kill-killed.ensures.after c.kill-killed.ensures.already c.kill_answer.ensures c.clear.ensures.items).parts,
   omega (arith, c.self.invariant.1, c.clear.ensures.capacity),
 )
 
 pub returns : goal.returns
 returns c =
-    after-view c.self.inside.config (record { seats = c.self.inside.seats.items; homes = c.self.inside.homes.items; net = c.self.inside.net; point = c.self.inside.point }) (record { seats = c.self.inside.seats.items; homes = c.self.inside.homes.items; net = c.kill-killed.new.self; point = c.self.inside.point }) c.self.inside.sent.items c.clear.new.self.items c.kill_answer.result (λ (s : Fabric). killed s c.args.switch) c.args.self.now c.self.view_is
-    (kill-comes c.self.inside.config (record { seats = c.self.inside.seats.items; homes = c.self.inside.homes.items; net = c.self.inside.net; point = c.self.inside.point }) c.args.switch c.kill-killed.new.self c.kill-killed.result c.kill_answer.result c.clear.new.self.items c.self.invariant.0 c.kill-killed.ensures.killed c.kill-killed.ensures.after c.kill-killed.ensures.already c.kill_answer.ensures c.clear.ensures.items)
+    after-view c.self.inside.config
+    (record { seats = c.self.inside.seats.items; homes = c.self.inside.homes.items; net = c.self.inside.net; point = c.self.inside.point })
+    (record {
+      seats = c.self.inside.seats.items;
+      homes = c.self.inside.homes.items;
+      net = c.kill-killed.new.self;
+      point = c.self.inside.point;
+    }) c.self.inside.sent.items c.clear.new.self.items c.kill_answer.result
+    (λ (s : Fabric). killed s c.args.switch) c.args.self.now c.self.view_is
+    (kill-comes c.self.inside.config
+    (record {
+      seats = c.self.inside.seats.items;
+      homes = c.self.inside.homes.items;
+      net = c.self.inside.net;
+      point = c.self.inside.point;
+    }) c.args.switch c.kill-killed.new.self c.kill-killed.result c.kill_answer.result c.clear.new.self.items c.self.invariant.0 c.kill-killed.ensures.killed c.kill-killed.ensures.after c.kill-killed.ensures.already c.kill_answer.ensures c.clear.ensures.items)

@@ -11,24 +11,74 @@ use Rattle.sn_fabric.proofs.Fabric.learn.Goals as goal
 
 pub index_mut-seat-requires : goal.index_mut-seat-requires
 index_mut-seat-requires c =
-    let h : c.args.message.now.to < length c.self.inside.seats.items = inside c.self.inside.config (record { seats = c.self.inside.seats.items; homes = c.self.inside.homes.items; net = c.self.inside.net; point = c.self.inside.point }) c.self.invariant.0 c.args.message.now (rw (← c.self.view_is) at c.requires.come) in
+    let h : c.args.message.now.to < length c.self.inside.seats.items = inside c.self.inside.config
+    (record {
+      seats = c.self.inside.seats.items;
+      homes = c.self.inside.homes.items;
+      net = c.self.inside.net;
+      point = c.self.inside.point;
+    }) c.self.invariant.0 c.args.message.now (rw (← c.self.view_is) at c.requires.come) in
     omega (arith, h, c.from.ensures, c.number.ensures.same)
 
 pub learn-requires : goal.learn-requires
-learn-requires c = advance-reached c.self.inside.config (record { seats = c.self.inside.seats.items; homes = c.self.inside.homes.items; net = c.self.inside.net; point = c.self.inside.point }) c.self.invariant.0 c.args.message.now (rw (← c.self.view_is) at c.requires.come) c.args.k (rw (← c.self.view_is) at c.requires.delivers) c.requires.receiver c.from.result c.index_mut-seat.result.now (c.from.ensures ∙ c.number.ensures.same) c.index_mut-seat.ensures.value
+learn-requires c =
+    advance-reached c.self.inside.config
+    (record {
+      seats = c.self.inside.seats.items;
+      homes = c.self.inside.homes.items;
+      net = c.self.inside.net;
+      point = c.self.inside.point;
+    }) c.self.invariant.0 c.args.message.now (rw (← c.self.view_is) at c.requires.come) c.args.k
+    (rw (← c.self.view_is) at c.requires.delivers) c.requires.receiver c.from.result c.index_mut-seat.result.now
+    (c.from.ensures ∙ c.number.ensures.same) c.index_mut-seat.ensures.value
 
 pub invariant_of-self : goal.invariant_of-self
 invariant_of-self c = (
-  (advance-learned c.self.inside.config (record { seats = c.self.inside.seats.items; homes = c.self.inside.homes.items; net = c.self.inside.net; point = c.self.inside.point }) c.self.invariant.0 c.args.message.now (rw (← c.self.view_is) at c.requires.come) c.args.k (rw (← c.self.view_is) at c.requires.delivers) c.requires.receiver c.from.result c.index_mut-seat.result.now (c.from.ensures ∙ c.number.ensures.same) c.index_mut-seat.ensures.value c.learn.new.self c.free_below.new.self c.take_out.new.net c.take_out.new.sent.items c.learn.ensures c.free_below.ensures c.take_out.ensures.net c.take_out.ensures.sent).parts,
+  (advance-learned c.self.inside.config
+      (record {
+        seats = c.self.inside.seats.items;
+        homes = c.self.inside.homes.items;
+        net = c.self.inside.net;
+        point = c.self.inside.point;
+      }) c.self.invariant.0 c.args.message.now (rw (← c.self.view_is) at c.requires.come) c.args.k
+      (rw (← c.self.view_is) at c.requires.delivers) c.requires.receiver c.from.result c.index_mut-seat.result.now
+      (c.from.ensures
+      ∙ c.number.ensures.same) c.index_mut-seat.ensures.value c.learn.new.self c.free_below.new.self c.take_out.new.net c.take_out.new.sent.items c.learn.ensures c.free_below.ensures c.take_out.ensures.net c.take_out.ensures.sent).parts,
   omega (arith, c.self.invariant.1, c.take_out.ensures.capacity),
 )
 
 pub returns-clause-after : goal.returns-clause-after
 returns-clause-after c =
-    after-whole c.self.inside.config (record { seats = c.self.inside.seats.items; homes = c.self.inside.homes.items; net = c.self.inside.net; point = c.self.inside.point }) (record { seats = set c.self.inside.seats.items c.from.result (record c.index_mut-seat.result.now { clock = c.learn.new.self; log = c.free_below.new.self }); homes = c.self.inside.homes.items; net = c.take_out.new.net; point = c.self.inside.point }) c.self.inside.sent.items c.take_out.new.sent.items Delivered (λ (d : FabricData). delivered d.config d.fabric c.args.message.now.id) c.args.self.now c.self.view_is
-    (advance-learned c.self.inside.config (record { seats = c.self.inside.seats.items; homes = c.self.inside.homes.items; net = c.self.inside.net; point = c.self.inside.point }) c.self.invariant.0 c.args.message.now (rw (← c.self.view_is) at c.requires.come) c.args.k (rw (← c.self.view_is) at c.requires.delivers) c.requires.receiver c.from.result c.index_mut-seat.result.now (c.from.ensures ∙ c.number.ensures.same) c.index_mut-seat.ensures.value c.learn.new.self c.free_below.new.self c.take_out.new.net c.take_out.new.sent.items c.learn.ensures c.free_below.ensures c.take_out.ensures.net c.take_out.ensures.sent)
+    after-whole c.self.inside.config
+    (record { seats = c.self.inside.seats.items; homes = c.self.inside.homes.items; net = c.self.inside.net; point = c.self.inside.point })
+    (record {
+      seats = set c.self.inside.seats.items c.from.result
+          (record c.index_mut-seat.result.now { clock = c.learn.new.self; log = c.free_below.new.self });
+      homes = c.self.inside.homes.items;
+      net = c.take_out.new.net;
+      point = c.self.inside.point;
+    }) c.self.inside.sent.items c.take_out.new.sent.items Delivered
+    (λ (d : FabricData). delivered d.config d.fabric c.args.message.now.id) c.args.self.now c.self.view_is
+    (advance-learned c.self.inside.config
+    (record {
+      seats = c.self.inside.seats.items;
+      homes = c.self.inside.homes.items;
+      net = c.self.inside.net;
+      point = c.self.inside.point;
+    }) c.self.invariant.0 c.args.message.now (rw (← c.self.view_is) at c.requires.come) c.args.k
+    (rw (← c.self.view_is) at c.requires.delivers) c.requires.receiver c.from.result c.index_mut-seat.result.now
+    (c.from.ensures
+    ∙ c.number.ensures.same) c.index_mut-seat.ensures.value c.learn.new.self c.free_below.new.self c.take_out.new.net c.take_out.new.sent.items c.learn.ensures c.free_below.ensures c.take_out.ensures.net c.take_out.ensures.sent)
 
 pub returns-clause-told : goal.returns-clause-told
 returns-clause-told c =
-    subst (λ (d : FabricData). Some (Advance c.args.message.now.to c.args.k) ≡ (delivered d.config d.fabric c.args.message.now.id).told) c.self.view_is
-    (advance-tells c.self.inside.config (record { seats = c.self.inside.seats.items; homes = c.self.inside.homes.items; net = c.self.inside.net; point = c.self.inside.point }) c.self.invariant.0 c.args.message.now (rw (← c.self.view_is) at c.requires.come) c.args.k (rw (← c.self.view_is) at c.requires.delivers) c.requires.receiver (Advance c.args.message.now.to c.args.k) refl)
+    subst (λ (d : FabricData). Some (Advance c.args.message.now.to c.args.k)
+    ≡ (delivered d.config d.fabric c.args.message.now.id).told) c.self.view_is
+    (advance-tells c.self.inside.config
+    (record {
+      seats = c.self.inside.seats.items;
+      homes = c.self.inside.homes.items;
+      net = c.self.inside.net;
+      point = c.self.inside.point;
+    }) c.self.invariant.0 c.args.message.now (rw (← c.self.view_is) at c.requires.come) c.args.k
+    (rw (← c.self.view_is) at c.requires.delivers) c.requires.receiver (Advance c.args.message.now.to c.args.k) refl)

@@ -9,4 +9,11 @@ invariant_of-result c = (
 )
 
 pub returns : goal.returns
-returns c = rw (c.in_ok-seats.ensures, c.in_ok-homes.ensures, c.in_ok-net.ensures, c.in_ok-sent.ensures.items, fabric-start c.args.config c.args.image.now c.requires) refl
+returns c =
+    rw (
+      c.in_ok-seats.ensures,
+      c.in_ok-homes.ensures,
+      c.in_ok-net.ensures,
+      c.in_ok-sent.ensures.items,
+      fabric-start c.args.config c.args.image.now c.requires,
+    ) refl

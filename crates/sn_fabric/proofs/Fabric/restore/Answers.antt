@@ -14,19 +14,35 @@ pub restore_nodes-undone-requires-clause-can : goal.restore_nodes-undone-require
 restore_nodes-undone-requires-clause-can c n l =
     let h : n < length c.self.inside.seats.items = subst (λ (xs : List Seat). n < length xs) c.as_mut_slice.ensures.value l in
     rw (c.as_mut_slice.ensures.value, c.as_mut_slice-2.ensures.value)
-    (can-restore c.self.inside.config (record { seats = c.self.inside.seats.items; homes = c.self.inside.homes.items; net = c.self.inside.net; point = c.self.inside.point }) c.args.k c.self.invariant.0 (rw (← c.self.view_is) at c.requires.point) n h)
+    (can-restore c.self.inside.config
+    (record {
+      seats = c.self.inside.seats.items;
+      homes = c.self.inside.homes.items;
+      net = c.self.inside.net;
+      point = c.self.inside.point;
+    }) c.args.k c.self.invariant.0 (rw (← c.self.view_is) at c.requires.point) n h)
 
 pub invariant_of-self : goal.invariant_of-self
 invariant_of-self c = (
   rw (
-    (written c.self.inside.seats.len c.restore_nodes-undone.new.seats c.self.inside.seats.items (sym (c.restore_nodes-undone.auto.seats ∙ c.as_mut_slice.ensures.len))
+    (written c.self.inside.seats.len c.restore_nodes-undone.new.seats c.self.inside.seats.items
+        (sym (c.restore_nodes-undone.auto.seats ∙ c.as_mut_slice.ensures.len))
         ∙ c.restore_nodes-undone.ensures.seats ∙ ap (map (restored_seat c.args.k)) c.as_mut_slice.ensures.value),
-    (written c.self.inside.homes.len c.restore_nodes-undone.new.homes c.self.inside.homes.items (sym (c.restore_nodes-undone.auto.homes ∙ c.as_mut_slice-2.ensures.len))),
+    (written c.self.inside.homes.len c.restore_nodes-undone.new.homes c.self.inside.homes.items
+        (sym (c.restore_nodes-undone.auto.homes ∙ c.as_mut_slice-2.ensures.len))),
   )
-      (recovery-comes c.self.inside.config (record { seats = c.self.inside.seats.items; homes = c.self.inside.homes.items; net = c.self.inside.net; point = c.self.inside.point }) c.args.k c.restore_nodes-undone.new.homes c.recover.new.self c.restore_nodes-undone.result c.unwrap-dropped.result c.clear.new.self.items
-      c.self.invariant.0 (rw (← c.self.view_is) at c.requires.point) (rw (← c.self.view_is) at c.requires.joined) (c.restore_nodes-undone.auto.homes ∙ ap length c.as_mut_slice-2.ensures.value)
+      (recovery-comes c.self.inside.config
+      (record {
+        seats = c.self.inside.seats.items;
+        homes = c.self.inside.homes.items;
+        net = c.self.inside.net;
+        point = c.self.inside.point;
+      }) c.args.k c.restore_nodes-undone.new.homes c.recover.new.self c.restore_nodes-undone.result c.unwrap-dropped.result c.clear.new.self.items
+      c.self.invariant.0 (rw (← c.self.view_is) at c.requires.point) (rw (← c.self.view_is) at c.requires.joined)
+      (c.restore_nodes-undone.auto.homes ∙ ap length c.as_mut_slice-2.ensures.value)
       (rw (c.as_mut_slice.ensures.value, c.as_mut_slice-2.ensures.value) at c.restore_nodes-undone.ensures.homes)
-      (c.recover.ensures.recovered (rw c.unwrap-dropped.ensures refl)) (c.restore_nodes-undone.ensures.undone ∙ ap (sum_by (undone_of c.args.k)) c.as_mut_slice.ensures.value)
+      (c.recover.ensures.recovered (rw c.unwrap-dropped.ensures refl))
+      (c.restore_nodes-undone.ensures.undone ∙ ap (sum_by (undone_of c.args.k)) c.as_mut_slice.ensures.value)
       (rw c.unwrap-dropped.ensures at c.recover.ensures.dropped) c.clear.ensures.items).parts,
   omega (arith, c.self.invariant.1, c.clear.ensures.capacity),
 )
@@ -34,15 +50,33 @@ invariant_of-self c = (
 pub returns : goal.returns
 returns c =
     rw (
-      (written c.self.inside.seats.len c.restore_nodes-undone.new.seats c.self.inside.seats.items (sym (c.restore_nodes-undone.auto.seats ∙ c.as_mut_slice.ensures.len))
+      (written c.self.inside.seats.len c.restore_nodes-undone.new.seats c.self.inside.seats.items
+          (sym (c.restore_nodes-undone.auto.seats ∙ c.as_mut_slice.ensures.len))
           ∙ c.restore_nodes-undone.ensures.seats ∙ ap (map (restored_seat c.args.k)) c.as_mut_slice.ensures.value),
-      (written c.self.inside.homes.len c.restore_nodes-undone.new.homes c.self.inside.homes.items (sym (c.restore_nodes-undone.auto.homes ∙ c.as_mut_slice-2.ensures.len))),
+      (written c.self.inside.homes.len c.restore_nodes-undone.new.homes c.self.inside.homes.items
+          (sym (c.restore_nodes-undone.auto.homes ∙ c.as_mut_slice-2.ensures.len))),
     )
-    (after-view c.self.inside.config (record { seats = c.self.inside.seats.items; homes = c.self.inside.homes.items; net = c.self.inside.net; point = c.self.inside.point })
-    (record { seats = map (restored_seat c.args.k) c.self.inside.seats.items; homes = c.restore_nodes-undone.new.homes; net = c.recover.new.self; point = c.self.inside.point })
-    c.self.inside.sent.items c.clear.new.self.items (Recovered (record { to = c.args.k; undone = c.restore_nodes-undone.result; dropped = c.unwrap-dropped.result })) (λ (s : Fabric). recovered s c.args.k) c.args.self.now c.self.view_is
-    (recovery-comes c.self.inside.config (record { seats = c.self.inside.seats.items; homes = c.self.inside.homes.items; net = c.self.inside.net; point = c.self.inside.point }) c.args.k c.restore_nodes-undone.new.homes c.recover.new.self c.restore_nodes-undone.result c.unwrap-dropped.result c.clear.new.self.items
-    c.self.invariant.0 (rw (← c.self.view_is) at c.requires.point) (rw (← c.self.view_is) at c.requires.joined) (c.restore_nodes-undone.auto.homes ∙ ap length c.as_mut_slice-2.ensures.value)
+    (after-view c.self.inside.config
+    (record { seats = c.self.inside.seats.items; homes = c.self.inside.homes.items; net = c.self.inside.net; point = c.self.inside.point })
+    (record {
+      seats = map (restored_seat c.args.k) c.self.inside.seats.items;
+      homes = c.restore_nodes-undone.new.homes;
+      net = c.recover.new.self;
+      point = c.self.inside.point;
+    })
+    c.self.inside.sent.items c.clear.new.self.items
+    (Recovered (record { to = c.args.k; undone = c.restore_nodes-undone.result; dropped = c.unwrap-dropped.result }))
+    (λ (s : Fabric). recovered s c.args.k) c.args.self.now c.self.view_is
+    (recovery-comes c.self.inside.config
+    (record {
+      seats = c.self.inside.seats.items;
+      homes = c.self.inside.homes.items;
+      net = c.self.inside.net;
+      point = c.self.inside.point;
+    }) c.args.k c.restore_nodes-undone.new.homes c.recover.new.self c.restore_nodes-undone.result c.unwrap-dropped.result c.clear.new.self.items
+    c.self.invariant.0 (rw (← c.self.view_is) at c.requires.point) (rw (← c.self.view_is) at c.requires.joined)
+    (c.restore_nodes-undone.auto.homes ∙ ap length c.as_mut_slice-2.ensures.value)
     (rw (c.as_mut_slice.ensures.value, c.as_mut_slice-2.ensures.value) at c.restore_nodes-undone.ensures.homes)
-    (c.recover.ensures.recovered (rw c.unwrap-dropped.ensures refl)) (c.restore_nodes-undone.ensures.undone ∙ ap (sum_by (undone_of c.args.k)) c.as_mut_slice.ensures.value)
+    (c.recover.ensures.recovered (rw c.unwrap-dropped.ensures refl))
+    (c.restore_nodes-undone.ensures.undone ∙ ap (sum_by (undone_of c.args.k)) c.as_mut_slice.ensures.value)
     (rw c.unwrap-dropped.ensures at c.recover.ensures.dropped) c.clear.ensures.items))

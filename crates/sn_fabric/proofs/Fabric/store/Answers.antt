@@ -7,20 +7,58 @@ use Rattle.sn_fabric.proofs.Stored.{store-ready, store-last, store-comes}
 use Rattle.sn_fabric.proofs.Fabric.store.Goals as goal
 
 pub store-requires-clause-ready : goal.store-requires-clause-ready
-store-requires-clause-ready c = store-ready c.self.inside.config (record { seats = c.self.inside.seats.items; homes = c.self.inside.homes.items; net = c.self.inside.net; point = c.self.inside.point }) c.args.node c.from.result c.now-now.result c.args.write.now c.index_mut-seat.result.now c.self.invariant.0 (rw (← c.self.view_is) at c.requires.can) (c.from.ensures ∙ c.number.ensures.same) c.index_mut-seat.ensures.value c.now-now.ensures.same (rw (← c.self.view_is) at c.requires.room)
+store-requires-clause-ready c =
+    store-ready c.self.inside.config
+    (record {
+      seats = c.self.inside.seats.items;
+      homes = c.self.inside.homes.items;
+      net = c.self.inside.net;
+      point = c.self.inside.point;
+    }) c.args.node c.from.result c.now-now.result c.args.write.now c.index_mut-seat.result.now c.self.invariant.0 (rw (← c.self.view_is) at c.requires.can) (c.from.ensures ∙ c.number.ensures.same) c.index_mut-seat.ensures.value c.now-now.ensures.same (rw (← c.self.view_is) at c.requires.room)
 
 pub store-requires-clause-last : goal.store-requires-clause-last
-store-requires-clause-last c = store-last c.self.inside.config (record { seats = c.self.inside.seats.items; homes = c.self.inside.homes.items; net = c.self.inside.net; point = c.self.inside.point }) c.args.node c.from.result c.now-now.result c.args.write.now c.index_mut-seat.result.now c.self.invariant.0 (rw (← c.self.view_is) at c.requires.can) (c.from.ensures ∙ c.number.ensures.same) c.index_mut-seat.ensures.value c.now-now.ensures.same
+store-requires-clause-last c =
+    store-last c.self.inside.config
+    (record {
+      seats = c.self.inside.seats.items;
+      homes = c.self.inside.homes.items;
+      net = c.self.inside.net;
+      point = c.self.inside.point;
+    }) c.args.node c.from.result c.now-now.result c.args.write.now c.index_mut-seat.result.now c.self.invariant.0 (rw (← c.self.view_is) at c.requires.can) (c.from.ensures ∙ c.number.ensures.same) c.index_mut-seat.ensures.value c.now-now.ensures.same
 
 pub invariant_of-self : goal.invariant_of-self
 invariant_of-self c = (
-  (store-comes c.self.inside.config (record { seats = c.self.inside.seats.items; homes = c.self.inside.homes.items; net = c.self.inside.net; point = c.self.inside.point }) c.args.node c.from.result c.now-now.result c.args.write.now c.index_mut-seat.result.now c.self.invariant.0 (rw (← c.self.view_is) at c.requires.can) (c.from.ensures ∙ c.number.ensures.same) c.index_mut-seat.ensures.value c.now-now.ensures.same c.store.new.self c.store.new.log c.clear.new.self.items (rw (← c.self.view_is) at c.requires.room) c.store.ensures.stored c.store.ensures.log c.clear.ensures.items).parts,
+  (store-comes c.self.inside.config
+      (record {
+        seats = c.self.inside.seats.items;
+        homes = c.self.inside.homes.items;
+        net = c.self.inside.net;
+        point = c.self.inside.point;
+      }) c.args.node c.from.result c.now-now.result c.args.write.now c.index_mut-seat.result.now c.self.invariant.0
+      (rw (← c.self.view_is) at c.requires.can)
+      (c.from.ensures
+      ∙ c.number.ensures.same) c.index_mut-seat.ensures.value c.now-now.ensures.same c.store.new.self c.store.new.log c.clear.new.self.items
+      (rw (← c.self.view_is) at c.requires.room) c.store.ensures.stored c.store.ensures.log c.clear.ensures.items).parts,
   omega (arith, c.self.invariant.1, c.clear.ensures.capacity),
 )
 
 pub returns : goal.returns
 returns c =
-    after-view c.self.inside.config (record { seats = c.self.inside.seats.items; homes = c.self.inside.homes.items; net = c.self.inside.net; point = c.self.inside.point })
-    (record { seats = set c.self.inside.seats.items c.from.result (record c.index_mut-seat.result.now { cache = c.store.new.self; log = c.store.new.log }); homes = c.self.inside.homes.items; net = c.self.inside.net; point = c.self.inside.point })
-    c.self.inside.sent.items c.clear.new.self.items Retired (λ (s : Fabric). answered (stored s c.args.node c.args.write.now) Retired) c.args.self.now c.self.view_is
-    (store-comes c.self.inside.config (record { seats = c.self.inside.seats.items; homes = c.self.inside.homes.items; net = c.self.inside.net; point = c.self.inside.point }) c.args.node c.from.result c.now-now.result c.args.write.now c.index_mut-seat.result.now c.self.invariant.0 (rw (← c.self.view_is) at c.requires.can) (c.from.ensures ∙ c.number.ensures.same) c.index_mut-seat.ensures.value c.now-now.ensures.same c.store.new.self c.store.new.log c.clear.new.self.items (rw (← c.self.view_is) at c.requires.room) c.store.ensures.stored c.store.ensures.log c.clear.ensures.items)
+    after-view c.self.inside.config
+    (record { seats = c.self.inside.seats.items; homes = c.self.inside.homes.items; net = c.self.inside.net; point = c.self.inside.point })
+    (record {
+      seats = set c.self.inside.seats.items c.from.result
+          (record c.index_mut-seat.result.now { cache = c.store.new.self; log = c.store.new.log });
+      homes = c.self.inside.homes.items;
+      net = c.self.inside.net;
+      point = c.self.inside.point;
+    })
+    c.self.inside.sent.items c.clear.new.self.items Retired
+    (λ (s : Fabric). answered (stored s c.args.node c.args.write.now) Retired) c.args.self.now c.self.view_is
+    (store-comes c.self.inside.config
+    (record {
+      seats = c.self.inside.seats.items;
+      homes = c.self.inside.homes.items;
+      net = c.self.inside.net;
+      point = c.self.inside.point;
+    }) c.args.node c.from.result c.now-now.result c.args.write.now c.index_mut-seat.result.now c.self.invariant.0 (rw (← c.self.view_is) at c.requires.can) (c.from.ensures ∙ c.number.ensures.same) c.index_mut-seat.ensures.value c.now-now.ensures.same c.store.new.self c.store.new.log c.clear.new.self.items (rw (← c.self.view_is) at c.requires.room) c.store.ensures.stored c.store.ensures.log c.clear.ensures.items)

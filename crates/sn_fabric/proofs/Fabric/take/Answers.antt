@@ -8,17 +8,51 @@ use Rattle.sn_fabric.proofs.Delivered.{none-delivered}
 use Rattle.sn_fabric.proofs.Fabric.take.Goals as goal
 
 pub give-requires-clause-come : goal.give-requires-clause-come
-give-requires-clause-come c = subst (λ (d : FabricData). HasCome d.fabric c.in-Ok.message.now) c.self.view_is (come-shown (record { seats = c.self.inside.seats.items; homes = c.self.inside.homes.items; net = c.self.inside.net; point = c.self.inside.point }) c.args.id c.in-Ok.message.now c.in-Ok.ensures.message).0
+give-requires-clause-come c =
+    subst (λ (d : FabricData). HasCome d.fabric c.in-Ok.message.now) c.self.view_is
+    (come-shown (record {
+      seats = c.self.inside.seats.items;
+      homes = c.self.inside.homes.items;
+      net = c.self.inside.net;
+      point = c.self.inside.point;
+    }) c.args.id c.in-Ok.message.now c.in-Ok.ensures.message).0
 
 pub give-requires-clause-delivers : goal.give-requires-clause-delivers
-give-requires-clause-delivers c = ap (λ (i : ℕ). (delivered c.args.self.now.config c.args.self.now.fabric i).answer) (come-shown (record { seats = c.self.inside.seats.items; homes = c.self.inside.homes.items; net = c.self.inside.net; point = c.self.inside.point }) c.args.id c.in-Ok.message.now c.in-Ok.ensures.message).1 ∙ c.requires.delivers
+give-requires-clause-delivers c =
+    ap (λ (i : ℕ). (delivered c.args.self.now.config c.args.self.now.fabric i).answer)
+    (come-shown (record {
+      seats = c.self.inside.seats.items;
+      homes = c.self.inside.homes.items;
+      net = c.self.inside.net;
+      point = c.self.inside.point;
+    }) c.args.id c.in-Ok.message.now c.in-Ok.ensures.message).1 ∙ c.requires.delivers
 
 pub unreachable-requires : goal.unreachable-requires
-unreachable-requires c = none-delivered c.self.inside.config (record { seats = c.self.inside.seats.items; homes = c.self.inside.homes.items; net = c.self.inside.net; point = c.self.inside.point }) c.args.id c.in-Err.field-0 c.in-Err.ensures.fault (rw (← c.self.view_is) at c.requires.delivers)
+unreachable-requires c =
+    none-delivered c.self.inside.config
+    (record {
+      seats = c.self.inside.seats.items;
+      homes = c.self.inside.homes.items;
+      net = c.self.inside.net;
+      point = c.self.inside.point;
+    }) c.args.id c.in-Err.field-0 c.in-Err.ensures.fault (rw (← c.self.view_is) at c.requires.delivers)
 
 pub returns-clause-after : goal.returns-clause-after
 returns-clause-after c =
-    subst (λ (i : ℕ). IsAfter c.args.self.now c.give.new.self Delivered (delivered c.args.self.now.config c.args.self.now.fabric i)) (come-shown (record { seats = c.self.inside.seats.items; homes = c.self.inside.homes.items; net = c.self.inside.net; point = c.self.inside.point }) c.args.id c.in-Ok.message.now c.in-Ok.ensures.message).1 c.give.ensures.after
+    subst (λ (i : ℕ). IsAfter c.args.self.now c.give.new.self Delivered (delivered c.args.self.now.config c.args.self.now.fabric i))
+    (come-shown (record {
+      seats = c.self.inside.seats.items;
+      homes = c.self.inside.homes.items;
+      net = c.self.inside.net;
+      point = c.self.inside.point;
+    }) c.args.id c.in-Ok.message.now c.in-Ok.ensures.message).1 c.give.ensures.after
 
 pub returns-clause-told : goal.returns-clause-told
-returns-clause-told c = c.give.ensures.told ∙ ap (λ (i : ℕ). (delivered c.args.self.now.config c.args.self.now.fabric i).told) (come-shown (record { seats = c.self.inside.seats.items; homes = c.self.inside.homes.items; net = c.self.inside.net; point = c.self.inside.point }) c.args.id c.in-Ok.message.now c.in-Ok.ensures.message).1
+returns-clause-told c =
+    c.give.ensures.told ∙ ap (λ (i : ℕ). (delivered c.args.self.now.config c.args.self.now.fabric i).told)
+    (come-shown (record {
+      seats = c.self.inside.seats.items;
+      homes = c.self.inside.homes.items;
+      net = c.self.inside.net;
+      point = c.self.inside.point;
+    }) c.args.id c.in-Ok.message.now c.in-Ok.ensures.message).1

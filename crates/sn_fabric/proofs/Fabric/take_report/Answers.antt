@@ -10,16 +10,48 @@ use Rattle.sn_fabric.proofs.Fabric.take_report.Goals as goal
 
 pub invariant_of-self : goal.invariant_of-self
 invariant_of-self c = (
-  (report-taken c.self.inside.config (record { seats = c.self.inside.seats.items; homes = c.self.inside.homes.items; net = c.self.inside.net; point = c.self.inside.point }) c.self.invariant.0 c.args.message.now (rw (← c.self.view_is) at c.requires.come) c.args.k (rw (← c.self.view_is) at c.requires.delivers) c.requires.receiver c.take_out.new.net c.take_out.new.sent.items c.take_out.ensures.net c.take_out.ensures.sent).parts,
+  (report-taken c.self.inside.config
+      (record {
+        seats = c.self.inside.seats.items;
+        homes = c.self.inside.homes.items;
+        net = c.self.inside.net;
+        point = c.self.inside.point;
+      }) c.self.invariant.0 c.args.message.now (rw (← c.self.view_is) at c.requires.come) c.args.k
+      (rw
+      (← c.self.view_is) at c.requires.delivers) c.requires.receiver c.take_out.new.net c.take_out.new.sent.items c.take_out.ensures.net c.take_out.ensures.sent).parts,
   omega (arith, c.self.invariant.1, c.take_out.ensures.capacity),
 )
 
 pub returns-clause-after : goal.returns-clause-after
 returns-clause-after c =
-    after-whole c.self.inside.config (record { seats = c.self.inside.seats.items; homes = c.self.inside.homes.items; net = c.self.inside.net; point = c.self.inside.point }) (record { seats = c.self.inside.seats.items; homes = c.self.inside.homes.items; net = c.take_out.new.net; point = c.self.inside.point }) c.self.inside.sent.items c.take_out.new.sent.items Delivered (λ (d : FabricData). delivered d.config d.fabric c.args.message.now.id) c.args.self.now c.self.view_is
-    (report-taken c.self.inside.config (record { seats = c.self.inside.seats.items; homes = c.self.inside.homes.items; net = c.self.inside.net; point = c.self.inside.point }) c.self.invariant.0 c.args.message.now (rw (← c.self.view_is) at c.requires.come) c.args.k (rw (← c.self.view_is) at c.requires.delivers) c.requires.receiver c.take_out.new.net c.take_out.new.sent.items c.take_out.ensures.net c.take_out.ensures.sent)
+    after-whole c.self.inside.config
+    (record { seats = c.self.inside.seats.items; homes = c.self.inside.homes.items; net = c.self.inside.net; point = c.self.inside.point })
+    (record {
+      seats = c.self.inside.seats.items;
+      homes = c.self.inside.homes.items;
+      net = c.take_out.new.net;
+      point = c.self.inside.point;
+    }) c.self.inside.sent.items c.take_out.new.sent.items Delivered
+    (λ (d : FabricData). delivered d.config d.fabric c.args.message.now.id) c.args.self.now c.self.view_is
+    (report-taken c.self.inside.config
+    (record {
+      seats = c.self.inside.seats.items;
+      homes = c.self.inside.homes.items;
+      net = c.self.inside.net;
+      point = c.self.inside.point;
+    }) c.self.invariant.0 c.args.message.now (rw (← c.self.view_is) at c.requires.come) c.args.k
+    (rw
+    (← c.self.view_is) at c.requires.delivers) c.requires.receiver c.take_out.new.net c.take_out.new.sent.items c.take_out.ensures.net c.take_out.ensures.sent)
 
 pub returns-clause-told : goal.returns-clause-told
 returns-clause-told c =
-    subst (λ (d : FabricData). Some (Ready c.args.message.now.from c.args.k) ≡ (delivered d.config d.fabric c.args.message.now.id).told) c.self.view_is
-    (report-tells c.self.inside.config (record { seats = c.self.inside.seats.items; homes = c.self.inside.homes.items; net = c.self.inside.net; point = c.self.inside.point }) c.self.invariant.0 c.args.message.now (rw (← c.self.view_is) at c.requires.come) c.args.k (rw (← c.self.view_is) at c.requires.delivers) c.requires.receiver (Ready c.args.message.now.from c.args.k) refl)
+    subst (λ (d : FabricData). Some (Ready c.args.message.now.from c.args.k)
+    ≡ (delivered d.config d.fabric c.args.message.now.id).told) c.self.view_is
+    (report-tells c.self.inside.config
+    (record {
+      seats = c.self.inside.seats.items;
+      homes = c.self.inside.homes.items;
+      net = c.self.inside.net;
+      point = c.self.inside.point;
+    }) c.self.invariant.0 c.args.message.now (rw (← c.self.view_is) at c.requires.come) c.args.k
+    (rw (← c.self.view_is) at c.requires.delivers) c.requires.receiver (Ready c.args.message.now.from c.args.k) refl)

@@ -4,7 +4,8 @@ use Rattle.mosi_cache.proofs.Restored.{fits-unwound, unwound-restored}
 use Rattle.sn_fabric.proofs.recovery.restore_node.Goals as goal
 
 pub unwind-requires-clause-fits : goal.unwind-requires-clause-fits
-unwind-requires-clause-fits c = fits-unwound c.args.seat.now.cache c.begin_restore.new.self c.args.seat.now.log.entries c.args.k c.begin_restore.ensures c.requires.lines c.requires.frames
+unwind-requires-clause-fits c =
+    fits-unwound c.args.seat.now.cache c.begin_restore.new.self c.args.seat.now.log.entries c.args.k c.begin_restore.ensures c.requires.lines c.requires.frames
 
 pub returns-clause-seat : goal.returns-clause-seat
 returns-clause-seat c =
@@ -15,4 +16,5 @@ returns-clause-seat c =
     ) refl
 
 pub returns-clause-undone : goal.returns-clause-undone
-returns-clause-undone c = let s = from_shorter c.args.k c.args.seat.now.log.entries in omega (arith, c.unwind-undone.ensures.count, c.requires.few)
+returns-clause-undone c =
+    let s = from_shorter c.args.k c.args.seat.now.log.entries in omega (arith, c.unwind-undone.ensures.count, c.requires.few)

@@ -8,7 +8,8 @@ use Rattle.sn_fabric.proofs.recovery.restore_nodes.Given as goal
 abbrev pub invariant-nodes : goal.invariant-nodes
 invariant-nodes l = record {
   seats : l.seats ≡ map (restored_seat l.k) (take l.place l.initial.seats) ++ drop l.place l.initial.seats;
-  before : (n : ℕ) → n < l.place → IsRestoredHome (seat_at l.initial.seats n).log.entries l.k (home_at l.initial.homes n) (home_at l.homes n);
+  before : (n : ℕ) → n < l.place →
+      IsRestoredHome (seat_at l.initial.seats n).log.entries l.k (home_at l.initial.homes n) (home_at l.homes n);
   after : (n : ℕ) → l.place ≤ n → home_at l.homes n ≡ home_at l.initial.homes n;
   few : l.undone ≤ l.place * 2 ^ 16;
   undone : l.undone ≡ sum_by (undone_of l.k) (take l.place l.initial.seats);

@@ -9,7 +9,8 @@ abbrev pub invariant-nodes : goal.invariant-nodes
 invariant-nodes l = record {
   net : net_as l.net ≡ posted l.initial.net.routes (net_as l.initial.net) l.from l.tag l.block (invalidations_below l.set l.r l.number);
   routes : l.net.routes ≡ l.initial.net.routes;
-  sent : l.sent.items ≡ l.initial.sent.items ++ sent_by l.initial.net.routes (net_as l.initial.net) l.from l.tag l.block (invalidations_below l.set l.r l.number);
+  sent : l.sent.items ≡ l.initial.sent.items
+      ++ sent_by l.initial.net.routes (net_as l.initial.net) l.from l.tag l.block (invalidations_below l.set l.r l.number);
   count : length l.sent.items ≤ length l.initial.sent.items + l.number;
   flights : length l.net.flights ≤ length l.initial.net.flights + length (invalidations_below l.set l.r l.number);
   next : l.net.next ≤ l.initial.net.next + l.number;

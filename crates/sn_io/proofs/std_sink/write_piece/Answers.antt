@@ -12,8 +12,16 @@ loop-written-init g c = record {
 
 pub loop-written-preserved : goal.loop-written-preserved
 loop-written-preserved g c = record {
-  within = omega (arith, c.in-Ok.ensures.bound, length-take (length c.args.piece.now - c.loop-written.written) (drop c.loop-written.written c.args.piece.now), length-drop c.loop-written.written c.args.piece.now, c.loop-written-test.true);
-  so_far = appends-more (g.W.Write.contents c.args.writer.now) (g.W.Write.contents c.loop-written.writer) (g.W.Write.contents c.write.new.self)
+  within =
+      omega (
+        arith,
+        c.in-Ok.ensures.bound,
+        length-take (length c.args.piece.now - c.loop-written.written) (drop c.loop-written.written c.args.piece.now),
+        length-drop c.loop-written.written c.args.piece.now,
+        c.loop-written-test.true,
+      );
+  so_far =
+      appends-more (g.W.Write.contents c.args.writer.now) (g.W.Write.contents c.loop-written.writer) (g.W.Write.contents c.write.new.self)
       c.args.piece.now c.loop-written.written c.in-Ok.n c.loop-written.invariant.so_far c.in-Ok.ensures.bytes;
   unmoved = λ e. absurd (omega (arith, e, c.loop-written-test.true));
 }

@@ -3,4 +3,5 @@ use Rattle.sn_machine.specs.Restored.{restored_seat}
 use Rattle.sn_machine.proofs.restoring.restore_all.Given as goal
 
 abbrev pub invariant-processors : goal.invariant-processors
-invariant-processors l = l.processors.items ≡ map (restored_seat l.k) (take l.place l.initial.processors.items) ++ drop l.place l.initial.processors.items
+invariant-processors l =
+    l.processors.items ≡ map (restored_seat l.k) (take l.place l.initial.processors.items) ++ drop l.place l.initial.processors.items

@@ -8,7 +8,9 @@ use Rattle.home_directory.proofs.touched.Touched.touch.Goals as goal
 pub unwrap-requires : goal.unwrap-requires
 unwrap-requires c =
     let l : c.args.place < length c.self.inside.marks.items = rw c.self.view_is c.requires in
-    let bare : is_marked c.self.inside.marks.items c.args.place ≡ false = sym (get_or_read c.self.inside.marks.items c.args.place c.index.result.now l c.index.ensures false) ∙ c.if-not-index.true in
+    let bare : is_marked c.self.inside.marks.items c.args.place
+    ≡ false = sym (get_or_read c.self.inside.marks.items c.args.place c.index.result.now l c.index.ensures false)
+    ∙ c.if-not-index.true in
     let r = room-to_list c.self.inside.marks.items c.self.inside.places.items c.args.place c.self.invariant.0 l bare in
     c.push.ensures.succeeds (omega (arith, r, c.self.invariant.1))
 
@@ -16,6 +18,10 @@ unwrap-requires c =
 pub invariant_of-self : goal.invariant_of-self
 invariant_of-self c =
     let l : c.args.place < length c.self.inside.marks.items = rw c.self.view_is c.requires in
-    let bare : is_marked c.self.inside.marks.items c.args.place ≡ false = sym (get_or_read c.self.inside.marks.items c.args.place c.index.result.now l c.index.ensures false) ∙ c.if-not-index.true in
-    let listed = listed-more c.self.inside.marks.items c.self.inside.places.items c.args.place c.self.invariant.0 l bare in
-    (rw (c.push.ensures.items, c.unwrap.ensures) listed, omega (arith, length-set c.self.inside.marks.items c.args.place true, c.self.invariant.1, c.push.ensures.capacity))
+    let bare : is_marked c.self.inside.marks.items c.args.place
+    ≡ false = sym (get_or_read c.self.inside.marks.items c.args.place c.index.result.now l c.index.ensures false)
+    ∙ c.if-not-index.true in
+    let listed = listed-more c.self.inside.marks.items c.self.inside.places.items c.args.place c.self.invariant.0 l bare in (
+      rw (c.push.ensures.items, c.unwrap.ensures) listed,
+      omega (arith, length-set c.self.inside.marks.items c.args.place true, c.self.invariant.1, c.push.ensures.capacity),
+    )

@@ -7,7 +7,8 @@ nowhere_at zero b = refl
 nowhere_at (suc n) zero = refl
 nowhere_at (suc n) (suc b) = nowhere_at n b
 
-nowhere_of : (s : Bool) (hs cs : List (Option ℕ)) (n b : ℕ) → hs ≡ replicate n None → cs ≡ replicate n None → get_or (if s then hs else cs) b None ≡ None
+nowhere_of : (s : Bool) (hs cs : List (Option ℕ)) (n b : ℕ) → hs ≡ replicate n None → cs ≡ replicate n None →
+    get_or (if s then hs else cs) b None ≡ None
 nowhere_of true hs cs n b h k = ap (λ (xs : List (Option ℕ)). get_or xs b None) h ∙ nowhere_at n b
 nowhere_of false hs cs n b h k = ap (λ (xs : List (Option ℕ)). get_or xs b None) k ∙ nowhere_at n b
 

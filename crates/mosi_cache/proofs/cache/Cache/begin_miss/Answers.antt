@@ -13,7 +13,8 @@ invariant_of-self c = (
   c.self.invariant.1,
   fits-new c.self.inside.need c.args.need c.self.inside.lines c.self.inside.transactions c.open_miss.new.self c.args.block
       (λ b. ap (λ (o : Open). misses_on (miss_of c.args.need o.miss) b) c.open_miss.ensures)
-      (subst (λ (d : CacheData). is_present (line_of d.cache c.args.block).state ≡ false → frames_taken d.cache d.sets c.args.block < d.ways) (sym c.self.view_is)
+      (subst (λ (d : CacheData). is_present (line_of d.cache c.args.block).state ≡ false →
+      frames_taken d.cache d.sets c.args.block < d.ways) (sym c.self.view_is)
       (λ i. miss-fits c.args.self.now c.requires.miss.0 c.args.block c.args.now c.args.need c.requires.miss.1 i))
       c.self.invariant.2,
 )

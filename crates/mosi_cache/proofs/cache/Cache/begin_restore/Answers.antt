@@ -12,6 +12,9 @@ invariant_of-self c = (
   c.self.invariant.0,
   c.self.invariant.1,
   subst (λ (a : LinesData). FitsSets (cache_of c.self.inside.need a c.new-self-inside.result) a.sets a.ways) (sym c.keep_owned.ensures)
-      (subst (λ (o : Open). FitsSets (cache_of c.self.inside.need (record c.self.inside.lines { lines = map begun_line c.self.inside.lines.lines }) o) c.self.inside.lines.sets c.self.inside.lines.ways) (sym c.new-self-inside.ensures)
-      (fits-begun (cache_of c.self.inside.need c.self.inside.lines c.self.inside.transactions) c.self.inside.lines.sets c.self.inside.lines.ways c.self.invariant.2)),
+      (subst (λ (o : Open). FitsSets
+      (cache_of c.self.inside.need
+      (record c.self.inside.lines { lines = map begun_line c.self.inside.lines.lines }) o) c.self.inside.lines.sets c.self.inside.lines.ways) (sym c.new-self-inside.ensures)
+      (fits-begun
+      (cache_of c.self.inside.need c.self.inside.lines c.self.inside.transactions) c.self.inside.lines.sets c.self.inside.lines.ways c.self.invariant.2)),
 )

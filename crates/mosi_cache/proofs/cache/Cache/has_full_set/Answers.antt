@@ -7,7 +7,8 @@ use Rattle.mosi_cache.proofs.cache.Cache.has_full_set.Goals as goal
 
 pub returns : goal.returns
 returns c =
-    let n : IsNone (miss_of c.self.inside.need c.self.inside.transactions.miss) = subst (λ (d : CacheData). IsNone d.cache.miss) (sym c.self.view_is) c.requires in
+    let n : IsNone (miss_of c.self.inside.need c.self.inside.transactions.miss) = subst (λ (d : CacheData). IsNone d.cache.miss)
+    (sym c.self.view_is) c.requires in
     c.is_full.ensures
     ∙ ap (nat_le c.self.inside.lines.ways) (taken-closed c.self.inside.need c.self.inside.lines c.self.inside.transactions c.args.block n)
     ∙ ap (λ (d : CacheData). nat_le d.ways (frames_taken d.cache d.sets c.args.block)) c.self.view_is

@@ -19,6 +19,11 @@ invariant_of-result c =
       n.0,
       n.1,
       subst (λ (a : LinesData). FitsSets (cache_of Read a c.new-2.result) a.sets a.ways) (sym c.in_ok-lines.ensures)
-          (subst (λ (o : Open). FitsSets (cache_of Read (record { lines = empty_lines; sets = c.args.config.now.sets; ways = c.args.config.now.ways }) o) c.args.config.now.sets c.args.config.now.ways) (sym c.new-2.ensures)
+          (subst (λ (o : Open). FitsSets
+          (cache_of Read (record {
+            lines = empty_lines;
+            sets = c.args.config.now.sets;
+            ways = c.args.config.now.ways;
+          }) o) c.args.config.now.sets c.args.config.now.ways) (sym c.new-2.ensures)
           (fits-none c.args.config.now.sets c.args.config.now.ways)),
     )

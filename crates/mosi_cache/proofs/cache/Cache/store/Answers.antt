@@ -13,20 +13,24 @@ use Rattle.mosi_cache.proofs.cache.Cache.store.Goals as goal
 
 present : (c : goal.After-put) → is_present (line_at c.self.inside.lines.lines c.in-Some.block).state ≡ true
 present c =
-    let w = writable-present _ (subst (λ (d : CacheData). is_writable_state (line_of d.cache (block_of c.args.write.now.address)).state ≡ true) (sym c.self.view_is) c.requires.line) in
+    let w = writable-present _
+    (subst (λ (d : CacheData). is_writable_state (line_of d.cache (block_of c.args.write.now.address)).state ≡ true)
+    (sym c.self.view_is) c.requires.line) in
     subst (λ b. is_present (line_at c.self.inside.lines.lines b).state ≡ true) (sym c.in-Some.ensures.block) w
 
 pub invariant_of-self : goal.invariant_of-self
 invariant_of-self c = (
   c.self.invariant.0,
   c.self.invariant.1,
-  fits-line c.self.inside.need c.self.inside.lines c.put.new.self c.self.inside.transactions c.in-Some.block _ c.put.ensures.lines (present c) c.self.invariant.2,
+  fits-line c.self.inside.need c.self.inside.lines c.put.new.self c.self.inside.transactions c.in-Some.block _ c.put.ensures.lines
+      (present c) c.self.invariant.2,
 )
 
 pub returns-clause-stored : goal.returns-clause-stored
 returns-clause-stored c =
     store-done c.self.inside.node c.self.inside.nodes c.self.inside.need c.self.inside.lines c.put.new.self c.self.inside.transactions c.args.write.now c.in-Some.block _ c.put.ensures.lines
     c.in-Some.ensures.block
-    (c.store.ensures ∙ ap (λ xs. stored_in xs (place_in_block c.args.write.now.address) (little_bytes (bytes_of c.args.write.now.width) c.args.write.now.value)) c.content-content.ensures)
+    (c.store.ensures ∙ ap (λ xs. stored_in xs (place_in_block c.args.write.now.address)
+    (little_bytes (bytes_of c.args.write.now.width) c.args.write.now.value)) c.content-content.ensures)
     (present c)
     ∙ ap (λ (d : CacheData). stored d c.args.write.now) c.self.view_is

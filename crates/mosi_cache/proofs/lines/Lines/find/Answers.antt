@@ -22,6 +22,7 @@ read c =
 pub returns-clause-some : goal.returns-clause-some
 returns-clause-some c =
     let r = read-found c.self.inside.frames c.self.inside.kept.items c.args.block c.in_ok-frame.frame c.self.invariant.0 (found c) in (
-      subst (λ (d : LinesData). line_at d.lines c.args.block ≡ line_kept c.index.result.now) c.self.view_is (r.0 ∙ ap line_kept (sym (read c))),
+      subst (λ (d : LinesData). line_at d.lines c.args.block ≡ line_kept c.index.result.now) c.self.view_is
+          (r.0 ∙ ap line_kept (sym (read c))),
       subst (λ (k : FrameLine). is_present k.state ≡ true) (sym (read c)) r.1,
     )

@@ -23,6 +23,11 @@ shared c =
 
 pub returns-in-Some-clause-freed : goal.returns-in-Some-clause-freed
 returns-in-Some-clause-freed c =
-    let f : frame_of c.args.frames.now c.in-Some.block ≡ Some c.args.frame = frame-found c.args.frames.now c.args.frame c.in-Some.block c.requires.slots (sym c.block_in.ensures ∙ c.in-Some.is) in
-    let e = subst (λ (o : Option _). IfSome o (λ frame. c.drop_frame.new.self ≡ freed c.args.frames.now frame)) f c.drop_frame.ensures.slots in
-    e ∙ ap (λ (s : LineState). record c.args.frames.now { slots = set c.args.frames.now.slots c.args.frame (unshared s (block_at c.args.frames.now c.args.frame)) }) (sym (shared c))
+    let f : frame_of c.args.frames.now c.in-Some.block
+    ≡ Some c.args.frame = frame-found c.args.frames.now c.args.frame c.in-Some.block c.requires.slots
+    (sym c.block_in.ensures ∙ c.in-Some.is) in
+    let e = subst (λ (o : Option _). IfSome o
+    (λ frame. c.drop_frame.new.self ≡ freed c.args.frames.now frame)) f c.drop_frame.ensures.slots in
+    e ∙ ap (λ (s : LineState).
+    record c.args.frames.now { slots = set c.args.frames.now.slots c.args.frame (unshared s (block_at c.args.frames.now c.args.frame)) })
+    (sym (shared c))

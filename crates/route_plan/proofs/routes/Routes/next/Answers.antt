@@ -7,13 +7,18 @@ use Rattle.route_plan.proofs.Joined.{living-near}
 use Rattle.route_plan.proofs.routes.Routes.next.Goals as goal
 
 near : (c : goal.After-next) → distance c.args.self.now c.args.to c.args.at < 32
-near c = living-near c.args.self.now c.args.to c.args.at (rw (← c.self.view_is) c.self.invariant.0) (rw (← c.self.view_is) c.self.invariant.1) c.requires.receiver c.requires.living
+near c =
+    living-near c.args.self.now c.args.to c.args.at (rw (← c.self.view_is) c.self.invariant.0)
+    (rw (← c.self.view_is) c.self.invariant.1) c.requires.receiver c.requires.living
 
 named : (c : goal.After-next) → c.next.result ≡ next_of c.args.self.now c.args.to c.args.at
-named c = c.next.ensures ∙ (ap (λ m. next_of m c.args.to c.number.result) (c.deref.ensures ∙ c.self.view_is) ∙ ap (λ s. next_of c.args.self.now c.args.to s) c.number.ensures.same)
+named c =
+    c.next.ensures ∙ (ap (λ m. next_of m c.args.to c.number.result) (c.deref.ensures ∙ c.self.view_is)
+    ∙ ap (λ s. next_of c.args.self.now c.args.to s) c.number.ensures.same)
 
 pub next-requires-clause-there : goal.next-requires-clause-there
-next-requires-clause-there c = rw (c.number.ensures.same, c.deref.ensures, c.self.view_is) (living-there c.args.self.now c.args.at c.requires.living)
+next-requires-clause-there c =
+    rw (c.number.ensures.same, c.deref.ensures, c.self.view_is) (living-there c.args.self.now c.args.at c.requires.living)
 
 pub returns-clause-arrived : goal.returns-clause-arrived
 returns-clause-arrived c = (

@@ -29,7 +29,8 @@ invariant_of-self-2 g c =
     let picked = c.pick_of-pick.ensures s.seed s.journal c.self.invariant.5 in
     let over : nat_le s.budget (length s.journal) ≡ false = sym c.is_spent-spent.ensures ∙ did.unspent in
     let left : length s.journal < s.budget = grind (arith, nat_tests, over) in
-    let there : c.args.worker < s.machine.config.nodes = subst (λ (b : Began). c.args.worker < b.config.nodes) (sym c.self.invariant.7) c.requires.worker in
+    let there : c.args.worker < s.machine.config.nodes = subst (λ (b : Began). c.args.worker < b.config.nodes)
+    (sym c.self.invariant.7) c.requires.worker in
     let passes : List ℕ = passed c.pass.new.outbox in
     let longer = c.note.ensures.entry in
     let more = c.note.ensures.answer in (
@@ -38,7 +39,8 @@ invariant_of-self-2 g c =
       omega (arith, c.self.invariant.2, c.note.ensures.room.0),
       omega (arith, c.self.invariant.3, c.note.ensures.room.1),
       turn-lengths s c.args.worker c.in_ok-event.event c.in_ok-event.answer _ _ _ _ passes _ _ longer more picked did c.self.invariant.4,
-      subst (λ (l : List Entry). AreDrawn s.seed l c.draw.new.drawings.items) (sym longer) (c.draw.ensures.drawn s.seed s.journal c.in_ok-event.event c.self.invariant.5),
+      subst (λ (l : List Entry). AreDrawn s.seed l c.draw.new.drawings.items) (sym longer)
+          (c.draw.ensures.drawn s.seed s.journal c.in_ok-event.event c.self.invariant.5),
       c.draw.ensures.count ∙ c.self.invariant.6 ∙ ap (λ (k : Config). k.nodes) (sym did.later.config),
       turn-begun s c.args.worker c.in_ok-event.event c.in_ok-event.answer _ _ _ _ passes _ _ longer more picked did _ c.self.invariant.7,
       turn-count s c.args.worker c.in_ok-event.event c.in_ok-event.answer _ _ _ _ passes _ _ longer more picked did _ _ c.self.invariant.8 c.add.ensures.total,

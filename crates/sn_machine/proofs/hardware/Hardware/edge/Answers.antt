@@ -11,5 +11,8 @@ returns c =
     let i = c.from.ensures ∙ c.number.ensures.same in
     let e = seat-read c.args.self.now c.args.node c.from.result c.index_mut.result.now c.requires.whole c.requires.here i c.index_mut.ensures.value in
     edge-done c.args.self.now _ c.args.node c.requires.whole c.requires.here c.in-Edged.k c.take_checkpoint.new.processor c.in-Edged.ensures
-    (seat_placed c.args.self.now _ c.args.node c.from.result c.take_checkpoint.new.processor i (record { processors = refl; controller = refl; history = refl; output = refl }))
-    (c.take_checkpoint.ensures.processor ∙ ap (λ (x : Seat). with_checkpoint (processor_as x)) e) (c.take_checkpoint.ensures.first ∙ ap (λ (x : Seat). x.checkpoints.first) e) (c.take_checkpoint.ensures.input ∙ ap (λ (x : Seat). x.input) e) refl
+    (seat_placed c.args.self.now _ c.args.node c.from.result c.take_checkpoint.new.processor i
+    (record { processors = refl; controller = refl; history = refl; output = refl }))
+    (c.take_checkpoint.ensures.processor ∙ ap (λ (x : Seat). with_checkpoint (processor_as x)) e)
+    (c.take_checkpoint.ensures.first ∙ ap (λ (x : Seat). x.checkpoints.first) e)
+    (c.take_checkpoint.ensures.input ∙ ap (λ (x : Seat). x.input) e) refl

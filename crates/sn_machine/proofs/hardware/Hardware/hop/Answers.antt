@@ -6,5 +6,6 @@ use Rattle.sn_machine.proofs.hardware.Hardware.hop.Goals as goal
 
 pub returns : goal.returns
 returns c =
-    carried-does c.args.self.now _ c.hop.result (hopped c.args.self.now.fabric.fabric c.args.id) c.requires.whole c.hop.ensures (same_hopped c.args.self.now.fabric.fabric c.args.id).clocks
+    carried-does c.args.self.now _ c.hop.result (hopped c.args.self.now.fabric.fabric c.args.id) c.requires.whole c.hop.ensures
+    (same_hopped c.args.self.now.fabric.fabric c.args.id).clocks
     (record { processors = refl; controller = refl; history = refl; output = refl }) refl

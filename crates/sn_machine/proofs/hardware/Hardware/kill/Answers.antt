@@ -6,5 +6,6 @@ use Rattle.sn_machine.proofs.hardware.Hardware.kill.Goals as goal
 
 pub returns : goal.returns
 returns c =
-    carried-does c.args.self.now _ c.kill.result (killed c.args.self.now.fabric.fabric c.args.switch) c.requires.whole c.kill.ensures (same_killed c.args.self.now.fabric.fabric c.args.switch).clocks
+    carried-does c.args.self.now _ c.kill.result (killed c.args.self.now.fabric.fabric c.args.switch) c.requires.whole c.kill.ensures
+    (same_killed c.args.self.now.fabric.fabric c.args.switch).clocks
     (record { processors = refl; controller = refl; history = refl; output = refl }) refl

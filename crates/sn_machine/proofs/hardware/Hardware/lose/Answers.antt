@@ -6,5 +6,6 @@ use Rattle.sn_machine.proofs.hardware.Hardware.lose.Goals as goal
 
 pub returns : goal.returns
 returns c =
-    carried-does c.args.self.now _ c.lose.result (lost c.args.self.now.fabric.fabric c.args.id) c.requires.whole c.lose.ensures (same_lost c.args.self.now.fabric.fabric c.args.id).clocks
+    carried-does c.args.self.now _ c.lose.result (lost c.args.self.now.fabric.fabric c.args.id) c.requires.whole c.lose.ensures
+    (same_lost c.args.self.now.fabric.fabric c.args.id).clocks
     (record { processors = refl; controller = refl; history = refl; output = refl }) refl

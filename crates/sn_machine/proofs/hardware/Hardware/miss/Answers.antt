@@ -6,5 +6,7 @@ use Rattle.sn_machine.proofs.hardware.Hardware.miss.Goals as goal
 
 pub returns : goal.returns
 returns c =
-    carried-does c.args.self.now _ c.access.result (accessed c.args.self.now.fabric.config c.args.self.now.fabric.fabric c.args.node c.args.block c.args.need) c.requires.whole c.access.ensures
-    (same_accessed c.args.self.now.fabric.config c.args.self.now.fabric.fabric c.args.node c.args.block c.args.need).clocks (record { processors = refl; controller = refl; history = refl; output = refl }) refl
+    carried-does c.args.self.now _ c.access.result
+    (accessed c.args.self.now.fabric.config c.args.self.now.fabric.fabric c.args.node c.args.block c.args.need) c.requires.whole c.access.ensures
+    (same_accessed c.args.self.now.fabric.config c.args.self.now.fabric.fabric c.args.node c.args.block c.args.need).clocks
+    (record { processors = refl; controller = refl; history = refl; output = refl }) refl

@@ -6,5 +6,6 @@ use Rattle.sn_machine.proofs.hardware.Hardware.report.Goals as goal
 
 pub returns : goal.returns
 returns c =
-    carried-does c.args.self.now _ c.report.result (reported c.args.self.now.fabric.fabric c.args.node) c.requires.whole c.report.ensures (same_reported c.args.self.now.fabric.fabric c.args.node).clocks
+    carried-does c.args.self.now _ c.report.result (reported c.args.self.now.fabric.fabric c.args.node) c.requires.whole c.report.ensures
+    (same_reported c.args.self.now.fabric.fabric c.args.node).clocks
     (record { processors = refl; controller = refl; history = refl; output = refl }) refl

@@ -15,7 +15,8 @@ pub invariant_of-self : goal.invariant_of-self
 invariant_of-self c =
     applies c.self.inside.image c.self.inside.config c.self.inside.hardware c.apply-answer.new.self c.self.inside.applied c.self.inside.spare c.args.event c.apply-answer.result c.self.invariant (rw (← c.self.view_is) at c.requires.room)
     (record { numbers = rw (← c.self.view_is) at c.requires.fits; block = c.apply-answer.ensures.block })
-    (subst (λ (config : Config). Does c.self.inside.hardware c.apply-answer.new.self c.apply-answer.result (step_of c.self.inside.image config (state_of c.self.inside.hardware) c.args.event)) c.self.invariant.sizes c.apply-answer.ensures.done)
+    (subst (λ (config : Config). Does c.self.inside.hardware c.apply-answer.new.self c.apply-answer.result
+    (step_of c.self.inside.image config (state_of c.self.inside.hardware) c.args.event)) c.self.invariant.sizes c.apply-answer.ensures.done)
 
 pub returns-clause-run : goal.returns-clause-run
 returns-clause-run c =
@@ -26,5 +27,7 @@ returns-clause-run c =
 pub returns-clause-refused : goal.returns-clause-refused
 returns-clause-refused c = λ is.
     refused-same c.self.inside.image c.self.inside.config c.self.inside.hardware c.apply-answer.new.self c.self.inside.applied c.self.inside.spare c.args.event c.apply-answer.result
-    (subst (λ (config : Config). Does c.self.inside.hardware c.apply-answer.new.self c.apply-answer.result (step_of c.self.inside.image config (state_of c.self.inside.hardware) c.args.event)) c.self.invariant.sizes c.apply-answer.ensures.done) is
+    (subst (λ (config : Config). Does c.self.inside.hardware c.apply-answer.new.self c.apply-answer.result
+    (step_of c.self.inside.image config
+    (state_of c.self.inside.hardware) c.args.event)) c.self.invariant.sizes c.apply-answer.ensures.done) is
     ∙ ap (λ (d : MachineData). d.state) c.self.view_is

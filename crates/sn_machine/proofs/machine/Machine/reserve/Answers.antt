@@ -2,7 +2,8 @@ use Rattle.sn_machine.proofs.Kept.{keeps_room, reserves}
 use Rattle.sn_machine.proofs.machine.Machine.reserve.Goals as goal
 
 pub invariant_of-self : goal.invariant_of-self
-invariant_of-self c = keeps_room c.self.inside.image c.self.inside.config c.self.inside.hardware c.reserve.new.self c.self.inside.applied c.self.inside.spare c.self.invariant c.in_err-reserve.ensures.same
+invariant_of-self c =
+    keeps_room c.self.inside.image c.self.inside.config c.self.inside.hardware c.reserve.new.self c.self.inside.applied c.self.inside.spare c.self.invariant c.in_err-reserve.ensures.same
 
 pub invariant_of-self-2 : goal.invariant_of-self-2
 invariant_of-self-2 c =

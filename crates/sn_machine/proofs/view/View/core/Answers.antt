@@ -8,5 +8,6 @@ use Rattle.sn_machine.proofs.view.View.core.Goals as goal
 pub returns : goal.returns
 returns c =
     core-shown c.machine.inside.image c.machine.inside.config c.machine.inside.hardware c.machine.inside.applied c.machine.inside.spare c.machine.invariant c.args.node c.from.result c.index.result.now c.get.result.now
-    (rw (← c.self.view_is, ← c.machine.view_is) at c.requires) (c.from.ensures ∙ c.number.ensures.same) c.index.ensures (rw c.point-point.ensures at c.get.ensures.core)
+    (rw (← c.self.view_is, ← c.machine.view_is) at c.requires) (c.from.ensures ∙ c.number.ensures.same) c.index.ensures
+    (rw c.point-point.ensures at c.get.ensures.core)
     ∙ ap (λ (d : MachineData). bare (core_at (flat_of d) c.args.node)) (c.machine.view_is ∙ c.self.view_is)

@@ -9,7 +9,11 @@ pub invariant_of-self-2 : goal.invariant_of-self-2
 invariant_of-self-2 c =
     rw c.push.ensures (
       net-push _ _ c.self.invariant.0 (rw (← c.self.view_is) at c.requires.room) refl
-          (record { from = rw (← c.self.view_is) at c.requires.sender; to = rw (← c.self.view_is) at c.requires.receiver; living = c.enter-at.ensures.living }),
+          (record {
+            from = rw (← c.self.view_is) at c.requires.sender;
+            to = rw (← c.self.view_is) at c.requires.receiver;
+            living = c.enter-at.ensures.living;
+          }),
       c.self.invariant.1,
     )
 

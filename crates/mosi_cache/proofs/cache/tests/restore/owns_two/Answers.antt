@@ -11,5 +11,6 @@ returns-clause-others c = λ r b l e f.
     (λ (i : b < 65535). c.numbers.invariant b (omega arith) e f)
     (λ (i : 65535 ≤ b).
     let q : c.new-2.result ≡ b = omega (arith, c.new-2.ensures) in
-    subst (λ (n : ℕ). unwound c.args.log.now.entries false c.args.k (held_of c.args.cache.now) n ≡ NotOwned) q (c.is_unowned-2.ensures.unowned r))
+    subst (λ (n : ℕ). unwound c.args.log.now.entries false c.args.k (held_of c.args.cache.now) n ≡ NotOwned) q
+    (c.is_unowned-2.ensures.unowned r))
     (cases_lt b 65535)

@@ -3,11 +3,11 @@ use Rattle.std.specs.Prelude.{slice_index_or}
 use Rattle.std.proofs.lemmas.List.{get_or_default}
 use Rattle.sn_model.specs.Homes.{HomeEntry}
 use Rattle.sn_model.specs.Fabric.{no_entry}
-use Rattle.home_directory.specs.Restored.{settled}
-use Rattle.home_directory.proofs.Listing.{AreSettling, settling-more, settling-all}
-use Rattle.home_directory.proofs.restore.settle.Goals as goal
+use Rattle.home_directory.specs.Restored.{cleared}
+use Rattle.home_directory.proofs.Listing.{AreClearing, clearing-more, clearing-all}
+use Rattle.home_directory.proofs.restore.clear_entries.Goals as goal
 
--- one entry more is settled
+-- one entry more is cleared
 pub places-preserved : goal.places-preserved
 places-preserved c =
     let places = c.places-place-items.result.now in
@@ -17,10 +17,12 @@ places-preserved c =
     let l : i < length places = omega arith in
     let m : place < length now = omega (arith, c.places-place-items.ensures.inside i 0 l, c.requires.whole, c.places.invariant.whole) in
     rw c.empty-entry-inside.ensures
-    (subst (λ (x : HomeEntry). AreSettling c.args.entries.now.items (set now place (settled x)) (drop (i + 1) places)) (sym c.entry.view_is)
-    (settling-more c.args.entries.now.items now places i place c.index_mut-entry.result.now l (get_or_default places i 0 place l) m
+    (subst (λ (x : HomeEntry). AreClearing c.args.entries.now.items (set now place (cleared x)) (drop (i + 1) places)) (sym c.entry.view_is)
+    (clearing-more c.args.entries.now.items now places i place c.index_mut-entry.result.now l (get_or_default places i 0 place l) m
     (c.index_mut-entry.ensures.value ∙ get_or_default now place c.index_mut-entry.result.now no_entry m) c.places.invariant))
 
--- what isn't listed was settled before
+-- what isn't listed was cleared before
 pub returns : goal.returns
-returns c = settling-all c.args.entries.now.items c.places.entries.items c.places-place-items.result.now c.places.place-index (omega arith) c.places.invariant
+returns c =
+    clearing-all c.args.entries.now.items c.places.entries.items c.places-place-items.result.now c.places.place-index
+    (omega arith) c.places.invariant

@@ -1,11 +1,12 @@
--- What settling the miss makes of the whole row.
+-- What completing the miss makes of the whole row.
 use Rattle.std.proofs.Common.{◌≡◌, ℕ, ◌%◌, List, set, Option, Some, None, refl, sym, ap, ◌∙◌, subst}
 use Rattle.std.specs.Option.{option_map}
 use Rattle.sn_base.specs.declared.log.LogEntry.{LogEntry}
 use Rattle.atomicity_point.specs.Txn.{Open, answered, acknowledged as counted}
 use Rattle.sn_model.specs.declared.cache.Need.{Need}
 use Rattle.sn_model.specs.Caches.{Line, Miss}
-use Rattle.sn_model.specs.CacheRows.{Logged, CacheReply, fixed_at, acknowledged, settled, settled_by, AwaitsAnswer, MayCount}
+use Rattle.sn_model.specs.CacheRows.{Logged, CacheReply, fixed_at, acknowledged, completed_or_waiting, completed_or_waiting_by}
+use Rattle.sn_model.specs.CacheRows.{AwaitsAnswer, MayCount}
 use Rattle.mosi_cache.specs.declared.step.CacheStep.{CacheStep}
 use Rattle.mosi_cache.specs.Frames.{LinesData}
 use Rattle.mosi_cache.specs.Controller.{CacheData, cache_of, miss_of, logged}
@@ -24,25 +25,31 @@ abbrev pub with_lines : CacheData → List Line → List LogEntry → Logged
 with_lines d ls log = record { cache = record d.cache { lines = ls }; log = log }
 
 by_fixed : (d : CacheData) (ls : List Line) (log : List LogEntry) (home : ℕ) (m : Option Miss) (x : Miss) (f : Option ℕ) →
-    settled_by (logged (moved d ls m) log) home x f ≡ settled_by (with_lines d ls log) home x f
+    completed_or_waiting_by (logged (moved d ls m) log) home x f ≡ completed_or_waiting_by (with_lines d ls log) home x f
 by_fixed d ls log home m x None = refl
 by_fixed d ls log home m x (Some f) = refl
 
 waits-or-done : (d : CacheData) (ls : List Line) (log : List LogEntry) (home : ℕ) (m : Option Miss) (x : Miss) → m ≡ Some x →
-    settled (logged (moved d ls m) log) home m ≡ settled (with_lines d ls log) home m
+    completed_or_waiting (logged (moved d ls m) log) home m ≡ completed_or_waiting (with_lines d ls log) home m
 waits-or-done d ls log home m x e =
-    ap (settled (logged (moved d ls m) log) home) e ∙ by_fixed d ls log home m x x.fixed ∙ ap (settled (with_lines d ls log) home) (sym e)
+    ap (completed_or_waiting (logged (moved d ls m) log) home) e ∙ by_fixed d ls log home m x x.fixed
+    ∙ ap (completed_or_waiting (with_lines d ls log) home) (sym e)
 
--- a row that moves a line and the miss, and then settles
-pub moved-done : (d mid after : CacheData) (step : CacheStep) (log : List LogEntry) (ls : List Line) (m : Option Miss) (x : Miss) (block : ℕ) → mid ≡ moved d ls m → m ≡ Some x →
-    IsDone mid after step (settled (logged mid log) (block % mid.nodes) mid.cache.miss) → IsDone d after step (settled (with_lines d ls log) (block % d.nodes) m)
+-- a row that moves a line and the miss, and then completes or waits
+pub moved-done : (d mid after : CacheData) (step : CacheStep) (log : List LogEntry) (ls : List Line) (m : Option Miss) (x : Miss)
+    (block : ℕ) → mid ≡ moved d ls m → m ≡ Some x →
+    IsDone mid after step (completed_or_waiting (logged mid log) (block % mid.nodes) mid.cache.miss) →
+    IsDone d after step (completed_or_waiting (with_lines d ls log) (block % d.nodes) m)
 moved-done d mid after step log ls m x block e i h =
-    let k : IsDone (moved d ls m) after step (settled (logged (moved d ls m) log) (block % d.nodes) m) = subst (λ (c : CacheData). IsDone c after step (settled (logged c log) (block % c.nodes) c.cache.miss)) e h in
-    subst (λ (r : CacheReply). IsDone d after step r) (waits-or-done d ls log (block % d.nodes) m x i) (record { cache = k.cache; answer = k.answer })
+    let k : IsDone (moved d ls m) after step (completed_or_waiting (logged (moved d ls m) log) (block % d.nodes) m) = subst
+    (λ (c : CacheData). IsDone c after step (completed_or_waiting (logged c log) (block % c.nodes) c.cache.miss)) e h in
+    subst (λ (r : CacheReply). IsDone d after step r) (waits-or-done d ls log (block % d.nodes) m x i)
+    (record { cache = k.cache; answer = k.answer })
 
 -- what the parts have become
 
-pub mid-answered : (node nodes : ℕ) (need : Need) (a b : LinesData) (o o' : Open) (x : ℕ) (l : Line) (tag due : ℕ) → b ≡ record a { lines = set a.lines x l } →
+pub mid-answered : (node nodes : ℕ) (need : Need) (a b : LinesData) (o o' : Open) (x : ℕ) (l : Line) (tag due : ℕ) →
+    b ≡ record a { lines = set a.lines x l } →
     o' ≡ record o { miss = option_map (λ t. answered t tag due) o.miss } →
     data_by node nodes need b o' ≡ moved (data_by node nodes need a o) (set a.lines x l) (fixed_at (miss_of need o.miss) tag due)
 mid-answered node nodes need a b o o' x l tag due e f =
@@ -50,7 +57,8 @@ mid-answered node nodes need a b o o' x l tag due e f =
     ∙ ap (λ (p : Open). data_by node nodes need (record a { lines = set a.lines x l }) p) f
     ∙ ap (λ (m : Option Miss). moved (data_by node nodes need a o) (set a.lines x l) m) (miss-answered need o.miss tag due)
 
-pub mid-upgraded : (node nodes : ℕ) (need : Need) (a : LinesData) (o o' : Open) (tag due : ℕ) → o' ≡ record o { miss = option_map (λ t. answered t tag due) o.miss } →
+pub mid-upgraded : (node nodes : ℕ) (need : Need) (a : LinesData) (o o' : Open) (tag due : ℕ) →
+    o' ≡ record o { miss = option_map (λ t. answered t tag due) o.miss } →
     data_by node nodes need a o' ≡ moved (data_by node nodes need a o) a.lines (fixed_at (miss_of need o.miss) tag due)
 mid-upgraded node nodes need a o o' tag due f =
     ap (λ (p : Open). data_by node nodes need a p) f
