@@ -114,31 +114,31 @@ is_absent_or_shared Exclusive = false
 
 -- the rows
 
--- FwdGetS for r: the line is Owned; the content goes to r
+-- FwdGetS for the requester: the line is Owned; the content goes to the requester
 abbrev pub forward_read : Logged → ℕ → ℕ → CacheReply
-forward_read at block r = record {
+forward_read at block requester = record {
   after = record at { cache = with_line at.cache block Owned (content_of at block) };
-  sends = send r (DataS (content_of at block)) ∷ [];
+  sends = send requester (DataS (content_of at block)) ∷ [];
   lost = None;
 }
 
 abbrev pub MayForward : Logged → ℕ → Type 0
 MayForward at block = is_owned (line_of at.cache block).state ≡ true
 
--- FwdGetM for r with a acknowledgements due: the content is noted under now, the copy is lost; the content goes to r with
--- its ownership
+-- FwdGetM for the requester, with so many acknowledgements due: the content is noted under now, and the copy is lost; the
+-- content goes to the requester with its ownership
 abbrev pub forward_write : Logged → ℕ → ℕ → ℕ → ℕ → CacheReply
-forward_write at block now r a = record {
+forward_write at block now requester due = record {
   after = given_up at block now;
-  sends = send r (DataM (content_of at block) a) ∷ [];
+  sends = send requester (DataM (content_of at block) due) ∷ [];
   lost = Some block;
 }
 
--- Inv for r: the copy, if any, is lost; r gets the acknowledgement
+-- Inv for the requester: the copy, if any, is lost; the requester gets the acknowledgement
 abbrev pub invalidate : Logged → ℕ → ℕ → CacheReply
-invalidate at block r = record {
+invalidate at block requester = record {
   after = record at { cache = without_line at.cache block };
-  sends = send r InvAck ∷ [];
+  sends = send requester InvAck ∷ [];
   lost = if is_present (line_of at.cache block).state then Some block else None;
 }
 
@@ -150,17 +150,17 @@ data_shared at home block tag content =
 abbrev pub MayTakeCopy : Logged → ℕ → Type 0
 MayTakeCopy at block = AwaitsAnswer at.cache.miss block Read × ((line_of at.cache block).state ≡ Absent)
 
--- DataM with a acknowledgements due: that nothing was owned is noted under the tag; the line is Modified
+-- DataM with so many acknowledgements due: that nothing was owned is noted under the tag; the line is Modified
 abbrev pub data_modified : Logged → ℕ → ℕ → ℕ → List ℕ → ℕ → CacheReply
-data_modified at home block tag content a =
-    completed_or_waiting (taken_over at block tag Modified content) home (fixed_at at.cache.miss tag a)
+data_modified at home block tag content due =
+    completed_or_waiting (taken_over at block tag Modified content) home (fixed_at at.cache.miss tag due)
 
 abbrev pub MayTakeOwnership : Logged → ℕ → Type 0
 MayTakeOwnership at block = AwaitsAnswer at.cache.miss block Write × (is_absent_or_shared (line_of at.cache block).state ≡ true)
 
--- UpgOk with a acknowledgements due: the owner may write once they are in
+-- UpgOk with so many acknowledgements due: the owner may write once they are in
 abbrev pub upgrade_granted : Logged → ℕ → ℕ → ℕ → CacheReply
-upgrade_granted at home tag a = completed_or_waiting at home (fixed_at at.cache.miss tag a)
+upgrade_granted at home tag due = completed_or_waiting at home (fixed_at at.cache.miss tag due)
 
 abbrev pub MayUpgrade : Logged → ℕ → Type 0
 MayUpgrade at block = AwaitsAnswer at.cache.miss block Write × ((line_of at.cache block).state ≡ Owned)
