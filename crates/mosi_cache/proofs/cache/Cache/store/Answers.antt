@@ -1,4 +1,4 @@
-use Rattle.std.proofs.Common.{◌≡◌, true, sym, ap, ◌∙◌, subst}
+use Rattle.std.proofs.Common.{◌≡◌, ℕ, List, true, sym, ap, ◌∙◌, subst}
 use Rattle.byteorder.specs.Endian.{little_bytes}
 use Rattle.sn_base.specs.Blocks.{bytes_of, stored_in}
 use Rattle.rv_core.specs.Core.{block_of}
@@ -26,11 +26,15 @@ invariant_of-self c = (
       (present c) c.self.invariant.2,
 )
 
+abbrev bytes_written : goal.After-put → List ℕ
+bytes_written c = little_bytes (bytes_of c.args.write.now.width) c.args.write.now.value
+
 pub returns-clause-stored : goal.returns-clause-stored
 returns-clause-stored c =
     store-done c.self.inside.node c.self.inside.nodes c.self.inside.need c.self.inside.lines c.put.new.self c.self.inside.transactions c.args.write.now c.in-Some.block _ c.put.ensures.lines
     c.in-Some.ensures.block
-    (c.store.ensures ∙ ap (λ xs. stored_in xs (place_in_block c.args.write.now.address)
-    (little_bytes (bytes_of c.args.write.now.width) c.args.write.now.value)) c.content-content.ensures)
+    (c.store.ensures
+    ∙ ap (λ xs. stored_in xs c.offset-place.result (bytes_written c)) c.content-content.ensures
+    ∙ ap (λ place. stored_in (line_at c.self.inside.lines.lines c.in-Some.block).content place (bytes_written c)) c.offset-place.ensures.same)
     (present c)
     ∙ ap (λ (d : CacheData). stored d c.args.write.now) c.self.view_is
