@@ -1,5 +1,5 @@
 -- What may be due at a node: a list of events, made of what the machine would answer now.
-use Rattle.std.specs.Prelude.{ℕ, ◌%◌, Bool, true, false, not, ◌&&◌, ◌||◌, nat_eq, nat_lt, nat_le, if◌then◌else◌, List, [], ◌∷◌, ◌++◌, map}
+use Rattle.std.specs.Prelude.{ℕ, Bool, true, false, not, ◌&&◌, ◌||◌, nat_eq, nat_lt, nat_le, if◌then◌else◌, List, [], ◌∷◌, ◌++◌, map}
 use Rattle.std.specs.Prelude.{filter_map, slice_index, Option, Some, None}
 use Rattle.std.specs.List.{find, list_any, range_with_len}
 use Rattle.std.specs.Option.{option_map}

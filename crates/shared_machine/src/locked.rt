@@ -1,8 +1,6 @@
 //! The value behind the lock.
 ghost use Rattle.std.specs.Prelude.{◌≡◌, ◌+◌, ◌<◌, ◌≤◌, true, false, nat_le, Some, None, [], ◌∷◌, ◌++◌, IfOk, IfErr, MatchResult, length};
 ghost use Rattle.std.specs.Prelude.{vec_len, vec_capacity};
-ghost use Rattle.sn_machine.specs.Machine.{IsApplied};
-ghost use Rattle.sn_driver.specs.Turns.{due_at, IsLater};
 ghost use Rattle.sn_console.specs.Ends.{passed, SameOutbox};
 ghost use Rattle.sn_console.specs.Handed.{IsFirstOf};
 ghost use Rattle.run_journals.specs.Journal.{entry_of};

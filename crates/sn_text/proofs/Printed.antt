@@ -17,6 +17,18 @@ abbrev pub From : ℕ → List ℕ → Type 0
 From low [] = ⊤
 From low (byte ∷ bytes) = (low ≤ byte) × From low bytes
 
+-- the same as a test, which a text that is written out passes by itself
+abbrev pub is_from : ℕ → List ℕ → Bool
+is_from low [] = true
+is_from low (x ∷ xs) = nat_le low x && is_from low xs
+
+pub from-tested : (low : ℕ) (xs : List ℕ) → is_from low xs ≡ true → From low xs
+from-tested low [] e = tt
+from-tested low (x ∷ xs) e = (grind (arith, nat_tests), from-tested low xs (by_test (nat_le low x) (is_from low xs) e)) where
+  by_test : (a b : Bool) → (a && b) ≡ true → b ≡ true
+  by_test true b h = h
+  by_test false b h = absurd cc
+
 pub from-append : (low : ℕ) (xs ys : List ℕ) → From low xs → From low ys → From low (xs ++ ys)
 from-append low [] ys a b = b
 from-append low (x ∷ xs) ys a b = (a.0, from-append low xs ys a.1 b)

@@ -3,7 +3,7 @@ use Rattle.std.proofs.Common.{◌≡◌, ℕ, ◌+◌, ◌*◌, ◌/◌, ◌%◌
 use Rattle.std.proofs.Common.{append_assoc, arith}
 use Rattle.std.proofs.lemmas.Bool.Decides.{nat_tests}
 use Rattle.std.proofs.lemmas.Fmt.{decimal_nonempty}
-use Rattle.std.specs.Prelude.{Bool, true, false, nat_eq, nat_lt, nat_le, ◌&&◌, if◌then◌else◌, codes, decimal, Option, Some, None, IfSome}
+use Rattle.std.specs.Prelude.{Bool, true, false, nat_eq, nat_lt, nat_le, if◌then◌else◌, codes, decimal, Option, Some, None, IfSome}
 use Rattle.std.specs.Prelude.{Ok}
 use Rattle.sn_base.specs.Events.{event_fits}
 use Rattle.sn_base.specs.declared.event.Event.{Event}
@@ -16,8 +16,8 @@ use Rattle.sn_text.specs.Text.{event_text, switch_text, byte_text, word_text, fl
 use Rattle.sn_text.specs.Trace.{record_by, with_last, record_of, trace_of}
 use Rattle.sn_text.specs.Written.{HasNumbers, IsEventOf, IsRecordOf, script_text, trace_text}
 use Rattle.sn_text.proofs.Lines.{IsLine, text-read_back}
-use Rattle.sn_text.proofs.Printed.{From, from-append, from-lower, from-decimal, from-byte, from-word, number_of-decimal, byte_of-text}
-use Rattle.sn_text.proofs.Printed.{word_of-text, parted-words}
+use Rattle.sn_text.proofs.Printed.{From, is_from, from-tested, from-append, from-lower, from-decimal, from-byte, from-word}
+use Rattle.sn_text.proofs.Printed.{number_of-decimal, byte_of-text, word_of-text, parted-words}
 
 small : (nodes n : ℕ) → nodes ≤ 16 → nat_lt n nodes ≡ true → n < 2 ^ 64
 small nodes n few fits = grind (arith, nat_tests)
@@ -82,17 +82,6 @@ event-back nodes Validate few fits numbers = refl
 event-back nodes Recover few fits numbers = refl
 event-back nodes (Input n byte) few fits numbers =
     ap (input_in nodes) (append_assoc (decimal n) (32 ∷ []) (byte_text byte)) ∙ input-back nodes n byte few fits numbers
-
-abbrev is_from : ℕ → List ℕ → Bool
-is_from low [] = true
-is_from low (x ∷ xs) = nat_le low x && is_from low xs
-
-from-tested : (low : ℕ) (xs : List ℕ) → is_from low xs ≡ true → From low xs
-from-tested low [] e = tt
-from-tested low (x ∷ xs) e = (grind (arith, nat_tests), from-tested low xs (by_test (nat_le low x) (is_from low xs) e)) where
-  by_test : (a b : Bool) → (a && b) ≡ true → b ≡ true
-  by_test true b h = h
-  by_test false b h = absurd cc
 
 -- a name begins it
 begun_by : (x : ℕ) (xs rest : List ℕ) → nat_le 48 x ≡ true → is_from 32 xs ≡ true → From 32 rest → IsLine ((x ∷ xs) ++ rest)

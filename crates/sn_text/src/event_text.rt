@@ -128,6 +128,7 @@ impl Line {
         requires { length self.old + 64 ≤ 8192 }
         ensures text { self.new ≡ self.old ++ script_line event.now }
         ensures short { length self.new ≤ length self.old + 64 }
+        ensures numbers { HasNumbers event.now }
         ensures read_back { (nodes : ℕ) → nodes ≤ 16 → event_fits nodes event.now ≡ true →
             event_of nodes (event_text event.now) ≡ Ok event.now }
     {
