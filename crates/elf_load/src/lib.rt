@@ -11,8 +11,6 @@ mod file_header;
 mod hexadecimal;
 mod loading;
 mod program_header;
-#[cfg(test)]
-mod tests;
 mod writing;
 
 pub use fault::{Field, LoadCause, LoadFault};

@@ -23,6 +23,3 @@ pub use laws::{scripts_are_read_back, traces_are_read_back};
 pub use line::Line;
 pub use script::read_script;
 pub use trace::read_trace;
-
-#[cfg(test)]
-mod tests;

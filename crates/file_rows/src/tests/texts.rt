@@ -1,10 +1,10 @@
 //! Scripts and traces that are read, each refusal at its line, and lines as they are written.
-use crate::{Line, ScriptCause, ScriptFault, read_script, read_trace};
 use rv_core::{Cause, CoreState, End, Record};
 use sn_base::{Answer, BlockNo, Event, NodeId, SwitchId, Undo};
 use sn_model::Sent;
 use sn_msg::{Body, Message};
-use std::alloc::Global;
+use sn_text::{Line, ScriptCause, ScriptFault, read_script, read_trace};
+use std::alloc::{AllocError, Global};
 use std::process::Abort;
 use std::test::Fail;
 
@@ -110,6 +110,30 @@ fn the_first_cause_is_given_at_its_line(rt: HostRuntime) {
     each_is_refused(&rt, rt.alloc(), &REFUSED_TRACES, true);
 }
 
+fn written(rt: &impl Abort, line: &Line, text: &str) {
+    assert!(rt; line.bytes() == text.as_bytes());
+}
+
+fn is_only_event(read: &[Event], event: &Event) -> bool {
+    read.len() == 1 && read[0] == *event
+}
+
+/// The event has this line, and is what a script of that line is read as.
+fn event_has_line(
+    rt: &impl Abort,
+    alloc: Global,
+    line: &mut Line,
+    event: &Event,
+    text: &str,
+) -> Result<(), Fail> {
+    line.clear();
+    line.script(event);
+    written(rt, line, text);
+    let read = read_script(alloc, line.bytes(), 4)?;
+    assert!(rt; is_only_event(read.as_slice(), event), "of {text}");
+    Ok(())
+}
+
 #[test]
 fn each_event_is_written_and_read_back(rt: HostRuntime) -> Result<(), Fail> {
     let rows = [
@@ -133,47 +157,61 @@ fn each_event_is_written_and_read_back(rt: HostRuntime) -> Result<(), Fail> {
         (Event::Input(node(&rt, 1), 15), "input 1 0f\n"),
     ];
     let mut line = Line::new(rt.alloc())?;
-    for (event, text) in rows {
-        line.clear();
-        line.script(&event);
-        written(&rt, &line, text);
-        let read = read_script(rt.alloc(), line.bytes(), 4)?;
-        assert!(rt; read.as_slice() == [event].as_slice());
+    for (event, text) in &rows {
+        event_has_line(&rt, rt.alloc(), &mut line, event, text)?;
     }
     Ok(())
 }
 
+fn is_only_record(read: &[Record], record: &Record) -> bool {
+    read.len() == 1 && read[0] == *record
+}
+
+/// The record has this line, and is what a trace of that line is read as.
+fn record_has_line(
+    rt: &impl Abort,
+    alloc: Global,
+    line: &mut Line,
+    record: &Record,
+    text: &str,
+) -> Result<(), Fail> {
+    line.clear();
+    line.trace(record);
+    written(rt, line, text);
+    let read = read_trace(alloc, line.bytes(), 16)?;
+    assert!(rt;
+        read.len() == 1 && read.first() == Some(record),
+        "of {text}"
+    );
+    Ok(())
+}
+
+/// A record's core, what it saw, whether it is a store-conditional that was done, and the byte of input that it read; and its line.
+const RECORDS: [(u8, u32, bool, Option<u8>, &str); 3] = [
+    (0, 0, false, None, "0 00000000 0\n"),
+    (15, 0x1234_abcd, true, None, "15 1234abcd 1\n"),
+    (3, 0xffff_ffff, false, Some(0x4e), "3 ffffffff 0 4e\n"),
+];
+
 #[test]
 fn each_record_is_written_and_read_back(rt: HostRuntime) -> Result<(), Fail> {
-    let rows = [
-        (0, 0, false, None, "0 00000000 0\n"),
-        (15, 0x1234_abcd, true, None, "15 1234abcd 1\n"),
-        (3, 0xffff_ffff, false, Some(0x4e), "3 ffffffff 0 4e\n"),
-    ];
     let mut line = Line::new(rt.alloc())?;
-    for (core, seen, sc_done, read, text) in rows {
-        let taken = Record {
-            core: node(&rt, core),
-            seen,
-            sc_done,
-            read,
+    for (core, seen, sc_done, read, text) in &RECORDS {
+        let record = Record {
+            core: node(&rt, *core),
+            seen: *seen,
+            sc_done: *sc_done,
+            read: *read,
         };
-        line.clear();
-        line.trace(&taken);
-        written(&rt, &line, text);
-        let records = read_trace(rt.alloc(), line.bytes(), 16)?;
-        assert!(rt; records.as_slice() == [taken].as_slice());
+        record_has_line(&rt, rt.alloc(), &mut line, &record, text)?;
     }
     Ok(())
 }
 
 /// A script of so many recoveries, then a last line.
-fn recoveries(alloc: Global, count: usize, last: &str) -> Result<Vec<u8>, Fail> {
-    let mut text = Vec::new(alloc);
-    for _ in 0..count {
-        text.extend_from_slice(b"recover\n")?;
-    }
-    text.extend_from_slice(last.as_bytes())?;
+fn recoveries(alloc: Global, count: usize, last: &str) -> Result<String, AllocError> {
+    let mut text = "recover\n".repeat(alloc, count)?;
+    text.push_str(last)?;
     Ok(text)
 }
 
@@ -189,15 +227,11 @@ fn count_read(alloc: Global, text: &[u8]) -> Result<usize, ScriptFault> {
 #[test]
 fn a_million_events_and_no_more(rt: HostRuntime) -> Result<(), Fail> {
     let most = recoveries(rt.alloc(), 1_000_000, "# no event")?;
-    assert!(rt; count_read(rt.alloc(), most.as_slice()) == Ok(1_000_000));
+    assert!(rt; count_read(rt.alloc(), most.as_bytes()) == Ok(1_000_000));
     let more = recoveries(rt.alloc(), 1_000_000, "step 15")?;
     let many = ScriptFault::Refused(ScriptCause::TooMany);
-    assert!(rt; count_read(rt.alloc(), more.as_slice()) == Err(many));
+    assert!(rt; count_read(rt.alloc(), more.as_bytes()) == Err(many));
     Ok(())
-}
-
-fn written(rt: &impl Abort, line: &Line, text: &str) {
-    assert!(rt; line.bytes() == text.as_bytes());
 }
 
 #[test]
@@ -222,7 +256,13 @@ fn an_event_and_what_it_sent_have_their_lines(rt: HostRuntime) -> Result<(), Fai
         &line,
         "12 deliver 7: delivered\n  msg 8 fwdgetm 0 3 2 64 req 1 acks 2 lost\n",
     );
-    line.clear();
+    Ok(())
+}
+
+#[test]
+fn an_answer_has_its_numbers_and_nodes(rt: HostRuntime) -> Result<(), Fail> {
+    let mut line = Line::new(rt.alloc())?;
+    let (first, third) = (node(&rt, 0), node(&rt, 3));
     let undo = Undo {
         to: 1,
         undone: 2,
@@ -236,13 +276,20 @@ fn an_event_and_what_it_sent_have_their_lines(rt: HostRuntime) -> Result<(), Fai
     written(&rt, &line, "1 kill b3: recovered 1 undone 2 dropped 3\n");
     line.clear();
     line.event(1, &Event::Input(third, 10), &Answer::CutOff(first, third));
+    written(&rt, &line, "1 input 3 0a: cutoff 0 3\n");
+    Ok(())
+}
+
+#[test]
+fn a_count_a_watched_word_and_a_probe_have_their_lines(rt: HostRuntime) -> Result<(), Fail> {
+    let mut line = Line::new(rt.alloc())?;
     line.count("# ", "released", 20);
     line.watch("  ", 0x8000_1000, 0xab);
     line.probe("", 1, 0, 18_446_744_073_709_551_615);
     written(
         &rt,
         &line,
-        "1 input 3 0a: cutoff 0 3\n# released 20\n  watch 80001000 000000ab\nprobe 1 0 18446744073709551615\n",
+        "# released 20\n  watch 80001000 000000ab\nprobe 1 0 18446744073709551615\n",
     );
     Ok(())
 }

@@ -1,8 +1,7 @@
 //! A file as a linker writes it, what may be wrong with it, and texts of hexadecimal words.
-use crate::*;
+use elf_load::{Field, LoadCause, LoadFault, load, write_elf};
 use sn_base::{Image, Memory, Width};
 use std::alloc::{AllocError, Global};
-use std::fmt::Debug;
 use std::process::Abort;
 use std::test::Fail;
 
@@ -28,8 +27,8 @@ const CODE: [u8; 20] = [
 ];
 
 /// What was found is what was wanted of it.
-fn same<T: PartialEq + Debug>(rt: &impl Abort, what: &str, found: &T, wanted: &T) {
-    assert_eq!(rt; *found, *wanted, "{what}");
+fn same<T: PartialEq>(rt: &impl Abort, what: &str, found: &T, wanted: &T) {
+    assert!(rt; *found == *wanted, "{what}");
 }
 
 /// Puts these bytes at a place, as far as the file goes.
@@ -71,21 +70,24 @@ type Change = (usize, &'static [u8], Option<LoadCause>);
 
 fn each_has_its_cause(rt: &impl Abort, alloc: Global, changes: &[Change]) {
     for (place, bytes, wanted) in changes {
-        assert_eq!(rt; cause_with(alloc, *place, bytes), *wanted, "at {place}");
+        assert!(rt; cause_with(alloc, *place, bytes) == *wanted, "at {place}");
     }
 }
 
 /// The words that an image gives at these places, where it gives one.
 fn has_words(rt: &impl Abort, image: &Image, words: &[(u32, Option<u32>)]) {
     for (pc, word) in words {
-        assert_eq!(rt; image.fetch(*pc), *word, "at {pc}");
+        assert!(rt; image.fetch(*pc) == *word, "at {pc}");
     }
 }
 
 /// Whether words may be written at these addresses.
 fn is_writable(rt: &impl Abort, image: &Image, words: &[(u32, bool)]) {
     for (address, may) in words {
-        assert_eq!(rt; image.writable(*address, Width::Word), *may, "at {address}");
+        assert!(rt;
+            image.writable(*address, Width::Word) == *may,
+            "at {address}"
+        );
     }
 }
 
@@ -128,7 +130,10 @@ fn cause_of_cut(length: usize) -> LoadCause {
 
 fn is_refused_at_each_cut(rt: &impl Abort, alloc: Global, file: &[u8]) {
     for length in 0..file.len() {
-        assert_eq!(rt; cause(alloc, &file[..length]), Some(cause_of_cut(length)));
+        assert!(rt;
+            cause(alloc, &file[..length]) == Some(cause_of_cut(length)),
+            "at {length}"
+        );
     }
 }
 
