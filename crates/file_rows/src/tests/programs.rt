@@ -188,13 +188,77 @@ fn a_table_has_at_most_64_headers(rt: HostRuntime) {
 
 const MOST: &[u8] = &[0xff, 0xff, 0xff, 0xff];
 
-const GREATEST: [Change; 6] = [
+/// The greatest number in each field of the file's header and of the three that follow, alone; in several fields of one; and in the
+/// table's place where it has 64 headers.
+const GREATEST: [Change; 38] = [
+    (0, MOST, Some(LoadCause::BadHexLine(1))),
+    (4, &[255], Some(LoadCause::WrongField(Field::Class, 255))),
+    (5, &[255], Some(LoadCause::WrongField(Field::Order, 255))),
+    (
+        6,
+        &[255],
+        Some(LoadCause::WrongField(Field::IdentVersion, 255)),
+    ),
+    (7, &[255; 9], None),
+    (
+        16,
+        &[255; 2],
+        Some(LoadCause::WrongField(Field::FileKind, 65_535)),
+    ),
+    (
+        18,
+        &[255; 2],
+        Some(LoadCause::WrongField(Field::Machine, 65_535)),
+    ),
+    (
+        20,
+        MOST,
+        Some(LoadCause::WrongField(Field::Version, 0xffff_ffff)),
+    ),
+    (24, MOST, Some(LoadCause::BadEntry(0xffff_ffff))),
     (28, MOST, Some(LoadCause::Truncated(4_294_967_391, 8196))),
+    (32, MOST, None),
+    (36, MOST, Some(LoadCause::Compressed)),
+    (40, &[255; 2], None),
+    (
+        42,
+        &[255; 2],
+        Some(LoadCause::WrongField(Field::PhEntSize, 65_535)),
+    ),
+    (44, &[255; 2], Some(LoadCause::TooManySegments(65_535))),
+    (46, &[255; 2], None),
+    (48, &[255; 2], None),
+    (50, &[255; 2], None),
+    (52, MOST, None),
+    (56, &[255; 28], None),
+    (84, MOST, Some(LoadCause::BadEntry(0x8000_0000))),
     (88, MOST, Some(LoadCause::Truncated(4_294_967_315, 8196))),
+    (
+        88,
+        &[255; 28],
+        Some(LoadCause::Truncated(8_589_934_590, 8196)),
+    ),
     (92, MOST, Some(LoadCause::Outside(1))),
+    (96, MOST, None),
     (100, MOST, Some(LoadCause::FileLargerThanMemory(1))),
     (104, MOST, Some(LoadCause::Outside(1))),
-    (24, MOST, Some(LoadCause::BadEntry(0xffff_ffff))),
+    (108, MOST, Some(LoadCause::WritableCode(1))),
+    (112, MOST, None),
+    (116, MOST, None),
+    (120, MOST, Some(LoadCause::Truncated(4_294_967_299, 8196))),
+    (124, MOST, Some(LoadCause::Outside(2))),
+    (128, MOST, None),
+    (132, MOST, Some(LoadCause::FileLargerThanMemory(2))),
+    (136, MOST, Some(LoadCause::Outside(2))),
+    (140, MOST, Some(LoadCause::WritableCode(2))),
+    (144, MOST, None),
+    (
+        28,
+        &[
+            255, 255, 255, 255, 0, 0, 0, 0, 0, 0, 0, 0, 52, 0, 32, 0, 64, 0,
+        ],
+        Some(LoadCause::Truncated(4_294_969_343, 8196)),
+    ),
 ];
 
 #[test]

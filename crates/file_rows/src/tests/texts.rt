@@ -58,7 +58,7 @@ const REFUSED_SCRIPTS: [(&str, ScriptCause); 41] = [
 ];
 
 /// Traces of four cores, each with the cause for which it is refused.
-const REFUSED_TRACES: [(&str, ScriptCause); 18] = [
+const REFUSED_TRACES: [(&str, ScriptCause); 23] = [
     ("0", ScriptCause::BadLine(1)),
     ("0 00000000", ScriptCause::BadLine(1)),
     ("0 00000000 ", ScriptCause::BadLine(1)),
@@ -76,6 +76,14 @@ const REFUSED_TRACES: [(&str, ScriptCause); 18] = [
     ("0 00000000 0 41 41", ScriptCause::BadLine(1)),
     ("01 00000000 0", ScriptCause::BadLine(1)),
     ("9 00000000 2", ScriptCause::BadLine(1)),
+    ("18446744073709551616 00000000 0", ScriptCause::BadLine(1)),
+    (
+        "18446744073709551615 00000000 0",
+        ScriptCause::OutOfRange(1),
+    ),
+    ("\r\r\r", ScriptCause::BadLine(1)),
+    ("0 00000000 0\r\r\n", ScriptCause::BadLine(1)),
+    ("\n#\r\n\r\n\r", ScriptCause::BadLine(4)),
     (
         "#\n\n3 00000000 0\r\n4 00000000 0",
         ScriptCause::OutOfRange(4),
