@@ -4,6 +4,7 @@
 //! answered. From both follows, for a worker and a number that it draws, the one event that is due. The definitions stand in
 //! specs/: `Numbers` has what a driver counts, `Lists` what may be due at a node, `Due` which of it is, and `Runs` the events
 //! of a run that are due one after another. Whoever drives a machine, alone or in threads, cites them.
+//! `EachDue` in proofs/ shows that what holds of each event that a driver can make holds of the one that is due.
 //!
 //! The code here is only the plain type that the definitions and the drivers share.
 #![tactic(auto)]
