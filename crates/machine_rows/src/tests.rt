@@ -1,42 +1,37 @@
-//! Each schedule is played on a machine, and its report compared with the one that stands beside it.
-ghost use Rattle.std.specs.Prelude.{◌<◌, ◌≤◌, length};
+//! Each schedule is played on a machine; its console, its report and what is seen of the machine are those that stand beside it.
+ghost use Rattle.std.specs.Prelude.{◌≤◌, length};
 
-mod schedules;
+mod looking;
+mod points;
+mod programs;
+mod reservations;
+mod rooms;
+mod transfers;
 
-use schedules::*;
-use sn_base::{Answer, Config, Entries, Event, Image, NodeId, Segment, SwitchId};
+use elf_load::load;
+use looking::{Look, seen};
+use points::*;
+use reservations::*;
+use rooms::*;
+use sn_base::{Answer, Config, Event, NodeId};
 use sn_machine::Machine;
 use sn_text::{Line, read_script};
-use std::alloc::{AllocError, Global};
+use std::alloc::Global;
 use std::process::Abort;
 use std::test::Fail;
+use transfers::*;
 
-/// A machine's nodes, the entries of its logs and its program; a script's text; and the report that a replay of it puts.
+/// A machine's nodes, the entries of its logs and its program; a script; the console and the report that a replay of it puts; and what is
+/// seen of the machine then.
 #[derive(Clone, Copy)]
 struct Schedule {
     nodes: u8,
     log: u16,
-    words: &'static [u32],
+    program: &'static str,
     script: &'static str,
+    console: &'static str,
     report: &'static str,
-}
-
-/// A program of these words, 16 at most, from the start of memory on.
-fn image(alloc: Global, words: &[u32]) -> Result<Image, AllocError> {
-    let mut bytes = Vec::new(alloc);
-    for word in words {
-        bytes.extend_from_slice(&word.to_le_bytes())?;
-    }
-    bytes.truncate(64);
-    let mut segments = Vec::new(alloc);
-    segments.push(Segment {
-        start: 0x8000_0000,
-        size: 64,
-        bytes,
-        write: false,
-        exec: true,
-    })?;
-    Ok(Image::new(segments, 0x8000_0000))
+    looks: &'static [(Look, u64)],
 }
 
 /// A machine with room for 2,000 events.
@@ -48,7 +43,7 @@ fn start(rt: &impl Abort, alloc: Global, schedule: &Schedule) -> Result<Machine,
         log: schedule.log,
     };
     assert!(rt; config.fits());
-    let image = image(alloc, schedule.words)?;
+    let image = load(alloc, schedule.program.as_bytes())?;
     let mut machine = Machine::new(alloc, image, config)?;
     machine.reserve(2000)?;
     Ok(machine)
@@ -132,54 +127,22 @@ fn report_of(
     Ok(report)
 }
 
-/// What is seen of a machine, at its node 0 where a node is looked at.
-#[derive(Clone, Copy)]
-struct Seen {
-    sizes: Config,
-    entry: u32,
-    is_over: bool,
-    in_flight: usize,
-    logged: usize,
-    x7: u32,
-    pending: usize,
-    is_last_done: bool,
-    is_cut_off: bool,
-}
-
-/// Whether the last instruction that waits is a store-conditional that was done.
-fn is_last_done(machine: &Machine) -> bool {
-    match machine.pending().last() {
-        Some(waiting) => waiting.entry.sc_done,
-        None => false,
-    }
-}
-
-/// Whether both switches of a node are dead.
-fn is_cut_off(machine: &Machine, node: NodeId) -> bool
-    requires { node < machine.now.config.nodes }
-{
-    machine.is_dead(SwitchId::a(node)) && machine.is_dead(SwitchId::b(node))
-}
-
-fn look_at(rt: &impl Abort, machine: &Machine) -> Seen {
+/// What is seen of a machine is what is wanted of it.
+fn shows(rt: &impl Abort, machine: &Machine, looks: &[(Look, u64)]) {
     let node = NodeId::new(0).expect(rt, "there is a node 0");
-    let sizes = *machine.config();
-    assert!(rt; node.number() < sizes.nodes);
-    Seen {
-        sizes,
-        entry: machine.image().entry(),
-        is_over: machine.over(),
-        in_flight: machine.net().count(),
-        logged: machine.log(node).count(),
-        x7: machine.core(node).x[7],
-        pending: machine.pending().len(),
-        is_last_done: is_last_done(machine),
-        is_cut_off: is_cut_off(machine, node),
+    assert!(rt; node.number() < machine.config().nodes);
+    for place in 0..looks.len() {
+        let (look, wanted) = looks[place];
+        assert!(rt; seen(machine, node, look) == wanted, "at look {place}");
     }
 }
 
-/// Plays a schedule from there on. It puts the report that stands beside it.
-fn plays(
+fn has_released(machine: &Machine, console: &str) -> bool {
+    machine.recovered().released() == console.as_bytes()
+}
+
+/// Plays a schedule from there on.
+fn plays_on(
     rt: &impl Abort,
     alloc: Global,
     machine: &mut Machine,
@@ -187,122 +150,134 @@ fn plays(
 ) -> Result<(), Fail> {
     let report = report_of(rt, alloc, machine, schedule.script)?;
     assert!(rt; report.as_slice() == schedule.report.as_bytes());
+    assert!(rt; has_released(machine, schedule.console));
+    shows(rt, machine, schedule.looks);
     Ok(())
 }
 
-/// Plays a schedule on a machine of its own, and gives what is seen of that in the end.
-fn played(rt: &impl Abort, alloc: Global, schedule: &Schedule) -> Result<Seen, Fail> {
+/// Plays a schedule on a machine of its own.
+fn plays(rt: &impl Abort, alloc: Global, schedule: &Schedule) -> Result<(), Fail> {
     let mut machine = start(rt, alloc, schedule)?;
-    plays(rt, alloc, &mut machine, schedule)?;
-    Ok(look_at(rt, &machine))
+    plays_on(rt, alloc, &mut machine, schedule)
 }
 
-/// The same after an edge and 1,024 reports, which leave so many messages in flight.
-fn played_in_crowd(rt: &impl Abort, alloc: Global, schedule: &Schedule) -> Result<usize, Fail> {
-    let mut machine = start(rt, alloc, schedule)?;
-    fill(rt, &mut machine);
-    let crowd = machine.net().count();
-    plays(rt, alloc, &mut machine, schedule)?;
-    Ok(crowd)
-}
-
+/// An edge and 1,024 reports, which leave so many messages in flight.
 fn fill(rt: &impl Abort, machine: &mut Machine) {
     let only = NodeId::new(0).expect(rt, "there is a node 0");
     assert!(rt; apply(rt, machine, Event::Edge(only)) == Answer::Edged(1));
     for _ in 0..1024 {
         assert!(rt; apply(rt, machine, Event::Report(only)) == Answer::Reported(1));
     }
+    assert!(rt; machine.net().count() == 1024);
+}
+
+#[test]
+fn a_machine_starts_with_its_program_and_nothing_else(rt: HostRuntime) -> Result<(), Fail> {
+    plays(&rt, rt.alloc(), &BEFORE_EVENTS)
+}
+
+#[test]
+fn a_byte_that_is_put_waits_for_its_checkpoint(rt: HostRuntime) -> Result<(), Fail> {
+    plays(&rt, rt.alloc(), &HELD_LETTER)
+}
+
+#[test]
+fn a_byte_is_released_once_its_checkpoint_is_validated(rt: HostRuntime) -> Result<(), Fail> {
+    plays(&rt, rt.alloc(), &RELEASED_LETTER)
+}
+
+#[test]
+fn a_recovery_takes_a_byte_back(rt: HostRuntime) -> Result<(), Fail> {
+    plays(&rt, rt.alloc(), &LETTER_TAKEN_BACK)
+}
+
+#[test]
+fn a_byte_of_input_is_taken_again_after_a_recovery(rt: HostRuntime) -> Result<(), Fail> {
+    plays(&rt, rt.alloc(), &TAKEN_TWICE)
+}
+
+#[test]
+fn a_machine_is_over_once_its_end_is_validated(rt: HostRuntime) -> Result<(), Fail> {
+    plays(&rt, rt.alloc(), &ENDED)
+}
+
+#[test]
+fn a_block_that_is_asked_for_comes_and_its_old_content_is_noted(
+    rt: HostRuntime,
+) -> Result<(), Fail> {
+    plays(&rt, rt.alloc(), &FIRST_ADDS)
+}
+
+#[test]
+fn a_block_is_given_up_by_its_owner_once_at_a_time(rt: HostRuntime) -> Result<(), Fail> {
+    plays(&rt, rt.alloc(), &PUT_BEGUN)
+}
+
+#[test]
+fn two_nodes_count_and_a_recovery_keeps_both(rt: HostRuntime) -> Result<(), Fail> {
+    plays(&rt, rt.alloc(), &BOTH_ADD)
 }
 
 #[test]
 fn a_message_of_a_later_interval_is_held(rt: HostRuntime) -> Result<(), Fail> {
-    let seen = played(&rt, rt.alloc(), &HELD_TRANSFER)?;
-    assert!(rt; seen.in_flight == 1);
-    Ok(())
+    plays(&rt, rt.alloc(), &HELD_TRANSFER)
 }
 
 #[test]
 fn a_block_is_at_its_new_owner_after_a_recovery(rt: HostRuntime) -> Result<(), Fail> {
-    let seen = played(&rt, rt.alloc(), &ACROSS_INTERVALS)?;
-    assert!(rt; seen.in_flight == 0);
-    Ok(())
+    plays(&rt, rt.alloc(), &ACROSS_INTERVALS)
 }
 
 #[test]
 fn a_lost_transfer_is_undone(rt: HostRuntime) -> Result<(), Fail> {
-    let seen = played(&rt, rt.alloc(), &LOST_TRANSFER)?;
-    assert!(rt; seen.logged == 0);
-    Ok(())
+    plays(&rt, rt.alloc(), &LOST_TRANSFER)
 }
 
 #[test]
 fn a_lost_unblock_keeps_a_checkpoint_from_validation(rt: HostRuntime) -> Result<(), Fail> {
-    let seen = played(&rt, rt.alloc(), &LOST_UNBLOCK)?;
-    assert!(rt; seen.logged == 0);
-    Ok(())
-}
-
-#[test]
-fn a_conditional_store_is_not_done_where_the_block_went(rt: HostRuntime) -> Result<(), Fail> {
-    let seen = played(&rt, rt.alloc(), &LOST_RESERVATION)?;
-    assert!(rt; seen.x7 == 1);
-    Ok(())
-}
-
-#[test]
-fn a_conditional_store_is_not_done_across_a_checkpoint(rt: HostRuntime) -> Result<(), Fail> {
-    let seen = played(&rt, rt.alloc(), &RESERVATION_AT_EDGE)?;
-    assert!(rt; seen.x7 == 1);
-    Ok(())
-}
-
-#[test]
-fn a_conditional_store_is_done_where_nobody_stored(rt: HostRuntime) -> Result<(), Fail> {
-    let seen = played(&rt, rt.alloc(), &KEPT_RESERVATION)?;
-    assert!(rt; seen.x7 == 0 && seen.is_last_done);
-    Ok(())
-}
-
-#[test]
-fn a_request_waits_for_room_in_the_log(rt: HostRuntime) -> Result<(), Fail> {
-    let seen = played(&rt, rt.alloc(), &FULL_LOG)?;
-    assert!(rt; seen.logged == 2);
-    Ok(())
-}
-
-#[test]
-fn there_is_no_fifth_checkpoint(rt: HostRuntime) -> Result<(), Fail> {
-    let seen = played(&rt, rt.alloc(), &FULL_CHECKPOINTS)?;
-    assert!(rt; !seen.is_over && seen.entry == 0x8000_0000);
-    Ok(())
+    plays(&rt, rt.alloc(), &LOST_UNBLOCK)
 }
 
 #[test]
 fn a_read_of_a_block_that_nobody_has_may_be_followed_by_a_store(
     rt: HostRuntime,
 ) -> Result<(), Fail> {
-    let seen = played(&rt, rt.alloc(), &EXCLUSIVE_READ)?;
-    assert!(rt; seen.sizes.nodes == 2 && seen.sizes.log == 256);
-    Ok(())
+    plays(&rt, rt.alloc(), &EXCLUSIVE_READ)
 }
 
 #[test]
-fn a_machine_is_over_once_its_end_is_validated(rt: HostRuntime) -> Result<(), Fail> {
-    let seen = played(&rt, rt.alloc(), &ENDED)?;
-    assert!(rt; seen.is_over && seen.pending == 0);
-    Ok(())
+fn a_conditional_store_is_not_done_where_the_block_went(rt: HostRuntime) -> Result<(), Fail> {
+    plays(&rt, rt.alloc(), &LOST_RESERVATION)
+}
+
+#[test]
+fn a_conditional_store_is_not_done_across_a_checkpoint(rt: HostRuntime) -> Result<(), Fail> {
+    plays(&rt, rt.alloc(), &RESERVATION_AT_EDGE)
+}
+
+#[test]
+fn a_conditional_store_is_done_where_nobody_stored(rt: HostRuntime) -> Result<(), Fail> {
+    plays(&rt, rt.alloc(), &KEPT_RESERVATION)
+}
+
+#[test]
+fn a_request_waits_for_room_in_the_log(rt: HostRuntime) -> Result<(), Fail> {
+    plays(&rt, rt.alloc(), &FULL_LOG)
+}
+
+#[test]
+fn there_is_no_fifth_checkpoint(rt: HostRuntime) -> Result<(), Fail> {
+    plays(&rt, rt.alloc(), &FULL_CHECKPOINTS)
 }
 
 #[test]
 fn a_node_is_cut_off_once_both_of_its_switches_are_dead(rt: HostRuntime) -> Result<(), Fail> {
-    let seen = played(&rt, rt.alloc(), &DEAD_SWITCH)?;
-    assert!(rt; seen.is_cut_off);
-    Ok(())
+    plays(&rt, rt.alloc(), &DEAD_SWITCH)
 }
 
 #[test]
 fn a_full_network_refuses_until_there_is_room(rt: HostRuntime) -> Result<(), Fail> {
-    let crowd = played_in_crowd(&rt, rt.alloc(), &FULL_NETWORK)?;
-    assert!(rt; crowd == 1024);
-    Ok(())
+    let mut machine = start(&rt, rt.alloc(), &FULL_NETWORK)?;
+    fill(&rt, &mut machine);
+    plays_on(&rt, rt.alloc(), &mut machine, &FULL_NETWORK)
 }

@@ -23,8 +23,6 @@ mod processor;
 mod restoring;
 mod start;
 mod steps;
-#[cfg(test)]
-mod tests;
 mod view;
 
 pub use interval_list::Waiting;
