@@ -1,5 +1,5 @@
 -- The accesses to the blocks of a part, one after the other.
-use Rattle.std.proofs.Common.{◌≡◌, ◌≢◌, ℕ, suc, ◌+◌, ◌-◌, ◌*◌, ◌/◌, ◌%◌, ◌<◌, ◌⊎◌, inl, inr, Bool, true, false, not, ◌&&◌, ◌||◌, cond, ◌==◌, is_some, Option, Some, None, List, [], take, drop, slice_get, get_or, refl, sym, ap, subst, ◌∙◌, arith}
+use Rattle.std.proofs.Common.{◌≡◌, ◌≢◌, ℕ, suc, ◌-◌, ◌*◌, ◌/◌, ◌%◌, ◌<◌, ◌⊎◌, inl, inr, Bool, true, false, not, ◌&&◌, ◌||◌, cond, ◌==◌, is_some, Option, Some, None, List, [], take, drop, slice_get, get_or, refl, sym, ap, subst, ◌∙◌, arith}
 use Rattle.std.specs.Prelude.{nat_eq}
 use Rattle.std.proofs.lemmas.Bool.Decides.{nat_tests}
 use Rattle.std.proofs.lemmas.Bool.{cases_order}
@@ -26,7 +26,9 @@ use Rattle.trace_check.specs.DeedData.{DeedData}
 use Rattle.trace_check.specs.declared.cell.Cell.{Cell}
 use Rattle.trace_check.specs.Deeds.{reads_memory, deed_of}
 use Rattle.trace_check.specs.Cells.{is_lr, is_sc, word_in, Finds, Stands, IsAfter}
-use Rattle.trace_check.specs.Parts.{wanted_block, is_in, IsFitting, IsFirst, AreFirst, PartPasses}
+use Rattle.trace_check.specs.declared.cells.Cells.{Cells}
+use Rattle.trace_check.specs.CellPlaces.{first_cell, missing, cell_by, cell_at}
+use Rattle.trace_check.specs.Parts.{wanted_block, is_in, IsFitting, PartPasses}
 use Rattle.trace_check.proofs.BlockStart.{first_stands}
 
 -- the words of the projections, by what is wanted
@@ -218,12 +220,9 @@ abbrev pub block_now : ImageData → ℕ → List Record → ℕ → ℕ → Blo
 block_now image N rs b k =
     block_after image b (block_of_state (flat_start image N) b) (entries image (core_at (flat_start image N)) (take k rs))
 
-pub record IsPartReplayed (image : ImageData) (N part : ℕ) (rs : List Record) (k : ℕ) (cells : List Cell) : Type 0 where
-  pub good : PartPasses image N part rs k
-  pub stands : (b : ℕ) (d : Cell) → b < 65536 → b % 2 ≡ part → Stands (get_or cells (b / 2) d) (block_now image N rs b k)
-
-nobody : Cell
-nobody = record { content = []; intact = [] }
+pub record IsPartReplayed (image : ImageData) (N parts part : ℕ) (rs : List Record) (k : ℕ) (cells : ℕ → Cell) : Type 0 where
+  pub good : PartPasses image N parts part rs k
+  pub stands : (b : ℕ) → b < 65536 → b % parts ≡ part → Stands (cells b) (block_now image N rs b k)
 
 -- whether two numbers are the same, and whether a test passes
 pick : (n m : ℕ) → (n ≡ m) ⊎ (n ≢ m)
@@ -238,37 +237,38 @@ pub tested : (x : Bool) → (x ≡ true) ⊎ (x ≡ false)
 tested true = inl refl
 tested false = inr refl
 
-inside_part : (part : ℕ) (w : Want) → is_access w ≡ true → wanted_block w % 2 ≡ part → is_in part w ≡ true
-inside_part part w a e = let t : nat_eq (wanted_block w % 2) part ≡ true = grind (arith, nat_tests) in ap (λ x. x && nat_eq (wanted_block w % 2) part) a ∙ t
+inside_part : (parts part : ℕ) (w : Want) → is_access w ≡ true → wanted_block w % parts ≡ part → is_in parts part w ≡ true
+inside_part parts part w a e = let t : nat_eq (wanted_block w % parts) part ≡ true = grind (arith, nat_tests) in ap (λ x. x && nat_eq (wanted_block w % parts) part) a ∙ t
 
-outside_part : (part : ℕ) (w : Want) → wanted_block w % 2 ≢ part → is_in part w ≡ false
-outside_part part w e = let t : nat_eq (wanted_block w % 2) part ≡ false = grind (arith, nat_tests) in ap (λ x. is_access w && x) t ∙ and_false (is_access w)
+outside_part : (parts part : ℕ) (w : Want) → wanted_block w % parts ≢ part → is_in parts part w ≡ false
+outside_part parts part w e = let t : nat_eq (wanted_block w % parts) part ≡ false = grind (arith, nat_tests) in ap (λ x. is_access w && x) t ∙ and_false (is_access w)
 
-idle_part : (part : ℕ) (w : Want) → is_access w ≡ false → is_in part w ≡ false
-idle_part part w a = ap (λ x. x && nat_eq (wanted_block w % 2) part) a
+idle_part : (parts part : ℕ) (w : Want) → is_access w ≡ false → is_in parts part w ≡ false
+idle_part parts part w a = ap (λ x. x && nat_eq (wanted_block w % parts) part) a
 
-in_part : (part : ℕ) (w : Want) → is_in part w ≡ true → (is_access w ≡ true) × (wanted_block w % 2 ≡ part)
-in_part part w e = go (tested (is_access w)) (pick (wanted_block w % 2) part)
+in_part : (parts part : ℕ) (w : Want) → is_in parts part w ≡ true → (is_access w ≡ true) × (wanted_block w % parts ≡ part)
+in_part parts part w e = go (tested (is_access w)) (pick (wanted_block w % parts) part)
   where
-    go : ((is_access w ≡ true) ⊎ (is_access w ≡ false)) → ((wanted_block w % 2 ≡ part) ⊎ (wanted_block w % 2 ≢ part)) → (is_access w ≡ true) × (wanted_block w % 2 ≡ part)
+    go : ((is_access w ≡ true) ⊎ (is_access w ≡ false)) → ((wanted_block w % parts ≡ part) ⊎ (wanted_block w % parts ≢ part)) → (is_access w ≡ true) × (wanted_block w % parts ≡ part)
     go (inl a) (inl m) = (a, m)
-    go (inl a) (inr m) = let f : true ≡ false = sym e ∙ outside_part part w m in absurd (cc)
-    go (inr a) m = let f : true ≡ false = sym e ∙ idle_part part w a in absurd (cc)
+    go (inl a) (inr m) = let f : true ≡ false = sym e ∙ outside_part parts part w m in absurd (cc)
+    go (inr a) m = let f : true ≡ false = sym e ∙ idle_part parts part w a in absurd (cc)
 
-other_place : (b w part : ℕ) → b ≢ w → b % 2 ≡ part → w % 2 ≡ part → b / 2 ≢ w / 2
-other_place b w part n e f = λ g. n (omega (arith, e, f, g))
+-- where no cell is kept, each block's is that at the start
+none_kept : (image : ImageData) (cells : Cells) → cells.kept.items ≡ [] → (b : ℕ) → cell_at image cells b ≡ first_cell image b
+none_kept image cells e b =
+    ap (λ xs. cell_by image b (get_or xs (get_or cells.places.items b 0) (missing b))) e
+    ∙ ap (λ q. cond q (missing b).cell (first_cell image b)) (test_other (suc b) b (omega arith))
 
-pub part_start : (image : ImageData) (N part : ℕ) (rs : List Record) (cells : List Cell) → AreFirst image part 32768 cells →
-    IsPartReplayed image N part rs 0 cells
-part_start image N part rs cells f = record {
+pub part_start : (image : ImageData) (N parts part : ℕ) (rs : List Record) (cells : Cells) → cells.kept.items ≡ [] →
+    IsPartReplayed image N parts part rs 0 (cell_at image cells)
+part_start image N parts part rs cells f = record {
   good = λ b e. tt;
-  stands = λ b d l e. first_stands image N b (get_or cells (b / 2) d) l (
-      let i : 2 * (b / 2) + part ≡ b = omega (arith, e) in
-      subst (λ x. IsFirst image x (get_or cells (b / 2) d)) i (f.each (b / 2) d (omega (arith, l))));
+  stands = λ b l e. first_stands image N b (cell_at image cells b) l (none_kept image cells f b);
 }
 
 module _
-    (image : ImageData) (N part : ℕ) (rs : List Record) (k : ℕ) (cells : List Cell) (p : IsPartReplayed image N part rs k cells)
+    (image : ImageData) (N parts part : ℕ) (rs : List Record) (k : ℕ) (cells : ℕ → Cell) (p : IsPartReplayed image N parts part rs k cells)
     (r : Record) (e : slice_get rs k ≡ Some r) (deed : DeedData)
     (is : deed ≡ deed_of image (core_after image r.core (core_at (flat_start image N) r.core) (take k rs)) r) (fits : IsFitting deed r) where
   abbrev X : CoreState
@@ -277,47 +277,46 @@ module _
   abbrev w : Want
   w = deed.want
 
-  here : (b : ℕ) (d : Cell) → is_access w ≡ true → b ≡ wanted_block w → b % 2 ≡ part → Stands (get_or cells (wanted_block w / 2) d) (block_now image N rs b k)
-  here b d a i m = let s = p.stands b d (let l = in_memory w fits.0 a in omega (arith, i, l)) m in subst (λ x. Stands (get_or cells (x / 2) d) (block_now image N rs b k)) i s
+  here : (b : ℕ) → is_access w ≡ true → b ≡ wanted_block w → b % parts ≡ part → Stands (cells (wanted_block w)) (block_now image N rs b k)
+  here b a i m = let s = p.stands b (let l = in_memory w fits.0 a in omega (arith, i, l)) m in subst (λ x. Stands (cells x) (block_now image N rs b k)) i s
 
-  pub part_more : (after : List Cell) → (is_in part w ≡ false → after ≡ cells) →
-      ((d : Cell) → is_in part w ≡ true → Finds (get_or cells (wanted_block w / 2) d) w r) →
-      ((d : Cell) → is_in part w ≡ true → IsAfter (get_or cells (wanted_block w / 2) d) deed r (get_or after (wanted_block w / 2) d)) →
-      ((j : ℕ) (d : Cell) → j ≢ wanted_block w / 2 → get_or after j d ≡ get_or cells j d) →
-      IsPartReplayed image N part rs (suc k) after
+  pub part_more : (after : ℕ → Cell) → (is_in parts part w ≡ false → (b : ℕ) → after b ≡ cells b) →
+      (is_in parts part w ≡ true → Finds (cells (wanted_block w)) w r) →
+      (is_in parts part w ≡ true → IsAfter (cells (wanted_block w)) deed r (after (wanted_block w))) →
+      ((b : ℕ) → b ≢ wanted_block w → after b ≡ cells b) →
+      IsPartReplayed image N parts part rs (suc k) after
   part_more after away finds done others = record {
     good = λ b m. block_more image b (block_of_state (flat_start image N) b) (core_at (flat_start image N)) rs k r e (p.good b m) (λ i. legal b m (i ∙ block_is image X r deed is) (tested (is_access w)));
-    stands = λ b d l m. subst (Stands (get_or after (b / 2) d)) (sym (block_next image b (block_of_state (flat_start image N) b) (core_at (flat_start image N)) rs k r e)) (later b d l m (tested (is_access w)) (pick b (wanted_block w)) (pick (wanted_block w % 2) part));
+    stands = λ b l m. subst (Stands (after b)) (sym (block_next image b (block_of_state (flat_start image N) b) (core_at (flat_start image N)) rs k r e)) (later b l m (tested (is_access w)) (pick b (wanted_block w)));
   }
     where
-      legal : (b : ℕ) → b % 2 ≡ part → b ≡ wanted_block w → ((is_access w ≡ true) ⊎ (is_access w ≡ false)) → BlockLegal image (block_now image N rs b k) (record { found = bare X; did = r })
-      legal b m i (inl a) = legal_to image X r deed is b (block_now image N rs b k) (get_or cells (wanted_block w / 2) nobody) (here b nobody a i m) (finds nobody (inside_part part w a (subst (λ x. x % 2 ≡ part) i m)))
+      legal : (b : ℕ) → b % parts ≡ part → b ≡ wanted_block w → ((is_access w ≡ true) ⊎ (is_access w ≡ false)) → BlockLegal image (block_now image N rs b k) (record { found = bare X; did = r })
+      legal b m i (inl a) = legal_to image X r deed is b (block_now image N rs b k) (cells (wanted_block w)) (here b a i m) (finds (inside_part parts part w a (subst (λ x. x % parts ≡ part) i m)))
       legal b m i (inr a) = legal_idle image X r deed is (block_now image N rs b k) a
 
-      stays : (b : ℕ) (d : Cell) → b < 65536 → b % 2 ≡ part → get_or after (b / 2) d ≡ get_or cells (b / 2) d → Stands (get_or after (b / 2) d) (block_now image N rs b k)
-      stays b d l m s = subst (λ x. Stands x (block_now image N rs b k)) (sym s) (p.stands b d l m)
+      stays : (b : ℕ) → b < 65536 → b % parts ≡ part → after b ≡ cells b → Stands (after b) (block_now image N rs b k)
+      stays b l m s = subst (λ x. Stands x (block_now image N rs b k)) (sym s) (p.stands b l m)
 
-      later : (b : ℕ) (d : Cell) → b < 65536 → b % 2 ≡ part → ((is_access w ≡ true) ⊎ (is_access w ≡ false)) → ((b ≡ wanted_block w) ⊎ (b ≢ wanted_block w)) → ((wanted_block w % 2 ≡ part) ⊎ (wanted_block w % 2 ≢ part)) →
-          Stands (get_or after (b / 2) d) (block_step image b (block_now image N rs b k) (record { found = bare X; did = r }))
-      later b d l m (inl a) (inl i) q =
-          subst (λ x. Stands (get_or after (x / 2) d) (block_step image b (block_now image N rs b k) (record { found = bare X; did = r }))) (sym i)
-          (stands_after image X r deed is fits.1 b (block_now image N rs b k) (get_or cells (wanted_block w / 2) d) (here b d a i m) i (get_or after (wanted_block w / 2) d) (done d (inside_part part w a (subst (λ x. x % 2 ≡ part) i m))))
-      later b d l m (inl a) (inr n) (inl q) = stands_elsewhere image X r deed is fits.1 b (block_now image N rs b k) (get_or after (b / 2) d) (stays b d l m (others (b / 2) d (other_place b (wanted_block w) part n m q))) n
-      later b d l m (inl a) (inr n) (inr q) = stands_elsewhere image X r deed is fits.1 b (block_now image N rs b k) (get_or after (b / 2) d) (stays b d l m (ap (λ x. get_or x (b / 2) d) (away (outside_part part w q)))) n
-      later b d l m (inr a) i q = stands_idle image X r deed is fits.1 b (block_now image N rs b k) (get_or after (b / 2) d) (stays b d l m (ap (λ x. get_or x (b / 2) d) (away (idle_part part w a)))) a
+      later : (b : ℕ) → b < 65536 → b % parts ≡ part → ((is_access w ≡ true) ⊎ (is_access w ≡ false)) → ((b ≡ wanted_block w) ⊎ (b ≢ wanted_block w)) →
+          Stands (after b) (block_step image b (block_now image N rs b k) (record { found = bare X; did = r }))
+      later b l m (inl a) (inl i) =
+          subst (λ x. Stands (after x) (block_step image b (block_now image N rs b k) (record { found = bare X; did = r }))) (sym i)
+          (stands_after image X r deed is fits.1 b (block_now image N rs b k) (cells (wanted_block w)) (here b a i m) i (after (wanted_block w)) (done (inside_part parts part w a (subst (λ x. x % parts ≡ part) i m))))
+      later b l m (inl a) (inr n) = stands_elsewhere image X r deed is fits.1 b (block_now image N rs b k) (after b) (stays b l m (others b n)) n
+      later b l m (inr a) i = stands_idle image X r deed is fits.1 b (block_now image N rs b k) (after b) (stays b l m (away (idle_part parts part w a) b)) a
 
-  pub part_stops : (limit : ℕ) → k < limit → is_in part w ≡ true → ((d : Cell) → Finds (get_or cells (wanted_block w / 2) d) w r → ⊥) →
-      Passes (PartPasses image N part rs) limit k
+  pub part_stops : (limit : ℕ) → k < limit → is_in parts part w ≡ true → (Finds (cells (wanted_block w)) w r → ⊥) →
+      Passes (PartPasses image N parts part rs) limit k
   part_stops limit l i lost =
-      let h = in_part part w i in
+      let h = in_part parts part w i in
       let b = wanted_block w in
       record {
         within = omega (arith, l);
         good = p.good;
-        bad = λ q g. lost nobody (legal_from image X r deed is b (block_now image N rs b k) (get_or cells (b / 2) nobody) (here b nobody h.0 refl h.1)
+        bad = λ q g. lost (legal_from image X r deed is b (block_now image N rs b k) (cells b) (here b h.0 refl h.1)
             (block_last image b (block_of_state (flat_start image N) b) (core_at (flat_start image N)) rs k r e (g b h.1) (sym (block_is image X r deed is))));
       }
 
-pub part_all : (image : ImageData) (N part : ℕ) (rs : List Record) (k : ℕ) (cells : List Cell) → IsPartReplayed image N part rs k cells →
-    (limit : ℕ) → k ≡ limit → Passes (PartPasses image N part rs) limit limit
-part_all image N part rs k cells p limit e = record { within = omega arith; good = subst (PartPasses image N part rs) e p.good; bad = λ q g. absurd (omega (arith, q)) }
+pub part_all : (image : ImageData) (N parts part : ℕ) (rs : List Record) (k : ℕ) (cells : ℕ → Cell) → IsPartReplayed image N parts part rs k cells →
+    (limit : ℕ) → k ≡ limit → Passes (PartPasses image N parts part rs) limit limit
+part_all image N parts part rs k cells p limit e = record { within = omega arith; good = subst (PartPasses image N parts part rs) e p.good; bad = λ q g. absurd (omega (arith, q)) }

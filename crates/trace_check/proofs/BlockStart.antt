@@ -12,7 +12,7 @@ use Rattle.sn_consistency.specs.Words.{block_in}
 use Rattle.sn_consistency.specs.Projections.{block_of_state}
 use Rattle.trace_check.specs.declared.cell.Cell.{Cell}
 use Rattle.trace_check.specs.Cells.{Stands}
-use Rattle.trace_check.specs.Parts.{IsFirst}
+use Rattle.trace_check.specs.CellPlaces.{first_cell}
 use Rattle.trace_check.proofs.CorePlaces.{core_of, count_cores}
 
 -- the bytes of a block are a part of those of memory
@@ -60,8 +60,8 @@ unmarked n = go (cases_order n 16)
     go (inr (inl l)) = get_or-replicate 16 n false false l
     go (inr (inr l)) = past (omega (arith, l))
 
-pub first_stands : (image : ImageData) (N b : ℕ) (cell : Cell) → b < 65536 → IsFirst image b cell → Stands cell (block_of_state (flat_start image N) b)
+pub first_stands : (image : ImageData) (N b : ℕ) (cell : Cell) → b < 65536 → cell ≡ first_cell image b → Stands cell (block_of_state (flat_start image N) b)
 first_stands image N b cell l f = record {
-  content = f.0 ∙ sym (initial_is image b l);
-  intact = λ n. ap (λ s. has_node s n) f.1 ∙ unmarked n ∙ sym (free image N n b);
+  content = ap (λ x. x.content) f ∙ sym (initial_is image b l);
+  intact = λ n. ap (λ x. has_node x.intact n) f ∙ unmarked n ∙ sym (free image N n b);
 }

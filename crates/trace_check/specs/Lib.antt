@@ -1,6 +1,7 @@
 pub mod DeedData
 pub mod Deeds
 pub mod Cells
+pub mod CellPlaces
 pub mod Slots
 pub mod Parts
 pub mod Verdict

@@ -1,108 +1,130 @@
 //! The accesses to the blocks of one part, replayed by themselves.
-ghost use Rattle.std.specs.Prelude.{◌≡◌, ◌≢◌, ℕ, ◌+◌, ◌*◌, ◌/◌, ◌<◌, ◌≤◌, ◌↔◌, true, false, length, slice_index_or, IfOk, IfSome, IsSome, IsTrue};
-ghost use Rattle.sn_base.specs.Image.{ImageData};
+ghost use Rattle.std.specs.Prelude.{◌≡◌, ◌≢◌, ℕ, ◌%◌, ◌<◌, ◌≤◌, ◌↔◌, true, false, [], length, IfOk, IfSome, IsSome, IsTrue};
 ghost use Rattle.rv_core.specs.Core.{is_access, block_of};
 ghost use Rattle.rv_core.specs.Wanted.{IsAddress, IsInside};
 ghost use Rattle.projection_places.specs.Passes.{Passes};
 ghost use Rattle.trace_check.specs.Cells.{Finds, IsAfter};
-ghost use Rattle.trace_check.specs.Parts.{is_in, wanted_block, IsFitting, AreFitting, IsFirst, AreFirst, PartPasses, HasPassed};
+ghost use Rattle.trace_check.specs.CellPlaces.{IsWide, cell_at};
+ghost use Rattle.trace_check.specs.Parts.{is_in, wanted_block, IsFitting, AreFitting, PartPasses, HasPassed};
 ghost use Rattle.trace_check.specs.Slots.{HasRoom, HasDeeds};
 
-use crate::cell::Cell;
+use crate::cells::Cells;
 use crate::cores::Slot;
 use crate::deed::Deed;
 use rv_core::{Record, Want};
-use sn_base::{BlockNo, Image, Memory, NodeSet};
+use sn_base::{BlockNo, Image, Memory};
 use std::alloc::Global;
+
+/// One of so many parts of the blocks.
+#[derive(Clone, Copy)]
+pub struct Part {
+    pub count: u16,
+    pub number: u16,
+}
 
 /// How many of the first records the blocks of the part pass. The slots have what these do.
 pub fn replay_part(
     alloc: Global,
     image: &Image,
-    part: u16,
+    part: Part,
     records: &[Record],
     count: usize,
     slots: &[Slot],
 ) -> Result<usize, Memory>
-    requires part { part < 2 }
+    requires some { 0 < part.count }
     requires within { count ≤ length records.now }
     requires room { HasRoom slots.now records.now count }
     requires fits { AreFitting records.now count slots.now }
-    ensures { HasPassed image.now part records.now count slots.now result }
+    ensures { HasPassed image.now part.count part.number records.now count slots.now result }
 {
-    let mut cells = first_cells(alloc, image, part)?;
-    Ok(replay_deeds(part, records, count, slots, cells.as_mut_slice()))
+    let mut cells = Cells::new(alloc)?;
+    replay_deeds(image, part, records, count, slots, &mut cells)
 }
 
-/// The same in cells that are there.
+/// The same with cells, of which none was made.
 fn replay_deeds(
-    part: u16,
+    image: &Image,
+    part: Part,
     records: &[Record],
     count: usize,
     slots: &[Slot],
-    cells: &mut [Cell],
-) -> usize
-    requires part { part < 2 }
+    cells: &mut Cells,
+) -> Result<usize, Memory>
+    requires some { 0 < part.count }
     requires within { count ≤ length records.now }
     requires room { HasRoom slots.now records.now count }
     requires fits { AreFitting records.now count slots.now }
-    requires cells { length cells.old ≡ 32768 }
-    ensures { (image : ImageData) (nodes : ℕ) → AreFirst image part 32768 cells.old → HasDeeds image nodes records.now count slots.now →
-        Passes (PartPasses image nodes part records.now) count result }
+    requires wide { IsWide cells.old }
+    requires none { cells.old.kept.items ≡ [] }
+    ensures { HasPassed image.now part.count part.number records.now count slots.now result }
 {
     let mut next = [0usize; 16];
     'records: for place in 0..count {
         let taken = records[place];
         let core = usize::from(taken.core.number());
         let deed = &slots[core].deeds[next[core]];
-        if !replay_access(part, cells, deed, &taken) {
-            return place;
+        if !replay_access(image, part, cells, deed, &taken)? {
+            return Ok(place);
         }
         next[core] += 1;
     }
-    count
+    Ok(count)
 }
 
 /// Whether an access finds what the earlier ones left, where its block is of this part. If so, it is done.
-fn replay_access(part: u16, cells: &mut [Cell], deed: &Deed, taken: &Record) -> bool
-    requires cells { length cells.old ≡ 32768 }
+fn replay_access(
+    image: &Image,
+    part: Part,
+    cells: &mut Cells,
+    deed: &Deed,
+    taken: &Record,
+) -> Result<bool, Memory>
+    requires some { 0 < part.count }
+    requires wide { IsWide cells.old }
     requires fits { IsFitting deed.now taken.now }
-    ensures size { length cells.new ≡ length cells.old }
-    ensures away { is_in part deed.now.want ≡ false → (result ≡ true) × (cells.new ≡ cells.old) }
-    ensures finds { (d : Cell) → is_in part deed.now.want ≡ true → IsTrue result ↔ Finds (slice_index_or cells.old (wanted_block deed.now.want / 2) d) deed.now.want taken.now }
-    ensures after { (d : Cell) → is_in part deed.now.want ≡ true → result ≡ true →
-        IsAfter (slice_index_or cells.old (wanted_block deed.now.want / 2) d) deed.now taken.now (slice_index_or cells.new (wanted_block deed.now.want / 2) d) }
-    ensures others { (j : ℕ) (d : Cell) → j ≢ wanted_block deed.now.want / 2 → slice_index_or cells.new j d ≡ slice_index_or cells.old j d }
+    ensures wide { IsWide cells.new }
+    ensures away { IfOk result (λ found. is_in part.count part.number deed.now.want ≡ false →
+        (found ≡ true) × ((b : ℕ) → cell_at image.now cells.new b ≡ cell_at image.now cells.old b)) }
+    ensures finds { IfOk result (λ found. is_in part.count part.number deed.now.want ≡ true →
+        IsTrue found ↔ Finds (cell_at image.now cells.old (wanted_block deed.now.want)) deed.now.want taken.now) }
+    ensures after { IfOk result (λ found. is_in part.count part.number deed.now.want ≡ true → found ≡ true →
+        IsAfter (cell_at image.now cells.old (wanted_block deed.now.want)) deed.now taken.now (cell_at image.now cells.new (wanted_block deed.now.want))) }
+    ensures others { IfOk result (λ found. (b : ℕ) → b ≢ wanted_block deed.now.want → cell_at image.now cells.new b ≡ cell_at image.now cells.old b) }
 {
-    match place_in(part, deed.want()) {
-        None => true,
-        Some(place) => replay_cell(&mut cells[place], deed, taken),
+    match block_in_part(part, deed.want()) {
+        None => Ok(true),
+        Some(block) => cells.replay(image, block, deed, taken),
     }
 }
 
-fn replay_cell(cell: &mut Cell, deed: &Deed, taken: &Record) -> bool
-    requires { IsFitting deed.now taken.now }
-    ensures finds { IsTrue result ↔ Finds cell.old deed.now.want taken.now }
-    ensures after { result ≡ true → IsAfter cell.old deed.now taken.now cell.new }
+/// The block that is accessed, where it is of the part.
+fn block_in_part(part: Part, want: Want) -> Option<BlockNo>
+    requires some { 0 < part.count }
+    requires inside { IsInside want }
+    ensures some { IsSome result ↔ (is_in part.count part.number want ≡ true) }
+    ensures block { IfSome result (λ block. block ≡ wanted_block want) }
 {
-    if !cell.finds(deed.want(), taken) {
-        return false;
-    }
-    cell.apply(deed, taken);
-    true
-}
-
-/// The place of an access's cell in a part that has its block.
-fn place_in(part: u16, want: Want) -> Option<usize>
-    requires { IsInside want }
-    ensures some { IsSome result ↔ (is_in part want ≡ true) }
-    ensures place { IfSome result (λ place. (place ≡ wanted_block want / 2) × (place < 32768)) }
-{
-    let block = block_in(want)?.number();
-    if block % 2 != part {
+    let block = block_in(want)?;
+    if part_of(block, part.count) != part.number {
         return None;
     }
-    Some(usize::from(block / 2))
+    Some(block)
+}
+
+/// The number of a block's part.
+fn part_of(block: BlockNo, parts: u16) -> u16
+    requires { 0 < parts }
+    ensures { result ≡ block % parts }
+{
+    // Each part asks it of each access, and a division takes longer than the rest.
+    match parts {
+        1 => 0,
+        2 => block.number() % 2,
+        4 => block.number() % 4,
+        8 => block.number() % 8,
+        16 => block.number() % 16,
+        _ => block.number() % parts,
+    }
 }
 
 /// The block that is accessed.
@@ -128,25 +150,4 @@ fn block_at(address: u32) -> BlockNo
 {
     // `BlockNo::of` would test for each record, in each part, what is known here.
     BlockNo::new(((address - 0x8000_0000) / 64) as u16)
-}
-
-/// The cells of a part at the start.
-fn first_cells(alloc: Global, image: &Image, part: u16) -> Result<Vec<Cell>, Memory>
-    requires { part < 2 }
-    ensures { IfOk result (λ cells. AreFirst image.now part 32768 cells.items) }
-{
-    let mut cells = Vec::with_capacity(alloc, 32768)?;
-    'places: for place in 0..32768u16 {
-        cells.push(first_cell(image, BlockNo::new(2 * place + part)))?;
-    }
-    Ok(cells)
-}
-
-fn first_cell(image: &Image, block: BlockNo) -> Cell
-    ensures { IsFirst image.now block result }
-{
-    Cell {
-        content: image.block(block),
-        intact: NodeSet::empty(),
-    }
 }

@@ -7,11 +7,12 @@
 //! the earlier writes left, and no other core's write lies between a done SC and its core's last LR. That this judges
 //! the whole is the law of projections (sn_consistency, projection_places).
 //!
-//! The cores are replayed in threads of their own, and then the blocks in two parts, the even ones and the odd ones.
+//! The cores are replayed in threads of their own, and then the blocks in as many parts as there are processors.
 #![tactic(auto)]
 
 mod blocks;
 mod cell;
+mod cells;
 mod core_replay;
 mod cores;
 mod deed;

@@ -6,8 +6,9 @@ ghost use Rattle.projection_places.specs.Passes.{Passes, BlocksPass};
 ghost use Rattle.trace_check.specs.Parts.{AreFitting, HasPassed};
 ghost use Rattle.trace_check.specs.Slots.{HasRoom, HasDeeds};
 
-use crate::blocks::replay_part;
+use crate::blocks::{Part, replay_part};
 use crate::cores::Slot;
+use rayon::current_num_threads;
 use rayon::prelude::*;
 use rv_core::Record;
 use sn_base::{Image, Memory};
@@ -29,11 +30,22 @@ pub fn replay_blocks<T: Threads + Sync>(
     ensures { IfOk result (λ p. (nodes : ℕ) → HasDeeds image.now nodes records.now count slots.now →
         Passes (BlocksPass image.now (flat_start image.now nodes) records.now) count p) }
 {
-    let mut passed: [Result<usize, Memory>; 2] = [Ok(0); 2];
-    replay_parts(rt, alloc, image, records, count, slots, &mut passed[..]);
-    least_of(image, records, count, slots, &passed[..])
+    // Each part walks over all records, so more parts than processors would only take longer.
+    let parts = current_num_threads(rt).min(16);
+    let mut passed: [Result<usize, Memory>; 16] = [Ok(0); 16];
+    replay_parts(
+        rt,
+        alloc,
+        image,
+        records,
+        count,
+        slots,
+        &mut passed[..parts],
+    );
+    least_of(image, records, count, slots, &passed[..parts])
 }
 
+/// Each place of `passed` is a part's.
 fn replay_parts<T: Threads + Sync>(
     rt: &T,
     alloc: Global,
@@ -43,20 +55,29 @@ fn replay_parts<T: Threads + Sync>(
     slots: &[Slot],
     passed: &mut [Result<usize, Memory>],
 )
-    requires size { length passed.old ≡ 2 }
+    requires some { 0 < length passed.old }
+    requires few { length passed.old ≤ 16 }
     requires within { count ≤ length records.now }
     requires room { HasRoom slots.now records.now count }
     requires fits { AreFitting records.now count slots.now }
-    ensures size { length passed.new ≡ 2 }
-    ensures each { (part : ℕ) (d : Result ℕ Memory) → part < 2 → HasPassed image.now part records.now count slots.now (slice_index_or passed.new part d) }
+    ensures size { length passed.new ≡ length passed.old }
+    ensures each { (part : ℕ) (d : Result ℕ Memory) → part < length passed.old →
+        HasPassed image.now (length passed.old) part records.now count slots.now (slice_index_or passed.new part d) }
 {
+    let parts = passed.len() as u16;
     par_for_each_mut(
         rt,
         passed,
-        |part: usize, passed: &mut Result<usize, Memory>|
-            requires { (part < 2) × (count ≤ length records.now) × HasRoom slots.now records.now count × AreFitting records.now count slots.now }
-            ensures { HasPassed image.entry.now part records.entry.now count slots.entry.now passed.new }
-        { *passed = replay_part(alloc, image, part as u16, records, count, slots) },
+        |number: usize, passed: &mut Result<usize, Memory>|
+            requires { (number < 16) × (0 < parts) × (count ≤ length records.now) × HasRoom slots.now records.now count × AreFitting records.now count slots.now }
+            ensures { HasPassed image.entry.now parts number records.entry.now count slots.entry.now passed.new }
+        {
+            let part = Part {
+                count: parts,
+                number: number as u16,
+            };
+            *passed = replay_part(alloc, image, part, records, count, slots);
+        },
     );
 }
 
@@ -68,8 +89,9 @@ fn least_of(
     slots: &[Slot],
     passed: &[Result<usize, Memory>],
 ) -> Result<usize, Memory>
-    requires size { length passed.now ≡ 2 }
-    requires each { (part : ℕ) (d : Result ℕ Memory) → part < 2 → HasPassed image.now part records.now count slots.now (slice_index_or passed.now part d) }
+    requires some { 0 < length passed.now }
+    requires each { (part : ℕ) (d : Result ℕ Memory) → part < length passed.now →
+        HasPassed image.now (length passed.now) part records.now count slots.now (slice_index_or passed.now part d) }
     ensures { IfOk result (λ p. (nodes : ℕ) → HasDeeds image.now nodes records.now count slots.now →
         Passes (BlocksPass image.now (flat_start image.now nodes) records.now) count p) }
 {

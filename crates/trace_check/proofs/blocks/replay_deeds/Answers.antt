@@ -10,6 +10,7 @@ use Rattle.sn_consistency.specs.Projections.{core_after}
 use Rattle.trace_check.specs.declared.cores.Slot.{Slot}
 use Rattle.trace_check.specs.DeedData.{DeedData}
 use Rattle.trace_check.specs.Deeds.{deed_of}
+use Rattle.trace_check.specs.CellPlaces.{cell_at}
 use Rattle.trace_check.specs.Parts.{IsFitting, is_in}
 use Rattle.trace_check.specs.Slots.{HasDeeds, own_before}
 use Rattle.trace_check.proofs.OwnBefore.{own_next}
@@ -28,8 +29,8 @@ pub records-init : goal.records-init
 records-init c = record {
   width = refl;
   next = λ n l. get_or-replicate 16 n 0 0 l;
-  size = c.requires.cells;
-  replayed = λ image N f h. part_start image N c.args.part c.args.records.now c.args.cells.now f;
+  wide = c.requires.wide;
+  replayed = λ N h. part_start c.args.image.now N c.args.part.count c.args.part.number c.args.records.now c.args.cells.now c.requires.none;
 }
 
 pub bounds-slots-core : goal.bounds-slots-core
@@ -93,39 +94,41 @@ is_deed c slot deed is image N h =
     let b = there c slot deed is in
     cc
 
-pub returns-then-not-replay_access : goal.returns-then-not-replay_access
-returns-then-not-replay_access c =
-    let at = (goal.at.returns-then-not-replay_access c).After-from-core in
-    λ image N f h.
-    part_stops image N c.args.part c.args.records.now c.records.place c.records.cells (c.records.invariant.replayed image N f h)
+pub returns-then-not-branch : goal.returns-then-not-branch
+returns-then-not-branch c =
+    let at = (goal.at.returns-then-not-branch c).After-from-core in
+    let image = c.args.image.now in
+    λ N h.
+    part_stops image N c.args.part.count c.args.part.number c.args.records.now c.records.place (cell_at image c.records.cells) (c.records.invariant.replayed N h)
     c.index-records-place.result (found at) c.index-deed.result.now (is_deed at c.index-slots-core.result c.index-deed.result.now c.index-deed.ensures image N h) (fitting at c.index-slots-core.result c.index-deed.result.now c.index-deed.ensures)
     c.args.count c.records-test.true inside
-    (λ d g. let t : c.replay_access.result ≡ true = (c.replay_access.ensures.finds d inside).1 g in absurd (refused t))
+    (λ g. let t : c.in_ok-replay_access.field-0 ≡ true = (c.in_ok-replay_access.ensures.finds inside).1 g in absurd (refused t))
   where
-    refused : c.replay_access.result ≡ true → ⊥
-    refused t = let e : c.replay_access.result ≡ false = c.if-not-replay_access.true in let x : false ≡ true = sym e ∙ t in absurd (cc)
+    refused : c.in_ok-replay_access.field-0 ≡ true → ⊥
+    refused t = let e : c.in_ok-replay_access.field-0 ≡ false = c.if-not-branch.true in let x : false ≡ true = sym e ∙ t in absurd (cc)
 
-    inside : is_in c.args.part c.index-deed.result.now.want ≡ true
-    inside = go (tested (is_in c.args.part c.index-deed.result.now.want))
+    inside : is_in c.args.part.count c.args.part.number c.index-deed.result.now.want ≡ true
+    inside = go (tested (is_in c.args.part.count c.args.part.number c.index-deed.result.now.want))
       where
-        go : ((is_in c.args.part c.index-deed.result.now.want ≡ true) ⊎ (is_in c.args.part c.index-deed.result.now.want ≡ false)) → is_in c.args.part c.index-deed.result.now.want ≡ true
+        go : ((is_in c.args.part.count c.args.part.number c.index-deed.result.now.want ≡ true) ⊎ (is_in c.args.part.count c.args.part.number c.index-deed.result.now.want ≡ false)) → is_in c.args.part.count c.args.part.number c.index-deed.result.now.want ≡ true
         go (inl e) = e
-        go (inr e) = absurd (refused (c.replay_access.ensures.away e).0)
+        go (inr e) = absurd (refused (c.in_ok-replay_access.ensures.away e).0)
 
 pub records-preserved : goal.records-preserved
 records-preserved c = record {
   width = length-set c.records.next c.from-core.result (get_or c.records.next c.from-core.result 0 + 1) ∙ c.records.invariant.width;
   next = λ n l. later n l (cases_order n c.from-core.result);
-  size = c.replay_access.ensures.size ∙ c.records.invariant.size;
-  replayed = λ image N f h.
+  wide = c.replay_access.ensures.wide;
+  replayed = λ N h.
       let at = (goal.at.records-preserved c).After-from-core in
-      let t : c.replay_access.result ≡ true = c.if-not-replay_access.false in
-      let x = c.replay_access.ensures in
+      let image = c.args.image.now in
+      let t : c.in_ok-replay_access.field-0 ≡ true = c.if-not-branch.false in
+      let x = c.in_ok-replay_access.ensures in
       let e : suc c.records.place ≡ c.records.place + 1 = omega arith in
-      subst (λ k. IsPartReplayed image N c.args.part c.args.records.now k c.replay_access.new.cells) e
-      (part_more image N c.args.part c.args.records.now c.records.place c.records.cells (c.records.invariant.replayed image N f h)
+      subst (λ k. IsPartReplayed image N c.args.part.count c.args.part.number c.args.records.now k (cell_at image c.replay_access.new.cells)) e
+      (part_more image N c.args.part.count c.args.part.number c.args.records.now c.records.place (cell_at image c.records.cells) (c.records.invariant.replayed N h)
       c.index-records-place.result (found at) c.index-deed.result.now (is_deed at c.index-slots-core.result c.index-deed.result.now c.index-deed.ensures image N h) (fitting at c.index-slots-core.result c.index-deed.result.now c.index-deed.ensures)
-      c.replay_access.new.cells (λ e. (x.away e).1) (λ d e. (x.finds d e).0 t) (λ d e. x.after d e t) (λ j d n. x.others j d n));
+      (cell_at image c.replay_access.new.cells) (λ e. (x.away e).1) (λ e. (x.finds e).0 t) (λ e. x.after e t) x.others);
 }
   where
     at : After-from-core
@@ -156,6 +159,6 @@ records-preserved c = record {
             ∙ sym (more n ∙ ap (λ q. cond q (suc (own_before c.args.records.now n c.records.place)) (own_before c.args.records.now n c.records.place)) t)
 
 pub returns : goal.returns
-returns c = λ image N f h.
-    part_all image N c.args.part c.args.records.now c.records.place c.records.cells (c.records.invariant.replayed image N f h)
+returns c = λ N h.
+    part_all c.args.image.now N c.args.part.count c.args.part.number c.args.records.now c.records.place (cell_at c.args.image.now c.records.cells) (c.records.invariant.replayed N h)
     c.args.count (omega (arith, c.records-test.false, c.records.auto.place-end))

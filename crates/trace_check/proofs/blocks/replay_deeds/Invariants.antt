@@ -1,6 +1,5 @@
 use Rattle.std.proofs.Common.{◌≡◌, ℕ, ◌<◌, length, get_or}
-use Rattle.sn_base.specs.Image.{ImageData}
-use Rattle.trace_check.specs.Parts.{AreFirst}
+use Rattle.trace_check.specs.CellPlaces.{IsWide, cell_at}
 use Rattle.trace_check.specs.Slots.{HasDeeds, own_before}
 use Rattle.trace_check.proofs.BlockReplay.{IsPartReplayed}
 use Rattle.trace_check.proofs.blocks.replay_deeds.Given as goal
@@ -10,7 +9,7 @@ abbrev pub invariant-records : goal.invariant-records
 invariant-records l = record {
   width : length l.next ≡ 16;
   next : (n : ℕ) → n < 16 → get_or l.next n 0 ≡ own_before l.records n l.place;
-  size : length l.cells ≡ 32768;
-  replayed : (image : ImageData) (N : ℕ) → AreFirst image l.part 32768 l.initial.cells → HasDeeds image N l.records l.count l.slots →
-      IsPartReplayed image N l.part l.records l.place l.cells;
+  wide : IsWide l.cells;
+  replayed : (N : ℕ) → HasDeeds l.image N l.records l.count l.slots →
+      IsPartReplayed l.image N l.part.count l.part.number l.records l.place (cell_at l.image l.cells);
 }
