@@ -12,7 +12,7 @@ use crate::cells::Cells;
 use crate::cores::Slot;
 use crate::deed::Deed;
 use rv_core::{Record, Want};
-use sn_base::{BlockNo, Image, Memory};
+use sn_base::{BLOCK_SIZE, BlockNo, Image, Memory, RAM_START};
 use std::alloc::Global;
 
 /// One of so many parts of the blocks.
@@ -149,5 +149,5 @@ fn block_at(address: u32) -> BlockNo
     ensures { result ≡ block_of address }
 {
     // `BlockNo::of` would test for each record, in each part, what is known here.
-    BlockNo::new(((address - 0x8000_0000) / 64) as u16)
+    BlockNo::new(((address - RAM_START) / BLOCK_SIZE) as u16)
 }

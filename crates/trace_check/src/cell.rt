@@ -6,7 +6,7 @@ ghost use Rattle.trace_check.specs.Cells.{Finds, IsAfter, is_lr, still_intact, w
 
 use crate::deed::Deed;
 use rv_core::{Record, Want};
-use sn_base::{Block, NodeId, NodeSet, Width};
+use sn_base::{Block, BlockNo, NodeId, NodeSet, Width};
 
 /// The bytes of a block, and the cores that may still do a store-conditional of it: since such a core's last LR of the
 /// block no other core has written it.
@@ -36,8 +36,8 @@ impl Cell {
         requires { IsAddress address }
         ensures { result ≡ word_in self.now.content address }
     {
-        let place = (address - 0x8000_0000) % 64 / 4 * 4;
-        self.content.load(place as usize, Width::Word)
+        let place = BlockNo::offset(address) / 4 * 4;
+        self.content.load(place, Width::Word)
     }
 
     /// What the access leaves.
@@ -47,8 +47,8 @@ impl Cell {
     {
         let write = deed.write();
         if let Some(write) = write {
-            let place = (write.address - 0x8000_0000) % 64;
-            self.content.store(place as usize, write.width, write.value);
+            let place = BlockNo::offset(write.address);
+            self.content.store(place, write.width, write.value);
         }
         self.intact = intact_after(self.intact, taken.core, is_lr(deed.want()), write.is_some());
     }

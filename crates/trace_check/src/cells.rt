@@ -7,7 +7,7 @@ ghost use Rattle.trace_check.specs.Parts.{IsFitting};
 use crate::cell::Cell;
 use crate::deed::Deed;
 use rv_core::Record;
-use sn_base::{BlockNo, Image, Memory, NodeSet};
+use sn_base::{BLOCKS, BlockNo, Image, Memory, NodeSet};
 use std::alloc::Global;
 
 /// A cell, and the block that it is of.
@@ -33,7 +33,7 @@ impl Cells {
         ensures wide { IfOk result (λ cells. IsWide cells) }
         ensures none { IfOk result (λ cells. cells.kept.items ≡ []) }
     {
-        let places = Vec::from_elem(alloc, 0u16, 65536)?;
+        let places = Vec::from_elem(alloc, 0u16, BLOCKS)?;
         Ok(Cells {
             places,
             kept: Vec::new(alloc),
