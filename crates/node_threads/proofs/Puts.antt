@@ -2,7 +2,7 @@
 use Rattle.std.proofs.Common.{◌≡◌, ℕ, ◌+◌, ◌≤◌, ◌^◌, ◌-◌, min, List, [], ◌++◌, Option, Some, None, Result, Ok, Err, Bool, true, false}
 use Rattle.std.proofs.Common.{is_err, OnOk, OnErr, refl, sym, ap, ◌∙◌, arith, append_assoc, append-nil}
 use Rattle.sn_io.specs.declared.outside.Failed.{Failed}
-use Rattle.sn_io.specs.Outside.{followed_by, raised, Rose}
+use Rattle.sn_io.specs.Outside.{followed_by, Rose}
 use Rattle.sn_console.specs.Handed.{IsFirstOf, IsWritten, IsBegun}
 use Rattle.sn_console.proofs.FirstOf.{IsFirstOf-trans}
 use Rattle.node_threads.specs.Finishes.{Put}

@@ -12,7 +12,7 @@ use Rattle.sn_console.specs.Handed.{IsWritten, IsBegun}
 use Rattle.run_journals.specs.declared.entry.Entry.{Entry}
 use Rattle.run_journals.specs.Journal.{Began, IsDue, state_of, answers_of, numbers_of}
 use Rattle.shared_machine.specs.declared.finish.Finish.{Finish}
-use Rattle.shared_machine.specs.declared.finish.Finish.TheVariants.{Over, CutOff, Budget, Stopped}
+use Rattle.shared_machine.specs.declared.finish.Finish.TheVariants.{Over, Stopped}
 use Rattle.shared_machine.specs.Shared.{cut_off_or_spent}
 
 -- why a run with this journal has no turn any more: it is over, or, where it isn't, nodes were found cut off, or, where none

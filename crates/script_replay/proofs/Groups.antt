@@ -54,7 +54,8 @@ cores-more text old new before v m n node core shown at is had put =
     ∙ ap (λ k. core_line before k (core_at (flat_of m) k)) at)
     ∙ ap (λ t. text ++ t) (sym (core_lines-more before (flat_of m) n (n + 1) (omega arith)))
 
-recovered_lines-there : (m : MachineData) (watch : Option ℕ) (answer : Answer) (undo : Undo) → answer ≡ Recovered undo → recovered_lines m.image m.config watch answer m.state ≡ cut_lines (codes "  ") (flat_of m) m.config.nodes watch
+recovered_lines-there : (m : MachineData) (watch : Option ℕ) (answer : Answer) (undo : Undo) → answer ≡ Recovered undo →
+    recovered_lines m.image m.config watch answer m.state ≡ cut_lines (codes "  ") (flat_of m) m.config.nodes watch
 unfolding recovered_lines
 recovered_lines-there m watch answer undo e = rw e refl
 
@@ -75,7 +76,9 @@ line-is m event answer cleared line place none at put =
     put ∙ ap (λ t. t ++ event_line place event answer) none ∙ ap (λ p. event_line p event answer) at
 
 -- the group of a recovery, which sent nothing
-pub group-recovered : (m : MachineData) (watch : Option ℕ) (event : Event) (answer : Answer) (undo : Undo) (text line : List ℕ) → answer ≡ Recovered undo → IsAlone answer m.sent → line ≡ event_line m.applied event answer → text ≡ line ++ cut_lines (codes "  ") (flat_of m) m.config.nodes watch → text ≡ group_now m watch event answer
+pub group-recovered : (m : MachineData) (watch : Option ℕ) (event : Event) (answer : Answer) (undo : Undo) (text line : List ℕ) →
+    answer ≡ Recovered undo → IsAlone answer m.sent → line ≡ event_line m.applied event answer →
+    text ≡ line ++ cut_lines (codes "  ") (flat_of m) m.config.nodes watch → text ≡ group_now m watch event answer
 unfolding group_of
 group-recovered m watch event answer undo text line is alone first more =
     more ∙ ap (λ t. t ++ cut_lines (codes "  ") (flat_of m) m.config.nodes watch) first

@@ -182,7 +182,8 @@ module _ (m : MachineData) (showing : Showing) (tallies : List (List ℕ)) (not 
 
 -- the end: the trace, and then the summary
 module _ (m : MachineData) (showing : Showing) (tallies : List (List ℕ)) (records : List Record) (is : showing.report ≡ Trace) (same : records ≡ m.state.committed) where
-  pub end-traced : (a b d : Ends) → b ≡ after a (trace_pieces records) → d ≡ after b (summed_up (codes "# ") m showing.watch tallies) → d ≡ after a (end_now m showing tallies)
+  pub end-traced : (a b d : Ends) → b ≡ after a (trace_pieces records) → d ≡ after b (summed_up (codes "# ") m showing.watch tallies) →
+      d ≡ after a (end_now m showing tallies)
   unfolding end_pieces
   end-traced a b d first second =
       rw is (second ∙ ap (λ e. after e (summed_up (codes "# ") m showing.watch tallies)) (first ∙ ap (λ t. after a (trace_pieces t)) same)
@@ -194,8 +195,10 @@ module _ (m : MachineData) (showing : Showing) (tallies : List (List ℕ)) (reco
       rw is (Breaks-more (trace_pieces m.state.committed) (summed_up (codes "# ") m showing.watch tallies) a b
       (subst (λ (t : List Record). Breaks (trace_pieces t) a b) same broken))
 
-  pub end-traced_breaks_second : (a b d : Ends) → b ≡ after a (trace_pieces records) → Breaks (summed_up (codes "# ") m showing.watch tallies) b d → Breaks (end_now m showing tallies) a d
+  pub end-traced_breaks_second : (a b d : Ends) → b ≡ after a (trace_pieces records) →
+      Breaks (summed_up (codes "# ") m showing.watch tallies) b d → Breaks (end_now m showing tallies) a d
   unfolding end_pieces
   end-traced_breaks_second a b d first broken =
       rw is (Breaks-after (trace_pieces m.state.committed) (summed_up (codes "# ") m showing.watch tallies) a d
-      (subst (λ (e : Ends). Breaks (summed_up (codes "# ") m showing.watch tallies) e d) (first ∙ ap (λ t. after a (trace_pieces t)) same) broken))
+      (subst (λ (e : Ends). Breaks (summed_up (codes "# ") m showing.watch tallies) e d)
+      (first ∙ ap (λ t. after a (trace_pieces t)) same) broken))

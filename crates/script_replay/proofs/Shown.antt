@@ -53,7 +53,8 @@ console_text-last : (kind : ReportKind) (image : ImageData) (config : Config) (w
 console_text-last Events image config watch tallies done s = console_text-tallies [] 0 tallies
 console_text-last Trace image config watch tallies done s =
     console_text-append (trace_pieces s.committed) (summary_pieces (codes "# ") image config watch tallies done s)
-    ∙ ap (λ t. t ++ console_text (tally_pieces (codes "# ") 0 tallies)) (console_text-trace s.committed) ∙ console_text-tallies (codes "# ") 0 tallies
+    ∙ ap (λ t. t ++ console_text (tally_pieces (codes "# ") 0 tallies)) (console_text-trace s.committed)
+    ∙ console_text-tallies (codes "# ") 0 tallies
 console_text-last Summary image config watch tallies done s = console_text-tallies [] 0 tallies
 
 -- what an event puts to the console is what it releases
@@ -176,7 +177,10 @@ report_text-turn image config showing place s event is =
     ap (λ t. report_text (console_piece fresh ++ group_pieces t text)) is
     ∙ report_text-append (console_piece fresh) [] ∙ append-nil (report_text (console_piece fresh)) ∙ report_text-piece fresh
 
-report_text-end : (image : ImageData) (config : Config) (showing : Showing) (tallies : List (List ℕ)) (done : ℕ) (s : State) → showing.report ≡ Trace → report_text (end_pieces image config showing tallies done s) ≡ trace_text s.committed ++ report_text (summary_pieces (codes "# ") image config showing.watch tallies done s)
+report_text-end : (image : ImageData) (config : Config) (showing : Showing) (tallies : List (List ℕ)) (done : ℕ) (s : State) →
+    showing.report ≡ Trace →
+    report_text (end_pieces image config showing tallies done s) ≡ trace_text s.committed
+    ++ report_text (summary_pieces (codes "# ") image config showing.watch tallies done s)
 unfolding end_pieces
 report_text-end image config showing tallies done s is =
     let summary : List Piece = summary_pieces (codes "# ") image config showing.watch tallies done s in
@@ -185,11 +189,14 @@ report_text-end image config showing tallies done s is =
 
 report_text-from : (image : ImageData) (config : Config) (showing : Showing) (tallies : List (List ℕ)) (done : ℕ) (s : State)
     (events : List Event) → showing.report ≡ Trace → report_text (pieces_from image config showing tallies done s events)
-    ≡ trace_text (state_after image config s events).committed ++ report_text (summary_pieces (codes "# ") image config showing.watch tallies (done + length events) (state_after image config s events))
+    ≡ trace_text (state_after image config s events).committed
+    ++ report_text (summary_pieces (codes "# ") image config showing.watch tallies (done + length events)
+    (state_after image config s events))
 unfolding pieces_from
 report_text-from image config showing tallies done s [] is =
     let same : done ≡ done + 0 = omega arith in
-    report_text-end image config showing tallies done s is ∙ ap (λ n. trace_text s.committed ++ report_text (summary_pieces (codes "# ") image config showing.watch tallies n s)) same
+    report_text-end image config showing tallies done s is
+    ∙ ap (λ n. trace_text s.committed ++ report_text (summary_pieces (codes "# ") image config showing.watch tallies n s)) same
 report_text-from image config showing tallies done s (event ∷ events) is =
     let next : State = (step_of image config s event).state in
     let same : done + 1 + length events ≡ done + length (event ∷ events) = omega arith in
@@ -198,7 +205,8 @@ report_text-from image config showing tallies done s (event ∷ events) is =
     ∙ ap (λ t. t ++ report_text (pieces_from image config showing tallies (done + 1) next events))
     (report_text-turn image config showing (done + 1) s event is)
     ∙ report_text-from image config showing tallies (done + 1) next events is
-    ∙ ap (λ n. trace_text (state_after image config next events).committed ++ report_text (summary_pieces (codes "# ") image config showing.watch tallies n (state_after image config next events))) same
+    ∙ ap (λ n. trace_text (state_after image config next events).committed
+    ++ report_text (summary_pieces (codes "# ") image config showing.watch tallies n (state_after image config next events))) same
 
 report-trace : (image : ImageData) (config : Config) (showing : Showing) (tallies : List (List ℕ)) (events : List Event)
     (before behind : Ends) → IsRun config events → behind ≡ after before (pieces_of image config showing tallies events) →
@@ -210,7 +218,8 @@ report-trace image config showing tallies events before behind run put is =
       execution = (reached_consistent image config events run).execution;
       written = report-after before behind (pieces_of image config showing tallies events) put
           ∙ ap (followed_by before.report) (report_text-from image config showing tallies 0 (start_of image config.nodes) events is
-          ∙ ap (λ n. trace_text (committed_by image config events) ++ report_text (summary_pieces (codes "# ") image config showing.watch tallies n (reached image config events))) same);
+          ∙ ap (λ n. trace_text (committed_by image config events)
+          ++ report_text (summary_pieces (codes "# ") image config showing.watch tallies n (reached image config events))) same);
     }
 
 pub shown-all : (image : ImageData) (config : Config) (showing : Showing) (tallies : List (List ℕ)) (events : List Event)
@@ -231,8 +240,10 @@ shown-part image config showing tallies events before behind run broken = record
   lawful = moment image config showing tallies events run;
   output = subst (λ (t : List ℕ). HasBeginning t before.console behind.console) (console-whole image config showing events run tallies)
       (console-begun
-      (pieces_of image config showing tallies events) broken.whole broken.rest broken.piece broken.count before behind broken.all broken.put);
+      (pieces_of image config showing tallies events) broken.whole broken.rest broken.piece broken.count before behind broken.all
+      broken.put);
   report =
       report-begun
-      (pieces_of image config showing tallies events) broken.whole broken.rest broken.piece broken.count before behind broken.all broken.put;
+      (pieces_of image config showing tallies events) broken.whole broken.rest broken.piece broken.count before behind broken.all
+      broken.put;
 }

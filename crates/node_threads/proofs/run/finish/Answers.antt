@@ -7,8 +7,10 @@ use Rattle.node_threads.proofs.run.finish.Goals as goal
 
 pub returns-clause-run : goal.returns-clause-run
 returns-clause-run g c =
-    run-of c.audit-count.new.self g.L.RunName.began c.end-machine.result.machine c.end-machine.result.journal.items c.end-machine.result.answers.items
-    c.end-machine.ensures.kept c.end-machine.ensures.began c.end-machine.ensures.same.0 c.end-machine.ensures.same.1 c.end-machine.ensures.same.2
+    run-of c.audit-count.new.self g.L.RunName.began c.end-machine.result.machine c.end-machine.result.journal.items
+    c.end-machine.result.answers.items
+    c.end-machine.ensures.kept c.end-machine.ensures.began c.end-machine.ensures.same.0 c.end-machine.ensures.same.1
+    c.end-machine.ensures.same.2
 
 pub returns-clause-ends : goal.returns-clause-ends
 returns-clause-ends g c = λ before was h.

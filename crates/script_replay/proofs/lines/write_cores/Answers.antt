@@ -15,7 +15,8 @@ core-requires-in-cores-clause-room c =
 pub cores-preserved : goal.cores-preserved
 cores-preserved c = record {
   same =
-      cores-more c.args.line.now c.cores.line c.core-in-cores.new.self c.args.before.now c.recovered-view.result c.args.machine.now c.cores.number c.unwrap-node.result c.core.result.now
+      cores-more c.args.line.now c.cores.line c.core-in-cores.new.self c.args.before.now c.recovered-view.result c.args.machine.now
+      c.cores.number c.unwrap-node.result c.core.result.now
       c.recovered-view.ensures.shown
       (some-is _ _ _ c.new.ensures.some c.unwrap-node.ensures) c.core.ensures c.cores.invariant.same c.core-in-cores.ensures.text;
   short = omega (arith, c.cores.invariant.short, c.core-in-cores.ensures.short);

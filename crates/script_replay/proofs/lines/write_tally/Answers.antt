@@ -15,6 +15,7 @@ returns-in_default g c =
 pub places-preserved : goal.places-preserved
 places-preserved g c = record {
   written =
-      tally-next _ c.args.before.now c.args.probe c.places.place c.in-Some.value c.places.line c.probe.new.self c.line.result c.line.ensures c.in-Some.is c.probe.ensures.text c.places.invariant.written;
+      tally-next _ c.args.before.now c.args.probe c.places.place c.in-Some.value c.places.line c.probe.new.self c.line.result c.line.ensures
+      c.in-Some.is c.probe.ensures.text c.places.invariant.written;
   short = omega (arith, c.probe.ensures.short, c.places.invariant.short);
 }

@@ -20,18 +20,23 @@ events-init g c = record {
 
 pub turn-requires-clause-fits : goal.turn-requires-clause-fits
 turn-requires-clause-fits g c =
-    event-fits c.events.machine.config c.args.machine.now.config c.args.events.now c.events.event-index c.event-item.result c.events.invariant.sizes c.events-test.true c.event-item.is c.requires.fit
+    event-fits c.events.machine.config c.args.machine.now.config c.args.events.now c.events.event-index c.event-item.result
+    c.events.invariant.sizes c.events-test.true c.event-item.is c.requires.fit
 
 pub events-preserved : goal.events-preserved
 events-preserved g c = record {
   played =
-      SoFar-next _ c.events.machine c.turn.new.machine c.args.showing.now _ c.args.events.now c.events.event-index c.event-item.result _ _ _ c.events-test.true c.event-item.is c.turn.ensures.next c.events.invariant.played c.in_ok-turn.ensures.ok;
+      SoFar-next _ c.events.machine c.turn.new.machine c.args.showing.now _ c.args.events.now c.events.event-index c.event-item.result _ _ _
+      c.events-test.true c.event-item.is c.turn.ensures.next c.events.invariant.played c.in_ok-turn.ensures.ok;
   put =
-      put-next c.args.machine.now c.events.machine c.args.showing.now _ c.args.events.now c.events.event-index c.event-item.result _ _ c.events-test.true c.event-item.is c.events.invariant.put c.turn.new.machine _ c.turn.ensures.next c.in_ok-turn.ensures.ok;
+      put-next c.args.machine.now c.events.machine c.args.showing.now _ c.args.events.now c.events.event-index c.event-item.result _ _
+      c.events-test.true c.event-item.is c.events.invariant.put c.turn.new.machine _ c.turn.ensures.next c.in_ok-turn.ensures.ok;
   told =
-      told-next c.args.machine.now c.events.machine c.turn.new.machine c.args.events.now _ _ _ c.events.event-index c.event-item.result c.events-test.true c.event-item.is c.turn.ensures.next c.turn.ensures.told c.events.invariant.told;
+      told-next c.args.machine.now c.events.machine c.turn.new.machine c.args.events.now _ _ _ c.events.event-index c.event-item.result
+      c.events-test.true c.event-item.is c.turn.ensures.next c.turn.ensures.told c.events.invariant.told;
   sizes =
-      sizes-next c.events.machine c.turn.new.machine c.event-item.result c.args.machine.now.config c.turn.ensures.next c.events.invariant.sizes;
+      sizes-next c.events.machine c.turn.new.machine c.event-item.result c.args.machine.now.config c.turn.ensures.next
+      c.events.invariant.sizes;
   room =
       omega (
         arith,
@@ -47,15 +52,18 @@ pub returns-in_err-turn-clause-err : goal.returns-in_err-turn-clause-err
 returns-in_err-turn-clause-err g c =
     let p = err_from_is_err_and c.from_residual.result c.from_residual.ensures.1 in
     rw p.1
-    (SoFar-breaks_event _ c.events.machine c.args.showing.now _ c.args.events.now c.events.event-index c.event-item.result _ _ _ c.events-test.true c.event-item.is c.events.invariant.played c.in_err-turn.ensures.err)
+    (SoFar-breaks_event _ c.events.machine c.args.showing.now _ c.args.events.now c.events.event-index c.event-item.result _ _ _
+    c.events-test.true c.event-item.is c.events.invariant.played c.in_err-turn.ensures.err)
 
 pub returns-in_err-turn-clause-stops : goal.returns-in_err-turn-clause-stops
 returns-in_err-turn-clause-stops g c =
     let p = err_from_is_err_and c.from_residual.result c.from_residual.ensures.1 in
     rw p.1 (inl (
       c.events.event-index,
-      stops-at c.args.machine.now c.events.machine c.args.showing.now _ c.args.events.now c.events.event-index c.event-item.result _ _ c.events-test.true c.event-item.is c.events.invariant.put c.turn.new.machine _ _ _ c.in_err-turn.ensures.err
-          (told-next c.args.machine.now c.events.machine c.turn.new.machine c.args.events.now _ _ _ c.events.event-index c.event-item.result c.events-test.true c.event-item.is c.turn.ensures.next c.turn.ensures.told c.events.invariant.told),
+      stops-at c.args.machine.now c.events.machine c.args.showing.now _ c.args.events.now c.events.event-index c.event-item.result _ _
+          c.events-test.true c.event-item.is c.events.invariant.put c.turn.new.machine _ _ _ c.in_err-turn.ensures.err
+          (told-next c.args.machine.now c.events.machine c.turn.new.machine c.args.events.now _ _ _ c.events.event-index c.event-item.result
+          c.events-test.true c.event-item.is c.turn.ensures.next c.turn.ensures.told c.events.invariant.told),
     ))
 
 pub returns-in_err-put_end-clause-err : goal.returns-in_err-put_end-clause-err

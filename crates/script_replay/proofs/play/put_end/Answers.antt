@@ -26,7 +26,8 @@ returns-in_ok-put_summary-in-Trace-clause-ok g c = λ r.
 
 pub returns-in_err-put_summary-in_default : goal.returns-in_err-put_summary-in_default
 returns-in_err-put_summary-in_default g c =
-    let p = err_from_is_err_and c.from_residual-in_err-put_summary-in_default.result c.from_residual-in_err-put_summary-in_default.ensures.1 in
+    let p = err_from_is_err_and c.from_residual-in_err-put_summary-in_default.result
+    c.from_residual-in_err-put_summary-in_default.ensures.1 in
     record {
       ok = rw p.1 tt;
       err =

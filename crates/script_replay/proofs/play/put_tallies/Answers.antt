@@ -11,7 +11,9 @@ pub probes-preserved : goal.probes-preserved
 probes-preserved g c = record {
   put =
       λ r.
-      tallies-next c.args.before.now _ c.args.probes.now.probes.items c.count-probe-end.result c.probes.probe c.write_tally.new.line c.bytes.result.now _ _ _ c.probes-test.true c.count-probe-end.ensures c.write_tally.ensures c.bytes.ensures (c.probes.invariant.put r) (c.in_ok-put_report.ensures.ok r);
+      tallies-next c.args.before.now _ c.args.probes.now.probes.items c.count-probe-end.result c.probes.probe c.write_tally.new.line
+      c.bytes.result.now _ _ _ c.probes-test.true c.count-probe-end.ensures c.write_tally.ensures c.bytes.ensures (c.probes.invariant.put r)
+      (c.in_ok-put_report.ensures.ok r);
   later = omega (arith, c.put_report.ensures.later, c.probes.invariant.later);
 }
 
@@ -20,7 +22,9 @@ returns-in_err-put_report-clause-err g c =
     let p = err_from_is_err_and c.from_residual.result c.from_residual.ensures.1 in
     rw p.1
     (λ r.
-    tallies-breaks c.args.before.now _ c.args.probes.now.probes.items c.count-probe-end.result c.probes.probe c.write_tally.new.line c.bytes.result.now _ _ _ c.probes-test.true c.count-probe-end.ensures c.write_tally.ensures c.bytes.ensures (c.probes.invariant.put r) (c.in_err-put_report.ensures.err r))
+    tallies-breaks c.args.before.now _ c.args.probes.now.probes.items c.count-probe-end.result c.probes.probe c.write_tally.new.line
+    c.bytes.result.now _ _ _ c.probes-test.true c.count-probe-end.ensures c.write_tally.ensures c.bytes.ensures (c.probes.invariant.put r)
+    (c.in_err-put_report.ensures.err r))
 
 pub returns-clause-ok : goal.returns-clause-ok
 returns-clause-ok g c =

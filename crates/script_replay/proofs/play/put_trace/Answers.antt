@@ -11,7 +11,9 @@ pub records-preserved : goal.records-preserved
 records-preserved g c = record {
   put =
       λ r.
-      trace-next c.args.records.now c.records.taken-index c.taken-item.result c.clear.new.self c.trace.new.self c.bytes.result.now _ _ _ c.records-test.true c.taken-item.is c.clear.ensures c.trace.ensures.text c.bytes.ensures (c.records.invariant.put r) (c.in_ok-put_report.ensures.ok r);
+      trace-next c.args.records.now c.records.taken-index c.taken-item.result c.clear.new.self c.trace.new.self c.bytes.result.now _ _ _
+      c.records-test.true c.taken-item.is c.clear.ensures c.trace.ensures.text c.bytes.ensures (c.records.invariant.put r)
+      (c.in_ok-put_report.ensures.ok r);
   later = omega (arith, c.put_report.ensures.later, c.records.invariant.later);
 }
 
@@ -20,7 +22,9 @@ returns-in_err-put_report-clause-err g c =
     let p = err_from_is_err_and c.from_residual.result c.from_residual.ensures.1 in
     rw p.1
     (λ r.
-    trace-breaks c.args.records.now c.records.taken-index c.taken-item.result c.clear.new.self c.trace.new.self c.bytes.result.now _ _ _ c.records-test.true c.taken-item.is c.clear.ensures c.trace.ensures.text c.bytes.ensures (c.records.invariant.put r) (c.in_err-put_report.ensures.err r))
+    trace-breaks c.args.records.now c.records.taken-index c.taken-item.result c.clear.new.self c.trace.new.self c.bytes.result.now _ _ _
+    c.records-test.true c.taken-item.is c.clear.ensures c.trace.ensures.text c.bytes.ensures (c.records.invariant.put r)
+    (c.in_err-put_report.ensures.err r))
 
 pub returns-clause-ok : goal.returns-clause-ok
 returns-clause-ok g c =
