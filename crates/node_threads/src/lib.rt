@@ -13,8 +13,6 @@ mod pump;
 mod run;
 mod slots;
 mod telling;
-#[cfg(test)]
-mod tests;
 
 pub use finished::Finished;
 pub use run::run_nodes;

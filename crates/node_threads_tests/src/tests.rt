@@ -1,14 +1,15 @@
 //! What runs leave in every schedule, workers and console side by side, and probes.
 ghost use Rattle.std.specs.Prelude.{◌≡◌, ◌*◌, ◌<◌, ◌≤◌, [], IfSome};
 
-use crate::{Finish, SharedMachine, run_nodes};
 use due_events::Rules;
-use sn_base::{Answer, Config, Event, Image, Memory, NodeId, Segment, SwitchId};
+use elf_load::load;
+use node_threads::{Finish, SharedMachine, run_nodes};
+use sn_base::{Answer, Config, Event, Memory, NodeId, SwitchId};
 use sn_driver::Driver;
 use sn_io::{Failed, Gate, MemSink, OpenGate, Sink, SureSink};
 use sn_machine::Machine;
 use sn_probe::{EventTally, Probe, ProbeSet};
-use std::alloc::{AllocError, Global};
+use std::alloc::Global;
 use std::process::Abort;
 use std::sync::atomic::{AtomicU64, Ordering};
 use std::sync::{Arc, Wait};
@@ -17,49 +18,23 @@ use std::thread;
 use std::thread::Threads;
 
 /// Each core adds 1 to a word and exits with its number.
-const ADDS: [u32; 5] = [
-    0x8000_12b7,
-    0x0010_0313,
-    0x0062_a3af,
-    0x05d0_0893,
-    0x0000_0073,
-];
+const ADDS: &str = "800012b7\n00100313\n0062a3af\n05d00893\n00000073\n";
 
 /// Each core counts in one word for ever, and puts a byte for each count.
-const COUNTS: [u32; 8] = [
-    0x8000_12b7,
-    0x0010_0313,
-    0x0062_a3af,
-    0x03f3_f513,
-    0x0305_0513,
-    0x0010_0893,
-    0x0000_0073,
-    0xfedf_f06f,
-];
+const COUNTS: &str = "\
+800012b7\n00100313\n0062a3af\n03f3f513\n03050513\n00100893\n00000073\nfedff06f\n";
 
-/// A program of at most 16 words.
-fn program(alloc: Global, words: &[u32]) -> Result<Image, AllocError> {
-    let mut bytes = Vec::new(alloc);
-    for word in words {
-        bytes.extend_from_slice(&word.to_le_bytes())?;
-    }
-    bytes.truncate(64);
-    let mut segments = Vec::new(alloc);
-    segments.push(Segment {
-        start: 0x8000_0000,
-        size: 64,
-        bytes,
-        write: false,
-        exec: true,
-    })?;
-    Ok(Image::new(segments, 0x8000_0000))
-}
+/// Each core jumps to itself.
+const LOOPS: &str = "0000006f\n";
+
+/// No instruction.
+const TRAPS: &str = "00000000\n";
 
 /// A run of at most so many events.
 fn shared(
     rt: &impl Abort,
     alloc: Global,
-    words: &[u32],
+    program: &str,
     nodes: u8,
     rules: Rules,
     budget: u32,
@@ -76,7 +51,8 @@ fn shared(
     };
     assert!(rt; config.fits());
     assert!(rt; budget <= 1_000_000);
-    let machine = Machine::new(alloc, program(alloc, words)?, config)?;
+    let image = load(alloc, program.as_bytes())?;
+    let machine = Machine::new(alloc, image, config)?;
     Ok(SharedMachine::new(alloc, machine, Driver::new(rules, nodes), budget, 7)?)
 }
 
@@ -112,45 +88,69 @@ fn run_by<T: Threads + Wait + Sync, C: Sink + Send, G: Gate + Sync>(
     })
 }
 
-/// The same of a run that no gate holds, whose console takes all, and to which no probe is attached.
-fn run_open<T: Threads + Wait + Sync>(
+/// The same of a run that no gate holds and whose console takes all.
+fn run_probed<T: Threads + Wait + Sync>(
     rt: &T,
     alloc: Global,
     run: SharedMachine,
+    probes: &mut ProbeSet,
 ) -> Result<Left, Memory> {
-    let mut probes = ProbeSet::new(Vec::new(alloc));
     run_by(
         rt,
         alloc,
         run,
         &OpenGate::new(),
         &mut SureSink::new(),
-        &mut probes,
+        probes,
     )
 }
 
-#[test]
-fn a_run_ends_where_its_core_traps_or_its_budget_is_spent(rt: HostRuntime) -> Result<(), Fail> {
-    let alloc = rt.alloc();
+/// The same of a run to which no probe is attached.
+fn run_alone<T: Threads + Wait + Sync, C: Sink + Send, G: Gate + Sync>(
+    rt: &T,
+    alloc: Global,
+    run: SharedMachine,
+    gate: &G,
+    console: &mut C,
+) -> Result<Left, Memory> {
+    let mut probes = ProbeSet::new(Vec::new(alloc));
+    run_by(rt, alloc, run, gate, console, &mut probes)
+}
+
+/// What a run of one core leaves.
+fn run_one<T: Threads + Wait + Sync + Abort>(
+    rt: &T,
+    alloc: Global,
+    program: &str,
+    budget: u32,
+) -> Result<Left, Fail> {
     let rules = Rules {
         interval: 100,
         wait: 20_000,
         lose_every: 0,
         kill: None,
     };
-    let trapped = run_open(&rt, alloc, shared(&rt, alloc, &[0], 1, rules, 100)?)?;
-    assert!(rt; trapped.finish == Finish::Over && trapped.committed == 1);
-    let spins = shared(&rt, alloc, &[0x6f], 1, rules, 50)?;
-    let spent = run_open(&rt, alloc, spins)?;
-    assert!(rt; spent.finish == Finish::Budget && spent.events == 50);
+    let run = shared(rt, alloc, program, 1, rules, budget)?;
+    Ok(run_alone(rt, alloc, run, &OpenGate::new(), &mut SureSink::new())?)
+}
+
+#[test]
+fn a_run_ends_where_its_core_traps(rt: HostRuntime) -> Result<(), Fail> {
+    let end = run_one(&rt, rt.alloc(), TRAPS, 100)?;
+    assert!(rt; end.finish == Finish::Over && end.committed == 1);
     Ok(())
 }
 
 #[test]
-fn a_run_ends_where_a_dead_switch_cuts_its_nodes_off(rt: HostRuntime) -> Result<(), Fail> {
-    let alloc = rt.alloc();
-    let first = NodeId::new(0).ok_or("a node has a number below 16")?;
-    let second = NodeId::new(1).ok_or("a node has a number below 16")?;
+fn a_run_ends_where_its_budget_is_spent(rt: HostRuntime) -> Result<(), Fail> {
+    let end = run_one(&rt, rt.alloc(), LOOPS, 50)?;
+    assert!(rt; end.finish == Finish::Budget && end.events == 50);
+    Ok(())
+}
+
+/// What a run of two cores leaves, where the first switch dies at once.
+fn run_cut_off<T: Threads + Wait + Sync + Abort>(rt: &T, alloc: Global) -> Result<Left, Fail> {
+    let first = NodeId::new(0).expect(rt, "there is a node 0");
     assert!(rt; first.number() < 2);
     let rules = Rules {
         interval: 100,
@@ -158,36 +158,58 @@ fn a_run_ends_where_a_dead_switch_cuts_its_nodes_off(rt: HostRuntime) -> Result<
         lose_every: 0,
         kill: Some((SwitchId::a(first), 0)),
     };
-    let end = run_open(&rt, alloc, shared(&rt, alloc, &ADDS, 2, rules, 1000)?)?;
-    assert!(rt; end.finish == Finish::CutOff(first, second));
-    assert!(rt; end.events == 9 && end.committed == 0);
+    let run = shared(rt, alloc, ADDS, 2, rules, 1000)?;
+    Ok(run_alone(rt, alloc, run, &OpenGate::new(), &mut SureSink::new())?)
+}
+
+/// Whether a run ended since no path joins the nodes 0 and 1.
+fn is_cut_off(finish: Finish) -> bool {
+    match finish {
+        Finish::CutOff(first, second) => first.number() == 0 && second.number() == 1,
+        _ => false,
+    }
+}
+
+#[test]
+fn a_run_ends_where_a_dead_switch_cuts_its_nodes_off(rt: HostRuntime) -> Result<(), Fail> {
+    let end = run_cut_off(&rt, rt.alloc())?;
+    assert!(rt; is_cut_off(end.finish) && end.events == 9 && end.committed == 0);
     Ok(())
 }
 
-/// What a run leaves in which every second event is a recovery, and how many recoveries a probe counts.
-fn recovering<T: Threads + Wait + Sync + Abort>(
-    rt: &T,
-    alloc: Global,
-) -> Result<(Left, Option<u64>), Fail> {
+/// A probe that counts the events of each kind.
+fn tally(alloc: Global) -> Result<ProbeSet, Fail> {
+    let mut boxes: Vec<Box<dyn Probe + Send>> = Vec::new(alloc);
+    boxes.push(Box::new(alloc, EventTally::new())?)?;
+    Ok(ProbeSet::new(boxes))
+}
+
+/// A run in which every second event is a recovery.
+fn recovering(rt: &impl Abort, alloc: Global) -> Result<SharedMachine, Fail> {
     let rules = Rules {
         interval: 100,
         wait: 1,
         lose_every: 0,
         kill: None,
     };
-    let run = shared(rt, alloc, &ADDS, 4, rules, 1000)?;
-    let mut boxes: Vec<Box<dyn Probe + Send>> = Vec::new(alloc);
-    boxes.push(Box::new(alloc, EventTally::new())?)?;
-    let mut probes = ProbeSet::new(boxes);
-    let gate = OpenGate::new();
-    let end = run_by(rt, alloc, run, &gate, &mut SureSink::new(), &mut probes)?;
+    shared(rt, alloc, ADDS, 4, rules, 1000)
+}
+
+/// What that leaves, and how many recoveries a probe counts.
+fn run_tallied<T: Threads + Wait + Sync + Abort>(
+    rt: &T,
+    alloc: Global,
+) -> Result<(Left, Option<u64>), Fail> {
+    let mut probes = tally(alloc)?;
+    let run = recovering(rt, alloc)?;
+    let end = run_probed(rt, alloc, run, &mut probes)?;
     assert!(rt; probes.count() > 0);
     Ok((end, probes.line(0, 9)))
 }
 
 #[test]
 fn a_probe_is_told_all_events(rt: HostRuntime) -> Result<(), Fail> {
-    let (end, recoveries) = recovering(&rt, rt.alloc())?;
+    let (end, recoveries) = run_tallied(&rt, rt.alloc())?;
     assert!(rt; end.finish == Finish::Budget && end.events == 1000);
     assert!(rt; end.point == 0 && end.committed == 0 && recoveries == Some(500));
     Ok(())
@@ -216,21 +238,25 @@ impl Gate for Meeting {
     }
 }
 
-/// What a run of four workers with losses leaves, and how many of them waited in vain for the others to begin.
-fn run_met<T: Threads + Wait + Sync + Abort>(rt: &T, alloc: Global) -> Result<(Left, u64), Fail> {
+/// A run of four workers with losses.
+fn losing(rt: &impl Abort, alloc: Global) -> Result<SharedMachine, Fail> {
     let rules = Rules {
         interval: 100,
         wait: 20_000,
         lose_every: 60,
         kill: None,
     };
-    let run = shared(rt, alloc, &ADDS, 4, rules, 1_000_000)?;
+    shared(rt, alloc, ADDS, 4, rules, 1_000_000)
+}
+
+/// What that leaves, and how many of its workers waited in vain for the others to begin.
+fn run_met<T: Threads + Wait + Sync + Abort>(rt: &T, alloc: Global) -> Result<(Left, u64), Fail> {
+    let run = losing(rt, alloc)?;
     let gate = Meeting {
         begun: AtomicU64::new(0),
         missed: AtomicU64::new(0),
     };
-    let mut probes = ProbeSet::new(Vec::new(alloc));
-    let end = run_by(rt, alloc, run, &gate, &mut SureSink::new(), &mut probes)?;
+    let end = run_alone(rt, alloc, run, &gate, &mut SureSink::new())?;
     Ok((end, gate.missed.load(Ordering::SeqCst)))
 }
 
@@ -294,45 +320,51 @@ fn counting(rt: &impl Abort, alloc: Global) -> Result<SharedMachine, Fail> {
     shared(rt, alloc, &COUNTS, 1, rules, 400)
 }
 
-/// What a run leaves that is held late for its console, how many bytes that has had, and whether it was held in vain.
-fn held<T: Threads + Wait + Sync + Abort>(rt: &T, alloc: Global) -> Result<(Left, u64, u64), Fail> {
-    let run = counting(rt, alloc)?;
+/// A console, and a gate that is held late for it.
+fn watched_and_held(alloc: Global) -> Result<(Watched, Late), Fail> {
     let bytes = Arc::new(alloc, AtomicU64::new(0))?;
     let gate = Late {
         bytes: Arc::try_clone(&bytes)?,
         missed: AtomicU64::new(0),
     };
-    let mut console = Watched { bytes };
-    let mut probes = ProbeSet::new(Vec::new(alloc));
-    let end = run_by(rt, alloc, run, &gate, &mut console, &mut probes)?;
+    Ok((Watched { bytes }, gate))
+}
+
+/// What a run leaves that is held late for its console, how many bytes that has had, and whether it was held in vain.
+fn run_late<T: Threads + Wait + Sync + Abort>(
+    rt: &T,
+    alloc: Global,
+) -> Result<(Left, u64, u64), Fail> {
+    let run = counting(rt, alloc)?;
+    let (mut console, gate) = watched_and_held(alloc)?;
+    let end = run_alone(rt, alloc, run, &gate, &mut console)?;
     let put = gate.bytes.load(Ordering::SeqCst);
     Ok((end, put, gate.missed.load(Ordering::SeqCst)))
 }
 
 #[test]
 fn the_console_is_written_beside_the_run(rt: HostRuntime) -> Result<(), Fail> {
-    let (end, put, missed) = held(&rt, rt.alloc())?;
+    let (end, put, missed) = run_late(&rt, rt.alloc())?;
     assert!(rt; missed == 0 && end.finish == Finish::Budget);
     assert!(rt; end.released > 38 && put == end.released as u64);
     Ok(())
 }
 
 /// Why a run ends whose console fails at its first call, and how many bytes that has had.
-fn failing<T: Threads + Wait + Sync + Abort>(
+fn run_failing<T: Threads + Wait + Sync + Abort>(
     rt: &T,
     alloc: Global,
 ) -> Result<(Finish, usize), Fail> {
     let run = counting(rt, alloc)?;
     let mut console = MemSink::with_room(alloc, 64)?;
     console.fail_call(1)?;
-    let mut probes = ProbeSet::new(Vec::new(alloc));
-    let end = run_by(rt, alloc, run, &OpenGate::new(), &mut console, &mut probes)?;
+    let end = run_alone(rt, alloc, run, &OpenGate::new(), &mut console)?;
     Ok((end.finish, console.bytes().len()))
 }
 
 #[test]
 fn a_console_that_fails_stops_the_workers(rt: HostRuntime) -> Result<(), Fail> {
-    let (finish, put) = failing(&rt, rt.alloc())?;
+    let (finish, put) = run_failing(&rt, rt.alloc())?;
     assert!(rt; finish == Finish::Stopped && put == 0);
     Ok(())
 }
@@ -366,37 +398,49 @@ impl Probe for Witness {
     }
 }
 
+/// So many probes with the same two counts.
+fn witnesses(
+    alloc: Global,
+    count: u64,
+    told: &Arc<AtomicU64, Global>,
+    drops: &Arc<AtomicU64, Global>,
+) -> Result<ProbeSet, Fail> {
+    let mut boxes: Vec<Box<dyn Probe + Send>> = Vec::new(alloc);
+    for _ in 0..count {
+        let witness = Witness {
+            told: Arc::try_clone(told)?,
+            drops: Arc::try_clone(drops)?,
+        };
+        boxes.push(Box::new(alloc, witness)?)?;
+    }
+    Ok(ProbeSet::new(boxes))
+}
+
 /// How often so many probes were told something in a run, and how many were dropped before and after their set was.
-fn witnessed<T: Threads + Wait + Sync + Abort>(
+fn run_witnessed<T: Threads + Wait + Sync + Abort>(
     rt: &T,
     alloc: Global,
     count: u64,
 ) -> Result<(u64, u64, u64), Fail> {
     let told = Arc::new(alloc, AtomicU64::new(0))?;
     let drops = Arc::new(alloc, AtomicU64::new(0))?;
-    let mut boxes: Vec<Box<dyn Probe + Send>> = Vec::new(alloc);
-    for _ in 0..count {
-        let witness = Witness {
-            told: Arc::try_clone(&told)?,
-            drops: Arc::try_clone(&drops)?,
-        };
-        boxes.push(Box::new(alloc, witness)?)?;
-    }
-    let mut probes = ProbeSet::new(boxes);
+    let mut probes = witnesses(alloc, count, &told, &drops)?;
     let run = counting(rt, alloc)?;
-    let gate = OpenGate::new();
-    run_by(rt, alloc, run, &gate, &mut SureSink::new(), &mut probes)?;
+    run_probed(rt, alloc, run, &mut probes)?;
     let before = drops.load(Ordering::SeqCst);
     drop(probes);
     let after = drops.load(Ordering::SeqCst);
     Ok((told.load(Ordering::SeqCst), before, after))
 }
 
+/// How many probes there are, and how often they are told something in a run of 400 events.
+const TOLD: [(u64, u64); 3] = [(0, 0), (1, 400), (100, 40_000)];
+
 #[test]
 fn each_probe_is_told_each_event_and_dropped_once(rt: HostRuntime) -> Result<(), Fail> {
-    for (count, told) in [(0, 0), (1, 400), (100, 40_000)] {
-        let seen = witnessed(&rt, rt.alloc(), count)?;
-        assert!(rt; seen == (told, 0, count));
+    for (count, wanted) in &TOLD {
+        let (told, before, after) = run_witnessed(&rt, rt.alloc(), *count)?;
+        assert!(rt; told == *wanted && before == 0 && after == *count);
     }
     Ok(())
 }
