@@ -47,6 +47,17 @@ def summary(lines):
     return [line for line in lines[start:] if not line.startswith("# safetynet: ")]
 
 
+def replay_differences(command, size, console, report, folder):
+    """What a replay of a run's journal, which its report is, gives otherwise than the run did: console or summary. The program's file stands in the folder."""
+    script = [line for line in report if not line.startswith("# safetynet: ")]
+    Path(folder, "journal").write_text("".join(line + "\n" for line in script))
+    again, released, replayed = call(command, ["replay", *size, "program", "journal"], folder)
+    marked = [line[2:] for line in script if line.startswith("# ") and not line.startswith("# worker ")]
+    if again != 0 or released != console:
+        return [f"the replay has status {again}, or another console"]
+    return [] if summary(replayed) == marked else ["the replay has another summary"]
+
+
 def differences(command, simulator, choose, folder):
     """What is wrong with one run, and how it ended."""
     nodes = choose.choice([1, 2, 2, 3, 4, 4, 6, 8, 16, choose.randrange(1, 17)])
@@ -55,15 +66,7 @@ def differences(command, simulator, choose, folder):
     status, console, report = call(command, ["run", *size, *rule, "--journal", "program"], folder)
     if status not in ENDS:
         return [f"{size + rule}: status {status}"], "other"
-    script = [line for line in report if not line.startswith("# safetynet: ")]
-    Path(folder, "journal").write_text("".join(line + "\n" for line in script))
-    wrong = []
-    again, released, replayed = call(command, ["replay", *size, "program", "journal"], folder)
-    marked = [line[2:] for line in script if line.startswith("# ") and not line.startswith("# worker ")]
-    if again != 0 or released != console:
-        wrong.append(f"{size + rule}: the replay has status {again}, or another console")
-    elif summary(replayed) != marked:
-        wrong.append(f"{size + rule}: the replay has another summary")
+    wrong = [f"{size + rule}: {text}" for text in replay_differences(command, size, console, report, folder)]
     if nodes == 1 and call(command, ["run", *size, *rule, "--journal", "program"], folder) != (status, console, report):
         wrong.append(f"{size + rule}: the run on one node is another one the second time")
     _, _, trace = call(command, ["run", *size, *rule, "--trace", "program"], folder)

@@ -27,6 +27,18 @@ ends() { # status, beginnings of lines, words
   fi
 }
 
+# The journal that the last run reported, as a script, gives the same console and summary.
+replayed() { # words before the script
+  cp "$work/report" "$work/journal"
+  ./safetynet replay "$@" "$work/journal" >"$work/again" 2>"$work/report"
+  if cmp -s "$work/console" "$work/again" && diff <(grep '^# ' "$work/journal" | grep -vE '^# (worker |safetynet: )' | sed 's/^# //') <(sed -n '/^events /,$p' "$work/report"); then
+    passed=$((passed + 1))
+  else
+    echo "the journal of $*, replayed, has another console or summary" >&2
+    failed=$((failed + 1))
+  fi
+}
+
 # Words that are no run's: nothing is written but the word of the status.
 refused() { # words
   ./safetynet run "$@" >"$work/console" 2>"$work/report"
@@ -39,11 +51,11 @@ refused() { # words
   fi
 }
 
-count=examples/shared/count.hex
+count=examples/shared/count.hex mailbox=examples/asm/mailbox.hex
 echo 00000000 >"$work/trap.hex"
 echo 0000006f >"$work/spin.hex"
 
-# Four cores add 1 to a word and exit, while messages are lost; the journal, as a script, gives the same summary.
+# Four cores add 1 to a word and exit, while messages are lost.
 ends 0 '# committed 20
 # released 0
 # watch 80001000 00000004
@@ -51,14 +63,15 @@ ends 0 '# committed 20
 # core 1 80000010 exited 1
 # core 2 80000010 exited 2
 # core 3 80000010 exited 3' --nodes 4 --watch 80001000 --lose-every 60 --seed 7 --journal "$count"
-cp "$work/report" "$work/journal"
-./safetynet replay --nodes 4 --watch 80001000 "$count" "$work/journal" >/dev/null 2>"$work/report"
-if diff <(grep '^# ' "$work/journal" | grep -v '^# worker ' | sed 's/^# //') <(sed -n '/^events /,$p' "$work/report"); then
-  passed=$((passed + 1))
-else
-  echo "the journal of four cores, replayed, has another summary" >&2
-  failed=$((failed + 1))
-fi
+replayed --nodes 4 --watch 80001000 "$count"
+
+# One node hands letters to the other while every thirtieth message is lost. They come out once each and in order, whatever the
+# recoveries undo.
+ends 0 '# released 10
+# core 0 80000054 exited 0
+# core 1 80000054 exited 74' --nodes 2 --interval 10 --wait 100 --lose-every 30 --budget 100000 --journal "$mailbox"
+[ "$(cat "$work/console")" = ABCDEFGHIJ ] || { echo "the letters are $(head -c 100 "$work/console")" >&2; failed=$((failed + 1)); }
+replayed --nodes 2 "$mailbox"
 
 ends 10 'committed 1
 core 0 80000000 trapped illegal
@@ -76,6 +89,11 @@ point 0
 committed 0
 released 0
 probe 0 9 500' --nodes 4 --wait 1 --budget 1000 "$count"
+ends 6 '# events 1000
+# committed 0
+# released 0
+# probe 0 9 500' --nodes 2 --wait 1 --budget 1000 --journal "$mailbox"
+replayed --nodes 2 "$mailbox"
 # No input comes to a run, so a core that wants a byte waits until the budget is spent.
 ends 6 'events 2000
 released 0' --nodes 1 --budget 2000 examples/shared/echo.hex

@@ -1,0 +1,158 @@
+#!/usr/bin/env bash
+# Inputs as large as they may be and one past it, bytes of no form, and outputs that can't be written.
+set -u
+cd "$(dirname "$0")/../.." || exit 1
+failed=0 passed=0
+work=$(mktemp -d)
+trap 'rm -rf "$work"' EXIT
+
+./safetynet --build || { echo "the program was not built" >&2; exit 1; }
+
+first=examples/first/a.hex count=examples/shared/count.hex
+
+# So many of one byte.
+bytes() { # how many, the byte
+  head -c "$1" /dev/zero | tr '\0' "$2"
+}
+
+# Runs the program, which is to end with this status, its report ending with this line. The console and the report stand in the
+# folder then.
+ends() { # status, last line of the report, words
+  local want=$1 line=$2 status
+  shift 2
+  ./safetynet "$@" >"$work/console" 2>"$work/report"
+  status=$?
+  if [ "$status" -eq "$want" ] && [ "$(tail -n 1 "$work/report")" = "$line" ]; then
+    passed=$((passed + 1))
+  else
+    echo "$*: status $status, or the report ends with '$(tail -n 1 "$work/report" | head -c 100)'" >&2
+    failed=$((failed + 1))
+  fi
+}
+
+# Runs it with words that are refused: nothing is written but the line that says so.
+refused() { # status, word, words
+  ends "$1" "# safetynet: $2" "${@:3}"
+  if [ -s "$work/console" ] || [ "$(wc -l <"$work/report")" -ne 1 ]; then
+    echo "${*:3}: something was written" >&2
+    failed=$((failed + 1))
+  fi
+}
+
+# What the last run reported has so many lines like this one.
+has() { # how many, pattern
+  local found
+  found=$(grep -cE -- "$2" "$work/report")
+  if [ "$found" -eq "$1" ]; then
+    passed=$((passed + 1))
+  else
+    echo "the report has $found lines '$2' and not $1" >&2
+    failed=$((failed + 1))
+  fi
+}
+
+# Numbers of a million digits, and of as many as a word may have.
+digits=$(bytes 100000 7)
+{ printf '0 '; bytes 1000000 7; echo ' 0'; } >"$work/seen"
+{ bytes 1000000 7; echo ' 00000000 0'; } >"$work/core"
+{ printf 'addi a0, a0, '; bytes 1000000 7; echo; } >"$work/addi"
+{ bytes 1000000 a; echo ':'; } >"$work/label"
+bytes 1000000 7 >"$work/words"
+refused 4 'script badline' check --nodes 1 "$first" "$work/seen"
+refused 4 'script badline' check --nodes 1 "$first" "$work/core"
+refused 13 'asm badline' asm "$work/addi"
+ends 0 '' asm "$work/label"
+refused 3 'program badhexline' dis "$work/words"
+refused 1 usage demo "$digits"
+refused 1 usage replay --nodes "$digits" "$first" examples/first/a.script
+refused 1 usage run "--seed=$digits" "$first"
+
+# Lines that lack all but the first half of their end.
+printf '\r\r\r' >"$work/returns"
+refused 13 'asm badline' asm "$work/returns"
+refused 3 'program badhexline' dis "$work/returns"
+
+# As many events and records as there may be.
+yes validate | head -n 1000000 >"$work/script"
+ends 0 'probe 0 9 0' replay --nodes 1 "$first" "$work/script"
+has 1 '^events 1000000$'
+echo 0000006f >"$work/spin"
+yes '0 00000000 0' | head -n 1000000 >"$work/trace"
+ends 0 'legal 1000000' check --nodes 1 "$work/spin" "$work/trace"
+ends 9 '# safetynet: refused 6' check --nodes 2 "$count" "$work/trace"
+
+# Files at their limits, and the words of memory.
+bytes 33554432 '#' >"$work/script"
+ends 0 'probe 0 9 0' replay --nodes 1 "$first" "$work/script"
+ends 0 'legal 0' check --nodes 1 "$first" "$work/script"
+{ cat "$first"; bytes 16777216 '#'; } | head -c 16777216 >"$work/program"
+ends 0 'probe 0 9 0' replay --nodes 1 "$work/program" examples/first/a.script
+bytes 16777216 '#' >"$work/text"
+ends 0 '' asm "$work/text"
+printf '#' >>"$work/text"
+refused 13 'asm toolong' asm "$work/text"
+yes ecall | head -n 1048576 >"$work/text"
+ends 0 '' asm "$work/text"
+cp "$work/console" "$work/program"
+ends 0 '' dis "$work/program"
+diff <(tail -n +2 "$work/console") "$work/text" >/dev/null || { echo "the words of memory have another listing" >&2; failed=$((failed + 1)); }
+echo ecall >>"$work/text"
+refused 13 'asm toomanywords' asm "$work/text"
+echo 00000073 >>"$work/program"
+refused 3 'program toomanywords' dis "$work/program"
+
+# Files without an end, and names of no file.
+refused 3 'program toolong' dis /dev/zero
+refused 4 'script toolong' replay --nodes 1 "$first" /dev/zero
+refused 4 'script toolong' check --nodes 1 "$first" /dev/zero
+refused 13 'asm toolong' asm /dev/zero
+refused 2 store dis "$work"
+refused 2 store asm ''
+
+# The network is filled to its 1,024 messages, emptied one by one, filled again and emptied by a recovery.
+reports() {
+  yes 'report 0' | head -n 1025
+}
+{ echo 'edge 0'; reports; seq -f 'deliver %.0f' 1024; reports; echo recover; echo 'report 0'; } >"$work/script"
+ends 0 'probe 0 9 1' replay --nodes 1 "$first" "$work/script"
+has 2049 ': reported [01]$'
+has 2 'report 0: netfull$'
+has 1024 '^[0-9]* deliver [0-9]*: delivered$'
+has 1 ': recovered 0 undone 0 dropped 1024$'
+has 1 '^  msg 2049 ready '
+
+# Every second event is a recovery: nothing is committed, and each step is undone.
+for ((i = 0; i < 500; i++)); do printf 'step %d\nrecover\n' $((i % 2)); done >"$work/script"
+ends 0 'probe 0 9 500' replay --nodes 2 examples/asm/mailbox.hex "$work/script"
+has 500 ': recovered 0 undone 0 dropped 0$'
+has 1 '^committed 0$'
+
+# A console or a report that takes nothing.
+broken() { # console, report, words
+  local status
+  ./safetynet "${@:3}" >"$1" 2>"$2"
+  status=$?
+  if [ "$status" -eq 5 ]; then
+    passed=$((passed + 1))
+  else
+    echo "${*:3}, to $1 and $2: status $status" >&2
+    failed=$((failed + 1))
+  fi
+}
+printf '0 00000000 0\n' >"$work/trace"
+replayed=(replay --nodes 1 "$first" examples/first/a.script)
+broken /dev/full "$work/report" "${replayed[@]}"
+has 1 '^# safetynet: sink$'
+broken /dev/full "$work/report" run --nodes 1 "$first"
+broken /dev/full "$work/report" asm examples/asm/counter.s
+broken /dev/full "$work/report" dis "$first"
+broken "$work/console" /dev/full "${replayed[@]}"
+broken "$work/console" /dev/full replay --trace "${replayed[@]:1}"
+broken "$work/console" /dev/full run --nodes 1 "$first"
+broken "$work/console" /dev/full run --nodes 1 --trace "$first"
+broken "$work/console" /dev/full run --nodes 1 --journal "$first"
+broken "$work/console" /dev/full check --nodes 1 "$first" "$work/trace"
+broken "$work/console" /dev/full demo 100
+
+echo "limits: $passed passed, $failed failed"
+[ "$failed" -eq 0 ]
