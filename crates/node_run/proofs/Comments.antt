@@ -21,22 +21,11 @@ use Rattle.sn_text.specs.Items.{is_skipped, items_from}
 use Rattle.sn_text.specs.Script.{event_of}
 use Rattle.sn_text.specs.Text.{named_number, word_text, cause_text, end_text, register_text, registers_text, core_line, count_line}
 use Rattle.sn_text.specs.Text.{watch_line, probe_line}
-use Rattle.sn_text.proofs.Printed.{From, from-append, from-lower, from-word}
+use Rattle.sn_text.proofs.Printed.{From, is_from, from-tested, from-append, from-lower, from-word}
 use Rattle.sink_pieces.specs.Pieces.{report_text}
-use Rattle.script_replay.specs.Pieces.{flat_at, core_lines, watch_lines, cut_lines, summary_of, tally_lines, tally_pieces, summary_pieces}
+use Rattle.script_replay.specs.Pieces.{flat_at, core_lines, watch_lines, summary_of, tally_lines, tally_pieces, summary_pieces}
 
 -- no byte of these texts ends a line
-
-abbrev is_from : ℕ → List ℕ → Bool
-is_from low [] = true
-is_from low (x ∷ xs) = nat_le low x && is_from low xs
-
-from-tested : (low : ℕ) (xs : List ℕ) → is_from low xs ≡ true → From low xs
-from-tested low [] e = tt
-from-tested low (x ∷ xs) e = (grind (arith, nat_tests), from-tested low xs (by_test (nat_le low x) (is_from low xs) e)) where
-  by_test : (a b : Bool) → (a && b) ≡ true → b ≡ true
-  by_test true b h = h
-  by_test false b h = absurd cc
 
 from-glyph : (d : ℕ) → 32 ≤ digit_glyph false d
 from-glyph d = by_test (nat_lt d 10) where
@@ -59,7 +48,8 @@ unfolding digits
 from-number n = from-digits 64 n [] tt
 
 from-named : (name : List ℕ) (n : ℕ) → From 32 name → From 32 (named_number name n)
-from-named name n h = from-append 32 (name ++ codes " ") (decimal n) (from-append 32 name (codes " ") h (from-tested 32 (codes " ") refl)) (from-number n)
+from-named name n h =
+    from-append 32 (name ++ codes " ") (decimal n) (from-append 32 name (codes " ") h (from-tested 32 (codes " ") refl)) (from-number n)
 
 from-hex : (word : ℕ) → From 32 (word_text word)
 from-hex word = from-lower 32 48 (word_text word) (omega arith) (from-word word)
@@ -81,7 +71,9 @@ from-end (Trapped cause) = from-append 32 (codes "trapped ") (cause_text cause) 
 from-register : (number value : ℕ) → From 32 (register_text number value)
 from-register number value =
     from-append 32 ((codes " x" ++ decimal number) ++ codes "=") (word_text value)
-    (from-append 32 (codes " x" ++ decimal number) (codes "=") (from-append 32 (codes " x") (decimal number) (from-tested 32 (codes " x") refl) (from-number number)) (from-tested 32 (codes "=") refl))
+    (from-append 32 (codes " x" ++ decimal number) (codes "=")
+    (from-append 32 (codes " x") (decimal number) (from-tested 32 (codes " x") refl) (from-number number))
+    (from-tested 32 (codes "=") refl))
     (from-hex value)
 
 from-registers : (number : ℕ) (values : List ℕ) → From 32 (registers_text number values)
@@ -157,15 +149,21 @@ module _ (nodes : ℕ) where
       let name : List ℕ = named_number (codes "core") node in
       let head : List ℕ = (name ++ codes " ") ++ word_text core.pc in
       let blank : From 32 (codes " ") = from-tested 32 (codes " ") refl in
-      let head_from : From 32 head = from-append 32 (name ++ codes " ") (word_text core.pc) (from-append 32 name (codes " ") (from-named (codes "core") node (from-tested 32 (codes "core") refl)) blank) (from-hex core.pc) in
-      let more_from : From 32 ((head ++ codes " ") ++ end_text core.end) = from-append 32 (head ++ codes " ") (end_text core.end) (from-append 32 head (codes " ") head_from blank) (from-end core.end) in
+      let head_from : From 32 head = from-append 32 (name ++ codes " ") (word_text core.pc)
+      (from-append 32 name (codes " ") (from-named (codes "core") node (from-tested 32 (codes "core") refl)) blank)
+      (from-hex core.pc) in
+      let more_from : From 32 ((head ++ codes " ") ++ end_text core.end) = from-append 32 (head ++ codes " ") (end_text core.end)
+      (from-append 32 head (codes " ") head_from blank) (from-end core.end) in
       skips-marked (((head ++ codes " ") ++ end_text core.end) ++ registers_text 1 (drop 1 core.x))
-      (from-append 32 ((head ++ codes " ") ++ end_text core.end) (registers_text 1 (drop 1 core.x)) more_from (from-registers 1 (drop 1 core.x)))
+      (from-append 32 ((head ++ codes " ") ++ end_text core.end) (registers_text 1 (drop 1 core.x)) more_from
+      (from-registers 1 (drop 1 core.x)))
 
   skips-cores : (flat : FlatState) (n : ℕ) → Skips (core_lines (codes "# ") flat n)
   unfolding core_lines
   skips-cores flat zero = skips-none
-  skips-cores flat (suc n) = skips-both (core_lines (codes "# ") flat n) (core_line (codes "# ") n (core_at flat n)) (skips-cores flat n) (skips-core n (core_at flat n))
+  skips-cores flat (suc n) =
+      skips-both (core_lines (codes "# ") flat n) (core_line (codes "# ") n (core_at flat n)) (skips-cores flat n)
+      (skips-core n (core_at flat n))
 
   skips-watch : (flat : FlatState) (watch : Option ℕ) → Skips (watch_lines (codes "# ") flat watch)
   unfolding watch_line
@@ -174,7 +172,9 @@ module _ (nodes : ℕ) where
       let head : List ℕ = (codes "watch " ++ word_text address) ++ codes " " in
       skips-marked (head ++ word_text (word_at flat.memory address))
       (from-append 32 head (word_text (word_at flat.memory address))
-      (from-append 32 (codes "watch " ++ word_text address) (codes " ") (from-append 32 (codes "watch ") (word_text address) (from-tested 32 (codes "watch ") refl) (from-hex address)) (from-tested 32 (codes " ") refl))
+      (from-append 32 (codes "watch " ++ word_text address) (codes " ")
+      (from-append 32 (codes "watch ") (word_text address) (from-tested 32 (codes "watch ") refl) (from-hex address))
+      (from-tested 32 (codes " ") refl))
       (from-hex (word_at flat.memory address)))
 
   skips-probe : (probe place value : ℕ) → Skips (probe_line (codes "# ") probe place value)
@@ -185,21 +185,25 @@ module _ (nodes : ℕ) where
       let third : List ℕ = named_number [] value in
       skips-marked ((first ++ second) ++ third)
       (from-append 32 (first ++ second) third
-      (from-append 32 first second (from-named (codes "probe") probe (from-tested 32 (codes "probe") refl)) (from-named [] place tt)) (from-named [] value tt))
+      (from-append 32 first second (from-named (codes "probe") probe (from-tested 32 (codes "probe") refl)) (from-named [] place tt))
+      (from-named [] value tt))
 
   skips-tally : (probe place : ℕ) (values : List ℕ) → Skips (tally_lines (codes "# ") probe place values)
   unfolding tally_lines
   skips-tally probe place [] = skips-none
   skips-tally probe place (value ∷ values) =
-      skips-both (probe_line (codes "# ") probe place value) (tally_lines (codes "# ") probe (place + 1) values) (skips-probe probe place value) (skips-tally probe (place + 1) values)
+      skips-both (probe_line (codes "# ") probe place value) (tally_lines (codes "# ") probe (place + 1) values)
+      (skips-probe probe place value) (skips-tally probe (place + 1) values)
 
   skips-tallies : (probe : ℕ) (tallies : List (List ℕ)) → Skips (report_text (tally_pieces (codes "# ") probe tallies))
   unfolding tally_pieces
   skips-tallies probe [] = skips-none
   skips-tallies probe (tally ∷ tallies) =
-      skips-both (tally_lines (codes "# ") probe 0 (take 16 tally)) (report_text (tally_pieces (codes "# ") (probe + 1) tallies)) (skips-tally probe 0 (take 16 tally)) (skips-tallies (probe + 1) tallies)
+      skips-both (tally_lines (codes "# ") probe 0 (take 16 tally)) (report_text (tally_pieces (codes "# ") (probe + 1) tallies))
+      (skips-tally probe 0 (take 16 tally)) (skips-tallies (probe + 1) tallies)
 
-  skips-machine : (image : ImageData) (config : Config) (watch : Option ℕ) (events : ℕ) (s : State) → Skips (summary_of (codes "# ") image config watch events s)
+  skips-machine : (image : ImageData) (config : Config) (watch : Option ℕ) (events : ℕ) (s : State) →
+      Skips (summary_of (codes "# ") image config watch events s)
   unfolding summary_of
   skips-machine image config watch events s =
       let one : List ℕ = count_line (codes "# ") (codes "events") events in
@@ -219,4 +223,5 @@ module _ (nodes : ℕ) where
   pub skips-summary : (image : ImageData) (config : Config) (watch : Option ℕ) (tallies : List (List ℕ)) (events : ℕ) (s : State) →
       Skips (report_text (summary_pieces (codes "# ") image config watch tallies events s))
   skips-summary image config watch tallies events s =
-      skips-both (summary_of (codes "# ") image config watch events s) (report_text (tally_pieces (codes "# ") 0 tallies)) (skips-machine image config watch events s) (skips-tallies 0 tallies)
+      skips-both (summary_of (codes "# ") image config watch events s) (report_text (tally_pieces (codes "# ") 0 tallies))
+      (skips-machine image config watch events s) (skips-tallies 0 tallies)

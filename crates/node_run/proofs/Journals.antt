@@ -69,16 +69,20 @@ numbers-all journal i e h = subst (λ (l : List Entry). HaveNumbers l) (take_all
 
 -- and then the summary
 module _ (m : MachineData) (journal : List Entry) (watch : Option ℕ) (tallies : List (List ℕ)) where
-  pub script-all : (a b d : Ends) → b ≡ after a (journal_pieces journal) → d ≡ after b (summed_up (codes "# ") m watch tallies) → d ≡ after a (script_now m journal watch tallies)
+  pub script-all : (a b d : Ends) → b ≡ after a (journal_pieces journal) → d ≡ after b (summed_up (codes "# ") m watch tallies) →
+      d ≡ after a (script_now m journal watch tallies)
   script-all a b d first second =
-      second ∙ ap (λ e. after e (summed_up (codes "# ") m watch tallies)) first ∙ after-append a (journal_pieces journal) (summed_up (codes "# ") m watch tallies)
+      second ∙ ap (λ e. after e (summed_up (codes "# ") m watch tallies)) first
+      ∙ after-append a (journal_pieces journal) (summed_up (codes "# ") m watch tallies)
 
   pub script-breaks_first : (a b : Ends) → Breaks (journal_pieces journal) a b → Breaks (script_now m journal watch tallies) a b
   script-breaks_first a b broken = Breaks-more (journal_pieces journal) (summed_up (codes "# ") m watch tallies) a b broken
 
-  pub script-breaks_second : (a b d : Ends) → b ≡ after a (journal_pieces journal) → Breaks (summed_up (codes "# ") m watch tallies) b d → Breaks (script_now m journal watch tallies) a d
+  pub script-breaks_second : (a b d : Ends) → b ≡ after a (journal_pieces journal) → Breaks (summed_up (codes "# ") m watch tallies) b d →
+      Breaks (script_now m journal watch tallies) a d
   script-breaks_second a b d first broken =
-      Breaks-after (journal_pieces journal) (summed_up (codes "# ") m watch tallies) a d (subst (λ (e : Ends). Breaks (summed_up (codes "# ") m watch tallies) e d) first broken)
+      Breaks-after (journal_pieces journal) (summed_up (codes "# ") m watch tallies) a d
+      (subst (λ (e : Ends). Breaks (summed_up (codes "# ") m watch tallies) e d) first broken)
 
 -- a report that broke, of the kind that was asked for
 module _ (m : MachineData) (journal : List Entry) (showing : RunShowing) (tallies : List (List ℕ)) (r : Result (Unit {0}) Failed) (before behind : Option (List ℕ)) where

@@ -52,8 +52,10 @@ module _ (nodes : ℕ) (small : nodes ≤ 16) where
       Reads nodes (count + 1) rest events → Reads nodes count (entry_lines entry ++ rest) (entry.event ∷ events)
   unfolding entry_lines
   read-entry count entry rest events fits numbers few h =
-      subst (λ (t : List ℕ). Reads nodes count t (entry.event ∷ events)) (sym (append_assoc (count_line (codes "# ") (codes "worker") entry.worker) (script_line entry.event) rest))
-      (skips-count nodes (codes "worker") entry.worker refl count (script_line entry.event ++ rest) (entry.event ∷ events) (read-event count entry.event rest events fits numbers few h))
+      subst (λ (t : List ℕ). Reads nodes count t (entry.event ∷ events))
+      (sym (append_assoc (count_line (codes "# ") (codes "worker") entry.worker) (script_line entry.event) rest))
+      (skips-count nodes (codes "worker") entry.worker refl count (script_line entry.event ++ rest) (entry.event ∷ events)
+      (read-event count entry.event rest events fits numbers few h))
 
   read-journal : (count : ℕ) (journal : List Entry) (summary : List ℕ) → All (λ e. event_fits nodes e.event ≡ true) journal →
       HaveNumbers journal → count + length journal ≤ most_items →

@@ -8,23 +8,22 @@ use Rattle.sn_base.specs.declared.event.Event.{Event}
 use Rattle.sn_base.specs.declared.event.Answer.{Answer}
 use Rattle.sn_model.specs.Machine.{State, start_of}
 use Rattle.sn_model.specs.Step.{step_of, state_after, run_of}
-use Rattle.sn_probe.specs.Probes.{Meter, told_from, tallies_of}
-use Rattle.sink_pieces.specs.Pieces.{Piece, console_text, report_text, console_piece}
+use Rattle.sn_probe.specs.Probes.{Meter, told_from}
+use Rattle.sink_pieces.specs.Pieces.{console_text, report_text, console_piece}
 use Rattle.sink_pieces.proofs.PieceLaws.{console_text-append, report_text-append}
 use Rattle.sink_pieces.proofs.Begun.{report_text-piece}
 use Rattle.script_replay.specs.declared.job.Showing.{Showing}
 use Rattle.script_replay.specs.declared.job.ReportKind.TheVariants.{Summary}
-use Rattle.script_replay.specs.Pieces.{group_of, group_pieces, summary_pieces, last_pieces, end_pieces, turn_pieces, turns_from}
+use Rattle.script_replay.specs.Pieces.{summary_pieces, end_pieces, turn_pieces, turns_from}
 use Rattle.script_replay.specs.Pieces.{pieces_from, pieces_of}
 use Rattle.script_replay.specs.Probed.{answered, told_all as told_by_replay}
-use Rattle.script_replay.specs.Shown.{pieces_due}
 use Rattle.script_replay.proofs.Shown.{console_text-turn, console_text-turns}
 use Rattle.run_journals.specs.declared.entry.Entry.{Entry}
-use Rattle.run_journals.specs.Journal.{Began, events_of, state_of, answers_of}
+use Rattle.run_journals.specs.Journal.{events_of, state_of, answers_of}
 use Rattle.run_journals.proofs.Released.{released-grows}
 use Rattle.node_threads.specs.Told.{told_in, told_all}
 use Rattle.node_run.specs.declared.job.Run.{Run}
-use Rattle.node_run.specs.Pieces.{begins, replay_of, tallies_by, summary_by}
+use Rattle.node_run.specs.Pieces.{begins, replay_of, tallies_by}
 use Rattle.node_run.specs.Shown.{IsReplayedSo, output_by}
 
 -- what its probes are told

@@ -5,19 +5,17 @@ use Rattle.sn_base.specs.Image.{ImageData}
 use Rattle.sn_base.specs.declared.config.Config.{Config}
 use Rattle.sn_base.specs.declared.event.Answer.{Answer}
 use Rattle.sn_io.specs.Outside.{followed_by, Rose}
-use Rattle.sn_text.specs.Written.{trace_text}
 use Rattle.sn_model.specs.Machine.{State}
 use Rattle.sn_model.specs.Trace.{Entry as Retirement}
 use Rattle.consistent_cuts.specs.Headline.{IsConsistent}
 use Rattle.sn_machine.specs.Machine.{MachineData, IsConsistentNow, flat_of}
 use Rattle.sn_probe.specs.Probes.{Meter, tallies_of}
 use Rattle.sn_console.specs.Handed.{IsWritten, IsBegun}
-use Rattle.sink_pieces.specs.Pieces.{Piece, Report, Ends, ends, after, Breaks, console_piece, report_text, HasBeginning}
+use Rattle.sink_pieces.specs.Pieces.{Piece, Ends, ends, after, Breaks, console_piece, report_text}
 use Rattle.sink_pieces.proofs.PieceLaws.{report_text-append, after-append, after-console_piece, Breaks-after}
 use Rattle.sink_pieces.proofs.Begun.{report-after, report-begun}
-use Rattle.script_replay.specs.Pieces.{trace_pieces, summary_pieces, last_pieces, end_pieces}
+use Rattle.script_replay.specs.Pieces.{trace_pieces, summary_pieces, end_pieces}
 use Rattle.script_replay.specs.Played.{summed_up}
-use Rattle.script_replay.specs.Probed.{told_all as told_by_replay}
 use Rattle.script_replay.proofs.Shown.{report_text-trace}
 use Rattle.run_journals.specs.declared.entry.Entry.{Entry}
 use Rattle.run_journals.specs.Journal.{Began, state_of}
@@ -29,12 +27,10 @@ use Rattle.node_run.specs.declared.ending.Ending.{Ending}
 use Rattle.node_run.specs.declared.job.Run.{Run}
 use Rattle.node_run.specs.declared.job.RunReport.{RunReport}
 use Rattle.node_run.specs.declared.job.RunReport.TheVariants.{Summary, Trace, Journal}
-use Rattle.node_run.specs.declared.job.RunShowing.{RunShowing}
 use Rattle.node_run.specs.Endings.{ending_by, flat_after, ending_of}
-use Rattle.node_run.specs.Pieces.{begins, replay_of, tallies_by, entry_lines, journal_text, journal_pieces, summary_by, report_by}
-use Rattle.node_run.specs.Pieces.{run_pieces}
+use Rattle.node_run.specs.Pieces.{begins, tallies_by, entry_lines, journal_text, journal_pieces, summary_by, report_by}
 use Rattle.node_run.specs.Reported.{report_by_kind, report_now, HaveNumbers}
-use Rattle.node_run.specs.Shown.{MayBegin, IsJournal, IsLawful, IsTrace, IsScript, IsShown, IsShownInPart, IsStopped, IsRun, IsCutShort}
+use Rattle.node_run.specs.Shown.{MayBegin, IsJournal, IsLawful, IsTrace, IsScript}
 use Rattle.node_run.specs.Shown.{IsDone, IsBrokenOff, KnowAll, output_by}
 use Rattle.node_run.proofs.Comments.{skips-summary}
 use Rattle.node_run.proofs.ReadBack.{journal-read}
@@ -115,7 +111,8 @@ module _ (r : Run) (began : Began) (m : MachineData) (journal : List Entry) (ans
   report-by_kind Trace probes tallies are =
       ap (λ (s : State). trace_pieces s.committed ++ summed_up (codes "# ") m r.showing.watch tallies) by_run.state
       ∙ ap (λ (t : List Piece). trace_pieces (state_of (begins r) journal).committed ++ t) (summary-is (codes "# ") probes tallies are)
-  report-by_kind Journal probes tallies are = ap (λ (t : List Piece). journal_pieces journal ++ t) (summary-is (codes "# ") probes tallies are)
+  report-by_kind Journal probes tallies are =
+      ap (λ (t : List Piece). journal_pieces journal ++ t) (summary-is (codes "# ") probes tallies are)
 
   report-is : (probes told : List Meter) → told ≡ told_all journal answers probes →
       report_now m journal r.showing (tallies_of told) ≡ report_by r.showing.report r probes journal
@@ -128,8 +125,10 @@ module _ (r : Run) (began : Began) (m : MachineData) (journal : List Entry) (ans
   is-trace probes before behind kind put = record {
     execution = lawful.1.execution;
     written = put ∙ ap (λ (k : RunReport). followed_by before (report_text (report_by k r probes journal))) kind
-        ∙ ap (followed_by before) (report_text-append (trace_pieces (state_of (begins r) journal).committed) (summary_by (codes "# ") r probes journal)
-        ∙ ap (λ t. t ++ report_text (summary_by (codes "# ") r probes journal)) (report_text-trace (state_of (begins r) journal).committed));
+        ∙ ap (followed_by before)
+        (report_text-append (trace_pieces (state_of (begins r) journal).committed) (summary_by (codes "# ") r probes journal)
+        ∙ ap (λ t. t ++ report_text (summary_by (codes "# ") r probes journal))
+        (report_text-trace (state_of (begins r) journal).committed));
   }
 
   is-script : (probes : List Meter) (before behind : Option (List ℕ)) → HaveNumbers journal → r.showing.report ≡ Journal →
@@ -138,7 +137,9 @@ module _ (r : Run) (began : Began) (m : MachineData) (journal : List Entry) (ans
     written = put ∙ ap (λ (k : RunReport). followed_by before (report_text (report_by k r probes journal))) kind
         ∙ ap (followed_by before) (report_text-append (journal_pieces journal) (summary_by (codes "# ") r probes journal)
         ∙ ap (λ t. t ++ report_text (summary_by (codes "# ") r probes journal)) (report_text-journal journal));
-    read = journal-read r.config.nodes may.ruled.few journal (report_text (summary_by (codes "# ") r probes journal)) (by_run.fit may.ruled) numbers (omega (arith, by_run.few, may.few))
+    read =
+        journal-read r.config.nodes may.ruled.few journal (report_text (summary_by (codes "# ") r probes journal))
+        (by_run.fit may.ruled) numbers (omega (arith, by_run.few, may.few))
         (skips-summary r.config.nodes r.program r.config r.showing.watch (tallies_by r probes journal) (length journal)
         (state_of (begins r) journal));
   }

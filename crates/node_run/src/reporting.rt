@@ -2,7 +2,6 @@
 ghost use Rattle.std.specs.Prelude.{◌≡◌, ℕ, List, ◌≤◌, Option, OnOk, OnErr};
 ghost use Rattle.sn_io.specs.Outside.{Rose};
 ghost use Rattle.sn_text.specs.Written.{HasNumbers};
-ghost use Rattle.sn_machine.specs.Machine.{MachineData};
 ghost use Rattle.sn_probe.specs.Probes.{meters_in, tallies_of};
 ghost use Rattle.sink_pieces.specs.Pieces.{ends, after, Breaks};
 ghost use Rattle.script_replay.specs.Played.{IsWatchable};
@@ -13,29 +12,10 @@ use crate::job::{RunReport, RunShowing};
 use node_threads::Entry;
 use script_replay::{ReportKind, Showing, put_end, put_summary};
 use sink_pieces::put_report;
-use sn_base::Event;
 use sn_io::{Failed, Sink};
 use sn_machine::Machine;
 use sn_probe::ProbeSet;
 use sn_text::Line;
-
-// Does nothing: that an event's numbers are numbers of their types is known where it is taken apart.
-fn see_numbers(event: &Event)
-    ensures { HasNumbers event.now }
-{
-    match event {
-        Event::Hop(id) | Event::Deliver(id) | Event::Lose(id) => {
-            let _id = *id;
-        }
-        Event::Evict(_, block) => {
-            let _number = block.number();
-        }
-        Event::Input(_, byte) => {
-            let _byte = *byte;
-        }
-        _ => {}
-    }
-}
 
 // A turn of a journal: a comment that names its worker, and its event as a line of a script.
 #[tactic(auto, unfolding(crate::specs::Pieces::entry_lines))]
@@ -43,7 +23,6 @@ fn write_entry(line: &mut Line, entry: &Entry)
     ensures text { line.new ≡ entry_lines entry.now }
     ensures numbers { HasNumbers entry.now.event }
 {
-    see_numbers(&entry.event);
     line.clear();
     line.count("# ", "worker", u64::from(entry.worker));
     line.script(&entry.event);

@@ -6,7 +6,6 @@ ghost use Rattle.sink_pieces.specs.Pieces.{ends};
 ghost use Rattle.sn_driver.specs.Driver.{AreRules};
 ghost use Rattle.sn_probe.specs.Probes.{meters_in};
 ghost use Rattle.shared_machine.specs.Shared.{begins_with};
-ghost use Rattle.node_run.specs.Pieces.{begins};
 ghost use Rattle.node_run.specs.Shown.{MayBegin, IsDone, IsBrokenOff};
 
 use crate::ending::{Ending, how_ended};

@@ -11,9 +11,11 @@ pub turns-preserved : goal.turns-preserved
 turns-preserved g c = record {
   put =
       λ r.
-      turn-next c.args.journal.now c.turns.entry-index c.entry-item.result c.write_entry.new.line c.bytes.result.now _ _ _ c.turns-test.true c.entry-item.is c.write_entry.ensures.text c.bytes.ensures (c.turns.invariant.put r) (c.in_ok-put_report.ensures.ok r);
+      turn-next c.args.journal.now c.turns.entry-index c.entry-item.result c.write_entry.new.line c.bytes.result.now _ _ _ c.turns-test.true
+      c.entry-item.is c.write_entry.ensures.text c.bytes.ensures (c.turns.invariant.put r) (c.in_ok-put_report.ensures.ok r);
   numbers =
-      numbers-next c.args.journal.now c.turns.entry-index c.entry-item.result c.turns-test.true c.entry-item.is c.write_entry.ensures.numbers c.turns.invariant.numbers;
+      numbers-next c.args.journal.now c.turns.entry-index c.entry-item.result c.turns-test.true c.entry-item.is
+      c.write_entry.ensures.numbers c.turns.invariant.numbers;
   later = omega (arith, c.put_report.ensures.later, c.turns.invariant.later);
 }
 
@@ -22,7 +24,8 @@ returns-in_err-put_report-clause-err g c =
     let p = err_from_is_err_and c.from_residual.result c.from_residual.ensures.1 in
     rw p.1
     (λ r.
-    turn-breaks c.args.journal.now c.turns.entry-index c.entry-item.result c.write_entry.new.line c.bytes.result.now _ _ _ c.turns-test.true c.entry-item.is c.write_entry.ensures.text c.bytes.ensures (c.turns.invariant.put r) (c.in_err-put_report.ensures.err r))
+    turn-breaks c.args.journal.now c.turns.entry-index c.entry-item.result c.write_entry.new.line c.bytes.result.now _ _ _ c.turns-test.true
+    c.entry-item.is c.write_entry.ensures.text c.bytes.ensures (c.turns.invariant.put r) (c.in_err-put_report.ensures.err r))
 
 pub returns-clause-ok : goal.returns-clause-ok
 returns-clause-ok g c =

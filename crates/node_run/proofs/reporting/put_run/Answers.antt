@@ -3,7 +3,8 @@ use Rattle.node_run.proofs.reporting.put_run.Goals as goal
 
 pub returns-in-Summary-clause-err : goal.returns-in-Summary-clause-err
 returns-in-Summary-clause-err g c =
-    summary-breaks c.args.machine.now c.args.journal.now c.args.showing.now _ c.put_summary.result _ _ c.in-Summary.is c.put_summary.ensures.err
+    summary-breaks c.args.machine.now c.args.journal.now c.args.showing.now _ c.put_summary.result _ _ c.in-Summary.is
+    c.put_summary.ensures.err
 
 pub returns-in-Trace-clause-err : goal.returns-in-Trace-clause-err
 returns-in-Trace-clause-err g c =
@@ -11,7 +12,8 @@ returns-in-Trace-clause-err g c =
 
 pub returns-in-Journal-clause-err : goal.returns-in-Journal-clause-err
 returns-in-Journal-clause-err g c =
-    script-breaks c.args.machine.now c.args.journal.now c.args.showing.now _ c.put_script.result _ _ c.in-Journal.is c.put_script.ensures.err
+    script-breaks c.args.machine.now c.args.journal.now c.args.showing.now _ c.put_script.result _ _ c.in-Journal.is
+    c.put_script.ensures.err
 
 pub returns-in-Summary-clause-numbers : goal.returns-in-Summary-clause-numbers
 returns-in-Summary-clause-numbers g c = summary-numbers c.args.journal.now c.args.showing.now c.put_summary.result c.in-Summary.is
