@@ -1,13 +1,15 @@
-//! Which of its own pages the program shows: the one of help, or the one of its version.
+//! The program's own pages, of help and of its version: which one the words ask for, and what it says.
 //!
-//! The program answers calls for these itself, before any command is done. Here the words alone are looked at; the layer
-//! above has the texts of the pages and puts them. Nothing here takes memory, reads a value or knows an option, and that
-//! words ask for no page says nothing of whether they are a command.
+//! The program answers calls for these itself, before any command is done. The layer above hands in the words and the
+//! console. Nothing here takes memory, reads a value or knows an option, and that words ask for no page says nothing of
+//! whether they are a command.
 #![tactic(auto)]
 
 mod page;
+mod texts;
 
 pub use page::{Page, page_of};
+pub use texts::show;
 
 #[cfg(test)]
 mod tests;

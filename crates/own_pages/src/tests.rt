@@ -1,5 +1,6 @@
-//! Lines of words, and the page that they ask for.
-use super::{Page, page_of};
+//! Lines of words, the page that they ask for, and what a page puts.
+use super::{Page, page_of, show};
+use sn_io::{Failed, MemSink};
 use std::alloc::{AllocError, Global};
 use std::process::Abort;
 use std::test::Fail;
@@ -52,4 +53,36 @@ fn a_call_for_a_page_is_one_word_alone_or_after_a_command(rt: HostRuntime) -> Re
 #[test]
 fn without_even_a_name_it_is_help(rt: HostRuntime) {
     assert!(rt; page_of(&[]) == Some(Page::Help));
+}
+
+/// Whether the page of the version comes to this on a console with so much room.
+fn version_comes_to(
+    rt: &impl Abort,
+    alloc: Global,
+    room: usize,
+    wanted: Result<(), Failed>,
+    text: &str,
+) -> Result<(), Fail> {
+    let mut console = MemSink::with_room(alloc, room)?;
+    assert!(rt; show(&mut console, Page::Version) == wanted);
+    assert!(rt; console.bytes() == text.as_bytes());
+    Ok(())
+}
+
+#[test]
+fn a_page_is_put_in_one_piece(rt: HostRuntime) -> Result<(), Fail> {
+    version_comes_to(&rt, rt.alloc(), 16, Ok(()), "safetynet 0.1.0\n")?;
+    version_comes_to(&rt, rt.alloc(), 15, Err(Failed), "")
+}
+
+#[test]
+fn the_page_of_help_begins_with_what_the_program_does(rt: HostRuntime) -> Result<(), Fail> {
+    let mut console = MemSink::with_room(rt.alloc(), 10_000)?;
+    assert!(rt; show(&mut console, Page::Help) == Ok(()));
+    assert!(rt;
+        console
+            .bytes()
+            .starts_with(b"Replays a list of events on a simulated SafetyNet")
+    );
+    Ok(())
 }
