@@ -1,5 +1,7 @@
 //! Each row and each refusal once, with the after-states that the protocol's table gives; what accesses and evictions come
 //! to; and the cache's part of some schedules.
+//!
+//! The rows are plain data: a node is its number, and a content its first word, with 0 after it.
 ghost use Rattle.std.specs.Prelude.{◌≡◌, ◌+◌, ◌≤◌, true, false, List};
 ghost use Rattle.sn_base.specs.declared.log.LogEntry.{LogEntry};
 ghost use Rattle.log_buffer.specs.Log.{logged_to};
@@ -16,7 +18,7 @@ mod schedules;
 use super::{Cache, noting};
 use crate::step::{CacheStep, Probe1};
 use log_buffer::LogBuffer;
-use sn_base::{Answer, Block, BlockNo, Config, Interval, Memory, NodeId, Width, Write};
+use sn_base::{Answer, Block, BlockNo, Config, Interval, Memory, NodeId, Old, Width, Write};
 use sn_model::{LineState, Look, Need, Out};
 use sn_msg::{Body, Message};
 use std::alloc::Global;
@@ -31,11 +33,71 @@ fn block() -> BlockNo {
     BlockNo::new(64)
 }
 
-/// A content with this word first, and 0 after it.
 fn content(word: u32) -> Block {
     let mut content = Block::zero();
     content.store(0, Width::Word, word);
     content
+}
+
+/// What a message asks or says.
+#[derive(Clone, Copy)]
+enum Says {
+    GetS,
+    GetM,
+    FwdGetS(u8),
+    FwdGetM(u8, u8),
+    Inv(u8),
+    DataS(u32),
+    DataM(u32, u8),
+    DataE(u32),
+    UpgOk(u8),
+    InvAck,
+    Unblock(Interval),
+    PutReq,
+    PutGo,
+    PutData(u32),
+    PutDone,
+}
+
+fn body_of(rt: &impl Abort, says: &Says) -> Body {
+    match says {
+        Says::GetS => Body::GetS,
+        Says::GetM => Body::GetM,
+        Says::FwdGetS(requester) => Body::FwdGetS(node(rt, *requester)),
+        Says::FwdGetM(requester, due) => Body::FwdGetM(node(rt, *requester), *due),
+        Says::Inv(requester) => Body::Inv(node(rt, *requester)),
+        Says::DataS(word) => Body::DataS(content(*word)),
+        Says::DataM(word, due) => Body::DataM(content(*word), *due),
+        Says::DataE(word) => Body::DataE(content(*word)),
+        Says::UpgOk(due) => Body::UpgOk(*due),
+        Says::InvAck => Body::InvAck,
+        Says::Unblock(fixed) => Body::Unblock(*fixed),
+        Says::PutReq => Body::PutReq,
+        Says::PutGo => Body::PutGo,
+        Says::PutData(word) => Body::PutData(content(*word)),
+        Says::PutDone => Body::PutDone,
+    }
+}
+
+fn out_of(rt: &impl Abort, to: u8, says: &Says) -> Out {
+    Out {
+        to: node(rt, to),
+        body: body_of(rt, says),
+    }
+}
+
+/// What a log's entry says that the cache had: not the block, or this content of it.
+#[derive(Clone, Copy)]
+enum Had {
+    Nothing,
+    Owned(u32),
+}
+
+fn old_of(had: Had) -> Old {
+    match had {
+        Had::Nothing => Old::NotOwned,
+        Had::Owned(word) => Old::Owned(content(word)),
+    }
 }
 
 fn is_owner(state: LineState) -> bool
@@ -192,17 +254,25 @@ fn store(cache: &mut Cache, write: &Write, now: Interval, log: &mut LogBuffer) -
 enum Step {
     Miss(Need),
     Put,
-    Take(Body),
+    Take(Says),
 }
 
-/// Does a step in interval 2, where the tag of a message is 1. False where it can't be.
-fn does(cache: &mut Cache, block: BlockNo, step: Step, log: &mut LogBuffer) -> bool {
+/// Does a step in an interval, where the tag of a message is 1. False where it can't be.
+fn does(
+    rt: &impl Abort,
+    cache: &mut Cache,
+    block: BlockNo,
+    step: &Step,
+    now: Interval,
+    log: &mut LogBuffer,
+) -> bool {
     match step {
-        Step::Miss(need) => miss(cache, block, need, 2, log).is_some(),
-        Step::Put => put(cache, block, 2).is_some(),
-        Step::Take(body) => {
+        Step::Miss(need) => miss(cache, block, *need, now, log).is_some(),
+        Step::Put => put(cache, block, now).is_some(),
+        Step::Take(says) => {
             let here = cache.node;
-            deliver(cache, &message(here, block, 1, body), 2, log).is_some()
+            let message = message(here, block, 1, body_of(rt, says));
+            deliver(cache, &message, now, log).is_some()
         }
     }
 }
@@ -218,45 +288,61 @@ fn small_cache(alloc: Global, here: NodeId) -> Result<Cache, Memory> {
     Cache::new(alloc, here, &config)
 }
 
-/// The same after these steps with the block. None where one of them can't be.
-fn cache_after(alloc: Global, here: NodeId, steps: &[Step]) -> Result<Option<Cache>, Memory> {
-    let mut cache = small_cache(alloc, here)?;
+/// That of node 1 after these steps with the block in interval 2. None where one of them can't be.
+fn cache_after(rt: &impl Abort, alloc: Global, steps: &[Step]) -> Result<Option<Cache>, Memory> {
+    let mut cache = small_cache(alloc, node(rt, 1))?;
     let mut log = LogBuffer::new(alloc, 4)?;
     'steps: for step in steps.iter() {
-        if !does(&mut cache, block(), *step, &mut log) {
+        if !does(rt, &mut cache, block(), step, 2, &mut log) {
             return Ok(None);
         }
     }
     Ok(Some(cache))
 }
 
-fn reading() -> [Step; 1] {
-    [Step::Miss(Need::Read)]
+/// The same, where each step has the number of its block.
+fn cache_of_many(
+    rt: &impl Abort,
+    alloc: Global,
+    steps: &[(u16, Step)],
+) -> Result<Option<Cache>, Memory> {
+    let mut cache = small_cache(alloc, node(rt, 1))?;
+    let mut log = LogBuffer::new(alloc, 4)?;
+    'steps: for step in steps.iter() {
+        if !does(rt, &mut cache, BlockNo::new(step.0), &step.1, 2, &mut log) {
+            return Ok(None);
+        }
+    }
+    Ok(Some(cache))
 }
 
-fn writing() -> [Step; 1] {
-    [Step::Miss(Need::Write)]
-}
+const READING: [Step; 1] = [Step::Miss(Need::Read)];
 
-fn shared() -> [Step; 2] {
-    [Step::Miss(Need::Read), Step::Take(Body::DataS(content(7)))]
-}
+const WRITING: [Step; 1] = [Step::Miss(Need::Write)];
 
-fn exclusive() -> [Step; 2] {
-    [Step::Miss(Need::Read), Step::Take(Body::DataE(content(7)))]
-}
+const SHARED: [Step; 2] = [Step::Miss(Need::Read), Step::Take(Says::DataS(7))];
 
-fn modified() -> [Step; 2] {
-    [
-        Step::Miss(Need::Write),
-        Step::Take(Body::DataM(content(7), 0)),
-    ]
-}
+/// A copy that is asked for to be written.
+const SHARED_WRITING: [Step; 3] = [
+    Step::Miss(Need::Read),
+    Step::Take(Says::DataS(7)),
+    Step::Miss(Need::Write),
+];
 
-fn owned(reader: NodeId) -> [Step; 3] {
-    [
-        Step::Miss(Need::Read),
-        Step::Take(Body::DataE(content(7))),
-        Step::Take(Body::FwdGetS(reader)),
-    ]
-}
+const EXCLUSIVE: [Step; 2] = [Step::Miss(Need::Read), Step::Take(Says::DataE(7))];
+
+const MODIFIED: [Step; 2] = [Step::Miss(Need::Write), Step::Take(Says::DataM(7, 0))];
+
+/// A block that was written, and is to be given up.
+const PUTTING: [Step; 3] = [
+    Step::Miss(Need::Write),
+    Step::Take(Says::DataM(7, 0)),
+    Step::Put,
+];
+
+/// Node 0 has read it.
+const OWNED: [Step; 3] = [
+    Step::Miss(Need::Read),
+    Step::Take(Says::DataE(7)),
+    Step::Take(Says::FwdGetS(0)),
+];

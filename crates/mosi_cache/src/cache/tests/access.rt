@@ -1,215 +1,273 @@
 //! What an access, an eviction and the questions about a cache come to.
 use super::super::Cache;
 use super::{
-    Step, block, cache_after, content, does, exclusive, miss, modified, node, owned, put, reading,
-    shared, small_cache, writing,
+    EXCLUSIVE, MODIFIED, OWNED, PUTTING, READING, SHARED, Says, Step, block, cache_after,
+    cache_of_many, content, does,
 };
 use crate::step::Probe1;
 use log_buffer::LogBuffer;
-use sn_base::{Answer, BlockNo, Memory, NodeId};
+use sn_base::{Answer, BlockNo, Interval, Memory};
 use sn_model::Need;
-use sn_msg::Body;
 use std::alloc::Global;
+use std::process::Abort;
 use std::test::Fail;
 
-/// What a read and a write of the block come to after these steps, in interval 5 and with room for so many entries.
-fn probes(
-    alloc: Global,
-    here: NodeId,
-    steps: &[Step],
-    room: u16,
-) -> Result<Option<(Probe1, Probe1)>, Memory> {
-    let Some(cache) = cache_after(alloc, here, steps)? else {
-        return Ok(None);
-    };
+/// What was done with the block, the room of the log, and what a read and a write of it come to in interval 5.
+type Access = (&'static [Step], u16, Probe1, Probe1);
+
+const BY_STATE: [Access; 5] = [
+    (&[], 4, Probe1::Miss, Probe1::Miss),
+    (&SHARED, 4, Probe1::Ready, Probe1::Miss),
+    (&OWNED, 4, Probe1::Ready, Probe1::Miss),
+    (&MODIFIED, 4, Probe1::Ready, Probe1::Ready),
+    (&EXCLUSIVE, 4, Probe1::Ready, Probe1::Ready),
+];
+
+const WITHOUT_ROOM: [Access; 2] = [
+    (&MODIFIED, 0, Probe1::Ready, Probe1::LogFull),
+    (&EXCLUSIVE, 0, Probe1::Ready, Probe1::LogFull),
+];
+
+const IN_A_PUT: [Access; 1] = [(&PUTTING, 4, Probe1::Waits, Probe1::Waits)];
+
+/// None while a miss is open.
+fn probe(cache: &Cache, block: BlockNo, need: Need, log: &LogBuffer) -> Option<Probe1> {
     if cache.open_block().is_some() {
-        return Ok(None);
+        return None;
     }
-    let log = LogBuffer::new(alloc, room)?;
-    let read = cache.probe(block(), Need::Read, 5, &log);
-    Ok(Some((read, cache.probe(block(), Need::Write, 5, &log))))
+    Some(cache.probe(block, need, 5, log))
+}
+
+fn comes_to(rt: &impl Abort, alloc: Global, access: &Access) -> Result<bool, Memory> {
+    let Some(cache) = cache_after(rt, alloc, access.0)? else {
+        return Ok(false);
+    };
+    let log = LogBuffer::new(alloc, access.1)?;
+    let read = probe(&cache, block(), Need::Read, &log);
+    let write = probe(&cache, block(), Need::Write, &log);
+    Ok(read == Some(access.2) && write == Some(access.3))
+}
+
+fn all_come_to(rt: &impl Abort, alloc: Global, accesses: &[Access]) -> Result<(), Fail> {
+    'accesses: for (place, access) in accesses.iter().enumerate() {
+        let is_so = comes_to(rt, alloc, access)?;
+        assert!(rt; is_so, "row {place}");
+    }
+    Ok(())
 }
 
 #[test]
 fn a_line_serves_what_its_state_allows(rt: HostRuntime) -> Result<(), Fail> {
-    let (here, r) = (node(&rt, 1), node(&rt, 0));
-    let neither = Some((Probe1::Miss, Probe1::Miss));
-    let read_only = Some((Probe1::Ready, Probe1::Miss));
-    let both = Some((Probe1::Ready, Probe1::Ready));
-    assert!(rt; probes(rt.alloc(), here, &[], 4)? == neither);
-    assert!(rt; probes(rt.alloc(), here, &shared(), 4)? == read_only);
-    assert!(rt; probes(rt.alloc(), here, &owned(r), 4)? == read_only);
-    assert!(rt; probes(rt.alloc(), here, &modified(), 4)? == both);
-    assert!(rt; probes(rt.alloc(), here, &exclusive(), 4)? == both);
-    Ok(())
+    all_come_to(&rt, rt.alloc(), &BY_STATE)
 }
 
 #[test]
 fn a_write_needs_room_for_the_old_content(rt: HostRuntime) -> Result<(), Fail> {
-    let here = node(&rt, 1);
-    let read_only = Some((Probe1::Ready, Probe1::LogFull));
-    assert!(rt; probes(rt.alloc(), here, &modified(), 0)? == read_only);
-    assert!(rt; probes(rt.alloc(), here, &exclusive(), 0)? == read_only);
-    Ok(())
+    all_come_to(&rt, rt.alloc(), &WITHOUT_ROOM)
 }
 
 #[test]
 fn an_access_waits_for_the_put(rt: HostRuntime) -> Result<(), Fail> {
-    let here = node(&rt, 1);
-    let [write, data] = modified();
-    let waits = Some((Probe1::Waits, Probe1::Waits));
-    assert!(rt; probes(rt.alloc(), here, &[write, data, Step::Put], 4)? == waits);
-    Ok(())
+    all_come_to(&rt, rt.alloc(), &IN_A_PUT)
 }
 
-fn misses_one(miss: Need, data: Body) -> [Step; 2] {
-    [Step::Miss(miss), Step::Take(data)]
-}
+/// Both frames of the set are taken: by block 66, to be written, and block 65, to be read.
+const FULL: [(u16, Step); 4] = [
+    (66, Step::Miss(Need::Write)),
+    (66, Step::Take(Says::DataM(7, 0))),
+    (65, Step::Miss(Need::Read)),
+    (65, Step::Take(Says::DataS(8))),
+];
 
-/// Does these steps with another block.
-fn also(cache: &mut Cache, number: u16, steps: &[Step], log: &mut LogBuffer) -> bool {
-    'steps: for step in steps.iter() {
-        if !does(cache, BlockNo::new(number), *step, log) {
+/// A block, what is needed of it, and what that comes to.
+const IN_A_FULL_SET: [(u16, Need, Probe1); 4] = [
+    (64, Need::Read, Probe1::NeedsEvict),
+    (64, Need::Write, Probe1::NeedsEvict),
+    (65, Need::Read, Probe1::Ready),
+    (65, Need::Write, Probe1::Miss),
+];
+
+fn are_probed(cache: &Cache, log: &LogBuffer, rows: &[(u16, Need, Probe1)]) -> bool {
+    'rows: for row in rows.iter() {
+        if probe(cache, BlockNo::new(row.0), row.1, log) != Some(row.2) {
             return false;
         }
     }
     true
 }
 
-/// A cache whose two frames have block 66, to be written, and block 65, to be read.
-fn full_cache(alloc: Global, here: NodeId) -> Result<Option<Cache>, Memory> {
-    let mut cache = small_cache(alloc, here)?;
-    let mut log = LogBuffer::new(alloc, 4)?;
-    let write = misses_one(Need::Write, Body::DataM(content(7), 0));
-    let read = misses_one(Need::Read, Body::DataS(content(8)));
-    if also(&mut cache, 66, &write, &mut log) && also(&mut cache, 65, &read, &mut log) {
-        return Ok(Some(cache));
-    }
-    Ok(None)
-}
-
-fn probe(cache: &Cache, number: u16, need: Need, log: &LogBuffer) -> Option<Probe1> {
-    if cache.open_block().is_some() {
-        return None;
-    }
-    Some(cache.probe(BlockNo::new(number), need, 5, log))
-}
-
 #[test]
 fn a_full_set_takes_no_further_block(rt: HostRuntime) -> Result<(), Fail> {
     let log = LogBuffer::new(rt.alloc(), 4)?;
-    let cache = full_cache(rt.alloc(), node(&rt, 1))?;
-    let Some(cache) = cache else {
-        assert!(rt; false);
-        return Ok(());
+    let Some(cache) = cache_of_many(&rt, rt.alloc(), &FULL)? else {
+        return Err(Fail::from("the set is full"));
     };
-    assert!(rt; probe(&cache, 64, Need::Read, &log) == Some(Probe1::NeedsEvict));
-    assert!(rt; probe(&cache, 64, Need::Write, &log) == Some(Probe1::NeedsEvict));
-    assert!(rt; probe(&cache, 65, Need::Read, &log) == Some(Probe1::Ready));
-    assert!(rt; probe(&cache, 65, Need::Write, &log) == Some(Probe1::Miss));
+    assert!(rt; are_probed(&cache, &log, &IN_A_FULL_SET));
     Ok(())
+}
+
+/// Steps, each with its block and interval, and what is then the least line of the set of block 64 that may go: where a put may
+/// not begin, and where it may; the least interval of what is open; and the block of the open miss.
+struct Question {
+    steps: &'static [(u16, Step, Interval)],
+    shared: Option<u16>,
+    any: Option<u16>,
+    least_open: Option<Interval>,
+    open_block: Option<u16>,
+}
+
+const QUESTIONS: [Question; 3] = [
+    Question {
+        steps: &[],
+        shared: Some(65),
+        any: Some(65),
+        least_open: None,
+        open_block: None,
+    },
+    Question {
+        steps: &[(65, Step::Miss(Need::Write), 7)],
+        shared: None,
+        any: Some(66),
+        least_open: Some(7),
+        open_block: Some(65),
+    },
+    Question {
+        steps: &[(66, Step::Put, 6)],
+        shared: None,
+        any: None,
+        least_open: Some(6),
+        open_block: Some(65),
+    },
+];
+
+fn block_of(number: Option<u16>) -> Option<BlockNo> {
+    match number {
+        Some(number) => Some(BlockNo::new(number)),
+        None => None,
+    }
+}
+
+fn is_least(cache: &Cache, question: &Question) -> bool {
+    cache.least_line(block(), false) == block_of(question.shared)
+        && cache.least_line(block(), true) == block_of(question.any)
+}
+
+fn is_open(cache: &Cache, question: &Question) -> bool {
+    cache.least_open() == question.least_open && cache.open_block() == block_of(question.open_block)
+}
+
+/// Does the steps of a question. False where one of them can't be.
+fn goes_on(rt: &impl Abort, cache: &mut Cache, log: &mut LogBuffer, question: &Question) -> bool {
+    'steps: for step in question.steps.iter() {
+        if !does(rt, cache, BlockNo::new(step.0), &step.1, step.2, log) {
+            return false;
+        }
+    }
+    true
+}
+
+/// Whether all questions about a full cache are answered so: about its least lines, or about what is open.
+fn are_answered(rt: &impl Abort, alloc: Global, of_lines: bool) -> Result<bool, Memory> {
+    let mut log = LogBuffer::new(alloc, 4)?;
+    let Some(mut cache) = cache_of_many(rt, alloc, &FULL)? else {
+        return Ok(false);
+    };
+    'questions: for question in QUESTIONS.iter() {
+        if !goes_on(rt, &mut cache, &mut log, question) {
+            return Ok(false);
+        }
+        let is_so = if of_lines {
+            is_least(&cache, question)
+        } else {
+            is_open(&cache, question)
+        };
+        if !is_so {
+            return Ok(false);
+        }
+    }
+    Ok(true)
 }
 
 #[test]
 fn the_least_line_that_may_go(rt: HostRuntime) -> Result<(), Fail> {
-    let mut log = LogBuffer::new(rt.alloc(), 4)?;
-    let cache = full_cache(rt.alloc(), node(&rt, 1))?;
-    let Some(mut cache) = cache else {
-        assert!(rt; false);
-        return Ok(());
-    };
-    assert!(rt; cache.least_line(block(), false) == Some(BlockNo::new(65)));
-    assert!(rt; cache.least_line(block(), true) == Some(BlockNo::new(65)));
-    assert!(rt; also(&mut cache, 65, &writing(), &mut log));
-    assert!(rt; cache.least_line(block(), false).is_none());
-    assert!(rt; cache.least_line(block(), true) == Some(BlockNo::new(66)));
-    assert!(rt; also(&mut cache, 66, &[Step::Put], &mut log));
-    assert!(rt; cache.least_line(block(), true).is_none());
-    Ok(())
-}
-
-/// What an eviction of the block comes to after these steps.
-fn evicts(alloc: Global, here: NodeId, steps: &[Step]) -> Result<Option<Answer>, Memory> {
-    match cache_after(alloc, here, steps)? {
-        Some(cache) => Ok(Some(cache.evict_answer(block()))),
-        None => Ok(None),
-    }
-}
-
-#[test]
-fn what_an_eviction_comes_to(rt: HostRuntime) -> Result<(), Fail> {
-    let here = node(&rt, 1);
-    assert!(rt; evicts(rt.alloc(), here, &[])? == Some(Answer::NotCached));
-    assert!(rt; evicts(rt.alloc(), here, &reading())? == Some(Answer::MissOpen));
-    assert!(rt; evicts(rt.alloc(), here, &shared())? == Some(Answer::Evicted));
-    Ok(())
-}
-
-#[test]
-fn an_owner_is_evicted_by_a_put(rt: HostRuntime) -> Result<(), Fail> {
-    let (here, r) = (node(&rt, 1), node(&rt, 0));
-    let [write, data] = modified();
-    let put = [write, data, Step::Put];
-    assert!(rt; evicts(rt.alloc(), here, &owned(r))? == Some(Answer::PutBegun));
-    assert!(rt; evicts(rt.alloc(), here, &modified())? == Some(Answer::PutBegun));
-    assert!(rt; evicts(rt.alloc(), here, &exclusive())? == Some(Answer::PutBegun));
-    assert!(rt; evicts(rt.alloc(), here, &put)? == Some(Answer::PutOpen));
-    Ok(())
-}
-
-fn drop_shared(cache: &mut Cache, block: BlockNo) -> bool {
-    if cache.evict_answer(block) != Answer::Evicted {
-        return false;
-    }
-    cache.drop_shared(block);
-    true
-}
-
-#[test]
-fn a_dropped_copy_is_gone(rt: HostRuntime) -> Result<(), Fail> {
-    let cache = cache_after(rt.alloc(), node(&rt, 1), &shared())?;
-    let Some(mut cache) = cache else {
-        assert!(rt; false);
-        return Ok(());
-    };
-    assert!(rt; drop_shared(&mut cache, block()));
-    assert!(rt; cache.evict_answer(block()) == Answer::NotCached);
-    Ok(())
-}
-
-/// The content of the block where it is owned.
-fn owns(alloc: Global, here: NodeId, steps: &[Step]) -> Result<bool, Memory> {
-    match cache_after(alloc, here, steps)? {
-        Some(cache) => Ok(cache.owned(block()).copied() == Some(content(7))),
-        None => Ok(false),
-    }
-}
-
-#[test]
-fn an_owner_answers_for_the_content(rt: HostRuntime) -> Result<(), Fail> {
-    let (here, r) = (node(&rt, 1), node(&rt, 0));
-    assert!(rt; owns(rt.alloc(), here, &owned(r))?);
-    assert!(rt; owns(rt.alloc(), here, &modified())?);
-    assert!(rt; owns(rt.alloc(), here, &exclusive())?);
-    assert!(rt; !owns(rt.alloc(), here, &shared())?);
-    assert!(rt; !owns(rt.alloc(), here, &[])?);
+    let is_so = are_answered(&rt, rt.alloc(), true)?;
+    assert!(rt; is_so);
     Ok(())
 }
 
 #[test]
 fn the_least_interval_of_what_is_open(rt: HostRuntime) -> Result<(), Fail> {
-    let log = LogBuffer::new(rt.alloc(), 4)?;
-    let cache = full_cache(rt.alloc(), node(&rt, 1))?;
-    let Some(mut cache) = cache else {
-        assert!(rt; false);
-        return Ok(());
+    let is_so = are_answered(&rt, rt.alloc(), false)?;
+    assert!(rt; is_so);
+    Ok(())
+}
+
+/// What was done with the block, what an eviction of it comes to, and whether its content is owned.
+const EVICTIONS: [(&'static [Step], Answer, bool); 3] = [
+    (&[], Answer::NotCached, false),
+    (&READING, Answer::MissOpen, false),
+    (&SHARED, Answer::Evicted, false),
+];
+
+const EVICTIONS_OF_OWNERS: [(&'static [Step], Answer, bool); 4] = [
+    (&OWNED, Answer::PutBegun, true),
+    (&MODIFIED, Answer::PutBegun, true),
+    (&EXCLUSIVE, Answer::PutBegun, true),
+    (&PUTTING, Answer::PutOpen, true),
+];
+
+fn is_evicted(
+    rt: &impl Abort,
+    alloc: Global,
+    row: &(&'static [Step], Answer, bool),
+) -> Result<bool, Memory> {
+    let Some(cache) = cache_after(rt, alloc, row.0)? else {
+        return Ok(false);
     };
-    assert!(rt; cache.least_open().is_none());
-    assert!(rt; cache.open_block().is_none());
-    assert!(rt; miss(&mut cache, BlockNo::new(65), Need::Write, 7, &log).is_some());
-    assert!(rt; cache.least_open() == Some(7));
-    assert!(rt; cache.open_block() == Some(BlockNo::new(65)));
-    assert!(rt; put(&mut cache, BlockNo::new(66), 6).is_some());
-    assert!(rt; cache.least_open() == Some(6));
+    let is_owned = match cache.owned(block()) {
+        Some(owned) => *owned == content(7),
+        None => false,
+    };
+    Ok(cache.evict_answer(block()) == row.1 && is_owned == row.2)
+}
+
+fn all_evicted(
+    rt: &impl Abort,
+    alloc: Global,
+    rows: &[(&'static [Step], Answer, bool)],
+) -> Result<(), Fail> {
+    'rows: for (place, row) in rows.iter().enumerate() {
+        let is_so = is_evicted(rt, alloc, row)?;
+        assert!(rt; is_so, "row {place}");
+    }
+    Ok(())
+}
+
+#[test]
+fn what_an_eviction_comes_to(rt: HostRuntime) -> Result<(), Fail> {
+    all_evicted(&rt, rt.alloc(), &EVICTIONS)
+}
+
+#[test]
+fn an_owner_is_evicted_by_a_put_and_answers_for_the_content(rt: HostRuntime) -> Result<(), Fail> {
+    all_evicted(&rt, rt.alloc(), &EVICTIONS_OF_OWNERS)
+}
+
+/// Drops a Shared copy. False where there is none, or it is still there.
+fn drop_shared(cache: &mut Cache) -> bool {
+    let shared = block();
+    if cache.evict_answer(shared) != Answer::Evicted {
+        return false;
+    }
+    cache.drop_shared(shared);
+    cache.evict_answer(shared) == Answer::NotCached
+}
+
+#[test]
+fn a_dropped_copy_is_gone(rt: HostRuntime) -> Result<(), Fail> {
+    let Some(mut cache) = cache_after(&rt, rt.alloc(), &SHARED)? else {
+        return Err(Fail::from("the copy is there"));
+    };
+    assert!(rt; drop_shared(&mut cache));
     Ok(())
 }

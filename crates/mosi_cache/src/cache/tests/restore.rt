@@ -7,88 +7,102 @@ ghost use Rattle.mosi_cache.specs.Restored.{held_of};
 
 use super::super::Cache;
 use super::{
-    Step, block, cache_after, content, does, exclusive, is_last, modified, node, owned, shared,
-    small_cache,
+    Had, MODIFIED, OWNED, PUTTING, SHARED_WRITING, Says, Step, block, cache_after, cache_of_many,
+    content, is_last,
 };
 use log_buffer::LogBuffer;
 use rollback::unwind;
-use sn_base::{Block, BlockNo, Interval, Memory, NodeId, Old};
+use sn_base::{BlockNo, Interval, Memory, Old};
 use sn_model::{LineState, Need};
-use sn_msg::Body;
 use std::alloc::Global;
+use std::process::Abort;
 use std::test::Fail;
 
-/// Of the block: its state, its content where it is owned, and whether anything is open.
-type Left = (LineState, Option<Block>, bool);
+/// Of a block: its state, and its first word where it is owned. Nothing is open.
+type Left = (LineState, Option<u32>);
 
-fn left(cache: &Cache, block: BlockNo) -> Left {
-    (
-        cache.lines.state(block),
-        cache.owned(block).copied(),
-        cache.least_open().is_some(),
-    )
+const GONE: Left = (LineState::Absent, None);
+
+fn is_left(cache: &Cache, number: u16, left: &Left) -> bool {
+    let block = BlockNo::new(number);
+    let is_same = match (cache.owned(block), left.1) {
+        (Some(owned), Some(word)) => *owned == content(word),
+        (None, None) => true,
+        _ => false,
+    };
+    is_same && cache.lines.state(block) == left.0 && cache.least_open().is_none()
 }
 
-fn gone() -> Left {
-    (LineState::Absent, None, false)
-}
-
-fn written(word: u32) -> Left {
-    (LineState::Modified, Some(content(word)), false)
-}
-
-/// What is left once a recovery has begun after these steps. None where one of them can't be.
-fn begun(alloc: Global, here: NodeId, steps: &[Step]) -> Result<Option<Left>, Memory> {
-    let Some(mut cache) = cache_after(alloc, here, steps)? else {
-        return Ok(None);
+/// Whether this is left once a recovery has begun after these steps.
+fn begins(rt: &impl Abort, alloc: Global, steps: &[Step], left: &Left) -> Result<bool, Memory> {
+    let Some(mut cache) = cache_after(rt, alloc, steps)? else {
+        return Ok(false);
     };
     cache.begin_restore();
-    Ok(Some(left(&cache, block())))
+    Ok(is_left(&cache, 64, left))
 }
 
 #[test]
 fn a_copy_and_its_miss_are_given_up(rt: HostRuntime) -> Result<(), Fail> {
-    let [read, data] = shared();
-    let steps = [read, data, Step::Miss(Need::Write)];
-    assert!(rt; begun(rt.alloc(), node(&rt, 1), &steps)? == Some(gone()));
+    let is_so = begins(&rt, rt.alloc(), &SHARED_WRITING, &GONE)?;
+    assert!(rt; is_so);
     Ok(())
 }
 
-/// What a look shows after these steps: the state of the block's line, the interval of the open miss on the block, and that of
-/// the open put. None where one of them can't be.
-fn shown(
-    alloc: Global,
-    here: NodeId,
-    steps: &[Step],
-) -> Result<Option<(Option<LineState>, Option<Interval>, Option<Interval>)>, Memory> {
-    let Some(cache) = cache_after(alloc, here, steps)? else {
-        return Ok(None);
+/// What was done with the block, and what a look shows: the state of its line, and the intervals of the open miss and put.
+type Shown = (
+    &'static [Step],
+    Option<LineState>,
+    Option<Interval>,
+    Option<Interval>,
+);
+
+const LOOKS: [Shown; 3] = [
+    (&SHARED_WRITING, Some(LineState::Shared), Some(2), None),
+    (&PUTTING, Some(LineState::Modified), None, Some(2)),
+    (&[], None, None, None),
+];
+
+fn shows(cache: &Cache, shown: &Shown) -> bool {
+    let line = match cache.line(block()) {
+        Some(line) => Some(line.state),
+        None => None,
     };
-    let line = cache.line(block()).map(|line| line.state);
-    let miss = cache.miss().map(|miss| miss.issued);
-    let put = cache.put().map(|put| put.issued);
-    Ok(Some((line, miss, put)))
+    let miss = match cache.miss() {
+        Some(miss) => Some(miss.issued),
+        None => None,
+    };
+    let put = match cache.put() {
+        Some(put) => Some(put.issued),
+        None => None,
+    };
+    line == shown.1 && miss == shown.2 && put == shown.3
+}
+
+fn is_shown(rt: &impl Abort, alloc: Global, shown: &Shown) -> Result<bool, Memory> {
+    match cache_after(rt, alloc, shown.0)? {
+        Some(cache) => Ok(shows(&cache, shown)),
+        None => Ok(false),
+    }
 }
 
 #[test]
 fn a_look_shows_line_miss_and_put(rt: HostRuntime) -> Result<(), Fail> {
-    let here = node(&rt, 1);
-    let [read, data] = shared();
-    let copy = shown(rt.alloc(), here, &[read, data, Step::Miss(Need::Write)])?;
-    assert!(rt; copy == Some((Some(LineState::Shared), Some(2), None)));
-    let empty = shown(rt.alloc(), here, &[])?;
-    assert!(rt; empty == Some((None, None, None)));
+    for shown in LOOKS.iter() {
+        let is_so = is_shown(&rt, rt.alloc(), shown)?;
+        assert!(rt; is_so);
+    }
     Ok(())
 }
 
+const OWNERS: [&[Step]; 3] = [&PUTTING, &OWNED, &MODIFIED];
+
 #[test]
 fn an_owner_may_write(rt: HostRuntime) -> Result<(), Fail> {
-    let (here, reader) = (node(&rt, 1), node(&rt, 0));
-    let [read, data] = exclusive();
-    let putting = [read, data, Step::Put];
-    assert!(rt; begun(rt.alloc(), here, &putting)? == Some(written(7)));
-    assert!(rt; begun(rt.alloc(), here, &owned(reader))? == Some(written(7)));
-    assert!(rt; begun(rt.alloc(), here, &modified())? == Some(written(7)));
+    for steps in OWNERS {
+        let is_so = begins(&rt, rt.alloc(), steps, &(LineState::Modified, Some(7)))?;
+        assert!(rt; is_so);
+    }
     Ok(())
 }
 
@@ -127,20 +141,20 @@ fn recover(cache: &mut Cache, log: &LogBuffer, first: u16, second: u16) -> Optio
     Some(unwind(log, 1, cache))
 }
 
-/// Notes what the cache had of a block: this content, or nothing. False where there is no room, or a later entry.
-fn note(log: &mut LogBuffer, interval: Interval, block: BlockNo, had: Option<u32>) -> bool {
+/// Notes what the cache had of a block. False where there is no room, or a later entry.
+fn note(log: &mut LogBuffer, interval: Interval, block: BlockNo, had: Had) -> bool {
     if log.room() == 0 || !is_last(log, block, interval) {
         return false;
     }
     match had {
-        Some(word) => log.note(interval, block, Old::Owned(content(word))),
-        None => log.note(interval, block, Old::NotOwned),
+        Had::Nothing => log.note(interval, block, Old::NotOwned),
+        Had::Owned(word) => log.note(interval, block, Old::Owned(content(word))),
     }
     true
 }
 
-/// An entry of a log: its interval, its block, and the word that was owned.
-type Entry = (Interval, u16, Option<u32>);
+/// An entry of a log: its interval, its block, and what the cache had of it.
+type Entry = (Interval, u16, Had);
 
 fn log_of(alloc: Global, entries: &[Entry]) -> Result<Option<LogBuffer>, Memory> {
     let mut log = LogBuffer::new(alloc, 4)?;
@@ -152,77 +166,89 @@ fn log_of(alloc: Global, entries: &[Entry]) -> Result<Option<LogBuffer>, Memory>
     Ok(Some(log))
 }
 
-fn small_cache_after(
-    alloc: Global,
-    here: NodeId,
-    steps: &[(u16, Step)],
-) -> Result<Option<Cache>, Memory> {
-    let mut cache = small_cache(alloc, here)?;
-    let mut log = LogBuffer::new(alloc, 4)?;
-    'steps: for step in steps.iter() {
-        if !does(&mut cache, BlockNo::new(step.0), step.1, &mut log) {
-            return Ok(None);
-        }
-    }
-    Ok(Some(cache))
+/// Steps and a log; how many of its entries a recovery to checkpoint 1 undoes, and what it leaves of blocks.
+struct Recovery {
+    steps: &'static [(u16, Step)],
+    entries: &'static [Entry],
+    undone: u32,
+    left: [(u16, Left); 4],
 }
 
-/// What a recovery to checkpoint 1 undoes and leaves of blocks 64, 66, 68 and 70, after these steps and with this log, where
-/// it leaves only the last two, if they, owned.
-fn recovered(
-    alloc: Global,
-    here: NodeId,
-    steps: &[(u16, Step)],
-    entries: &[Entry],
-) -> Result<Option<(u32, [Left; 4])>, Memory> {
-    let Some(mut cache) = small_cache_after(alloc, here, steps)? else {
-        return Ok(None);
+const LOST_AND_GOT: Recovery = Recovery {
+    steps: &[
+        (64, Step::Miss(Need::Read)),
+        (64, Step::Take(Says::DataE(7))),
+        (66, Step::Miss(Need::Read)),
+        (66, Step::Take(Says::DataS(3))),
+    ],
+    entries: &[
+        (1, 64, Had::Nothing),
+        (1, 68, Had::Owned(9)),
+        (2, 64, Had::Owned(7)),
+    ],
+    undone: 3,
+    left: [
+        (64, GONE),
+        (66, GONE),
+        (68, (LineState::Modified, Some(9))),
+        (70, GONE),
+    ],
+};
+
+/// To put the first two back before the others are let go would take four frames, where there are two.
+const FULL_SET: Recovery = Recovery {
+    steps: &[
+        (64, Step::Miss(Need::Read)),
+        (64, Step::Take(Says::DataE(7))),
+        (66, Step::Miss(Need::Read)),
+        (66, Step::Take(Says::DataE(3))),
+    ],
+    entries: &[
+        (1, 68, Had::Owned(9)),
+        (1, 70, Had::Owned(5)),
+        (1, 64, Had::Nothing),
+        (1, 66, Had::Nothing),
+    ],
+    undone: 4,
+    left: [
+        (64, GONE),
+        (66, GONE),
+        (68, (LineState::Modified, Some(9))),
+        (70, (LineState::Modified, Some(5))),
+    ],
+};
+
+fn are_left(cache: &Cache, all: &[(u16, Left)]) -> bool {
+    'blocks: for one in all.iter() {
+        if !is_left(cache, one.0, &one.1) {
+            return false;
+        }
+    }
+    true
+}
+
+/// Whether all is so, where the recovery leaves only blocks 68 and 70, if they, owned.
+fn recovers(rt: &impl Abort, alloc: Global, recovery: &Recovery) -> Result<bool, Memory> {
+    let Some(mut cache) = cache_of_many(rt, alloc, recovery.steps)? else {
+        return Ok(false);
     };
-    let Some(log) = log_of(alloc, entries)? else {
-        return Ok(None);
+    let Some(log) = log_of(alloc, recovery.entries)? else {
+        return Ok(false);
     };
-    let Some(undone) = recover(&mut cache, &log, 68, 70) else {
-        return Ok(None);
-    };
-    let blocks = [
-        left(&cache, BlockNo::new(64)),
-        left(&cache, BlockNo::new(66)),
-        left(&cache, BlockNo::new(68)),
-        left(&cache, BlockNo::new(70)),
-    ];
-    Ok(Some((undone, blocks)))
+    let undone = recover(&mut cache, &log, 68, 70);
+    Ok(undone == Some(recovery.undone) && are_left(&cache, &recovery.left))
 }
 
 #[test]
 fn what_was_lost_is_back_and_what_was_got_is_gone(rt: HostRuntime) -> Result<(), Fail> {
-    let steps = [
-        (64, Step::Miss(Need::Read)),
-        (64, Step::Take(Body::DataE(content(7)))),
-        (66, Step::Miss(Need::Read)),
-        (66, Step::Take(Body::DataS(content(3)))),
-    ];
-    let log = [(1, 64, None), (1, 68, Some(9)), (2, 64, Some(7))];
-    let wanted = (3, [gone(), gone(), written(9), gone()]);
-    assert!(rt; recovered(rt.alloc(), node(&rt, 1), &steps, &log)? == Some(wanted));
+    let is_so = recovers(&rt, rt.alloc(), &LOST_AND_GOT)?;
+    assert!(rt; is_so);
     Ok(())
 }
 
-/// To put the first two back before the others are let go would take four frames, where there are two.
 #[test]
 fn a_full_set_makes_room(rt: HostRuntime) -> Result<(), Fail> {
-    let steps = [
-        (64, Step::Miss(Need::Read)),
-        (64, Step::Take(Body::DataE(content(7)))),
-        (66, Step::Miss(Need::Read)),
-        (66, Step::Take(Body::DataE(content(3)))),
-    ];
-    let log = [
-        (1, 68, Some(9)),
-        (1, 70, Some(5)),
-        (1, 64, None),
-        (1, 66, None),
-    ];
-    let wanted = (4, [gone(), gone(), written(9), written(5)]);
-    assert!(rt; recovered(rt.alloc(), node(&rt, 1), &steps, &log)? == Some(wanted));
+    let is_so = recovers(&rt, rt.alloc(), &FULL_SET)?;
+    assert!(rt; is_so);
     Ok(())
 }

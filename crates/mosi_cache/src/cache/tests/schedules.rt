@@ -1,12 +1,15 @@
 //! The cache's part of schedules of the whole machine: one node of two, and block 64, whose home is node 0.
 use super::super::Cache;
-use super::{block, content, deliver, message, miss, node, put, small_cache, store};
+use super::{
+    Had, Says, block, body_of, deliver, message, miss, node, old_of, out_of, put, small_cache,
+    store,
+};
 use crate::step::CacheStep;
 use log_buffer::LogBuffer;
-use sn_base::{Answer, BlockNo, Entries, Interval, Memory, NodeId, Old, Width, Write};
+use sn_base::{Answer, BlockNo, Entries, Interval, Memory, Old, Width, Write};
 use sn_model::{LineState, Look, Need, Out};
-use sn_msg::Body;
 use std::alloc::Global;
+use std::process::Abort;
 use std::test::Fail;
 
 /// Where the block begins.
@@ -17,7 +20,7 @@ const START: u32 = 0x8000_1000;
 #[derive(Clone, Copy)]
 enum Act {
     Miss(Need),
-    Take(Interval, Body),
+    Take(Interval, Says),
     Store(u32),
     Put,
     Load,
@@ -26,20 +29,46 @@ enum Act {
     Evict,
 }
 
-/// What an act comes to: what is sent, and the block whose copy is lost; whether it was done, where nothing is sent; or what
+/// What an act has to come to: this is sent to this node, and the copy stays or is given up; whether it was done, where nothing is
+/// sent; or what was asked.
+#[derive(Clone, Copy)]
+enum Comes {
+    Sends(u8, Says),
+    GivesUp(u8, Says),
+    Done(bool),
+    Word(Option<u32>),
+    Old(Option<Had>),
+    Count(usize),
+    Says(Answer),
+}
+
+/// An act in an interval, and what it has to come to.
+type Row = (Interval, Act, Comes);
+
+/// What an act came to: what was sent, and the block whose copy is lost; whether it was done, where nothing was sent; or what
 /// was asked.
 #[derive(Clone, Copy, PartialEq, Eq)]
 enum Came {
     Sent(Out, Option<BlockNo>),
     Done(bool),
     Word(Option<u32>),
-    Had(Option<Old>),
+    Old(Option<Old>),
     Count(usize),
     Says(Answer),
 }
 
-/// An act in an interval, and what it has to come to.
-type Row = (Interval, Act, Came);
+fn came_of(rt: &impl Abort, comes: &Comes) -> Came {
+    match comes {
+        Comes::Sends(to, says) => Came::Sent(out_of(rt, *to, says), None),
+        Comes::GivesUp(to, says) => Came::Sent(out_of(rt, *to, says), Some(block())),
+        Comes::Done(is_done) => Came::Done(*is_done),
+        Comes::Word(word) => Came::Word(*word),
+        Comes::Old(Some(had)) => Came::Old(Some(old_of(*had))),
+        Comes::Old(None) => Came::Old(None),
+        Comes::Count(count) => Came::Count(*count),
+        Comes::Says(answer) => Came::Says(*answer),
+    }
+}
 
 /// The word at the start of the block, where it has a line.
 fn load(cache: &Cache) -> Option<u32> {
@@ -58,9 +87,16 @@ fn asked(out: Option<Out>) -> Came {
 }
 
 /// The row of a message. It isn't done where it has no row, is refused, or another number of messages was said.
-fn took(cache: &mut Cache, log: &mut LogBuffer, tag: Interval, now: Interval, body: Body) -> Came {
-    let here = cache.node;
-    match deliver(cache, &message(here, block(), tag, body), now, log) {
+fn took(
+    rt: &impl Abort,
+    cache: &mut Cache,
+    log: &mut LogBuffer,
+    tag: Interval,
+    now: Interval,
+    says: &Says,
+) -> Came {
+    let message = message(cache.node, block(), tag, body_of(rt, says));
+    match deliver(cache, &message, now, log) {
         Some((Look::Sends(1), CacheStep::Took(Some(out), lost))) => Came::Sent(out, lost),
         Some((Look::Sends(0), CacheStep::Took(None, None))) => Came::Done(true),
         _ => Came::Done(false),
@@ -76,224 +112,235 @@ fn stored(cache: &mut Cache, log: &mut LogBuffer, now: Interval, value: u32) -> 
     Came::Done(store(cache, &write, now, log))
 }
 
-fn comes_to(cache: &mut Cache, log: &mut LogBuffer, now: Interval, act: Act) -> Came {
+fn comes_to(
+    rt: &impl Abort,
+    cache: &mut Cache,
+    log: &mut LogBuffer,
+    now: Interval,
+    act: &Act,
+) -> Came {
     match act {
-        Act::Miss(need) => asked(miss(cache, block(), need, now, log)),
-        Act::Take(tag, body) => took(cache, log, tag, now, body),
-        Act::Store(value) => stored(cache, log, now, value),
+        Act::Miss(need) => asked(miss(cache, block(), *need, now, log)),
+        Act::Take(tag, says) => took(rt, cache, log, *tag, now, says),
+        Act::Store(value) => stored(cache, log, now, *value),
         Act::Put => asked(put(cache, block(), now)),
         Act::Load => Came::Word(load(cache)),
-        Act::OldAt(k) => Came::Had(log.old_at(false, block(), k).copied()),
+        Act::OldAt(k) => Came::Old(log.old_at(false, block(), *k).copied()),
         Act::Entries => Came::Count(log.count()),
         Act::Evict => Came::Says(cache.evict_answer(block())),
     }
 }
 
-/// Whether each row of a schedule comes to what it has to, with room for so many entries.
-fn plays(alloc: Global, here: NodeId, room: u16, rows: &[Row]) -> Result<bool, Memory> {
-    let mut cache = small_cache(alloc, here)?;
+/// The first row of a schedule that comes to something else, at this node and with room for so many entries.
+fn first_wrong(
+    rt: &impl Abort,
+    alloc: Global,
+    here: u8,
+    room: u16,
+    rows: &[Row],
+) -> Result<Option<usize>, Memory> {
+    let mut cache = small_cache(alloc, node(rt, here))?;
     let mut log = LogBuffer::new(alloc, room)?;
-    'rows: for row in rows.iter() {
-        if comes_to(&mut cache, &mut log, row.0, row.1) != row.2 {
-            return Ok(false);
+    'rows: for (place, row) in rows.iter().enumerate() {
+        if comes_to(rt, &mut cache, &mut log, row.0, &row.1) != came_of(rt, &row.2) {
+            return Ok(Some(place));
         }
     }
-    Ok(true)
+    Ok(None)
 }
 
-fn sends(to: NodeId, body: Body) -> Came {
-    Came::Sent(Out { to, body }, None)
+fn plays(rt: &impl Abort, alloc: Global, here: u8, room: u16, rows: &[Row]) -> Result<(), Fail> {
+    let wrong = first_wrong(rt, alloc, here, room, rows)?;
+    assert!(rt; wrong.is_none(), "row {wrong:?}");
+    Ok(())
 }
 
-fn gives_up(to: NodeId, body: Body) -> Came {
-    Came::Sent(Out { to, body }, Some(block()))
-}
+// What begins most schedules at node 0, and at node 1: it asks to write, and gets the block with 0 or 1 in its first word.
+const ASKS_0: Row = (0, Act::Miss(Need::Write), Comes::Sends(0, Says::GetM));
 
-/// The data to own with this first word, with no acknowledgement due.
-fn owning(word: u32) -> Body {
-    Body::DataM(content(word), 0)
-}
+const OWNS_0: Row = (
+    0,
+    Act::Take(0, Says::DataM(0, 0)),
+    Comes::Sends(0, Says::Unblock(0)),
+);
 
-fn had(word: u32) -> Came {
-    Came::Had(Some(Old::Owned(content(word))))
-}
-
-fn had_nothing() -> Came {
-    Came::Had(Some(Old::NotOwned))
-}
+const OWNS_1: Row = (
+    0,
+    Act::Take(0, Says::DataM(1, 0)),
+    Comes::Sends(0, Says::Unblock(0)),
+);
 
 /// Two nodes add 1 to a word, one after the other: the first one's part.
+const FIRST_WRITER: [Row; 6] = [
+    ASKS_0,
+    OWNS_0,
+    (0, Act::Store(1), Comes::Done(true)),
+    (
+        0,
+        Act::Take(0, Says::FwdGetM(1, 0)),
+        Comes::GivesUp(1, Says::DataM(1, 0)),
+    ),
+    (0, Act::Entries, Comes::Count(1)),
+    (0, Act::OldAt(0), Comes::Old(Some(Had::Nothing))),
+];
+
 #[test]
 fn a_written_block_moves_to_the_next_writer(rt: HostRuntime) -> Result<(), Fail> {
-    let (here, other) = (node(&rt, 0), node(&rt, 1));
-    let rows = [
-        (0, Act::Miss(Need::Write), sends(here, Body::GetM)),
-        (0, Act::Take(0, owning(0)), sends(here, Body::Unblock(0))),
-        (0, Act::Store(1), Came::Done(true)),
-        (
-            0,
-            Act::Take(0, Body::FwdGetM(other, 0)),
-            gives_up(other, owning(1)),
-        ),
-        (0, Act::Entries, Came::Count(1)),
-        (0, Act::OldAt(0), had_nothing()),
-    ];
-    assert!(rt; plays(rt.alloc(), here, 4, &rows)?);
-    Ok(())
+    plays(&rt, rt.alloc(), 0, 4, &FIRST_WRITER)
 }
 
 /// The same, the second one's part, after which it stores in its next interval.
+const SECOND_WRITER: [Row; 9] = [
+    ASKS_0,
+    OWNS_1,
+    (0, Act::Load, Comes::Word(Some(1))),
+    (1, Act::Store(2), Comes::Done(true)),
+    (1, Act::Store(3), Comes::Done(true)),
+    (1, Act::Load, Comes::Word(Some(3))),
+    (1, Act::Entries, Comes::Count(2)),
+    (1, Act::OldAt(0), Comes::Old(Some(Had::Nothing))),
+    (1, Act::OldAt(1), Comes::Old(Some(Had::Owned(1)))),
+];
+
 #[test]
 fn a_write_in_the_next_interval_is_noted_again(rt: HostRuntime) -> Result<(), Fail> {
-    let (here, home) = (node(&rt, 1), node(&rt, 0));
-    let rows = [
-        (0, Act::Miss(Need::Write), sends(home, Body::GetM)),
-        (0, Act::Take(0, owning(1)), sends(home, Body::Unblock(0))),
-        (0, Act::Load, Came::Word(Some(1))),
-        (1, Act::Store(2), Came::Done(true)),
-        (1, Act::Store(3), Came::Done(true)),
-        (1, Act::Load, Came::Word(Some(3))),
-        (1, Act::Entries, Came::Count(2)),
-        (1, Act::OldAt(0), had_nothing()),
-        (1, Act::OldAt(1), had(1)),
-    ];
-    assert!(rt; plays(rt.alloc(), here, 4, &rows)?);
-    Ok(())
+    plays(&rt, rt.alloc(), 1, 4, &SECOND_WRITER)
 }
 
 /// The home was two intervals ahead when it sent the data, which waited for the requester.
+const LATER_TAG: [Row; 5] = [
+    ASKS_0,
+    (1, Act::Take(2, Says::DataM(0, 0)), Comes::Done(false)),
+    (
+        2,
+        Act::Take(2, Says::DataM(0, 0)),
+        Comes::Sends(0, Says::Unblock(2)),
+    ),
+    (2, Act::OldAt(2), Comes::Old(Some(Had::Nothing))),
+    (2, Act::OldAt(3), Comes::Old(None)),
+];
+
 #[test]
 fn the_interval_of_atomicity_is_the_tag(rt: HostRuntime) -> Result<(), Fail> {
-    let (here, home) = (node(&rt, 1), node(&rt, 0));
-    let rows = [
-        (0, Act::Miss(Need::Write), sends(home, Body::GetM)),
-        (1, Act::Take(2, owning(0)), Came::Done(false)),
-        (2, Act::Take(2, owning(0)), sends(home, Body::Unblock(2))),
-        (2, Act::OldAt(2), had_nothing()),
-        (2, Act::OldAt(3), Came::Had(None)),
-    ];
-    assert!(rt; plays(rt.alloc(), here, 4, &rows)?);
-    Ok(())
+    plays(&rt, rt.alloc(), 1, 4, &LATER_TAG)
 }
 
 /// The requester began its next interval before the data came.
+const EARLIER_TAG: [Row; 4] = [
+    ASKS_0,
+    (
+        1,
+        Act::Take(0, Says::DataM(0, 0)),
+        Comes::Sends(0, Says::Unblock(0)),
+    ),
+    (1, Act::OldAt(0), Comes::Old(Some(Had::Nothing))),
+    (1, Act::OldAt(1), Comes::Old(None)),
+];
+
 #[test]
 fn an_arrival_is_noted_in_the_interval_of_its_tag(rt: HostRuntime) -> Result<(), Fail> {
-    let (here, home) = (node(&rt, 1), node(&rt, 0));
-    let rows = [
-        (0, Act::Miss(Need::Write), sends(home, Body::GetM)),
-        (1, Act::Take(0, owning(0)), sends(home, Body::Unblock(0))),
-        (1, Act::OldAt(0), had_nothing()),
-        (1, Act::OldAt(1), Came::Had(None)),
-    ];
-    assert!(rt; plays(rt.alloc(), here, 4, &rows)?);
-    Ok(())
+    plays(&rt, rt.alloc(), 1, 4, &EARLIER_TAG)
 }
 
+const READS_0: Row = (0, Act::Miss(Need::Read), Comes::Sends(0, Says::GetS));
+
+const ALONE_0: Row = (
+    0,
+    Act::Take(0, Says::DataE(0)),
+    Comes::Sends(0, Says::Unblock(0)),
+);
+
 /// The core holds a reservation on a block that it had alone, until another node writes it.
+const RESERVATION: [Row; 4] = [
+    READS_0,
+    ALONE_0,
+    (
+        0,
+        Act::Take(0, Says::FwdGetM(1, 0)),
+        Comes::GivesUp(1, Says::DataM(0, 0)),
+    ),
+    (0, Act::Load, Comes::Word(None)),
+];
+
 #[test]
 fn a_forwarded_write_ends_a_reservation(rt: HostRuntime) -> Result<(), Fail> {
-    let (here, other) = (node(&rt, 0), node(&rt, 1));
-    let rows = [
-        (0, Act::Miss(Need::Read), sends(here, Body::GetS)),
-        (
-            0,
-            Act::Take(0, Body::DataE(content(0))),
-            sends(here, Body::Unblock(0)),
-        ),
-        (
-            0,
-            Act::Take(0, Body::FwdGetM(other, 0)),
-            gives_up(other, owning(0)),
-        ),
-        (0, Act::Load, Came::Word(None)),
-    ];
-    assert!(rt; plays(rt.alloc(), here, 4, &rows)?);
-    Ok(())
+    plays(&rt, rt.alloc(), 0, 4, &RESERVATION)
 }
 
 /// Another node's write reached the home before the request to give the block up.
+const OVERTAKEN_PUT: [Row; 7] = [
+    ASKS_0,
+    OWNS_0,
+    (0, Act::Store(1), Comes::Done(true)),
+    (0, Act::Put, Comes::Sends(0, Says::PutReq)),
+    (
+        0,
+        Act::Take(0, Says::FwdGetM(1, 0)),
+        Comes::GivesUp(1, Says::DataM(1, 0)),
+    ),
+    (0, Act::Take(0, Says::PutDone), Comes::Done(true)),
+    (0, Act::Evict, Comes::Says(Answer::NotCached)),
+];
+
 #[test]
 fn a_put_is_overtaken(rt: HostRuntime) -> Result<(), Fail> {
-    let (here, other) = (node(&rt, 0), node(&rt, 1));
-    let rows = [
-        (0, Act::Miss(Need::Write), sends(here, Body::GetM)),
-        (0, Act::Take(0, owning(0)), sends(here, Body::Unblock(0))),
-        (0, Act::Store(1), Came::Done(true)),
-        (0, Act::Put, sends(here, Body::PutReq)),
-        (
-            0,
-            Act::Take(0, Body::FwdGetM(other, 0)),
-            gives_up(other, owning(1)),
-        ),
-        (0, Act::Take(0, Body::PutDone), Came::Done(true)),
-        (0, Act::Evict, Came::Says(Answer::NotCached)),
-    ];
-    assert!(rt; plays(rt.alloc(), here, 4, &rows)?);
-    Ok(())
+    plays(&rt, rt.alloc(), 0, 4, &OVERTAKEN_PUT)
 }
 
-/// A reader becomes a writer: its copy is replaced by the content that comes with the ownership.
+/// Its copy is replaced by the content that comes with the ownership.
+const READER_AND_WRITER: [Row; 7] = [
+    READS_0,
+    (
+        0,
+        Act::Take(0, Says::DataS(1)),
+        Comes::Sends(0, Says::Unblock(0)),
+    ),
+    (0, Act::Load, Comes::Word(Some(1))),
+    ASKS_0,
+    OWNS_1,
+    (0, Act::Store(5), Comes::Done(true)),
+    (0, Act::Load, Comes::Word(Some(5))),
+];
+
 #[test]
 fn a_reader_becomes_a_writer(rt: HostRuntime) -> Result<(), Fail> {
-    let here = node(&rt, 0);
-    let rows = [
-        (0, Act::Miss(Need::Read), sends(here, Body::GetS)),
-        (
-            0,
-            Act::Take(0, Body::DataS(content(1))),
-            sends(here, Body::Unblock(0)),
-        ),
-        (0, Act::Load, Came::Word(Some(1))),
-        (0, Act::Miss(Need::Write), sends(here, Body::GetM)),
-        (0, Act::Take(0, owning(1)), sends(here, Body::Unblock(0))),
-        (0, Act::Store(5), Came::Done(true)),
-        (0, Act::Load, Came::Word(Some(5))),
-    ];
-    assert!(rt; plays(rt.alloc(), here, 4, &rows)?);
-    Ok(())
+    plays(&rt, rt.alloc(), 0, 4, &READER_AND_WRITER)
 }
 
 /// A reader that found nobody else writes without a message, and then another node reads.
+const ONLY_READER: [Row; 6] = [
+    READS_0,
+    ALONE_0,
+    (0, Act::Store(6), Comes::Done(true)),
+    (
+        0,
+        Act::Take(0, Says::FwdGetS(1)),
+        Comes::Sends(1, Says::DataS(6)),
+    ),
+    (0, Act::Load, Comes::Word(Some(6))),
+    (0, Act::Store(7), Comes::Done(false)),
+];
+
 #[test]
 fn the_only_reader_writes_without_a_message(rt: HostRuntime) -> Result<(), Fail> {
-    let (here, other) = (node(&rt, 0), node(&rt, 1));
-    let rows = [
-        (0, Act::Miss(Need::Read), sends(here, Body::GetS)),
-        (
-            0,
-            Act::Take(0, Body::DataE(content(0))),
-            sends(here, Body::Unblock(0)),
-        ),
-        (0, Act::Store(6), Came::Done(true)),
-        (
-            0,
-            Act::Take(0, Body::FwdGetS(other)),
-            sends(other, Body::DataS(content(6))),
-        ),
-        (0, Act::Load, Came::Word(Some(6))),
-        (0, Act::Store(7), Came::Done(false)),
-    ];
-    assert!(rt; plays(rt.alloc(), here, 4, &rows)?);
-    Ok(())
+    plays(&rt, rt.alloc(), 0, 4, &ONLY_READER)
 }
 
 /// A log that is full of this interval's entries takes a further write of the same block.
+const FULL_LOG: [Row; 6] = [
+    ASKS_0,
+    OWNS_0,
+    (0, Act::Entries, Comes::Count(1)),
+    (0, Act::Store(1), Comes::Done(true)),
+    (1, Act::Store(2), Comes::Done(false)),
+    (
+        0,
+        Act::Take(0, Says::FwdGetM(1, 0)),
+        Comes::GivesUp(1, Says::DataM(1, 0)),
+    ),
+];
+
 #[test]
 fn a_full_log_has_the_entry_already(rt: HostRuntime) -> Result<(), Fail> {
-    let (here, other) = (node(&rt, 0), node(&rt, 1));
-    let rows = [
-        (0, Act::Miss(Need::Write), sends(here, Body::GetM)),
-        (0, Act::Take(0, owning(0)), sends(here, Body::Unblock(0))),
-        (0, Act::Entries, Came::Count(1)),
-        (0, Act::Store(1), Came::Done(true)),
-        (1, Act::Store(2), Came::Done(false)),
-        (
-            0,
-            Act::Take(0, Body::FwdGetM(other, 0)),
-            gives_up(other, owning(1)),
-        ),
-    ];
-    assert!(rt; plays(rt.alloc(), here, 1, &rows)?);
-    Ok(())
+    plays(&rt, rt.alloc(), 0, 1, &FULL_LOG)
 }
