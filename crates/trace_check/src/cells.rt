@@ -17,8 +17,8 @@ pub struct Kept {
     pub cell: Cell,
 }
 
-/// The cells of blocks. Each is made at the first access to its block, since the most traces have accesses to few blocks,
-/// and to make all 65,536 takes as long as some 100,000 records.
+/// The cells of blocks. Each is made at the first access to its block, since most traces have accesses to few blocks, and
+/// all 65,536 cells would be 5 MB of memory to write.
 ///
 /// `places` says for each block where its cell is in `kept`. Where there is none, or the cell of another block, its own
 /// wasn't made.
