@@ -270,11 +270,11 @@ fn the_workers_are_in_flight_at_once(rt: HostRuntime) -> Result<(), Fail> {
 
 /// A console of which others see how many bytes it has had.
 #[derive(Drop)]
-struct Watched {
-    bytes: Arc<AtomicU64, Global>,
+struct Watched<'a> {
+    bytes: &'a AtomicU64,
 }
 
-impl Sink for Watched {
+impl Sink for Watched<'_> {
     ghost use Rattle.std.specs.Prelude.{None};
 
     ghost written = { λ s. None };
@@ -289,12 +289,12 @@ impl Sink for Watched {
 
 /// Holds the 300th turn until the console has had a byte, for at most 50,000,000 looks.
 #[derive(Drop)]
-struct Late {
-    bytes: Arc<AtomicU64, Global>,
+struct Late<'a> {
+    bytes: &'a AtomicU64,
     missed: AtomicU64,
 }
 
-impl Gate for Late {
+impl Gate for Late<'_> {
     fn before(&self, _worker: u32, turn: u64) {
         if turn != 300 {
             return;
@@ -320,25 +320,19 @@ fn counting(rt: &impl Abort, alloc: Global) -> Result<SharedMachine, Fail> {
     shared(rt, alloc, &COUNTS, 1, rules, 400)
 }
 
-/// A console, and a gate that is held late for it.
-fn watched_and_held(alloc: Global) -> Result<(Watched, Late), Fail> {
-    let bytes = Arc::new(alloc, AtomicU64::new(0))?;
-    let gate = Late {
-        bytes: Arc::try_clone(&bytes)?,
-        missed: AtomicU64::new(0),
-    };
-    Ok((Watched { bytes }, gate))
-}
-
 /// What a run leaves that is held late for its console, how many bytes that has had, and whether it was held in vain.
 fn run_late<T: Threads + Wait + Sync + Abort>(
     rt: &T,
     alloc: Global,
 ) -> Result<(Left, u64, u64), Fail> {
     let run = counting(rt, alloc)?;
-    let (mut console, gate) = watched_and_held(alloc)?;
-    let end = run_alone(rt, alloc, run, &gate, &mut console)?;
-    let put = gate.bytes.load(Ordering::SeqCst);
+    let bytes = AtomicU64::new(0);
+    let gate = Late {
+        bytes: &bytes,
+        missed: AtomicU64::new(0),
+    };
+    let end = run_alone(rt, alloc, run, &gate, &mut Watched { bytes: &bytes })?;
+    let put = bytes.load(Ordering::SeqCst);
     Ok((end, put, gate.missed.load(Ordering::SeqCst)))
 }
 

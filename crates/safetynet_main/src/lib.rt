@@ -16,6 +16,3 @@ mod status;
 
 pub use call::safetynet;
 pub use status::{ProgramCause, Status, trap_word};
-
-#[cfg(test)]
-mod tests;

@@ -1,0 +1,70 @@
+//! Traces that are judged.
+use super::{COUNTS, Case, ECHOES, Faults, NO_FAULT, each_is_left};
+use safetynet_main::Status;
+use sn_text::ScriptCause;
+use std::test::Fail;
+
+/// Both cores have added, and the second has seen what the first added.
+const ADDED: &str = "\
+0 00000000 0\n0 00000000 0\n0 00000000 0\n1 00000000 0\n1 00000000 0\n1 00000001 0\n";
+
+/// The second core hasn't seen it.
+const UNSEEN: &str = "\
+0 00000000 0\n0 00000000 0\n0 00000000 0\n1 00000000 0\n1 00000000 0\n1 00000000 0\n";
+
+const UNREAD: &str = "0 00000000 0\n0 00000000 0\n0 00000000 0\n0 00000000 0\n";
+
+const ONE_NODE: &str = "safetynet check --nodes 1 a.hex a.script";
+
+const TWO_NODES: &str = "safetynet check a.hex --nodes=2 a.script";
+
+/// The report's first call fails.
+const BROKEN: Faults = Faults {
+    store: 0,
+    console: 0,
+    report: 1,
+};
+
+const VERDICTS: [Case; 4] = [
+    Case {
+        words: TWO_NODES,
+        program: COUNTS,
+        script: ADDED,
+        faults: NO_FAULT,
+        status: Status::Done,
+        console: "",
+        report: "legal 6\n",
+    },
+    Case {
+        words: TWO_NODES,
+        program: COUNTS,
+        script: UNSEEN,
+        faults: NO_FAULT,
+        status: Status::Refused(6),
+        console: "",
+        report: "refused 6\n",
+    },
+    Case {
+        words: TWO_NODES,
+        program: COUNTS,
+        script: "2 00000000 0\n",
+        faults: NO_FAULT,
+        status: Status::BadScript(ScriptCause::OutOfRange(1)),
+        console: "",
+        report: "",
+    },
+    Case {
+        words: ONE_NODE,
+        program: ECHOES,
+        script: UNREAD,
+        faults: BROKEN,
+        status: Status::SinkFault,
+        console: "",
+        report: "",
+    },
+];
+
+#[test]
+fn a_trace_is_judged_by_its_first_record_without_a_step(rt: HostRuntime) -> Result<(), Fail> {
+    each_is_left(&rt, rt.alloc(), &VERDICTS)
+}

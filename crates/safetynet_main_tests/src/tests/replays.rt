@@ -1,0 +1,182 @@
+//! Replays: what they put, what their options show, and what is there where a sink fails.
+use super::{Case, ECHOES, Faults, NO_FAULT, PUTS_A, VALIDATED, WORDS, call, each_is_left};
+use safetynet_main::Status;
+use std::test::Fail;
+
+/// The byte is given late, and a recovery makes the core read it twice.
+const GIVEN: &str = "\
+step 0\nstep 0\ninput 0 41\nstep 0\nstep 0\nstep 0\nrecover\n\
+step 0\nstep 0\nstep 0\nstep 0\nedge 0\nreport 0\ndeliver 1\nvalidate\n";
+
+const RECOVERED: &str = "step 0\nstep 0\nstep 0\nedge 0\nreport 0\nrecover\n";
+
+const VALIDATED_EVENTS: &str = "\
+1 step 0: retired
+2 step 0: retired
+3 step 0: retired
+4 edge 0: edged 1
+5 report 0: reported 1
+  msg 1 ready 0 0 1 1
+6 deliver 1: delivered
+";
+
+const VALIDATED_REPORT: &str = "\
+1 step 0: retired
+2 step 0: retired
+3 step 0: retired
+4 edge 0: edged 1
+5 report 0: reported 1
+  msg 1 ready 0 0 1 1
+6 deliver 1: delivered
+7 validate: validated 1
+  msg 2 advance 0 0 1 1
+events 7
+point 1
+committed 3
+released 1
+core 0 8000000c running x10=00000041 x17=00000001
+";
+
+const WATCHED_REPORT: &str = "\
+1 step 0: retired
+2 step 0: retired
+3 step 0: retired
+4 edge 0: edged 1
+5 report 0: reported 1
+  msg 1 ready 0 0 1 1
+6 recover: recovered 0 undone 0 dropped 1
+  core 0 80000000 running
+  watch 80000000 04100513
+events 6
+point 0
+committed 0
+released 0
+core 0 80000000 running
+watch 80000000 04100513
+";
+
+const GIVEN_TRACE: &str = "\
+0 00000000 0
+0 00000000 0 41
+0 00000000 0
+0 00000000 0
+# events 15
+# point 1
+# committed 4
+# released 1
+# core 0 80000010 running x10=00000041 x17=00000001
+";
+
+const SHOWN: [Case; 3] = [
+    Case {
+        words: WORDS,
+        program: PUTS_A,
+        script: VALIDATED,
+        faults: NO_FAULT,
+        status: Status::Done,
+        console: "A",
+        report: VALIDATED_REPORT,
+    },
+    Case {
+        words: "safetynet replay a.hex --watch=80000000 --nodes=1 a.script",
+        program: PUTS_A,
+        script: RECOVERED,
+        faults: NO_FAULT,
+        status: Status::Done,
+        console: "",
+        report: WATCHED_REPORT,
+    },
+    Case {
+        words: "safetynet replay --nodes 1 --trace --log 4 --sets 1 --ways 1 a.hex a.script",
+        program: ECHOES,
+        script: GIVEN,
+        faults: NO_FAULT,
+        status: Status::Done,
+        console: "A",
+        report: GIVEN_TRACE,
+    },
+];
+
+#[test]
+fn a_replay_shows_what_its_options_ask(rt: HostRuntime) -> Result<(), Fail> {
+    each_is_left(&rt, rt.alloc(), &SHOWN)
+}
+
+/// The ELF file of `PUTS_A`, as a linker writes it.
+const FILE: [u8; 104] = [
+    0x7f, 0x45, 0x4c, 0x46, 1, 1, 1, 0, 0, 0, 0, 0, 0, 0, 0, 0, // e_ident
+    2, 0, 0xf3, 0, 1, 0, 0, 0, 0, 0, 0, 0x80, 52, 0, 0, 0, // e_type to e_phoff
+    0, 0, 0, 0, 0, 0, 0, 0, 52, 0, 32, 0, 1, 0, 0, 0, 0, 0, 0, 0, // e_shoff to e_shstrndx
+    1, 0, 0, 0, 84, 0, 0, 0, 0, 0, 0, 0x80, 0, 0, 0, 0x80, // p_type, p_offset, p_vaddr, p_paddr
+    20, 0, 0, 0, 20, 0, 0, 0, 5, 0, 0, 0, 1, 0, 0, 0, // p_filesz, p_memsz, p_flags, p_align
+    0x13, 0x05, 0x10, 0x04, 0x93, 0x08, 0x10, 0, 0x73, 0, 0, 0, // the program
+    0x93, 0x08, 0xd0, 0x05, 0x73, 0, 0, 0,
+];
+
+#[test]
+fn an_elf_file_is_run_as_its_words_are(rt: HostRuntime) -> Result<(), Fail> {
+    let script = VALIDATED.as_bytes();
+    let left = call(&rt, rt.alloc(), WORDS, &FILE, script, NO_FAULT)?;
+    assert!(rt; left.report.bytes() == VALIDATED_REPORT.as_bytes());
+    Ok(())
+}
+
+const BROKEN_OFF: [Case; 4] = [
+    Case {
+        words: WORDS,
+        program: PUTS_A,
+        script: VALIDATED,
+        faults: Faults {
+            store: 1,
+            console: 0,
+            report: 0,
+        },
+        status: Status::StoreFault,
+        console: "",
+        report: "",
+    },
+    Case {
+        words: WORDS,
+        program: PUTS_A,
+        script: VALIDATED,
+        faults: Faults {
+            store: 0,
+            console: 1,
+            report: 0,
+        },
+        status: Status::SinkFault,
+        console: "",
+        report: VALIDATED_EVENTS,
+    },
+    Case {
+        words: WORDS,
+        program: PUTS_A,
+        script: VALIDATED,
+        faults: Faults {
+            store: 0,
+            console: 0,
+            report: 2,
+        },
+        status: Status::SinkFault,
+        console: "",
+        report: "1 step 0: retired\n",
+    },
+    Case {
+        words: WORDS,
+        program: PUTS_A,
+        script: VALIDATED,
+        faults: Faults {
+            store: 0,
+            console: 0,
+            report: 7,
+        },
+        status: Status::SinkFault,
+        console: "A",
+        report: VALIDATED_EVENTS,
+    },
+];
+
+#[test]
+fn a_call_that_fails_leaves_the_beginning_of_each_text(rt: HostRuntime) -> Result<(), Fail> {
+    each_is_left(&rt, rt.alloc(), &BROKEN_OFF)
+}

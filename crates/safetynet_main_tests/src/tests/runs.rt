@@ -1,0 +1,121 @@
+//! Runs by workers, on one node, where each is the same.
+use super::{Case, Faults, NO_FAULT, PUTS_A, call, each_is_left};
+use rv_core::Cause;
+use safetynet_main::Status;
+use sn_base::NodeId;
+use std::test::Fail;
+
+/// Jumps to itself.
+const LOOPS: &str = "0000006f\n";
+
+/// No instruction.
+const TRAPS: &str = "00000000\n";
+
+const SPENT_REPORT: &str = "\
+events 3
+point 0
+committed 0
+released 0
+core 0 80000000 running
+";
+
+const SPENT_JOURNAL: &str = "\
+# worker 0
+step 0
+# worker 0
+step 0
+# worker 0
+step 0
+# events 3
+# point 0
+# committed 0
+# released 0
+# core 0 80000000 running
+";
+
+const ENDED_REPORT: &str = "\
+events 12
+point 1
+committed 5
+released 1
+core 0 80000010 exited 65 x10=00000041 x17=0000005d
+";
+
+const TRAPPED_REPORT: &str = "\
+events 5
+point 1
+committed 1
+released 0
+core 0 80000000 trapped illegal
+";
+
+const RUN: &str = "safetynet run --nodes 1 a.hex";
+
+const SPENT: [Case; 2] = [
+    Case {
+        words: "safetynet run --nodes 1 --budget 3 a.hex",
+        program: LOOPS,
+        script: "",
+        faults: NO_FAULT,
+        status: Status::Budget,
+        console: "",
+        report: SPENT_REPORT,
+    },
+    Case {
+        words: "safetynet run --journal --nodes 1 --budget 3 a.hex",
+        program: LOOPS,
+        script: "",
+        faults: NO_FAULT,
+        status: Status::Budget,
+        console: "",
+        report: SPENT_JOURNAL,
+    },
+];
+
+#[test]
+fn a_run_ends_with_its_budget(rt: HostRuntime) -> Result<(), Fail> {
+    each_is_left(&rt, rt.alloc(), &SPENT)
+}
+
+const ENDED: [Case; 1] = [Case {
+    words: RUN,
+    program: PUTS_A,
+    script: "",
+    faults: NO_FAULT,
+    status: Status::Done,
+    console: "A",
+    report: ENDED_REPORT,
+}];
+
+#[test]
+fn a_run_ends_with_all_exits(rt: HostRuntime) -> Result<(), Fail> {
+    each_is_left(&rt, rt.alloc(), &ENDED)
+}
+
+#[test]
+fn a_run_ends_with_its_least_trap(rt: HostRuntime) -> Result<(), Fail> {
+    let first = NodeId::new(0).expect(&rt, "there is a node 0");
+    let left = call(&rt, rt.alloc(), RUN, TRAPS.as_bytes(), b"", NO_FAULT)?;
+    assert!(rt; left.status == Status::Trapped(first, Cause::Illegal));
+    assert!(rt; left.report.bytes() == TRAPPED_REPORT.as_bytes());
+    Ok(())
+}
+
+const BROKEN_OFF: [Case; 1] = [Case {
+    words: RUN,
+    program: PUTS_A,
+    script: "",
+    faults: Faults {
+        store: 0,
+        console: 1,
+        report: 0,
+    },
+    status: Status::SinkFault,
+    console: "",
+    report: "",
+}];
+
+#[test]
+fn a_run_whose_console_fails_reports_nothing(rt: HostRuntime) -> Result<(), Fail> {
+    each_is_left(&rt, rt.alloc(), &BROKEN_OFF)
+}

@@ -1,0 +1,73 @@
+//! The numbers and words of the statuses.
+use elf_load::LoadCause;
+use rv_asm::AsmCause;
+use rv_core::Cause;
+use safetynet_main::{ProgramCause, Status, trap_word};
+use sn_base::NodeId;
+use sn_text::ScriptCause;
+use std::process::Abort;
+
+const STATUSES: [(Status, u8, &str); 10] = [
+    (Status::Done, 0, "done"),
+    (Status::Usage, 1, "usage"),
+    (Status::StoreFault, 2, "store"),
+    (
+        Status::BadProgram(ProgramCause::Load(LoadCause::BadHexLine(1))),
+        3,
+        "program badhexline",
+    ),
+    (Status::BadScript(ScriptCause::TooLong), 4, "script toolong"),
+    (
+        Status::BadScript(ScriptCause::BadLine(2)),
+        4,
+        "script badline",
+    ),
+    (Status::SinkFault, 5, "sink"),
+    (Status::Budget, 6, "budget"),
+    (Status::Memory, 7, "memory"),
+    (
+        Status::BadAsm(AsmCause::LabelTwice(4)),
+        13,
+        "asm labeltwice",
+    ),
+];
+
+const TRAPS: [(Cause, &str); 7] = [
+    (Cause::Illegal, "illegal"),
+    (Cause::FetchFault, "fetch"),
+    (Cause::MisalignedTarget, "target"),
+    (Cause::MisalignedAccess, "misaligned"),
+    (Cause::AccessFault, "access"),
+    (Cause::UnknownCall, "call"),
+    (Cause::Break, "break"),
+];
+
+fn is_shown(rt: &impl Abort, status: Status, number: u8, word: &str) {
+    assert!(rt;
+        status.number() == number && status.word() == word,
+        "of {word}"
+    );
+}
+
+#[test]
+fn a_status_has_its_number_and_word(rt: HostRuntime) {
+    for (status, number, word) in &STATUSES {
+        is_shown(&rt, *status, *number, word);
+    }
+}
+
+#[test]
+fn a_status_with_nodes_or_a_place_has_its_number_and_word(rt: HostRuntime) {
+    let first = NodeId::new(0).expect(&rt, "there is a node 0");
+    is_shown(&rt, Status::CutOff(first, first), 8, "cutoff");
+    is_shown(&rt, Status::Refused(6), 9, "refused");
+    is_shown(&rt, Status::Trapped(first, Cause::Illegal), 10, "trapped");
+    assert!(rt; Status::Refused(6).place() == Some(6) && Status::Memory.place().is_none());
+}
+
+#[test]
+fn a_trap_has_its_word(rt: HostRuntime) {
+    for (cause, word) in &TRAPS {
+        assert!(rt; trap_word(*cause) == *word, "of {word}");
+    }
+}
