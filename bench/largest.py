@@ -4,12 +4,15 @@
     bench/largest.py PROGRAM
 
 Each command is run on an input at its limits. Memory is the most that the whole process had; the stack is the least limit, of 64, 128,
-256 KiB and so on, under which the run ends as it does without a limit. The time is of one run.
+256 KiB and so on, under which the run ends as it does without a limit: with the same status and the same end of the report, which a run by
+several workers need not have twice, so that of such a one the status counts alone. The time is of one run.
 """
+import string
 import struct
 import subprocess
 import sys
 import tempfile
+from itertools import islice, product
 from pathlib import Path
 
 START = 0x80000000
@@ -65,6 +68,29 @@ def checkpoints(nodes):
     return lines[:EVENT_LIMIT] + ["recover"] * (EVENT_LIMIT - len(lines))
 
 
+# Each node stores to a sixteenth of the blocks, one after another from the second page on, and begins again: lui t1, 0x80400;
+# lui t0, 0x80001; slli t2, a0, 6; add t0, t0, t2; sw a0, 0(t0); addi t0, t0, 1024; bltu t0, t1, -8; jal zero, -24.
+STORES = [0x80400337, 0x800012B7, 0x00651393, 0x007282B3, 0x00A2A023, 0x40028293, 0xFE62ECE3, 0xFE9FF06F]
+
+
+def store_image():
+    """The words of that program, and comments up to the limit of a program."""
+    text = image(STORES)
+    return (text + "#" * (PROGRAM_LIMIT - len(text))).encode()
+
+
+def labels():
+    """As many labels as fit the limit of a text, and no statement."""
+    digits = string.digits + string.ascii_lowercase
+    names = ("".join(name) for name in product(string.ascii_lowercase, *[digits] * 4))
+    return b"".join(f"{name}:\n".encode() for name in islice(names, PROGRAM_LIMIT // 7))
+
+
+def long_statements():
+    """As many statements as there are words of memory, each of so many letters that they come to the limit of a text."""
+    return b"addi a0, a0, -1\n" * WORD_LIMIT
+
+
 LARGE = ["--nodes", "16", "--sets", "256", "--ways", "16", "--log", "4096"]
 
 RUNS = [
@@ -78,8 +104,15 @@ RUNS = [
      lambda: image(LETTER).encode(), lambda: filled(f"input {place % 16} 41" for place in range(EVENT_LIMIT))),
     ("check, 1,000,000 records of 16 nodes", ["check", "--nodes", "16", "a", "b"],
      whole_memory_image, lambda: filled(f"{place % 16} 00000000 0" for place in range(EVENT_LIMIT))),
+    ("the same with an ELF file", ["check", "--nodes", "16", "a", "b"],
+     whole_memory_elf, lambda: filled(f"{place % 16} 00000000 0" for place in range(EVENT_LIMIT))),
+    ("run, 1,000,000 events of 16 nodes that store to all blocks, with the largest caches and logs", ["run", *LARGE, "--interval", "1000", "a"],
+     store_image, None),
+    ("the same with its journal, and lost messages", ["run", *LARGE, "--interval", "1000", "--lose-every", "5000", "--journal", "a"], store_image, None),
+    ("run, 1,000,000 events of 16 nodes, a program of 16 MiB, with the trace", ["run", *LARGE, "--trace", "a"], whole_memory_elf, None),
     ("demo 1000000", ["demo", "1000000"], None, None),
-    ("asm, 1,048,576 statements", ["asm", "a"], lambda: b"ecall\n" * WORD_LIMIT, None),
+    ("asm, 1,048,576 statements, a text of 16 MiB", ["asm", "a"], long_statements, None),
+    ("asm, 2,396,745 labels, a text of 16 MiB", ["asm", "a"], labels, None),
     ("dis, a program of 16 MiB", ["dis", "a"], whole_memory_image, None),
 ]
 
@@ -105,9 +138,14 @@ def run(program, words, folder, stack=0):
     return int(status), float(seconds), float(memory), Path(folder, "report").read_bytes()[-200:]
 
 
+def told(words, found):
+    """What of a run counts that was done again: its status, and the end of its report where that is the same each time."""
+    return found[0] if words[0] == "run" else found[::3]
+
+
 def least_stack(program, words, folder, expected):
     stack = 64 << 10
-    while run(program, words, folder, stack)[::3] != expected:
+    while told(words, run(program, words, folder, stack)) != expected:
         stack *= 2
         if stack > 64 << 20:
             return "none"
@@ -125,8 +163,9 @@ def main():
             for file, make in (("a", first), ("b", second)):
                 if make:
                     Path(folder, file).write_bytes(make())
-            status, seconds, memory, end = run(program, words, folder)
-            stack = least_stack(program, words, folder, (status, end))
+            found = run(program, words, folder)
+            status, seconds, memory, _ = found
+            stack = least_stack(program, words, folder, told(words, found))
             print(f"| {name} | {status} | {seconds:.2f} s | {memory:.0f} MiB | {stack} |", flush=True)
     return 0
 

@@ -6,17 +6,24 @@
 PROGRAM is the built program. For each command on its own small input the run is done once with all memory, which counts its calls
 of the allocator, and then once for each of these calls with that one refused, and once with that one and all after it refused. It
 must end with the status of want of memory and the one line that says so, with nothing on standard output; or it must be as with
-all memory, byte for byte. MOST is the greatest number of calls that are refused one by one, evenly spread; without it all are.
+all memory, byte for byte. A run of the command `run` on several nodes isn't the same bytes twice, so its status must then be one in
+which a run ends, and its journal, replayed, must give its console and its summary. MOST is the greatest number of calls that are refused one by one, evenly spread; without it all are.
 The library that refuses is built by cc from tests/refuse_memory/refuse.c.
 """
 import os
 import subprocess
 import sys
 import tempfile
+from itertools import product
 from pathlib import Path
 
+sys.path.insert(0, str(Path(__file__).resolve().parent))
+from compare_runs import ENDS, replay_differences  # noqa: E402
+
 HERE = Path(__file__).resolve().parent
-EXAMPLES = HERE.parent / "examples"
+
+# The longest that a run may take, in seconds.
+LONGEST = 120
 
 MEMORY_STATUS, MEMORY_LINE = 7, b"# safetynet: memory\n"
 
@@ -35,6 +42,11 @@ RUNS = [
     ("replay of a bad script", ["replay", "--nodes", "1", "a", "b"], {"a": LETTER, "b": b"step 1\n"}),
     ("check", ["check", "--nodes", "2", "a", "b"], {"a": COUNTING, "b": TRACE}),
     ("check, refused", ["check", "--nodes", "2", "a", "b"], {"a": COUNTING, "b": TRACE[:-13] + b"1 00000000 0\n"}),
+    ("run", ["run", "--nodes", "1", "a"], {"a": LETTER}),
+    ("run with its journal", ["run", "--nodes", "1", "--interval", "2", "--journal", "a"], {"a": LETTER}),
+    ("run with the trace", ["run", "--nodes", "1", "--trace", "a"], {"a": LETTER}),
+    ("run, two nodes", ["run", "--nodes", "2", "--journal", "program"], {"program": COUNTING}),
+    ("run, four nodes and lost messages", ["run", "--nodes", "4", "--lose-every", "9", "--wait", "60", "--journal", "program"], {"program": COUNTING}),
     ("demo", ["demo", "100"], {}),
     ("asm", ["asm", "a"], {"a": TEXT}),
     ("dis", ["dis", "a"], {"a": COUNTING}),
@@ -66,13 +78,47 @@ def read_count(folder):
 
 
 def run(program, words, folder, library, call=0, all_after=False):
-    """Status, standard output and standard error, and how often memory was asked for."""
-    done = subprocess.run([program, *words], cwd=folder, capture_output=True, env=environment(folder, library, call, all_after))
+    """Status, standard output and standard error, and how often memory was asked for; a run that doesn't end has no status."""
+    given = environment(folder, library, call, all_after)
+    try:
+        done = subprocess.run([program, *words], cwd=folder, capture_output=True, env=given, timeout=LONGEST)
+    except subprocess.TimeoutExpired:
+        return (None, b"", b"it had not ended"), None
     return (done.returncode, done.stdout, done.stderr), read_count(folder)
 
 
-def is_right(found, ample):
-    return found == ample or found == (MEMORY_STATUS, b"", MEMORY_LINE) or found == (MEMORY_STATUS, b"", b"")
+def is_want(found):
+    """Whether memory was lacking, and nothing was written."""
+    return found in [(MEMORY_STATUS, b"", MEMORY_LINE), (MEMORY_STATUS, b"", b"")]
+
+
+def is_whole(program, words, folder, found, ample):
+    """Whether a run was as with all memory, or as it may be then where it has several workers."""
+    if words[:2] != ["run", "--nodes"] or words[2] == "1":
+        return found == ample
+    status, console, report = found
+    return status in ENDS and not replay_differences([program], words[1:3], console, report.decode().splitlines(), folder)
+
+
+def refuse(program, row, folder, library, most):
+    """How many runs of a row, with a call refused, were neither want of memory nor as with all; each is said."""
+    name, words, files = row
+    for file, content in files.items():
+        Path(folder, file).write_bytes(content)
+    ample, made = run(program, words, folder, library)
+    step = 1 if most is None else max(1, made // most)
+    wants = wholes = wrong = 0
+    for call, all_after in product(range(1, made + 1, step), (False, True)):
+        found, _ = run(program, words, folder, library, call, all_after)
+        if is_want(found):
+            wants += 1
+        elif is_whole(program, words, folder, found, ample):
+            wholes += 1
+        else:
+            wrong += 1
+            print(f"{name}: call {call} of {made} refused{' and all after' if all_after else ''}: {found}, and not {ample}")
+    print(f"{name}: {made} calls for memory, status {ample[0]}; refused: {wants} times want of memory, {wholes} times as with all", flush=True)
+    return wrong
 
 
 def main():
@@ -81,24 +127,9 @@ def main():
         return 2
     program = str(Path(sys.argv[1]).resolve())
     most = int(sys.argv[2]) if len(sys.argv) > 2 else None
-    wrong = 0
     with tempfile.TemporaryDirectory() as folder:
         library = built_library(folder)
-        for name, words, files in RUNS:
-            for file, content in files.items():
-                Path(folder, file).write_bytes(content)
-            ample, made = run(program, words, folder, library)
-            step = 1 if most is None else max(1, made // most)
-            refused = as_ample = 0
-            for call in range(1, made + 1, step):
-                for all_after in (False, True):
-                    found, _ = run(program, words, folder, library, call, all_after)
-                    if not is_right(found, ample):
-                        wrong += 1
-                        print(f"{name}: call {call} of {made} refused{' and all after' if all_after else ''}: {found}, and not {ample}")
-                    refused += found[0] == MEMORY_STATUS
-                    as_ample += found == ample
-            print(f"{name}: {made} calls for memory, status {ample[0]}; refused: {refused} times want of memory, {as_ample} times as with all")
+        wrong = sum(refuse(program, row, folder, library, most) for row in RUNS)
     return 1 if wrong else 0
 
 
