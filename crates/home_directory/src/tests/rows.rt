@@ -1,240 +1,246 @@
 //! The rows and the refusals, with what the protocol's table leaves of an entry: node 1 sends with tag 4, in interval 5.
 ghost use Rattle.std.specs.Prelude.{◌≡◌, []};
 
-use super::{Answer, busy, has_row, log_full, node, sends, silent};
+use super::{Answer, Does, Says, answer_of, body_of, content, has_row, node, set_of};
 use crate::entry::{Entry, Transaction};
 use crate::{Owner, receive};
 use log_buffer::LogBuffer;
-use sn_base::{Block, BlockNo, Entries, Interval, Memory, NodeId, NodeSet, Old, Width};
+use sn_base::{BlockNo, Entries, Interval, Memory, NodeId, Old};
 use sn_model::Kind;
 use sn_msg::{Body, Message};
 use std::alloc::Global;
 use std::process::Abort;
 use std::test::Fail;
 
-/// What an entry says beside the memory.
+/// What an entry says beside the memory: the owner (none is the home), who shares the block, and the open transaction, with
+/// who asked for it and the interval in which it was begun.
+type Standing = (Option<u8>, &'static [u8], Option<(Kind, u8, Interval)>);
+
+/// What is noted: that the home owned the block with this content, or that this node's cache did.
 #[derive(Clone, Copy)]
-struct Standing {
-    owner: Owner,
-    sharers: NodeSet,
-    open: Option<Transaction>,
+enum Noted {
+    WasHome(u32),
+    WasCache(u8),
 }
 
-/// A row or a refusal. `content` is the memory's where the home owns the block in the end.
+/// A row or a refusal. Memory has 7 before it; `content` is what it has after it, where the home owns the block then.
 #[derive(Clone, Copy)]
 struct Case {
     before: Standing,
-    body: Body,
-    answer: Answer,
+    says: Says,
+    does: Does,
     after: Standing,
-    content: Block,
-    noted: Option<(Interval, Old)>,
+    content: u32,
+    noted: Option<(Interval, Noted)>,
 }
 
-/// Nodes 1, 2 and 3, and sets of them.
-#[derive(Clone, Copy)]
-struct Nodes {
-    one: NodeId,
-    two: NodeId,
-    three: NodeId,
-    none: NodeSet,
-    second: NodeSet,
-    first_two: NodeSet,
-    last_two: NodeSet,
-}
+const READS_COPY: Case = Case {
+    before: (None, &[2], None),
+    says: Says::GetS,
+    does: Does::Sends(1, 1, Says::DataS(7), &[]),
+    after: (None, &[1, 2], Some((Kind::Read, 1, 5))),
+    content: 7,
+    noted: None,
+};
 
-fn three_nodes(rt: &impl Abort) -> Nodes {
-    let (one, two, three) = (node(rt, 1), node(rt, 2), node(rt, 3));
-    let none = NodeSet::empty();
-    Nodes {
-        one,
-        two,
-        three,
-        none,
-        second: none.with(two),
-        first_two: none.with(one).with(two),
-        last_two: none.with(two).with(three),
-    }
-}
-
-fn filled(byte: u32) -> Block {
-    let mut content = Block::zero();
-    content.store(8, Width::Byte, byte);
-    content
-}
-
-/// What memory holds before.
-fn content() -> Block {
-    filled(7)
-}
-
-/// What a cache gives back.
-fn new_content() -> Block {
-    filled(9)
-}
-
-fn opened(kind: Kind, requester: NodeId, begun: Interval) -> Option<Transaction> {
-    Some(Transaction {
-        kind,
-        requester,
-        begun,
-    })
-}
-
-/// A row that notes nothing.
-fn row(before: Standing, body: Body, answer: Answer, after: Standing) -> Case {
-    Case {
-        before,
-        body,
-        answer,
-        after,
-        content: content(),
-        noted: None,
-    }
-}
-
-/// A row by which the block changes its owner, with what is noted.
-fn transfer(
-    before: Standing,
-    body: Body,
-    answer: Answer,
-    after: Standing,
-    noted: (Interval, Old),
-) -> Case {
-    Case {
-        before,
-        body,
-        answer,
-        after,
-        content: new_content(),
-        noted: Some(noted),
-    }
-}
-
-/// Nothing changes.
-fn unchanged(before: &Standing, body: Body, answer: Answer) -> Case {
-    row(*before, body, answer, *before)
-}
-
-fn stands(owner: Owner, sharers: NodeSet, open: Option<Transaction>) -> Standing {
-    Standing {
-        owner,
-        sharers,
-        open,
-    }
-}
-
-fn reads_copy(n: &Nodes) -> Case {
-    row(
-        stands(Owner::Home, n.second, None),
-        Body::GetS,
-        sends(1, n.one, Body::DataS(content()), n.none, n.one),
-        stands(Owner::Home, n.first_two, opened(Kind::Read, n.one, 5)),
-    )
-}
-
-fn reads_at_owner(n: &Nodes) -> Case {
-    row(
-        stands(Owner::Cache(n.three), n.second, None),
-        Body::GetS,
-        sends(1, n.three, Body::FwdGetS(n.one), n.none, n.one),
-        stands(
-            Owner::Cache(n.three),
-            n.first_two,
-            opened(Kind::Read, n.one, 5),
-        ),
-    )
-}
+const READS_AT_OWNER: Case = Case {
+    before: (Some(3), &[2], None),
+    says: Says::GetS,
+    does: Does::Sends(1, 3, Says::FwdGetS(1), &[]),
+    after: (Some(3), &[1, 2], Some((Kind::Read, 1, 5))),
+    content: 7,
+    noted: None,
+};
 
 /// Nobody else shares.
-fn reads_alone(n: &Nodes, sharers: NodeSet) -> Case {
-    transfer(
-        stands(Owner::Home, sharers, None),
-        Body::GetS,
-        sends(1, n.one, Body::DataE(content()), n.none, n.one),
-        stands(Owner::Cache(n.one), n.none, opened(Kind::Take, n.one, 5)),
-        (5, Old::WasHome(content())),
-    )
+const READS_ALONE: Case = Case {
+    before: (None, &[], None),
+    says: Says::GetS,
+    does: Does::Sends(1, 1, Says::DataE(7), &[]),
+    after: (Some(1), &[], Some((Kind::Take, 1, 5))),
+    content: 7,
+    noted: Some((5, Noted::WasHome(7))),
+};
+
+/// Nor here: the node itself had a copy.
+const READS_AGAIN: Case = Case {
+    before: (None, &[1], None),
+    ..READS_ALONE
+};
+
+const TAKES: Case = Case {
+    before: (None, &[1, 2], None),
+    says: Says::GetM,
+    does: Does::Sends(2, 1, Says::DataM(7, 1), &[2]),
+    after: (Some(1), &[], Some((Kind::Take, 1, 5))),
+    content: 7,
+    noted: Some((5, Noted::WasHome(7))),
+};
+
+const MOVES: Case = Case {
+    before: (Some(3), &[1, 2], None),
+    says: Says::GetM,
+    does: Does::Sends(2, 3, Says::FwdGetM(1, 1), &[2]),
+    after: (Some(3), &[], Some((Kind::Move, 1, 5))),
+    content: 7,
+    noted: None,
+};
+
+const UPGRADES: Case = Case {
+    before: (Some(1), &[2, 3], None),
+    says: Says::GetM,
+    does: Does::Sends(3, 1, Says::UpgOk(2), &[2, 3]),
+    after: (Some(1), &[], Some((Kind::Upgrade, 1, 5))),
+    content: 7,
+    noted: None,
+};
+
+const ENDS_MOVE: Case = Case {
+    before: (Some(3), &[], Some((Kind::Move, 1, 2))),
+    says: Says::Unblock(3),
+    does: Does::Silent,
+    after: (Some(1), &[], None),
+    content: 7,
+    noted: Some((3, Noted::WasCache(3))),
+};
+
+// A transaction that has changed the owner before, or doesn't.
+
+const ENDS_READ_AT_HOME: Case = Case {
+    before: (None, &[2], Some((Kind::Read, 1, 2))),
+    says: Says::Unblock(3),
+    does: Does::Silent,
+    after: (None, &[2], None),
+    content: 7,
+    noted: None,
+};
+
+const ENDS_READ_AT_OWNER: Case = Case {
+    before: (Some(3), &[2], Some((Kind::Read, 1, 2))),
+    after: (Some(3), &[2], None),
+    ..ENDS_READ_AT_HOME
+};
+
+const ENDS_TAKE: Case = Case {
+    before: (Some(1), &[2], Some((Kind::Take, 1, 2))),
+    after: (Some(1), &[2], None),
+    ..ENDS_READ_AT_HOME
+};
+
+const ENDS_UPGRADE: Case = Case {
+    before: (Some(1), &[2], Some((Kind::Upgrade, 1, 2))),
+    after: (Some(1), &[2], None),
+    ..ENDS_READ_AT_HOME
+};
+
+const BEGINS_PUT: Case = Case {
+    before: (Some(1), &[2], None),
+    says: Says::PutReq,
+    does: Does::Sends(1, 1, Says::PutGo, &[]),
+    after: (Some(1), &[2], Some((Kind::Put, 1, 5))),
+    content: 7,
+    noted: None,
+};
+
+// A node that owns the block no more has nothing to give back.
+
+const STALE_PUT_AT_OWNER: Case = Case {
+    before: (Some(3), &[2], None),
+    says: Says::PutReq,
+    does: Does::Sends(1, 1, Says::PutDone, &[]),
+    after: (Some(3), &[2], None),
+    content: 7,
+    noted: None,
+};
+
+const STALE_PUT_AT_HOME: Case = Case {
+    before: (None, &[2], None),
+    after: (None, &[2], None),
+    ..STALE_PUT_AT_OWNER
+};
+
+const GIVES_BACK: Case = Case {
+    before: (Some(1), &[2], Some((Kind::Put, 1, 5))),
+    says: Says::PutData(9),
+    does: Does::Silent,
+    after: (None, &[2], None),
+    content: 9,
+    noted: Some((4, Noted::WasCache(1))),
+};
+
+// While node 2 takes the block, requests wait.
+
+const READ_WAITS: Case = Case {
+    before: (Some(2), &[], Some((Kind::Take, 2, 3))),
+    says: Says::GetS,
+    does: Does::Waits,
+    after: (Some(2), &[], Some((Kind::Take, 2, 3))),
+    content: 7,
+    noted: None,
+};
+
+const WRITE_WAITS: Case = Case {
+    says: Says::GetM,
+    ..READ_WAITS
+};
+
+const PUT_WAITS: Case = Case {
+    says: Says::PutReq,
+    ..READ_WAITS
+};
+
+// The log has no room, and nothing changes.
+
+const NO_ROOM_TO_TAKE: Case = Case {
+    before: (None, &[2], None),
+    says: Says::GetM,
+    does: Does::LogFull,
+    after: (None, &[2], None),
+    content: 7,
+    noted: None,
+};
+
+const NO_ROOM_TO_READ_ALONE: Case = Case {
+    before: (None, &[], None),
+    says: Says::GetS,
+    does: Does::LogFull,
+    after: (None, &[], None),
+    content: 7,
+    noted: None,
+};
+
+const NO_ROOM_TO_END_MOVE: Case = Case {
+    before: (Some(2), &[], Some((Kind::Move, 1, 3))),
+    says: Says::Unblock(4),
+    does: Does::LogFull,
+    after: (Some(2), &[], Some((Kind::Move, 1, 3))),
+    content: 7,
+    noted: None,
+};
+
+const NO_ROOM_TO_GIVE_BACK: Case = Case {
+    before: (Some(1), &[], Some((Kind::Put, 1, 3))),
+    says: Says::PutData(9),
+    does: Does::LogFull,
+    after: (Some(1), &[], Some((Kind::Put, 1, 3))),
+    content: 7,
+    noted: None,
+};
+
+fn owner_of(rt: &impl Abort, owner: Option<u8>) -> Owner {
+    match owner {
+        None => Owner::Home,
+        Some(number) => Owner::Cache(node(rt, number)),
+    }
 }
 
-fn takes(n: &Nodes) -> Case {
-    transfer(
-        stands(Owner::Home, n.first_two, None),
-        Body::GetM,
-        sends(2, n.one, Body::DataM(content(), 1), n.second, n.one),
-        stands(Owner::Cache(n.one), n.none, opened(Kind::Take, n.one, 5)),
-        (5, Old::WasHome(content())),
-    )
-}
-
-fn moves(n: &Nodes) -> Case {
-    row(
-        stands(Owner::Cache(n.three), n.first_two, None),
-        Body::GetM,
-        sends(2, n.three, Body::FwdGetM(n.one, 1), n.second, n.one),
-        stands(Owner::Cache(n.three), n.none, opened(Kind::Move, n.one, 5)),
-    )
-}
-
-fn upgrades(n: &Nodes) -> Case {
-    row(
-        stands(Owner::Cache(n.one), n.last_two, None),
-        Body::GetM,
-        sends(3, n.one, Body::UpgOk(2), n.last_two, n.one),
-        stands(Owner::Cache(n.one), n.none, opened(Kind::Upgrade, n.one, 5)),
-    )
-}
-
-fn ends_move(n: &Nodes) -> Case {
-    transfer(
-        stands(Owner::Cache(n.three), n.none, opened(Kind::Move, n.one, 2)),
-        Body::Unblock(3),
-        silent(n.one),
-        stands(Owner::Cache(n.one), n.none, None),
-        (3, Old::WasCache(n.three)),
-    )
-}
-
-/// The end of a transaction that has changed the owner before, or doesn't.
-fn ends(n: &Nodes, owner: Owner, kind: Kind) -> Case {
-    let before = stands(owner, n.second, opened(kind, n.one, 2));
-    let mut case = unchanged(&before, Body::Unblock(3), silent(n.one));
-    case.after.open = None;
-    case
-}
-
-fn begins_put(n: &Nodes) -> Case {
-    row(
-        stands(Owner::Cache(n.one), n.second, None),
-        Body::PutReq,
-        sends(1, n.one, Body::PutGo, n.none, n.one),
-        stands(Owner::Cache(n.one), n.second, opened(Kind::Put, n.one, 5)),
-    )
-}
-
-/// A node that owns the block no more has nothing to give back.
-fn stale_put(n: &Nodes, owner: Owner) -> Case {
-    let answer = sends(1, n.one, Body::PutDone, n.none, n.one);
-    unchanged(&stands(owner, n.second, None), Body::PutReq, answer)
-}
-
-fn gives_back(n: &Nodes) -> Case {
-    transfer(
-        stands(Owner::Cache(n.one), n.second, opened(Kind::Put, n.one, 5)),
-        Body::PutData(new_content()),
-        silent(n.one),
-        stands(Owner::Home, n.second, None),
-        (4, Old::WasCache(n.one)),
-    )
-}
-
-fn waits(n: &Nodes, body: Body) -> Case {
-    let taking = stands(Owner::Cache(n.two), n.none, opened(Kind::Take, n.two, 3));
-    unchanged(&taking, body, busy())
-}
-
-fn lacks_room(owner: Owner, sharers: NodeSet, open: Option<Transaction>, body: Body) -> Case {
-    unchanged(&stands(owner, sharers, open), body, log_full())
+fn open_of(rt: &impl Abort, open: Option<(Kind, u8, Interval)>) -> Option<Transaction> {
+    let (kind, number, begun) = open?;
+    Some(Transaction {
+        kind,
+        requester: node(rt, number),
+        begun,
+    })
 }
 
 /// What a look says and what is done in interval 5, with an empty log. None where the message has no row.
@@ -249,24 +255,26 @@ fn deliver(entry: &mut Entry, message: &Message, log: &mut LogBuffer) -> Option<
 }
 
 /// Whether a log holds just what is to be noted of block 64 on the home's side.
-fn holds_just(log: &LogBuffer, noted: Option<(Interval, Old)>) -> bool {
+fn holds_just(rt: &impl Abort, log: &LogBuffer, noted: Option<(Interval, Noted)>) -> bool {
     let block = BlockNo::new(64);
-    match noted {
-        Some((interval, old)) => {
-            log.count() == 1
-                && log.has(interval, true, block)
-                && log.old_at(true, block, interval).copied() == Some(old)
-        }
-        None => log.count() == 0,
-    }
+    let Some((interval, noted)) = noted else {
+        return log.count() == 0;
+    };
+    let old = match noted {
+        Noted::WasHome(word) => Old::WasHome(content(word)),
+        Noted::WasCache(number) => Old::WasCache(node(rt, number)),
+    };
+    log.count() == 1
+        && log.has(interval, true, block)
+        && log.old_at(true, block, interval).copied() == Some(old)
 }
 
-fn is_left(entry: &Entry, case: &Case) -> bool {
+fn is_left(rt: &impl Abort, entry: &Entry, case: &Case) -> bool {
     let after = &case.after;
-    entry.owner == after.owner
-        && entry.sharers == after.sharers
-        && entry.transaction == after.open
-        && (after.owner != Owner::Home || entry.memory == case.content)
+    entry.owner == owner_of(rt, after.0)
+        && entry.sharers == set_of(rt, after.1)
+        && entry.transaction == open_of(rt, after.2)
+        && (after.0.is_some() || entry.memory == content(case.content))
 }
 
 fn sent_by(from: NodeId, body: Body) -> Message {
@@ -281,112 +289,95 @@ fn sent_by(from: NodeId, body: Body) -> Message {
 }
 
 /// Does the message of a case with a log of this room, and says whether all is as the case has it.
-fn is_met(alloc: Global, room: u16, r: NodeId, case: &Case) -> Result<bool, Memory> {
+fn is_met(rt: &impl Abort, alloc: Global, room: u16, case: &Case) -> Result<bool, Memory> {
     let mut log = LogBuffer::new(alloc, room)?;
     let mut entry = Entry {
-        owner: case.before.owner,
-        memory: content(),
-        sharers: case.before.sharers,
-        transaction: case.before.open,
+        owner: owner_of(rt, case.before.0),
+        memory: content(7),
+        sharers: set_of(rt, case.before.1),
+        transaction: open_of(rt, case.before.2),
     };
-    let answer = deliver(&mut entry, &sent_by(r, case.body), &mut log);
-    Ok(answer == Some(case.answer) && is_left(&entry, case) && holds_just(&log, case.noted))
+    let one = node(rt, 1);
+    let answer = deliver(&mut entry, &sent_by(one, body_of(rt, &case.says)), &mut log);
+    let is_answered = answer.is_some() && answer == answer_of(rt, &case.does, one);
+    Ok(is_answered && is_left(rt, &entry, case) && holds_just(rt, &log, case.noted))
 }
 
-fn all_met(
-    rt: &impl Abort,
-    alloc: Global,
-    room: u16,
-    r: NodeId,
-    cases: &[Case],
-) -> Result<(), Fail> {
+fn all_met(rt: &impl Abort, alloc: Global, room: u16, cases: &[Case]) -> Result<(), Fail> {
     'cases: for (place, case) in cases.iter().enumerate() {
-        assert!(rt; is_met(alloc, room, r, case)?, "case {place}");
+        assert!(rt; is_met(rt, alloc, room, case)?, "case {place}");
     }
     Ok(())
 }
 
+const READS: [Case; 4] = [READS_COPY, READS_AT_OWNER, READS_ALONE, READS_AGAIN];
+
 #[test]
 fn each_row_of_a_read(rt: HostRuntime) -> Result<(), Fail> {
-    let n = three_nodes(&rt);
-    let itself = n.none.with(n.one);
-    let cases = [
-        reads_copy(&n),
-        reads_at_owner(&n),
-        reads_alone(&n, n.none),
-        reads_alone(&n, itself),
-    ];
-    all_met(&rt, rt.alloc(), 4, n.one, &cases)
+    all_met(&rt, rt.alloc(), 4, &READS)
 }
+
+const WRITES: [Case; 3] = [TAKES, MOVES, UPGRADES];
 
 #[test]
 fn each_row_of_a_write(rt: HostRuntime) -> Result<(), Fail> {
-    let n = three_nodes(&rt);
-    let cases = [takes(&n), moves(&n), upgrades(&n)];
-    all_met(&rt, rt.alloc(), 4, n.one, &cases)
+    all_met(&rt, rt.alloc(), 4, &WRITES)
 }
+
+const ENDS: [Case; 5] = [
+    ENDS_MOVE,
+    ENDS_READ_AT_HOME,
+    ENDS_READ_AT_OWNER,
+    ENDS_TAKE,
+    ENDS_UPGRADE,
+];
 
 #[test]
 fn an_unblock_closes_and_names_the_new_owner_of_a_move(rt: HostRuntime) -> Result<(), Fail> {
-    let n = three_nodes(&rt);
-    let cases = [
-        ends_move(&n),
-        ends(&n, Owner::Home, Kind::Read),
-        ends(&n, Owner::Cache(n.three), Kind::Read),
-        ends(&n, Owner::Cache(n.one), Kind::Take),
-        ends(&n, Owner::Cache(n.one), Kind::Upgrade),
-    ];
-    all_met(&rt, rt.alloc(), 4, n.one, &cases)
+    all_met(&rt, rt.alloc(), 4, &ENDS)
 }
+
+const PUTS: [Case; 4] = [
+    BEGINS_PUT,
+    STALE_PUT_AT_OWNER,
+    STALE_PUT_AT_HOME,
+    GIVES_BACK,
+];
 
 #[test]
 fn each_row_of_a_put(rt: HostRuntime) -> Result<(), Fail> {
-    let n = three_nodes(&rt);
-    let cases = [
-        begins_put(&n),
-        stale_put(&n, Owner::Cache(n.three)),
-        stale_put(&n, Owner::Home),
-        gives_back(&n),
-    ];
-    all_met(&rt, rt.alloc(), 4, n.one, &cases)
+    all_met(&rt, rt.alloc(), 4, &PUTS)
 }
+
+const WAITS: [Case; 3] = [READ_WAITS, WRITE_WAITS, PUT_WAITS];
 
 #[test]
 fn a_request_waits_and_nothing_changes(rt: HostRuntime) -> Result<(), Fail> {
-    let n = three_nodes(&rt);
-    let cases = [
-        waits(&n, Body::GetS),
-        waits(&n, Body::GetM),
-        waits(&n, Body::PutReq),
-    ];
-    all_met(&rt, rt.alloc(), 4, n.one, &cases)
+    all_met(&rt, rt.alloc(), 4, &WAITS)
 }
+
+const NO_ROOM: [Case; 4] = [
+    NO_ROOM_TO_TAKE,
+    NO_ROOM_TO_READ_ALONE,
+    NO_ROOM_TO_END_MOVE,
+    NO_ROOM_TO_GIVE_BACK,
+];
 
 #[test]
 fn a_row_that_notes_needs_room_in_the_log(rt: HostRuntime) -> Result<(), Fail> {
-    let n = three_nodes(&rt);
-    let moving = opened(Kind::Move, n.one, 3);
-    let putting = opened(Kind::Put, n.one, 3);
-    let data = Body::PutData(new_content());
-    let cases = [
-        lacks_room(Owner::Home, n.second, None, Body::GetM),
-        lacks_room(Owner::Home, n.none, None, Body::GetS),
-        lacks_room(Owner::Cache(n.two), n.none, moving, Body::Unblock(4)),
-        lacks_room(Owner::Cache(n.one), n.none, putting, data),
-    ];
-    all_met(&rt, rt.alloc(), 0, n.one, &cases)
+    all_met(&rt, rt.alloc(), 0, &NO_ROOM)
 }
+
+const NOTE_NOTHING: [Case; 6] = [
+    MOVES,
+    UPGRADES,
+    ENDS_READ_AT_HOME,
+    BEGINS_PUT,
+    STALE_PUT_AT_HOME,
+    WRITE_WAITS,
+];
 
 #[test]
 fn a_row_that_notes_nothing_needs_no_room(rt: HostRuntime) -> Result<(), Fail> {
-    let n = three_nodes(&rt);
-    let cases = [
-        moves(&n),
-        upgrades(&n),
-        ends(&n, Owner::Home, Kind::Read),
-        begins_put(&n),
-        stale_put(&n, Owner::Home),
-        waits(&n, Body::GetM),
-    ];
-    all_met(&rt, rt.alloc(), 0, n.one, &cases)
+    all_met(&rt, rt.alloc(), 0, &NOTE_NOTHING)
 }
