@@ -46,8 +46,11 @@ fn turns<L: RunName + Send + Sync, T: Threads + Wait + Sync, C: Sink + Send, G: 
     let bell = Bell::new();
     let bell = &bell;
     let count = slots.len();
-    let (_, drained) = join_mut(
+    // The first of the two has the new thread, or where there is none comes last. The console's worker waits for the others, so it
+    // is that one: it then finds that they have ended.
+    let (drained, _) = join_mut(
         rt,
+        &mut || pump(rt, lock, inbox, console, bell),
         &mut ||
             requires { 0 < count }
         {
@@ -59,7 +62,6 @@ fn turns<L: RunName + Send + Sync, T: Threads + Wait + Sync, C: Sink + Send, G: 
             );
             bell.end();
         },
-        &mut || pump(rt, lock, inbox, console, bell),
     );
     drained
 }
@@ -143,8 +145,8 @@ fn run_named<L: RunName + Send + Sync, T: Threads + Wait + Sync, C: Sink + Send,
 }
 
 /// Runs a machine by one worker a node, each in a thread of its own, and writes what is released to the console beside them.
-/// Where a thread can't be started, its caller does that worker's turns. Once all have ended, the probes are told what was done.
-/// The run is stopped only where the console failed. On want of memory no turn was had.
+/// Where a thread can't be started, its caller does that worker's turns, or writes to the console once they are done. Once all have
+/// ended, the probes are told what was done. The run is stopped only where the console failed. On want of memory no turn was had.
 pub fn run_nodes<T: Threads + Wait + Sync, C: Sink + Send, G: Gate + Sync>(
     rt: &T,
     alloc: Global,
