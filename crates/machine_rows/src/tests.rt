@@ -171,6 +171,13 @@ fn fill(rt: &impl Abort, machine: &mut Machine) {
     assert!(rt; machine.net().count() == 1024);
 }
 
+/// Plays a schedule after that, on a machine of its own.
+fn plays_in_crowd(rt: &impl Abort, alloc: Global, schedule: &Schedule) -> Result<(), Fail> {
+    let mut machine = start(rt, alloc, schedule)?;
+    fill(rt, &mut machine);
+    plays_on(rt, alloc, &mut machine, schedule)
+}
+
 #[test]
 fn a_machine_starts_with_its_program_and_nothing_else(rt: HostRuntime) -> Result<(), Fail> {
     plays(&rt, rt.alloc(), &BEFORE_EVENTS)
@@ -277,7 +284,5 @@ fn a_node_is_cut_off_once_both_of_its_switches_are_dead(rt: HostRuntime) -> Resu
 
 #[test]
 fn a_full_network_refuses_until_there_is_room(rt: HostRuntime) -> Result<(), Fail> {
-    let mut machine = start(&rt, rt.alloc(), &FULL_NETWORK)?;
-    fill(&rt, &mut machine);
-    plays_on(&rt, rt.alloc(), &mut machine, &FULL_NETWORK)
+    plays_in_crowd(&rt, rt.alloc(), &FULL_NETWORK)
 }
