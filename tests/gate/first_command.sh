@@ -135,7 +135,7 @@ rm -rf "$repo"/crates/*/out "$work/bin"/*
 for tool in bash env dirname readlink cat find; do ln -s "$(command -v "$tool")" "$work/bin/$tool"; done
 PATH_TO=$work/bin
 check "--version needs no build" 0 "$(cat crates/safetynet_program/version.txt)" 0 --version
-for words in '' --help -h help 'replay --help' 'check --help' 'demo --help' 'dis --help'; do
+for words in '' --help -h help 'replay --help' 'check --help' 'demo --help' 'asm --help' 'dis --help' 'run --help'; do
   # Each word is one of its own.
   check "the page that '$words' asks for needs no build" 0 "$(./safetynet --help)" 0 $words
 done
