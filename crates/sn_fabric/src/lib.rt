@@ -31,8 +31,6 @@ mod sending;
 mod showing;
 mod start;
 mod switches;
-#[cfg(test)]
-mod tests;
 
 use home_directory::Home;
 pub use home_directory::Transaction;
