@@ -46,7 +46,7 @@ RUNS = [
     ("run with its journal", ["run", "--nodes", "1", "--interval", "2", "--journal", "a"], {"a": LETTER}),
     ("run with the trace", ["run", "--nodes", "1", "--trace", "a"], {"a": LETTER}),
     ("run, two nodes", ["run", "--nodes", "2", "--journal", "program"], {"program": COUNTING}),
-    ("run, four nodes and lost messages", ["run", "--nodes", "4", "--lose-every", "9", "--wait", "60", "--journal", "program"], {"program": COUNTING}),
+    ("run, four nodes and lost messages", ["run", "--nodes", "4", "--lose-every", "30", "--wait", "200", "--journal", "program"], {"program": COUNTING}),
     ("demo", ["demo", "100"], {}),
     ("asm", ["asm", "a"], {"a": TEXT}),
     ("dis", ["dis", "a"], {"a": COUNTING}),

@@ -26,7 +26,7 @@ PASSED, WANT, WRONG = "passed", "want of memory", "wrong"
 
 # How a test ends whose result is an error that is want of memory: its status, and the line that shows the error.
 FAILED_STATUS = 101
-MEMORY_ERROR = re.compile(rb"error: .*\b(Memory|AllocError|OutOfMemory)\b")
+MEMORY_ERROR = re.compile(rb"[Ee]rror: .*\b(Memory|AllocError|AllocFailed|OutOfMemory)\b")
 
 
 def tests_of(program):

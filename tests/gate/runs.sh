@@ -103,6 +103,18 @@ replayed --nodes 2 "$mailbox"
 ends 6 'events 2000
 released 0' --nodes 1 --budget 2000 examples/shared/echo.hex
 
+# Where there is no room for a thread, its work is done without it: with less and less room a run ends as ever, or wants memory.
+for ((room = 200000; room >= 40000; room -= 4000)); do
+  (ulimit -v "$room" && timeout 60 ./safetynet run --nodes 4 "$count" >"$work/console" 2>"$work/report")
+  status=$?
+  if [ "$status" -eq 0 ] || { [ "$status" -eq 7 ] && diff <(echo "# safetynet: memory") "$work/report"; }; then
+    passed=$((passed + 1))
+  else
+    echo "run in $room KiB: status $status" >&2
+    failed=$((failed + 1))
+  fi
+done
+
 refused --nodes 4 --kill a0@0 --kill b0@0 examples/first/a.hex
 refused --nodes 2 --kill a2@0 "$count"
 refused --nodes 2 --kill c0@0 "$count"
