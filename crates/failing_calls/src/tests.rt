@@ -3,6 +3,7 @@ mod commands;
 
 use commands::COMMANDS;
 use safetynet_main::{Status, safetynet};
+use sn_base::Memory;
 use sn_io::{MemSink, MemStore, OpenGate};
 use std::alloc::Global;
 use std::process::Abort;
@@ -50,7 +51,7 @@ fn number_of(failing: &Failing, outside: Outside) -> u64 {
     }
 }
 
-/// What a call left.
+/// What a call left that had the memory that it wants.
 #[derive(Drop)]
 struct Left {
     status: Status,
@@ -101,6 +102,9 @@ fn call(
         Vec::new(alloc),
         &gate,
     );
+    if status == Status::Memory {
+        return Err(Fail::from(Memory));
+    }
     Ok(Left {
         status,
         console,
