@@ -1,7 +1,7 @@
 //! What one block of memory sees of the fabric, and that the fabric is coherent.
 //!
 //! The fabric's definitions are lists of nodes, homes and messages; a block of the coherence theorem is a record of
-//! functions. `block_of` in specs/ reads the one as the other. Each event of the fabric is, for each block, a short list of
+//! functions. `block_seen` in specs/ reads the one as the other. Each event of the fabric is, for each block, a short list of
 //! that block's own events, each of which the coherence theorem allows there; so along every run of the fabric all its
 //! sentences hold of every block. In the fabric's own words: each block has one writer at most, and one holder at each
 //! checkpoint below which its home has nothing open. The same holds with the records of all accesses beside the fabric: then

@@ -10,7 +10,6 @@ mod instr;
 mod opcodes;
 mod operations;
 mod reading;
-mod vectors;
 mod writing;
 
 pub use instr::{Illegal, Instr};

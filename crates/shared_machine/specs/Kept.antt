@@ -12,8 +12,8 @@ use Rattle.shared_machine.specs.Drawn.{AreDrawn}
 use Rattle.shared_machine.specs.Shared.{SharedData, LockedData, began_with}
 
 -- the journal, folded from the run's start, gives the machine, the answers and the driver's numbers; each of its events was due
--- for its worker with that worker's next pick, and fits the machine, where the rules are ones for its nodes; no other event was applied, and there are no more than the budget; what was passed
--- on to the console is the first of what is released
+-- for its worker with that worker's next pick, and fits the machine, where the rules are ones for its nodes; no other event
+-- was applied, and there are no more than the budget; what was passed on to the console is the first of what is released
 pub record IsKept (s : LockedData) : Type 0 where
   pub state : s.machine.state ≡ state_of (began_with s) s.journal
   pub answers : s.answers ≡ answers_of (began_with s) s.journal

@@ -27,4 +27,3 @@ pub mod HomesAfter
 pub mod ToHome
 pub mod ToNode
 pub mod Delivered
-pub mod Finished

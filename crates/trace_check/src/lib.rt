@@ -7,7 +7,8 @@
 //! the earlier writes left, and no other core's write lies between a done SC and its core's last LR. That this judges
 //! the whole is the law of projections (sn_consistency, projection_places).
 //!
-//! The cores are replayed in threads of their own, and then the blocks in as many parts as there are processors.
+//! The cores are replayed in threads of their own, and then the blocks in as many parts as there are processors,
+//! at most 16.
 #![tactic(auto)]
 
 mod blocks;
