@@ -3,10 +3,11 @@
 
     build.py PROGRAM STAMP [COMMAND WORDS..]
 
-Crates are built side by side, each once those that it stands on are, first those with the most to come after them. rt keeps others
-out of all crates below the one that it builds, so each is built in a view of its own: a folder with its sources, and with the built
-libraries below it. What rt keeps of a crate, its folder out/, goes into the view and comes back, also from a build that fails or is
-interrupted, so the next one goes on where it was. Whether a library is of the present text is rt's to find out in each view.
+Crates are built side by side, each once those that it stands on are. Those with the most to come after them are urgent and may use all
+processors; the others run beside them with what is left. rt keeps others out of all crates below the one that it builds, so each is
+built in a view of its own: a folder with its sources, and with the built libraries below it. What rt keeps of a crate, its folder out/,
+goes into the view and comes back, also from a build that fails or is interrupted, so the next one goes on where it was. Whether a library
+is of the present text is rt's to find out in each view.
 
 STAMP is written only once rt has ended well: its lines are the folders that the program was built from, its date is that of the
 build's beginning. Whatever changed later, or during the build, is newer than it. Then the command is run, if there is one, in place of
@@ -151,10 +152,12 @@ def view_of(crate, under, views):
 class Rt:
     """One rt command in a crate's folder, with what it says in a file."""
 
-    def __init__(self, crate, folder, jobs, *words):
-        self.crate, self.jobs, self.log = crate, jobs, tempfile.TemporaryFile("w+", errors="replace")
+    def __init__(self, crate, folder, is_urgent, *words):
+        self.crate, self.log = crate, tempfile.TemporaryFile("w+", errors="replace")
         how = {"stdin": subprocess.DEVNULL, "stdout": self.log, "stderr": subprocess.STDOUT}
         self.ran = subprocess.Popen(["rt", *words], cwd=folder, **how)
+        if not is_urgent:
+            os.setpriority(os.PRIO_PROCESS, self.ran.pid, 10)
 
     def has_ended(self):
         """Whether it ended well; raises where it ended otherwise."""
@@ -170,9 +173,15 @@ class Rt:
         self.log.close()
 
 
-def jobs_of_next(idle, waiting):
-    """How many processors the first of those that wait gets: what the others leave, and half at least. No check gains from more than four."""
-    return min(4, idle - min(waiting - 1, idle // 2))
+def urgent_of(crates, behind):
+    """Those with the most to come after them, or hardly less: they decide how long all takes."""
+    most = max(behind[it] for it in crates)
+    return [it for it in crates if behind[it] >= 0.9 * most]
+
+
+def jobs_of(crate, urgent, many):
+    """How many processors a check is told to use. None gains from more than four."""
+    return min(4, max(1, many // len(urgent))) if crate in urgent else 1
 
 
 def build_libraries(crates, under, views, progress):
@@ -182,14 +191,15 @@ def build_libraries(crates, under, views, progress):
         try:
             while len(done) < len(crates):
                 ready = [it for it in crates if it not in done and it not in running and under[it] <= done]
-                ready.sort(key=lambda it: -behind[it])
-                idle = many - sum(it.jobs for it, _ in running.values())
-                while ready and idle > 0:
-                    jobs, crate = jobs_of_next(idle, len(ready)), ready.pop(0)
+                for crate in sorted(ready, key=lambda it: -behind[it]):
+                    urgent = urgent_of([*ready, *running], behind)
+                    # A place is kept for an urgent one. It may use all processors, others have what it leaves.
+                    if len(running) >= (many if crate in urgent else many - 1):
+                        break
                     view = open_views.enter_context(contextlib.ExitStack())
                     folder = view.enter_context(view_of(crate, under[crate], views))
-                    running[crate] = Rt(crate, folder, jobs, "lib", "--jobs", str(jobs)), view
-                    idle -= jobs
+                    jobs = str(jobs_of(crate, urgent, many))
+                    running[crate] = Rt(crate, folder, crate in urgent, "lib", "--jobs", jobs), view
                 progress.working(running)
                 time.sleep(0.2)
                 for crate, (rt, view) in [*running.items()]:
@@ -206,7 +216,7 @@ def build_libraries(crates, under, views, progress):
 
 def build_program(program, progress):
     """Proves and builds the program over its libraries; rt runs it once, to say its version."""
-    rt = Rt(program, folder_of(program), lanes(), "run", "--", "--version")
+    rt = Rt(program, folder_of(program), True, "run", "--", "--version")
     try:
         while not rt.has_ended():
             progress.working([program])
