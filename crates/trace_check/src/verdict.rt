@@ -62,6 +62,7 @@ fn count_done<T: Threads + Sync, G: Gate + Sync>(
     requires few { nodes ≤ 16 }
     ensures { IfOk result (λ done. IsDone image.now nodes records.now done) }
 {
+    // To count each core's records would be a walk over all of them in one thread. Room that isn't used takes no memory.
     let even = records.len() / usize::from(nodes);
     let mut slots = fresh_slots(alloc, nodes, even.saturating_add(even / 8))?;
     count_in_slots(rt, alloc, image, nodes, records, gate, slots.as_mut_slice())
