@@ -1,4 +1,4 @@
--- How many records all cores pass: the least of what each passes, and of those before the first of a core that is not there.
+-- How many records all cores pass: the least of what each passes.
 use Rattle.std.proofs.Common.{◌≡◌, ℕ, zero, suc, ◌<◌, ◌≤◌, ◌⊎◌, inl, inr, min, List, [], ◌∷◌, take, length, slice_get, Some, get_or, refl, sym, ap, subst, ◌∙◌, arith}
 use Rattle.std.proofs.lemmas.Bool.{cases_order}
 use Rattle.std.proofs.lemmas.List.{length_push, get_or_append_left, get_or_push}
@@ -8,9 +8,9 @@ use Rattle.rv_core.specs.declared.step.Record.{Record}
 use Rattle.rv_core.specs.Core.{start_of}
 use Rattle.rv_core.specs.Flat.{flat_start, first_cores, core_at}
 use Rattle.sn_consistency.specs.Projections.{CoreGood, core_step}
-use Rattle.projection_places.specs.Passes.{Passes, CorePasses, CoresPass}
+use Rattle.projection_places.specs.Passes.{Passes, CoresPass}
 use Rattle.projection_places.proofs.Fronts.{core_fewer, passes_both, passes_as}
-use Rattle.trace_check.specs.Slots.{AreInside, CoresBelow}
+use Rattle.trace_check.specs.Slots.{AreInside, IsPassed, CoresBelow}
 
 -- the cores at the start
 pub count_cores : (entry n : ℕ) → length (first_cores n entry) ≡ n
@@ -54,48 +54,45 @@ module _ (image : ImageData) (N : ℕ) where
       go h (suc j) r l e = h j r (omega (arith, l)) e
 
   module _ (rs : List Record) where
-    -- what the records so far and the first cores pass
-    abbrev pub SoFar : ℕ → ℕ → Type 0
-    SoFar count k = AreInside N rs k × CoresBelow image N rs count k
+    passed_fewer : (n k m : ℕ) → k ≤ m → IsPassed image N n rs m → IsPassed image N n rs k
+    passed_fewer n k m l g = (inside_fewer N rs k m l g.0, core_fewer image N n (start_of n image.entry) rs k m l g.1)
 
-    below_fewer : (count k m : ℕ) → k ≤ m → CoresBelow image N rs count m → CoresBelow image N rs count k
-    below_fewer count k m l g = λ n h. core_fewer image N n (core_at (flat_start image N) n) rs k m l (g n h)
+    pub least_none : (limit : ℕ) → Passes (CoresBelow image N rs 0) limit limit
+    least_none limit = record { within = omega arith; good = λ n l. absurd (omega (arith, l)); bad = λ l g. absurd (omega (arith, l)) }
 
-    pub least_none : (limit p : ℕ) → Passes (AreInside N rs) limit p → Passes (SoFar 0) limit p
-    least_none limit p = passes_as (AreInside N rs) (SoFar 0) (λ k g. (g, λ n l. absurd (omega (arith, l)))) (λ k g. g.0) limit p
-
-    pub least_more : (limit count p q : ℕ) → count < N → Passes (SoFar count) limit p → (core : ℕ) → core ≡ count →
-        Passes (λ k. CoreGood image N core (start_of core image.entry) (take k rs)) limit q →
-        Passes (SoFar (suc count)) limit (min p q)
-    least_more limit count p q l a core e b =
-        passes_as (λ k. SoFar count k × One k) (SoFar (suc count)) to (λ k g. ((g.0, λ n h. g.1 n (omega (arith, h))), g.1 count (omega arith))) limit (min p q)
-        (passes_both (SoFar count) One (λ k m h g. (inside_fewer N rs k m h g.0, below_fewer count k m h g.1))
-        (λ k m h g. core_fewer image N count (core_at (flat_start image N) count) rs k m h g) limit p q a one)
+    pub least_more : (limit count p q : ℕ) → Passes (CoresBelow image N rs count) limit p → (core : ℕ) → core ≡ count →
+        Passes (IsPassed image N core rs) limit q → Passes (CoresBelow image N rs (suc count)) limit (min p q)
+    least_more limit count p q a core e b =
+        passes_as (λ k. CoresBelow image N rs count k × IsPassed image N count rs k) (CoresBelow image N rs (suc count)) to
+        (λ k g. ((λ n h. g n (omega (arith, h))), g count (omega arith))) limit (min p q)
+        (passes_both (CoresBelow image N rs count) (IsPassed image N count rs) (λ k m h g. λ n l. passed_fewer n k m h (g n l))
+        (λ k m h g. passed_fewer count k m h g) limit p q a (subst (λ x. Passes (IsPassed image N x rs) limit q) e b))
       where
-        One : ℕ → Type 0
-        One = CorePasses image N count (flat_start image N) rs
-
-        at_count : Passes (λ k. CoreGood image N count (start_of count image.entry) (take k rs)) limit q
-        at_count = subst (λ x. Passes (λ k. CoreGood image N x (start_of x image.entry) (take k rs)) limit q) e b
-
-        one : Passes One limit q
-        one = subst (λ x. Passes (λ k. CoreGood image N count x (take k rs)) limit q) (sym (core_of image N count l)) at_count
-
-        to : (k : ℕ) → (SoFar count k × One k) → SoFar (suc count) k
-        to k g = (g.0.0, λ n h. go n h (cases_order n count))
+        to : (k : ℕ) → (CoresBelow image N rs count k × IsPassed image N count rs k) → CoresBelow image N rs (suc count) k
+        to k g = λ n h. go n h (cases_order n count)
           where
-            go : (n : ℕ) → n < suc count → ((n ≡ count) ⊎ ((n < count) ⊎ (count < n))) → CorePasses image N n (flat_start image N) rs k
-            go n h (inl i) = subst (λ x. CorePasses image N x (flat_start image N) rs k) (sym i) g.1
-            go n h (inr (inl i)) = g.0.1 n i
+            go : (n : ℕ) → n < suc count → ((n ≡ count) ⊎ ((n < count) ⊎ (count < n))) → IsPassed image N n rs k
+            go n h (inl i) = subst (λ x. IsPassed image N x rs k) (sym i) g.1
+            go n h (inr (inl i)) = g.0 n i
             go n h (inr (inr i)) = absurd (omega (arith, i, h))
 
-    pub least_all : (limit count p : ℕ) → count ≡ N → Passes (SoFar count) limit p → Passes (CoresPass image N (flat_start image N) rs) limit p
-    least_all limit count p e = passes_as (SoFar count) (CoresPass image N (flat_start image N) rs) to (λ k g. (inside_from (core_at (flat_start image N)) rs k g, λ n l. g n)) limit p
+    pub least_all : (limit count p : ℕ) → 1 ≤ N → count ≡ N → Passes (CoresBelow image N rs count) limit p →
+        Passes (CoresPass image N (flat_start image N) rs) limit p
+    least_all limit count p some e = passes_as (CoresBelow image N rs count) (CoresPass image N (flat_start image N) rs) to from limit p
       where
-        to : (k : ℕ) → SoFar count k → CoresPass image N (flat_start image N) rs k
+        to : (k : ℕ) → CoresBelow image N rs count k → CoresPass image N (flat_start image N) rs k
         to k g = λ n. go n (cases_order n N)
           where
-            go : (n : ℕ) → ((n ≡ N) ⊎ ((n < N) ⊎ (N < n))) → CorePasses image N n (flat_start image N) rs k
-            go n (inl i) = inside_core n (omega (arith, i)) (core_at (flat_start image N) n) rs k g.0
-            go n (inr (inl i)) = g.1 n (omega (arith, i, e))
-            go n (inr (inr i)) = inside_core n (omega (arith, i)) (core_at (flat_start image N) n) rs k g.0
+            past : (n : ℕ) → N ≤ n → CoreGood image N n (core_at (flat_start image N) n) (take k rs)
+            past n l = inside_core n l (core_at (flat_start image N) n) rs k (g 0 (omega (arith, some, e))).0
+
+            go : (n : ℕ) → ((n ≡ N) ⊎ ((n < N) ⊎ (N < n))) → CoreGood image N n (core_at (flat_start image N) n) (take k rs)
+            go n (inl i) = past n (omega (arith, i))
+            go n (inr (inl i)) = subst (λ c. CoreGood image N n c (take k rs)) (sym (core_of image N n i)) (g n (omega (arith, i, e))).1
+            go n (inr (inr i)) = past n (omega (arith, i))
+
+        from : (k : ℕ) → CoresPass image N (flat_start image N) rs k → CoresBelow image N rs count k
+        from k g = λ n l. (
+          inside_from (core_at (flat_start image N)) rs k g,
+          subst (λ c. CoreGood image N n c (take k rs)) (core_of image N n (omega (arith, l, e))) (g n),
+        )

@@ -1,6 +1,7 @@
 -- One core's replay, record by record.
-use Rattle.std.proofs.Common.{◌≡◌, ◌≢◌, ℕ, zero, suc, ◌<◌, ◌==◌, Bool, true, false, cond, List, [], ◌∷◌, ◌++◌, take, length, slice_get, Some, refl, sym, ap, subst, ◌∙◌, arith}
+use Rattle.std.proofs.Common.{◌≡◌, ◌≢◌, ℕ, zero, suc, ◌<◌, ◌⊎◌, inl, inr, ◌==◌, Bool, true, false, cond, List, [], ◌∷◌, ◌++◌, take, length, slice_get, Some, refl, sym, ap, subst, ◌∙◌, arith}
 use Rattle.std.proofs.lemmas.Bool.Decides.{nat_tests}
+use Rattle.std.proofs.lemmas.Bool.{cases_order}
 use Rattle.sn_base.specs.Image.{ImageData}
 use Rattle.rv_core.specs.declared.state.CoreState.{CoreState}
 use Rattle.rv_core.specs.declared.step.Record.{Record}
@@ -10,6 +11,7 @@ use Rattle.projection_places.specs.Passes.{Passes}
 use Rattle.projection_places.proofs.Folds.{core_more, core_last, core_next}
 use Rattle.trace_check.specs.DeedData.{DeedData}
 use Rattle.trace_check.specs.Deeds.{deed_of, core_deeds}
+use Rattle.trace_check.specs.Slots.{AreInside}
 
 -- a record that is the core's own, and one that is not
 pub own_step : (image : ImageData) (n : ℕ) (c : CoreState) (r : Record) → n ≡ r.core → core_step image n c r ≡ next image c r
@@ -38,39 +40,49 @@ module _ (image : ImageData) (n : ℕ) where
 
 -- the core after the first k records, which it passes, and what its own among them did
 pub record IsReplayed (image : ImageData) (N n : ℕ) (c : CoreState) (rs : List Record) (k : ℕ) (now : CoreState) (did : List DeedData) : Type 0 where
+  pub inside : AreInside N rs k
   pub good : CoreGood image N n c (take k rs)
   pub state : now ≡ core_after image n c (take k rs)
   pub deeds : did ≡ core_deeds image n c (take k rs)
 
 module _ (image : ImageData) (N n : ℕ) (c : CoreState) (rs : List Record) where
   pub replayed_none : (did : List DeedData) → did ≡ [] → IsReplayed image N n c rs zero c did
-  replayed_none did e = record { good = tt; state = refl; deeds = e }
+  replayed_none did e = record { inside = λ j r l i. absurd (omega (arith, l)); good = tt; state = refl; deeds = e }
 
   module _ (k : ℕ) (now : CoreState) (did : List DeedData) (p : IsReplayed image N n c rs k now did) where
     module _ (r : Record) (e : slice_get rs k ≡ Some r) where
-      pub replayed_more : (later : CoreState) (done : List DeedData) → (n ≡ r.core → Replays image N now r) →
+      inside_more : r.core < N → AreInside N rs (suc k)
+      inside_more l = λ j x h i. go j x h i (cases_order j k)
+        where
+          go : (j : ℕ) (x : Record) → j < suc k → slice_get rs j ≡ Some x → ((j ≡ k) ⊎ ((j < k) ⊎ (k < j))) → x.core < N
+          go j x h i (inl same) = let f : r ≡ x = cc in subst (λ y. y.core < N) f l
+          go j x h i (inr (inl less)) = p.inside j x less i
+          go j x h i (inr (inr more)) = absurd (omega (arith, h, more))
+
+      pub replayed_more : (later : CoreState) (done : List DeedData) → (r.core < N) × (n ≡ r.core → Replays image N now r) →
           later ≡ core_step image n now r → done ≡ did ++ core_deeds image n now (r ∷ []) →
           IsReplayed image N n c rs (suc k) later done
       replayed_more later done g s d = record {
-        good = core_more image N n c rs k r e p.good (λ i. subst (λ x. Replays image N x r) p.state (g i));
+        inside = inside_more g.0;
+        good = core_more image N n c rs k r e p.good (λ i. subst (λ x. Replays image N x r) p.state (g.1 i));
         state = s ∙ ap (λ x. core_step image n x r) p.state ∙ sym (core_next image n c rs k r e);
         deeds = d ∙ ap (λ x. x ++ core_deeds image n now (r ∷ [])) p.deeds
             ∙ ap (λ x. core_deeds image n c (take k rs) ++ core_deeds image n x (r ∷ [])) p.state
             ∙ sym (deeds_next image n c rs k r e);
       }
 
-      pub replayed_stops : k < length rs → ((n ≡ r.core → Replays image N now r) → ⊥) →
-          Passes (λ j. CoreGood image N n c (take j rs)) (length rs) k
+      pub replayed_stops : k < length rs → ((r.core < N) × (n ≡ r.core → Replays image N now r) → ⊥) →
+          Passes (λ j. AreInside N rs j × CoreGood image N n c (take j rs)) (length rs) k
       replayed_stops l h = record {
         within = omega (arith, l);
-        good = p.good;
-        bad = λ m g. h (λ i. subst (λ x. Replays image N x r) (sym p.state) (core_last image N n c rs k r e g i));
+        good = (p.inside, p.good);
+        bad = λ m g. h (g.0 k r (omega arith) e, λ i. subst (λ x. Replays image N x r) (sym p.state) (core_last image N n c rs k r e g.1 i));
       }
 
-    pub replayed_all : k ≡ length rs → Passes (λ j. CoreGood image N n c (take j rs)) (length rs) (length rs)
+    pub replayed_all : k ≡ length rs → Passes (λ j. AreInside N rs j × CoreGood image N n c (take j rs)) (length rs) (length rs)
     replayed_all e = record {
       within = omega arith;
-      good = subst (λ j. CoreGood image N n c (take j rs)) e p.good;
+      good = subst (λ j. AreInside N rs j × CoreGood image N n c (take j rs)) e (p.inside, p.good);
       bad = λ m g. absurd (omega (arith, m));
     }
 

@@ -20,9 +20,9 @@ use Rattle.sn_consistency.proofs.Start.{start_shows}
 use Rattle.trace_check.specs.Verdict.{IsDone}
 use Rattle.trace_check.specs.declared.cores.Slot.{Slot}
 use Rattle.trace_check.specs.Deeds.{deed_of, core_deeds}
-use Rattle.trace_check.specs.Slots.{AreReplayed, AreInside, HasRoom, HasDeeds, own_before}
+use Rattle.trace_check.specs.Slots.{AreReplayed, AreInside, IsPassed, HasRoom, HasDeeds, own_before}
 use Rattle.trace_check.specs.Parts.{AreFitting, IsFitting}
-use Rattle.trace_check.proofs.CorePlaces.{core_of, inside_from}
+use Rattle.trace_check.proofs.CorePlaces.{core_of, inside_fewer, inside_from}
 
 -- the deed of a core's record stands where as many of the core's are before it
 core_deed_at : (image : ImageData) (n : ℕ) (c : CoreState) (rs : List Record) (m k : ℕ) (r : Record) → k < m → slice_get rs k ≡ Some r → n ≡ r.core →
@@ -45,7 +45,7 @@ core_deed_at image n c (x ∷ rs) (suc m) (suc k) r l e i = go (n == x.core) (λ
 
 record Done (image : ImageData) (N n : ℕ) (rs : List Record) (slot : Slot) : Type 0 where
   count : ℕ
-  passes : Passes (λ k. CoreGood image N n (core_at (flat_start image N) n) (take k rs)) (length rs) count
+  passes : Passes (IsPassed image N n rs) (length rs) count
   deeds : slot.deeds.items ≡ core_deeds image n (core_at (flat_start image N) n) (take count rs)
 
 module _
@@ -53,14 +53,14 @@ module _
     (done : (n : ℕ) (d : Slot) → n < N → is_ok (get_or slots n d).passed ≡ true)
     (q : ℕ) (cores : Passes (CoresPass image N (flat_start image N) rs) (length rs) q) where
   done_in : (n : ℕ) → n < N → (slot : Slot) (core : ℕ) → core ≡ n → (passed : Result ℕ Memory) → is_ok passed ≡ true →
-      IfOk passed (λ p. Passes (λ k. CoreGood image N core (start_of core image.entry) (take k rs)) (length rs) p
+      IfOk passed (λ p. Passes (IsPassed image N core rs) (length rs) p
       × (slot.deeds.items ≡ core_deeds image core (start_of core image.entry) (take p rs))) → Done image N n rs slot
   done_in n l slot core e (Ok p) t h =
       let i : core_at (flat_start image N) n ≡ start_of n image.entry = core_of image N n l in
-      let g = subst (λ x. Passes (λ k. CoreGood image N x (start_of x image.entry) (take k rs)) (length rs) p × (slot.deeds.items ≡ core_deeds image x (start_of x image.entry) (take p rs))) e h in
+      let g = subst (λ x. Passes (IsPassed image N x rs) (length rs) p × (slot.deeds.items ≡ core_deeds image x (start_of x image.entry) (take p rs))) e h in
       record {
         count = p;
-        passes = subst (λ x. Passes (λ k. CoreGood image N n x (take k rs)) (length rs) p) (sym i) g.0;
+        passes = g.0;
         deeds = subst (λ x. slot.deeds.items ≡ core_deeds image n x (take p rs)) (sym i) g.1;
       }
   done_in n l slot core e (Err m) t h = absurd (cc)
@@ -68,24 +68,28 @@ module _
   of_core : (n : ℕ) (d : Slot) → n < N → Done image N n rs (get_or slots n d)
   of_core n d l = let h = replayed.each n d l in done_in n l (get_or slots n d) (get_or slots n d).core h.0 (get_or slots n d).passed (done n d l) h.1
 
-  enough : (n : ℕ) (slot : Slot) (p : Done image N n rs slot) → q ≤ p.count
-  enough n slot p = go (cases_order q p.count)
+  inside : AreInside N rs q
+  inside = inside_from image N (core_at (flat_start image N)) rs q cores.good
+
+  enough : (n : ℕ) → n < N → (slot : Slot) (p : Done image N n rs slot) → q ≤ p.count
+  enough n m slot p = go (cases_order q p.count)
     where
       go : ((q ≡ p.count) ⊎ ((q < p.count) ⊎ (p.count < q))) → q ≤ p.count
       go (inl e) = omega (arith, e)
       go (inr (inl l)) = omega (arith, l)
       go (inr (inr l)) =
           let w = cores.within in
-          absurd (p.passes.bad (omega (arith, l, w)) (core_fewer image N n (core_at (flat_start image N) n) rs (suc p.count) q (omega (arith, l)) (cores.good n)))
-
-  inside : AreInside N rs q
-  inside = inside_from image N (core_at (flat_start image N)) rs q cores.good
+          absurd (p.passes.bad (omega (arith, l, w)) (
+            inside_fewer N rs (suc p.count) q (omega (arith, l)) inside,
+            subst (λ c. CoreGood image N n c (take (suc p.count) rs)) (core_of image N n m)
+                (core_fewer image N n (core_at (flat_start image N) n) rs (suc p.count) q (omega (arith, l)) (cores.good n)),
+          ))
 
   module _ (k : ℕ) (r : Record) (l : k < q) (e : slice_get rs k ≡ Some r) where
     deed_there : (d : Slot) → slice_get (get_or slots r.core d).deeds.items (own_before rs r.core k) ≡ Some (deed_of image (core_after image r.core (core_at (flat_start image N) r.core) (take k rs)) r)
     deed_there d =
         let p = of_core r.core d (inside k r l e) in
-        let w = enough r.core (get_or slots r.core d) p in
+        let w = enough r.core (inside k r l e) (get_or slots r.core d) p in
         ap (λ xs. slice_get xs (own_before rs r.core k)) p.deeds ∙ core_deed_at image r.core (core_at (flat_start image N) r.core) rs p.count k r (omega (arith, l, w)) e refl
 
   pub has_room : HasRoom slots rs q

@@ -5,7 +5,7 @@ use Rattle.rv_core.specs.declared.step.Record.{Record}
 use Rattle.rv_core.specs.Core.{start_of}
 use Rattle.rv_core.specs.Flat.{flat_start, core_at}
 use Rattle.sn_consistency.specs.Projections.{CoreGood, records_of, core_after}
-use Rattle.projection_places.specs.Passes.{Passes, CorePasses}
+use Rattle.projection_places.specs.Passes.{Passes}
 use Rattle.trace_check.specs.declared.cores.Slot.{Slot}
 use Rattle.trace_check.specs.Deeds.{core_deeds, deed_of}
 
@@ -18,24 +18,28 @@ pub record AreFresh (N : ℕ) (slots : List Slot) : Type 0 where
   pub count : length slots ≡ N
   pub each : (n : ℕ) (d : Slot) → n < N → IsFresh n (get_or slots n d)
 
+-- the first k records are of cores below N
+abbrev pub AreInside : ℕ → List Record → ℕ → Type 0
+AreInside N rs k = (j : ℕ) (r : Record) → j < k → slice_get rs j ≡ Some r → r.core < N
+
+-- core n passes the first k records: they are of cores that are there, and it replays its own among them alone
+abbrev pub IsPassed : ImageData → ℕ → ℕ → List Record → ℕ → Type 0
+IsPassed image N n rs k = AreInside N rs k × CoreGood image N n (start_of n image.entry) (take k rs)
+
 -- how many records the core passes, and what its own among them do; or memory was lacking
 abbrev pub HasReplayed : ImageData → ℕ → List Record → Slot → Type 0
 HasReplayed image N rs slot =
     IfOk slot.passed (λ p.
-    Passes (λ k. CoreGood image N slot.core (start_of slot.core image.entry) (take k rs)) (length rs) p
+    Passes (IsPassed image N slot.core rs) (length rs) p
     × (slot.deeds.items ≡ core_deeds image slot.core (start_of slot.core image.entry) (take p rs)))
 
 pub record AreReplayed (image : ImageData) (N : ℕ) (rs : List Record) (slots : List Slot) : Type 0 where
   pub count : length slots ≡ N
   pub each : (n : ℕ) (d : Slot) → n < N → ((get_or slots n d).core ≡ n) × HasReplayed image N rs (get_or slots n d)
 
--- the first k records are of cores below N
-abbrev pub AreInside : ℕ → List Record → ℕ → Type 0
-AreInside N rs k = (j : ℕ) (r : Record) → j < k → slice_get rs j ≡ Some r → r.core < N
-
--- they are passed by the first cores
+-- the first cores pass the first k records
 abbrev pub CoresBelow : ImageData → ℕ → List Record → ℕ → ℕ → Type 0
-CoresBelow image N rs count k = (n : ℕ) → n < count → CorePasses image N n (flat_start image N) rs k
+CoresBelow image N rs count k = (n : ℕ) → n < count → IsPassed image N n rs k
 
 -- how many of the first k records are core n's
 abbrev pub own_before : List Record → ℕ → ℕ → ℕ

@@ -1,13 +1,14 @@
-//! One core's records, replayed by themselves.
+//! One core's records, replayed by themselves, up to the first record of a core that isn't there.
 ghost use Rattle.std.specs.Prelude.{◌≡◌, ℕ, ◌<◌, ◌↔◌, ◌++◌, [], ◌∷◌, true, false, is_some, length, take, IfOk, IfSome, IsSome, IsTrue};
 ghost use Rattle.sn_base.specs.Image.{fetched};
 ghost use Rattle.rv_decode.specs.Table.{instr_fits};
 ghost use Rattle.rv_core.specs.Core.{start_of, is_running, is_input, holds_reservation};
 ghost use Rattle.rv_core.specs.Step.{want_of, next_of, instruction_of};
 ghost use Rattle.rv_core.specs.Wanted.{IsInside};
-ghost use Rattle.sn_consistency.specs.Projections.{Replays, CoreGood, core_step};
+ghost use Rattle.sn_consistency.specs.Projections.{Replays, core_step};
 ghost use Rattle.projection_places.specs.Passes.{Passes};
 ghost use Rattle.trace_check.specs.Deeds.{reads_memory, MayDo, deed_of, core_deeds};
+ghost use Rattle.trace_check.specs.Slots.{IsPassed};
 
 use crate::deed::Deed;
 use rv_core::{Cause, CoreState, End, Record, Want};
@@ -24,7 +25,7 @@ pub fn replay(
 ) -> Result<usize, Memory>
     requires inside { core < nodes }
     requires fresh { deeds.old.items ≡ [] }
-    ensures passed { IfOk result (λ p. Passes (λ k. CoreGood image.now nodes core (start_of core image.now.entry) (take k records.now)) (length records.now) p) }
+    ensures passed { IfOk result (λ p. Passes (IsPassed image.now nodes core records.now) (length records.now) p) }
     ensures deeds { IfOk result (λ p. deeds.new.items ≡ core_deeds image.now core (start_of core image.now.entry) (take p records.now)) }
 {
     let mut state = CoreState::start(core, image.entry());
@@ -36,7 +37,7 @@ pub fn replay(
     Ok(records.len())
 }
 
-/// Whether the core passes the record, which it does where the record is another core's.
+/// Whether the core passes the record, which it does where the record is that of another core that is there.
 fn replay_record(
     image: &Image,
     nodes: u8,
@@ -46,13 +47,13 @@ fn replay_record(
     deeds: &mut Vec<Deed>,
 ) -> Result<bool, Memory>
     requires { core < nodes }
-    ensures good { IfOk result (λ good. IsTrue good ↔ (core ≡ taken.now.core → Replays image.now nodes state.old taken.now)) }
+    ensures good { IfOk result (λ good. IsTrue good ↔ ((taken.now.core < nodes) × (core ≡ taken.now.core → Replays image.now nodes state.old taken.now))) }
     ensures state { IfOk result (λ good. good ≡ true → state.new ≡ core_step image.now core state.old taken.now) }
     ensures deeds { IfOk result (λ good. good ≡ true → deeds.new.items ≡ deeds.old.items ++ core_deeds image.now core state.old (taken.now ∷ [])) }
     ensures kept { IfOk result (λ good. good ≡ false → deeds.new.items ≡ deeds.old.items) }
 {
     if taken.core != core {
-        return Ok(true);
+        return Ok(taken.core.number() < nodes);
     }
     let Some(step) = may_do(image, state, taken) else {
         return Ok(false);

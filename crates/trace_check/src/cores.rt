@@ -2,7 +2,7 @@
 ghost use Rattle.std.specs.Prelude.{◌≡◌, ℕ, ◌<◌, ◌≤◌, [], true, length, is_ok, slice_index_or, IfOk, OnOk};
 ghost use Rattle.projection_places.specs.Passes.{Passes, CoresPass};
 ghost use Rattle.rv_core.specs.Flat.{flat_start};
-ghost use Rattle.trace_check.specs.Slots.{IsFresh, AreFresh, HasReplayed, AreReplayed, AreInside};
+ghost use Rattle.trace_check.specs.Slots.{IsFresh, AreFresh, HasReplayed, AreReplayed};
 
 use crate::core_replay::replay;
 use crate::deed::Deed;
@@ -21,52 +21,25 @@ pub struct Slot {
     pub passed: Result<usize, Memory>,
 }
 
-/// How many records, from the first on, are of cores that are there, and how many of them are each core's.
-#[derive(Clone, Copy)]
-pub struct Counts {
-    pub inside: usize,
-    pub own: [usize; 16],
-}
-
-pub fn count_records(nodes: u8, records: &[Record]) -> Counts
-    ensures inside { Passes (AreInside nodes records.now) (length records.now) result.inside }
-    ensures width { length result.own ≡ 16 }
-{
-    let mut own = [0usize; 16];
-    'records: for place in 0..records.len() {
-        if records[place].core.number() >= nodes {
-            return Counts { inside: place, own };
-        }
-        let core = usize::from(records[place].core.number());
-        // Room is asked for by it, and no more rests on it.
-        own[core] = own[core].saturating_add(1);
-    }
-    Counts {
-        inside: records.len(),
-        own,
-    }
-}
-
-/// A slot for each core, with room for what its own records do.
-pub fn fresh_slots(alloc: Global, nodes: u8, own: [usize; 16]) -> Result<Vec<Slot>, Memory>
+/// A slot for each core, with room for what so many records do. It grows where a core has more.
+pub fn fresh_slots(alloc: Global, nodes: u8, room: usize) -> Result<Vec<Slot>, Memory>
     requires few { nodes ≤ 16 }
-    requires width { length own ≡ 16 }
     ensures { IfOk result (λ slots. AreFresh nodes slots.items) }
 {
     let mut slots = Vec::with_capacity(alloc, usize::from(nodes))?;
     'nodes: for number in 0..nodes {
-        let slot = fresh_slot(alloc, number, own[usize::from(number)])?;
+        let slot = fresh_slot(alloc, number, room)?;
         slots.push(slot)?;
     }
     Ok(slots)
 }
 
-fn fresh_slot(alloc: Global, number: u8, own: usize) -> Result<Slot, Memory>
+fn fresh_slot(alloc: Global, number: u8, room: usize) -> Result<Slot, Memory>
     requires { number < 16 }
     ensures { IfOk result (λ slot. IsFresh number slot) }
 {
     let core = NodeId::new(number).unwrap();
-    let deeds = Vec::with_capacity(alloc, own)?;
+    let deeds = Vec::with_capacity(alloc, room)?;
     Ok(Slot {
         core,
         deeds,
@@ -119,20 +92,19 @@ fn replay_slot<G: Gate>(
     slot.deeds = deeds;
 }
 
-/// How many records, from the first on, all cores pass, where so many are of cores that are there.
+/// How many records, from the first on, all cores pass.
 pub fn count_passed(
     image: &Image,
     nodes: u8,
     records: &[Record],
     slots: &[Slot],
-    inside: usize,
 ) -> Result<usize, Memory>
-    requires inside { Passes (AreInside nodes records.now) (length records.now) inside }
+    requires some { 1 ≤ nodes }
     requires replayed { AreReplayed image.now nodes records.now slots.now }
     ensures passed { IfOk result (λ p. Passes (CoresPass image.now nodes (flat_start image.now nodes) records.now) (length records.now) p) }
     ensures done { OnOk result ((n : ℕ) (d : Slot) → n < nodes → is_ok (slice_index_or slots.now n d).passed ≡ true) }
 {
-    let mut least = inside;
+    let mut least = records.len();
     'slots: for place in 0..slots.len() {
         least = least.min(slots[place].passed?);
     }

@@ -103,6 +103,8 @@ fn the_first_bad_place_of_all_projections_is_named(rt: HostRuntime) -> Result<()
         ([zero, zero, saw(0, 9), saw(1, 7), one, one], Err(3)),
         ([zero, saw(0, 5), saw(0, 9), one, one, one], Err(2)),
         ([zero, one, zero, two, saw(0, 9), one], Err(4)),
+        ([two, zero, zero, zero, one, one], Err(1)),
+        ([zero, saw(0, 5), two, zero, one, one], Err(2)),
         ([zero, one, one, zero, one, saw(0, 1)], Ok(())),
         ([zero, zero, zero, zero, zero, zero], Err(6)),
     ];

@@ -3,12 +3,11 @@ ghost use Rattle.std.specs.Prelude.{◌≡◌, ℕ, ◌+◌, ◌≤◌, ◌↔�
 ghost use Rattle.rv_core.specs.Flat.{flat_start};
 ghost use Rattle.rv_core.specs.Execution.{IsExecution};
 ghost use Rattle.sn_consistency.specs.Projections.{FirstWithoutStep};
-ghost use Rattle.projection_places.specs.Passes.{Passes};
-ghost use Rattle.trace_check.specs.Slots.{AreFresh, AreInside};
+ghost use Rattle.trace_check.specs.Slots.{AreFresh};
 ghost use Rattle.trace_check.specs.Verdict.{IsDecided, IsDone};
 ghost use Rattle.trace_check.specs.declared.verdict.CheckFault.TheVariants.{NotLegal};
 
-use crate::cores::{Slot, count_passed, count_records, fresh_slots, replay_cores};
+use crate::cores::{Slot, count_passed, fresh_slots, replay_cores};
 use crate::parts::replay_blocks;
 use rv_core::Record;
 use sn_base::{Image, Memory};
@@ -63,19 +62,10 @@ fn count_done<T: Threads + Sync, G: Gate + Sync>(
     requires few { nodes ≤ 16 }
     ensures { IfOk result (λ done. IsDone image.now nodes records.now done) }
 {
-    let counts = count_records(nodes, records);
-    let mut slots = fresh_slots(alloc, nodes, counts.own)?;
-    let inside = counts.inside;
-    count_in_slots(
-        rt,
-        alloc,
-        image,
-        nodes,
-        records,
-        inside,
-        gate,
-        slots.as_mut_slice(),
-    )
+    // To count each core's records would be a walk over all of them in one thread. Room that isn't used takes no memory.
+    let even = records.len() / usize::from(nodes);
+    let mut slots = fresh_slots(alloc, nodes, even.saturating_add(even / 8))?;
+    count_in_slots(rt, alloc, image, nodes, records, gate, slots.as_mut_slice())
 }
 
 /// The same with a slot for each core.
@@ -85,16 +75,14 @@ fn count_in_slots<T: Threads + Sync, G: Gate + Sync>(
     image: &Image,
     nodes: u8,
     records: &[Record],
-    inside: usize,
     gate: &G,
     slots: &mut [Slot],
 ) -> Result<usize, Memory>
     requires some { 1 ≤ nodes }
-    requires inside { Passes (AreInside nodes records.now) (length records.now) inside }
     requires fresh { AreFresh nodes slots.old }
     ensures { IfOk result (λ done. IsDone image.now nodes records.now done) }
 {
     replay_cores(rt, alloc, image, nodes, records, gate, slots);
-    let passed = count_passed(image, nodes, records, slots, inside)?;
+    let passed = count_passed(image, nodes, records, slots)?;
     replay_blocks(rt, alloc, image, records, passed, slots)
 }

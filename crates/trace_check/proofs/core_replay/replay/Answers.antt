@@ -1,4 +1,4 @@
-use Rattle.std.proofs.Common.{◌≡◌, true, false, ◌∙◌, subst, refl, arith, length}
+use Rattle.std.proofs.Common.{◌≡◌, ◌<◌, true, false, ◌∙◌, subst, refl, arith, length}
 use Rattle.std.proofs.lemmas.Option.{slice_get_read}
 use Rattle.rv_core.specs.Core.{start_of}
 use Rattle.sn_consistency.specs.Projections.{Replays}
@@ -6,7 +6,8 @@ use Rattle.trace_check.proofs.CoreReplay.{IsReplayed, replayed_more, replayed_st
 use Rattle.trace_check.proofs.core_replay.replay.Goals as goal
 use Rattle.trace_check.proofs.core_replay.replay.Goals.{Then-not-branch}
 
-refused : (c : Then-not-branch) → (c.args.core ≡ c.index-records-place.result.core → Replays c.args.image.now c.args.nodes c.records.state c.index-records-place.result) → ⊥
+refused : (c : Then-not-branch) → (c.index-records-place.result.core < c.args.nodes) ×
+    (c.args.core ≡ c.index-records-place.result.core → Replays c.args.image.now c.args.nodes c.records.state c.index-records-place.result) → ⊥
 refused c h =
     let t : c.in_ok-replay_record.field-0 ≡ true = c.in_ok-replay_record.ensures.good.1 h in
     let f : c.in_ok-replay_record.field-0 ≡ false = c.if-not-branch.true in

@@ -1,4 +1,4 @@
-use Rattle.std.proofs.Common.{◌≡◌, true, false, ◌∙◌, sym, refl, arith}
+use Rattle.std.proofs.Common.{◌≡◌, ◌<◌, true, false, ◌∙◌, sym, refl, arith}
 use Rattle.std.proofs.lemmas.Bool.Decides.{nat_tests}
 use Rattle.sn_consistency.specs.Words.{next}
 use Rattle.trace_check.proofs.MayDo.{replays_to, replays_from}
@@ -15,13 +15,14 @@ own c = let a = c.if-ne.false in let b = c.ne.ensures in grind (arith, nat_tests
 pub returns-in_default-clause-good : goal.returns-in_default-clause-good
 returns-in_default-clause-good c = (
   (λ f. let g : false ≡ true = f in absurd (cc)),
-  λ h. c.in_default.ensures.some.1 (replays_from c.args.image.now c.args.nodes c.args.state.now c.args.taken.now (h (same c))),
+  λ h. c.in_default.ensures.some.1 (replays_from c.args.image.now c.args.nodes c.args.state.now c.args.taken.now (h.1 (same c))),
 )
 
 pub returns-clause-good : goal.returns-clause-good
 returns-clause-good c =
     let m = c.in-Some.ensures.some.0 refl in (
-      (λ t e. replays_to c.args.image.now c.args.nodes c.args.state.now c.args.taken.now (let q = c.requires in omega (arith, e, q)) m.0 m.1),
+      (λ t. let l : c.args.taken.now.core < c.args.nodes = let q = c.requires in let e = own c in omega (arith, e, q) in
+          (l, λ e. replays_to c.args.image.now c.args.nodes c.args.state.now c.args.taken.now l m.0 m.1)),
       λ h. refl,
     )
 
