@@ -2,7 +2,7 @@
 //!
 //! The rows are plain data: a node is its number, and a content its first word, with 0 after it.
 mod exchanges;
-mod restoring;
+mod playing;
 mod rows;
 
 ghost use Rattle.std.specs.Prelude.{◌≡◌, true};
