@@ -327,7 +327,7 @@ const OLDER: Exchange = Exchange {
     ],
 };
 
-const EXCHANGES: [Exchange; 11] = [
+const EXCHANGES: &[Exchange] = &[
     START,
     TWO_WRITERS,
     WRITER_AFTER_READER,

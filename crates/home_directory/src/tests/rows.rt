@@ -306,7 +306,7 @@ fn is_met(rt: &impl Abort, alloc: Global, room: u16, case: &Case) -> Result<bool
 /// What the cases of a group show, the room of the log, and the cases.
 type Group = (&'static str, u16, &'static [Case]);
 
-const GROUPS: [Group; 7] = [
+const GROUPS: &[Group] = &[
     (
         "each row of a read",
         4,

@@ -12,6 +12,16 @@ use std::alloc::Global;
 use std::process::Abort;
 use std::test::Fail;
 
+/// What an eviction comes to.
+#[derive(Clone, Copy)]
+enum Evict {
+    MissOpen,
+    NotCached,
+    Evicted,
+    PutOpen,
+    PutBegun,
+}
+
 /// A state of the block: what looks show of it, which are its line and, where it is owned, its content, and the intervals in
 /// which the open miss and put were issued; what a read and a write come to with so much room in the log, which nobody asks while
 /// a miss is open; what an eviction comes to; and what is left of the block once a recovery has begun.
@@ -25,7 +35,7 @@ struct State {
     room: u16,
     read: Option<Probe1>,
     write: Option<Probe1>,
-    evict: Answer,
+    evict: Evict,
     left: Held,
 }
 
@@ -38,7 +48,7 @@ const WITH_MODIFIED: State = State {
     room: 4,
     read: Some(Probe1::Ready),
     write: Some(Probe1::Ready),
-    evict: Answer::PutBegun,
+    evict: Evict::PutBegun,
     left: (LineState::Modified, Some(7)),
 };
 
@@ -49,7 +59,7 @@ const WITH_EXCLUSIVE: State = State {
     ..WITH_MODIFIED
 };
 
-const STATES: [State; 10] = [
+const STATES: &[State] = &[
     State {
         name: "absent",
         rows: ABSENT,
@@ -59,7 +69,7 @@ const STATES: [State; 10] = [
         room: 4,
         read: Some(Probe1::Miss),
         write: Some(Probe1::Miss),
-        evict: Answer::NotCached,
+        evict: Evict::NotCached,
         left: GONE,
     },
     State {
@@ -71,7 +81,7 @@ const STATES: [State; 10] = [
         room: 4,
         read: Some(Probe1::Ready),
         write: Some(Probe1::Miss),
-        evict: Answer::Evicted,
+        evict: Evict::Evicted,
         left: GONE,
     },
     State {
@@ -101,7 +111,7 @@ const STATES: [State; 10] = [
         put: Some(2),
         read: Some(Probe1::Waits),
         write: Some(Probe1::Waits),
-        evict: Answer::PutOpen,
+        evict: Evict::PutOpen,
         ..WITH_MODIFIED
     },
     State {
@@ -113,7 +123,7 @@ const STATES: [State; 10] = [
         room: 4,
         read: None,
         write: None,
-        evict: Answer::MissOpen,
+        evict: Evict::MissOpen,
         left: GONE,
     },
     State {
@@ -125,7 +135,7 @@ const STATES: [State; 10] = [
         room: 4,
         read: None,
         write: None,
-        evict: Answer::MissOpen,
+        evict: Evict::MissOpen,
         left: GONE,
     },
 ];
@@ -155,23 +165,39 @@ pub(super) fn probe(cache: &Cache, log: &LogBuffer, block: u16, need: Need) -> O
     Some(cache.probe(BlockNo::new(block), need, 5, log))
 }
 
+fn answer_of(evict: Evict) -> Answer {
+    match evict {
+        Evict::MissOpen => Answer::MissOpen,
+        Evict::NotCached => Answer::NotCached,
+        Evict::Evicted => Answer::Evicted,
+        Evict::PutOpen => Answer::PutOpen,
+        Evict::PutBegun => Answer::PutBegun,
+    }
+}
+
 fn finds(cache: &Cache, log: &LogBuffer, state: &State) -> bool {
     probe(cache, log, 64, Need::Read) == state.read
         && probe(cache, log, 64, Need::Write) == state.write
-        && cache.evict_answer(BlockNo::new(64)) == state.evict
+        && cache.evict_answer(BlockNo::new(64)) == answer_of(state.evict)
         && holds(cache, 64, &state.held)
 }
 
-fn is_so(rt: &impl Abort, alloc: Global, state: &State) -> Result<bool, Memory> {
-    let Some(mut cache) = cache_after(rt, alloc, state.rows)? else {
-        return Ok(false);
-    };
-    let log = LogBuffer::new(alloc, state.room)?;
-    if !shows(&cache, state) || !finds(&cache, &log, state) {
-        return Ok(false);
-    }
+/// Whether this is left of the block once a recovery has begun, and nothing is open.
+fn leaves(cache: &mut Cache, left: &Held) -> bool {
     cache.begin_restore();
-    Ok(holds(&cache, 64, &state.left) && cache.least_open().is_none())
+    holds(cache, 64, left) && cache.least_open().is_none()
+}
+
+fn is_answered(cache: &mut Cache, log: &LogBuffer, state: &State) -> bool {
+    shows(cache, state) && finds(cache, log, state) && leaves(cache, &state.left)
+}
+
+fn is_so(rt: &impl Abort, alloc: Global, state: &State) -> Result<bool, Memory> {
+    let log = LogBuffer::new(alloc, state.room)?;
+    match cache_after(rt, alloc, state.rows)? {
+        Some(mut cache) => Ok(is_answered(&mut cache, &log, state)),
+        None => Ok(false),
+    }
 }
 
 #[test]

@@ -64,7 +64,7 @@ struct Recovery {
 
 const READS_66: Row = (2, 66, Act::Miss(Need::Read), Does::Sends(0, Says::GetS));
 
-const RECOVERIES: [Recovery; 2] = [
+const RECOVERIES: &[Recovery] = &[
     Recovery {
         name: "what was lost is back, and what was got is gone",
         rows: &[
@@ -132,16 +132,18 @@ fn are_left(cache: &Cache, all: &[(u16, Held)]) -> bool {
 }
 
 /// Whether all is so, where the recovery leaves only blocks 68 and 70, if they, owned.
+fn is_undone(rt: &impl Abort, cache: &mut Cache, log: &mut LogBuffer, recovery: &Recovery) -> bool {
+    all_come(rt, cache, log, recovery.notes)
+        && recover(cache, log, 68, 70) == Some(recovery.undone)
+        && are_left(cache, &recovery.left)
+}
+
 fn recovers(rt: &impl Abort, alloc: Global, recovery: &Recovery) -> Result<bool, Memory> {
-    let Some(mut cache) = cache_after(rt, alloc, recovery.rows)? else {
-        return Ok(false);
-    };
     let mut log = LogBuffer::new(alloc, 4)?;
-    if !all_come(rt, &mut cache, &mut log, recovery.notes) {
-        return Ok(false);
+    match cache_after(rt, alloc, recovery.rows)? {
+        Some(mut cache) => Ok(is_undone(rt, &mut cache, &mut log, recovery)),
+        None => Ok(false),
     }
-    let undone = recover(&mut cache, &log, 68, 70);
-    Ok(undone == Some(recovery.undone) && are_left(&cache, &recovery.left))
 }
 
 #[test]

@@ -151,7 +151,7 @@ const DATA_OF_NOBODY_ELSE: Case = Case {
     put: None,
 };
 
-const TABLE: [Case; 25] = [
+const TABLE: &[Case] = &[
     FORWARDED_READ,
     Case {
         name: "a forwarded read leaves an owner of an exclusive line",
@@ -351,14 +351,17 @@ fn has_changed(cache: &Cache, case: &Case) -> bool {
         && cache.transactions.put().copied() == transaction(case.put)
 }
 
-fn is_met(rt: &impl Abort, alloc: Global, case: &Case) -> Result<bool, Memory> {
-    let Some(mut cache) = cache_after(rt, alloc, case.state)? else {
-        return Ok(false);
-    };
-    let mut log = LogBuffer::new(alloc, case.room)?;
+fn is_done(rt: &impl Abort, cache: &mut Cache, log: &mut LogBuffer, case: &Case) -> bool {
     let row = (5, 64, Act::Take(4, case.says), case.does);
-    let is_done = all_come(rt, &mut cache, &mut log, &[row]);
-    Ok(is_done && has_newest(&log, case.noted) && has_changed(&cache, case))
+    all_come(rt, cache, log, &[row]) && has_newest(log, case.noted) && has_changed(cache, case)
+}
+
+fn is_met(rt: &impl Abort, alloc: Global, case: &Case) -> Result<bool, Memory> {
+    let mut log = LogBuffer::new(alloc, case.room)?;
+    match cache_after(rt, alloc, case.state)? {
+        Some(mut cache) => Ok(is_done(rt, &mut cache, &mut log, case)),
+        None => Ok(false),
+    }
 }
 
 #[test]

@@ -343,7 +343,7 @@ const DROPPED_COPY: Schedule = Schedule {
     ],
 };
 
-const SCHEDULES: [Schedule; 11] = [
+const SCHEDULES: &[Schedule] = &[
     FIRST_WRITER,
     SECOND_WRITER,
     LATER_TAG,
@@ -407,27 +407,35 @@ fn all_seen(cache: &Cache, log: &LogBuffer, all: &[(u16, Sees)]) -> bool {
     true
 }
 
-/// The first part of a schedule in which something is otherwise.
+fn is_played(rt: &impl Abort, cache: &mut Cache, log: &mut LogBuffer, part: &Part) -> bool {
+    all_come(rt, cache, log, part.rows) && all_seen(cache, log, part.sees)
+}
+
+/// The first part in which something is otherwise.
 fn first_wrong(
     rt: &impl Abort,
-    alloc: Global,
-    schedule: &Schedule,
-) -> Result<Option<usize>, Memory> {
-    let mut cache = small_cache(rt, alloc, schedule.here)?;
-    let mut log = LogBuffer::new(alloc, schedule.room)?;
-    'parts: for (place, part) in schedule.parts.iter().enumerate() {
-        let is_done = all_come(rt, &mut cache, &mut log, part.rows);
-        if !is_done || !all_seen(&cache, &log, part.sees) {
-            return Ok(Some(place));
+    cache: &mut Cache,
+    log: &mut LogBuffer,
+    parts: &[Part],
+) -> Option<usize> {
+    'parts: for (place, part) in parts.iter().enumerate() {
+        if !is_played(rt, cache, log, part) {
+            return Some(place);
         }
     }
-    Ok(None)
+    None
+}
+
+fn plays(rt: &impl Abort, alloc: Global, schedule: &Schedule) -> Result<Option<usize>, Memory> {
+    let mut cache = small_cache(rt, alloc, schedule.here)?;
+    let mut log = LogBuffer::new(alloc, schedule.room)?;
+    Ok(first_wrong(rt, &mut cache, &mut log, schedule.parts))
 }
 
 #[test]
 fn each_schedule_comes_to_what_it_says(rt: HostRuntime) -> Result<(), Fail> {
     'schedules: for schedule in SCHEDULES.iter() {
-        let wrong = first_wrong(&rt, rt.alloc(), schedule)?;
+        let wrong = plays(&rt, rt.alloc(), schedule)?;
         assert!(rt; wrong.is_none(), "{}: part {wrong:?}", schedule.name);
     }
     Ok(())
