@@ -2,7 +2,7 @@
 ghost use Rattle.std.specs.Prelude.{◌≡◌, ◌≤◌, Option, true};
 ghost use Rattle.log_buffer.specs.Log.{logged_to};
 
-use super::{Answer, Does, Says, answer_of, body_of, has_row, node};
+use super::{Answer, Does, Says, answer_of, body_of, has_row, node, owner_of};
 use crate::{Home, Owner};
 use log_buffer::LogBuffer;
 use rollback::unwind;
@@ -183,16 +183,12 @@ fn does_all(rt: &impl Abort, at: &mut AtHome, acts: &[Act]) -> bool {
 }
 
 /// Whether block 64 has this home and this owner.
-fn is_owned_by(home: &Home, owner: Option<u8>) -> bool {
+fn is_owned_by(rt: &impl Abort, home: &Home, owner: Option<u8>) -> bool {
     let block = BlockNo::new(64);
     if block.home(home.nodes) != home.node {
         return false;
     }
-    match (home.owner(block), owner) {
-        (Owner::Home, None) => true,
-        (Owner::Cache(node), Some(number)) => node.number() == number,
-        _ => false,
-    }
+    home.owner(block) == owner_of(rt, owner)
 }
 
 /// The first word of a block that the home itself owns.
@@ -241,7 +237,7 @@ fn all_seen(at: &AtHome, all: &[Sees]) -> bool {
 
 fn is_played(rt: &impl Abort, at: &mut AtHome, part: &Part) -> bool {
     does_all(rt, at, part.acts)
-        && is_owned_by(&at.home, part.owner)
+        && is_owned_by(rt, &at.home, part.owner)
         && at.home.least_open() == part.least_open
         && all_seen(at, part.sees)
 }

@@ -1,9 +1,9 @@
 //! The rows and the refusals, with what the protocol's table leaves of an entry: node 1 sends with tag 4, in interval 5.
 ghost use Rattle.std.specs.Prelude.{◌≡◌, []};
 
-use super::{Answer, Does, Says, answer_of, body_of, content, has_row, node, set_of};
+use super::{Answer, Does, Says, answer_of, body_of, content, has_row, node, owner_of, set_of};
 use crate::entry::{Entry, Transaction};
-use crate::{Owner, receive};
+use crate::receive;
 use log_buffer::LogBuffer;
 use sn_base::{BlockNo, Entries, Interval, Memory, NodeId, Old};
 use sn_model::Kind;
@@ -226,13 +226,6 @@ const NO_ROOM_TO_GIVE_BACK: Case = Case {
     content: 7,
     noted: None,
 };
-
-fn owner_of(rt: &impl Abort, owner: Option<u8>) -> Owner {
-    match owner {
-        None => Owner::Home,
-        Some(number) => Owner::Cache(node(rt, number)),
-    }
-}
 
 fn open_of(rt: &impl Abort, open: Option<(Kind, u8, Interval)>) -> Option<Transaction> {
     let (kind, number, begun) = open?;
