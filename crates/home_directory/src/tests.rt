@@ -2,14 +2,14 @@
 //!
 //! The rows are plain data: a node is its number, and a content its first word, with 0 after it.
 mod exchanges;
-mod restoring;
+mod playing;
 mod rows;
 
 ghost use Rattle.std.specs.Prelude.{◌≡◌, true};
 ghost use Rattle.home_directory.specs.Receipt.{HasRow};
 
 use crate::entry::Entry;
-use crate::{HomeStep, Look, Out};
+use crate::{HomeStep, Look, Out, Owner};
 use sn_base::{Block, Interval, NodeId, NodeSet, Width};
 use sn_model::Kind;
 use sn_msg::{Body, Message};
@@ -52,6 +52,13 @@ fn node(rt: &impl Abort, number: u8) -> NodeId
     ensures { result ≡ number }
 {
     NodeId::new(number).expect(rt, "a node has a number below 16")
+}
+
+fn owner_of(rt: &impl Abort, owner: Option<u8>) -> Owner {
+    match owner {
+        None => Owner::Home,
+        Some(number) => Owner::Cache(node(rt, number)),
+    }
 }
 
 fn set_of(rt: &impl Abort, numbers: &[u8]) -> NodeSet {

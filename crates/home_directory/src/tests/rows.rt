@@ -1,9 +1,9 @@
 //! The rows and the refusals, with what the protocol's table leaves of an entry: node 1 sends with tag 4, in interval 5.
 ghost use Rattle.std.specs.Prelude.{◌≡◌, []};
 
-use super::{Answer, Does, Says, answer_of, body_of, content, has_row, node, set_of};
+use super::{Answer, Does, Says, answer_of, body_of, content, has_row, node, owner_of, set_of};
 use crate::entry::{Entry, Transaction};
-use crate::{Owner, receive};
+use crate::receive;
 use log_buffer::LogBuffer;
 use sn_base::{BlockNo, Entries, Interval, Memory, NodeId, Old};
 use sn_model::Kind;
@@ -227,13 +227,6 @@ const NO_ROOM_TO_GIVE_BACK: Case = Case {
     noted: None,
 };
 
-fn owner_of(rt: &impl Abort, owner: Option<u8>) -> Owner {
-    match owner {
-        None => Owner::Home,
-        Some(number) => Owner::Cache(node(rt, number)),
-    }
-}
-
 fn open_of(rt: &impl Abort, open: Option<(Kind, u8, Interval)>) -> Option<Transaction> {
     let (kind, number, begun) = open?;
     Some(Transaction {
@@ -303,81 +296,81 @@ fn is_met(rt: &impl Abort, alloc: Global, room: u16, case: &Case) -> Result<bool
     Ok(is_answered && is_left(rt, &entry, case) && holds_just(rt, &log, case.noted))
 }
 
-fn all_met(rt: &impl Abort, alloc: Global, room: u16, cases: &[Case]) -> Result<(), Fail> {
-    'cases: for (place, case) in cases.iter().enumerate() {
-        assert!(rt; is_met(rt, alloc, room, case)?, "case {place}");
+/// What the cases of a group show, the room of the log, and the cases.
+type Group = (&'static str, u16, &'static [Case]);
+
+const GROUPS: &[Group] = &[
+    (
+        "each row of a read",
+        4,
+        &[READS_COPY, READS_AT_OWNER, READS_ALONE, READS_AGAIN],
+    ),
+    ("each row of a write", 4, &[TAKES, MOVES, UPGRADES]),
+    (
+        "an unblock closes, and names the new owner of a move",
+        4,
+        &[
+            ENDS_MOVE,
+            ENDS_READ_AT_HOME,
+            ENDS_READ_AT_OWNER,
+            ENDS_TAKE,
+            ENDS_UPGRADE,
+        ],
+    ),
+    (
+        "each row of a put",
+        4,
+        &[
+            BEGINS_PUT,
+            STALE_PUT_AT_OWNER,
+            STALE_PUT_AT_HOME,
+            GIVES_BACK,
+        ],
+    ),
+    (
+        "a request waits, and nothing changes",
+        4,
+        &[READ_WAITS, WRITE_WAITS, PUT_WAITS],
+    ),
+    (
+        "a row that notes needs room in the log",
+        0,
+        &[
+            NO_ROOM_TO_TAKE,
+            NO_ROOM_TO_READ_ALONE,
+            NO_ROOM_TO_END_MOVE,
+            NO_ROOM_TO_GIVE_BACK,
+        ],
+    ),
+    (
+        "a row that notes nothing needs no room",
+        0,
+        &[
+            MOVES,
+            UPGRADES,
+            ENDS_READ_AT_HOME,
+            BEGINS_PUT,
+            STALE_PUT_AT_HOME,
+            WRITE_WAITS,
+        ],
+    ),
+];
+
+/// The first case of a group that comes to something else.
+fn first_wrong(rt: &impl Abort, alloc: Global, group: &Group) -> Result<Option<usize>, Memory> {
+    'cases: for (place, case) in group.2.iter().enumerate() {
+        if !is_met(rt, alloc, group.1, case)? {
+            return Ok(Some(place));
+        }
+    }
+    Ok(None)
+}
+
+#[test]
+fn each_message_does_its_row(rt: HostRuntime) -> Result<(), Fail> {
+    'groups: for group in GROUPS.iter() {
+        let wrong = first_wrong(&rt, rt.alloc(), group)?;
+        assert!(rt; wrong.is_none(), "{}: case {wrong:?}", group.0);
     }
     Ok(())
-}
-
-const READS: [Case; 4] = [READS_COPY, READS_AT_OWNER, READS_ALONE, READS_AGAIN];
-
-#[test]
-fn each_row_of_a_read(rt: HostRuntime) -> Result<(), Fail> {
-    all_met(&rt, rt.alloc(), 4, &READS)
-}
-
-const WRITES: [Case; 3] = [TAKES, MOVES, UPGRADES];
-
-#[test]
-fn each_row_of_a_write(rt: HostRuntime) -> Result<(), Fail> {
-    all_met(&rt, rt.alloc(), 4, &WRITES)
-}
-
-const ENDS: [Case; 5] = [
-    ENDS_MOVE,
-    ENDS_READ_AT_HOME,
-    ENDS_READ_AT_OWNER,
-    ENDS_TAKE,
-    ENDS_UPGRADE,
-];
-
-#[test]
-fn an_unblock_closes_and_names_the_new_owner_of_a_move(rt: HostRuntime) -> Result<(), Fail> {
-    all_met(&rt, rt.alloc(), 4, &ENDS)
-}
-
-const PUTS: [Case; 4] = [
-    BEGINS_PUT,
-    STALE_PUT_AT_OWNER,
-    STALE_PUT_AT_HOME,
-    GIVES_BACK,
-];
-
-#[test]
-fn each_row_of_a_put(rt: HostRuntime) -> Result<(), Fail> {
-    all_met(&rt, rt.alloc(), 4, &PUTS)
-}
-
-const WAITS: [Case; 3] = [READ_WAITS, WRITE_WAITS, PUT_WAITS];
-
-#[test]
-fn a_request_waits_and_nothing_changes(rt: HostRuntime) -> Result<(), Fail> {
-    all_met(&rt, rt.alloc(), 4, &WAITS)
-}
-
-const NO_ROOM: [Case; 4] = [
-    NO_ROOM_TO_TAKE,
-    NO_ROOM_TO_READ_ALONE,
-    NO_ROOM_TO_END_MOVE,
-    NO_ROOM_TO_GIVE_BACK,
-];
-
-#[test]
-fn a_row_that_notes_needs_room_in_the_log(rt: HostRuntime) -> Result<(), Fail> {
-    all_met(&rt, rt.alloc(), 0, &NO_ROOM)
-}
-
-const NOTE_NOTHING: [Case; 6] = [
-    MOVES,
-    UPGRADES,
-    ENDS_READ_AT_HOME,
-    BEGINS_PUT,
-    STALE_PUT_AT_HOME,
-    WRITE_WAITS,
-];
-
-#[test]
-fn a_row_that_notes_nothing_needs_no_room(rt: HostRuntime) -> Result<(), Fail> {
-    all_met(&rt, rt.alloc(), 0, &NOTE_NOTHING)
 }

@@ -1,7 +1,7 @@
-//! Each row and each refusal once, with the after-states that the protocol's table gives; what accesses and evictions come
-//! to; and the cache's part of some schedules.
+//! The cache's table, what a core finds at its cache, the cache's part of some schedules, and recoveries: each as rows that one
+//! function plays.
 //!
-//! The rows are plain data: a node is its number, and a content its first word, with 0 after it.
+//! The rows are plain data: a node or a block is its number, and a content its first word, with 0 after it.
 ghost use Rattle.std.specs.Prelude.{◌≡◌, ◌+◌, ◌≤◌, true, false, List};
 ghost use Rattle.sn_base.specs.declared.log.LogEntry.{LogEntry};
 ghost use Rattle.log_buffer.specs.Log.{logged_to};
@@ -24,21 +24,6 @@ use sn_msg::{Body, Message};
 use std::alloc::Global;
 use std::process::Abort;
 
-fn node(rt: &impl Abort, number: u8) -> NodeId {
-    NodeId::new(number).expect(rt, "a node has a number below 16")
-}
-
-/// The block of most tests. Its home is node 0.
-fn block() -> BlockNo {
-    BlockNo::new(64)
-}
-
-fn content(word: u32) -> Block {
-    let mut content = Block::zero();
-    content.store(0, Width::Word, word);
-    content
-}
-
 /// What a message asks or says.
 #[derive(Clone, Copy)]
 enum Says {
@@ -57,6 +42,118 @@ enum Says {
     PutGo,
     PutData(u32),
     PutDone,
+}
+
+/// What a log's entry says that the cache had: not the block, or this content of it.
+#[derive(Clone, Copy)]
+enum Had {
+    Nothing,
+    Owned(u32),
+}
+
+/// What is done with a block at a cache: a miss or a put begins, a message with this tag comes, its first word is written, a
+/// copy is dropped, or what the cache had is noted.
+#[derive(Clone, Copy)]
+enum Act {
+    Miss(Need),
+    Put,
+    Take(Interval, Says),
+    Store(u32),
+    Drop,
+    Note(Had),
+}
+
+/// What an act comes to: nothing, since it can't be then; it is refused, since the log is full; it is done and sends nothing; it
+/// sends this to this node; or it does so, and the cache's copy is lost.
+#[derive(Clone, Copy)]
+enum Does {
+    Nothing,
+    LogFull,
+    Silent,
+    Sends(u8, Says),
+    GivesUp(u8, Says),
+}
+
+/// An act in an interval with a block, and what it has to come to.
+type Row = (Interval, u16, Act, Does);
+
+/// What a look says of an act, and what is done.
+type Came = (Look, CacheStep);
+
+const DONE: Came = (Look::Sends(0), CacheStep::Took(None, None));
+
+// States of block 64 at node 1, whose home is node 0: how each came to be in interval 2, by messages with tag 1.
+
+const READS: Row = (2, 64, Act::Miss(Need::Read), Does::Sends(0, Says::GetS));
+
+const WRITES: Row = (2, 64, Act::Miss(Need::Write), Does::Sends(0, Says::GetM));
+
+const GETS_COPY: Row = (
+    2,
+    64,
+    Act::Take(1, Says::DataS(7)),
+    Does::Sends(0, Says::Unblock(1)),
+);
+
+const GETS_ALONE: Row = (
+    2,
+    64,
+    Act::Take(1, Says::DataE(7)),
+    Does::Sends(0, Says::Unblock(1)),
+);
+
+const GETS_TO_WRITE: Row = (
+    2,
+    64,
+    Act::Take(1, Says::DataM(7, 0)),
+    Does::Sends(0, Says::Unblock(1)),
+);
+
+const LETS_READ: Row = (
+    2,
+    64,
+    Act::Take(1, Says::FwdGetS(0)),
+    Does::Sends(0, Says::DataS(7)),
+);
+
+const ASKS_TO_PUT: Row = (2, 64, Act::Put, Does::Sends(0, Says::PutReq));
+
+const ABSENT: &[Row] = &[];
+
+const READING: &[Row] = &[READS];
+
+const WRITING: &[Row] = &[WRITES];
+
+const SHARED: &[Row] = &[READS, GETS_COPY];
+
+/// A copy that is asked for to be written.
+const SHARED_WRITING: &[Row] = &[READS, GETS_COPY, WRITES];
+
+const EXCLUSIVE: &[Row] = &[READS, GETS_ALONE];
+
+const MODIFIED: &[Row] = &[WRITES, GETS_TO_WRITE];
+
+/// A block that was written, and is to be given up.
+const PUTTING: &[Row] = &[WRITES, GETS_TO_WRITE, ASKS_TO_PUT];
+
+/// Node 0 has read it.
+const OWNED: &[Row] = &[READS, GETS_ALONE, LETS_READ];
+
+fn node(rt: &impl Abort, number: u8) -> NodeId {
+    NodeId::new(number).expect(rt, "a node has a number below 16")
+}
+
+fn content(word: u32) -> Block {
+    let mut content = Block::zero();
+    content.store(0, Width::Word, word);
+    content
+}
+
+fn old_of(had: Had) -> Old {
+    match had {
+        Had::Nothing => Old::NotOwned,
+        Had::Owned(word) => Old::Owned(content(word)),
+    }
 }
 
 fn body_of(rt: &impl Abort, says: &Says) -> Body {
@@ -79,24 +176,20 @@ fn body_of(rt: &impl Abort, says: &Says) -> Body {
     }
 }
 
-fn out_of(rt: &impl Abort, to: u8, says: &Says) -> Out {
-    Out {
-        to: node(rt, to),
-        body: body_of(rt, says),
-    }
+fn sent(to: NodeId, body: Body, lost: Option<BlockNo>) -> Came {
+    (
+        Look::Sends(1),
+        CacheStep::Took(Some(Out { to, body }), lost),
+    )
 }
 
-/// What a log's entry says that the cache had: not the block, or this content of it.
-#[derive(Clone, Copy)]
-enum Had {
-    Nothing,
-    Owned(u32),
-}
-
-fn old_of(had: Had) -> Old {
-    match had {
-        Had::Nothing => Old::NotOwned,
-        Had::Owned(word) => Old::Owned(content(word)),
+fn came_of(rt: &impl Abort, does: &Does, block: BlockNo) -> Option<Came> {
+    match does {
+        Does::Nothing => None,
+        Does::LogFull => Some((Look::LogFull, CacheStep::LogFull)),
+        Does::Silent => Some(DONE),
+        Does::Sends(to, says) => Some(sent(node(rt, *to), body_of(rt, says), None)),
+        Does::GivesUp(to, says) => Some(sent(node(rt, *to), body_of(rt, says), Some(block))),
     }
 }
 
@@ -179,170 +272,151 @@ fn notes_last(message: &Message, now: Interval, log: &LogBuffer) -> bool
     }
 }
 
-/// A message to a node. What it does rests neither on its number nor on its sender.
-fn message(to: NodeId, block: BlockNo, tag: Interval, body: Body) -> Message {
-    Message {
+/// What is said of a message to this node and then done with it. None where it isn't due, or has no row. What it does rests
+/// neither on its number nor on its sender.
+fn deliver(
+    cache: &mut Cache,
+    log: &mut LogBuffer,
+    now: Interval,
+    block: BlockNo,
+    tag: Interval,
+    body: Body,
+) -> Option<Came> {
+    let here = cache.node;
+    let message = Message {
         id: 1,
-        from: to,
-        to,
+        from: here,
+        to: here,
         tag,
         block,
         body,
-    }
-}
-
-/// What is said of a message and then done with it. None where it isn't for this node or has no row.
-fn deliver(
-    cache: &mut Cache,
-    message: &Message,
-    now: Interval,
-    log: &mut LogBuffer,
-) -> Option<(Look, CacheStep)> {
-    let here = cache.node;
-    if message.to != here || message.tag > now {
+    };
+    if tag > now || !meets(cache, &message) || !notes_last(&message, now, log) {
         return None;
     }
-    if !meets(cache, message) || !notes_last(message, now, log) {
-        return None;
-    }
-    let look = cache.look(message, now, log);
-    Some((look, cache.receive(message, now, log)))
+    let look = cache.look(&message, now, log);
+    Some((look, cache.receive(&message, now, log)))
 }
 
 /// Begins a miss. None where the access comes to something else.
 fn miss(
     cache: &mut Cache,
+    log: &LogBuffer,
+    now: Interval,
     block: BlockNo,
     need: Need,
-    now: Interval,
-    log: &LogBuffer,
-) -> Option<Out> {
+) -> Option<Came> {
     if cache.open_block().is_some() || cache.probe(block, need, now, log) != Probe1::Miss {
         return None;
     }
-    Some(cache.begin_miss(block, need, now))
+    let out = cache.begin_miss(block, need, now);
+    Some(sent(out.to, out.body, None))
 }
 
-/// Begins a put. None where the eviction comes to something else.
-fn put(cache: &mut Cache, block: BlockNo, now: Interval) -> Option<Out> {
-    if cache.evict_answer(block) != Answer::PutBegun {
-        return None;
+/// Begins a put, or drops a copy. None where the eviction comes to something else.
+fn evict(cache: &mut Cache, now: Interval, block: BlockNo, wanted: Answer) -> Option<Came> {
+    let answer = cache.evict_answer(block);
+    match answer {
+        Answer::PutBegun if wanted == Answer::PutBegun => {
+            let out = cache.begin_put(block, now);
+            Some(sent(out.to, out.body, None))
+        }
+        Answer::Evicted if wanted == Answer::Evicted => {
+            cache.drop_shared(block);
+            Some(DONE)
+        }
+        _ => None,
     }
-    Some(cache.begin_put(block, now))
 }
 
-/// Writes a word. False where the write isn't ready.
-fn store(cache: &mut Cache, write: &Write, now: Interval, log: &mut LogBuffer) -> bool {
-    let Some(block) = BlockNo::of(write.address) else {
-        return false;
+/// Writes the first word of block 64. None where the write isn't ready.
+fn store(cache: &mut Cache, log: &mut LogBuffer, now: Interval, value: u32) -> Option<Came> {
+    let write = Write {
+        address: 0x8000_1000,
+        width: Width::Word,
+        value,
     };
-    if write.width != Width::Word || write.address % 4 != 0 || cache.open_block().is_some() {
-        return false;
+    let block = BlockNo::of(write.address)?;
+    if cache.open_block().is_some() || !is_last(log, block, now) {
+        return None;
     }
     let state = cache.lines.state(block);
     let is_writable = state == LineState::Modified || state == LineState::Exclusive;
-    let is_ready = cache.probe(block, Need::Write, now, log) == Probe1::Ready;
-    if !is_writable || !is_ready || !is_last(log, block, now) {
-        return false;
+    if !is_writable || cache.probe(block, Need::Write, now, log) != Probe1::Ready {
+        return None;
     }
-    cache.store(write, now, log);
+    cache.store(&write, now, log);
+    Some(DONE)
+}
+
+/// Notes what the cache had. None where there is no room, or a later entry.
+fn note(log: &mut LogBuffer, now: Interval, block: BlockNo, had: Had) -> Option<Came> {
+    if log.room() == 0 || !is_last(log, block, now) {
+        return None;
+    }
+    match had {
+        Had::Nothing => log.note(now, block, Old::NotOwned),
+        Had::Owned(word) => log.note(now, block, Old::Owned(content(word))),
+    }
+    Some(DONE)
+}
+
+fn came(rt: &impl Abort, cache: &mut Cache, log: &mut LogBuffer, row: &Row) -> Option<Came> {
+    let (now, block) = (row.0, BlockNo::new(row.1));
+    match row.2 {
+        Act::Miss(need) => miss(cache, log, now, block, need),
+        Act::Put => evict(cache, now, block, Answer::PutBegun),
+        Act::Drop => evict(cache, now, block, Answer::Evicted),
+        Act::Take(tag, says) => deliver(cache, log, now, block, tag, body_of(rt, &says)),
+        Act::Store(value) => store(cache, log, now, value),
+        Act::Note(had) => note(log, now, block, had),
+    }
+}
+
+/// Whether each act comes to what it has to, one after another.
+fn all_come(rt: &impl Abort, cache: &mut Cache, log: &mut LogBuffer, rows: &[Row]) -> bool {
+    'rows: for row in rows.iter() {
+        let wanted = came_of(rt, &row.3, BlockNo::new(row.1));
+        if came(rt, cache, log, row) != wanted {
+            return false;
+        }
+    }
     true
 }
 
-/// What is done with a block at a cache.
-#[derive(Clone, Copy)]
-enum Step {
-    Miss(Need),
-    Put,
-    Take(Says),
-}
-
-/// Does a step in an interval, where the tag of a message is 1. False where it can't be.
-fn does(
-    rt: &impl Abort,
-    cache: &mut Cache,
-    block: BlockNo,
-    step: &Step,
-    now: Interval,
-    log: &mut LogBuffer,
-) -> bool {
-    match step {
-        Step::Miss(need) => miss(cache, block, *need, now, log).is_some(),
-        Step::Put => put(cache, block, now).is_some(),
-        Step::Take(says) => {
-            let here = cache.node;
-            let message = message(here, block, 1, body_of(rt, says));
-            deliver(cache, &message, now, log).is_some()
-        }
-    }
-}
-
 /// A cache with one set of two ways at a node of two.
-fn small_cache(alloc: Global, here: NodeId) -> Result<Cache, Memory> {
+fn small_cache(rt: &impl Abort, alloc: Global, here: u8) -> Result<Cache, Memory> {
     let config = Config {
         nodes: 2,
         sets: 1,
         ways: 2,
         log: 4,
     };
-    Cache::new(alloc, here, &config)
+    Cache::new(alloc, node(rt, here), &config)
 }
 
-/// That of node 1 after these steps with the block in interval 2. None where one of them can't be.
-fn cache_after(rt: &impl Abort, alloc: Global, steps: &[Step]) -> Result<Option<Cache>, Memory> {
-    let mut cache = small_cache(alloc, node(rt, 1))?;
+/// That of node 1 after these rows, which note in a log of their own. None where one comes to something else.
+fn cache_after(rt: &impl Abort, alloc: Global, rows: &[Row]) -> Result<Option<Cache>, Memory> {
+    let mut cache = small_cache(rt, alloc, 1)?;
     let mut log = LogBuffer::new(alloc, 4)?;
-    'steps: for step in steps.iter() {
-        if !does(rt, &mut cache, block(), step, 2, &mut log) {
-            return Ok(None);
-        }
+    if all_come(rt, &mut cache, &mut log, rows) {
+        Ok(Some(cache))
+    } else {
+        Ok(None)
     }
-    Ok(Some(cache))
 }
 
-/// The same, where each step has the number of its block.
-fn cache_of_many(
-    rt: &impl Abort,
-    alloc: Global,
-    steps: &[(u16, Step)],
-) -> Result<Option<Cache>, Memory> {
-    let mut cache = small_cache(alloc, node(rt, 1))?;
-    let mut log = LogBuffer::new(alloc, 4)?;
-    'steps: for step in steps.iter() {
-        if !does(rt, &mut cache, BlockNo::new(step.0), &step.1, 2, &mut log) {
-            return Ok(None);
-        }
-    }
-    Ok(Some(cache))
+/// The state of a block's line, and its first word where it is owned.
+type Held = (LineState, Option<u32>);
+
+const GONE: Held = (LineState::Absent, None);
+
+fn holds(cache: &Cache, number: u16, held: &Held) -> bool {
+    let block = BlockNo::new(number);
+    let is_same = match (cache.owned(block), held.1) {
+        (Some(owned), Some(word)) => *owned == content(word),
+        (None, None) => true,
+        _ => false,
+    };
+    is_same && cache.lines.state(block) == held.0
 }
-
-const READING: [Step; 1] = [Step::Miss(Need::Read)];
-
-const WRITING: [Step; 1] = [Step::Miss(Need::Write)];
-
-const SHARED: [Step; 2] = [Step::Miss(Need::Read), Step::Take(Says::DataS(7))];
-
-/// A copy that is asked for to be written.
-const SHARED_WRITING: [Step; 3] = [
-    Step::Miss(Need::Read),
-    Step::Take(Says::DataS(7)),
-    Step::Miss(Need::Write),
-];
-
-const EXCLUSIVE: [Step; 2] = [Step::Miss(Need::Read), Step::Take(Says::DataE(7))];
-
-const MODIFIED: [Step; 2] = [Step::Miss(Need::Write), Step::Take(Says::DataM(7, 0))];
-
-/// A block that was written, and is to be given up.
-const PUTTING: [Step; 3] = [
-    Step::Miss(Need::Write),
-    Step::Take(Says::DataM(7, 0)),
-    Step::Put,
-];
-
-/// Node 0 has read it.
-const OWNED: [Step; 3] = [
-    Step::Miss(Need::Read),
-    Step::Take(Says::DataE(7)),
-    Step::Take(Says::FwdGetS(0)),
-];

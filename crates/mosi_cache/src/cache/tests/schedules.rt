@@ -1,346 +1,442 @@
-//! The cache's part of schedules of the whole machine: one node of two, and block 64, whose home is node 0.
+//! The cache's part of schedules of the whole machine: one node of two, and mostly block 64, whose home is node 0.
 use super::super::Cache;
-use super::{
-    Had, Says, block, body_of, deliver, message, miss, node, old_of, out_of, put, small_cache,
-    store,
-};
-use crate::step::CacheStep;
+use super::access::probe;
+use super::{Act, Does, Had, Row, Says, all_come, old_of, small_cache};
+use crate::step::Probe1;
 use log_buffer::LogBuffer;
-use sn_base::{Answer, BlockNo, Entries, Interval, Memory, Old, Width, Write};
-use sn_model::{LineState, Look, Need, Out};
+use sn_base::{Answer, BlockNo, Entries, Interval, Memory};
+use sn_model::{LineState, Need};
 use std::alloc::Global;
 use std::process::Abort;
 use std::test::Fail;
 
-/// Where the block begins.
-const START: u32 = 0x8000_1000;
-
-/// What is done with the block, or asked of it: a miss, a message with this tag, a write of its first word, a put, that
-/// word, the old content at a checkpoint, how many entries the log has, and what an eviction comes to.
+/// What is seen: the first word of block 64, where it has a line; the block's old content at a checkpoint; how many entries the log
+/// has; that an eviction drops a copy, or finds none; what an access in interval 5 comes to; the least line of the block's set that
+/// may go, where a put may not begin and where it may; and the least interval of what is open, and the block of the open miss.
 #[derive(Clone, Copy)]
-enum Act {
-    Miss(Need),
-    Take(Interval, Says),
-    Store(u32),
-    Put,
-    Load,
-    OldAt(Interval),
-    Entries,
-    Evict,
+enum Sees {
+    Word(Option<u32>),
+    Old(Interval, Option<Had>),
+    Entries(usize),
+    Evictable,
+    NotCached,
+    Access(Need, Probe1),
+    Least(Option<u16>, Option<u16>),
+    Open(Option<Interval>, Option<u16>),
 }
 
-/// What an act has to come to: this is sent to this node, and the copy stays or is given up; whether it was done, where nothing is
-/// sent; or what was asked.
+/// What is done, one after another; and what is seen then of each of these blocks.
 #[derive(Clone, Copy)]
-enum Comes {
-    Sends(u8, Says),
-    GivesUp(u8, Says),
-    Done(bool),
-    Word(Option<u32>),
-    Old(Option<Had>),
-    Count(usize),
-    Says(Answer),
+struct Part {
+    rows: &'static [Row],
+    sees: &'static [(u16, Sees)],
 }
 
-/// An act in an interval, and what it has to come to.
-type Row = (Interval, Act, Comes);
-
-/// What an act came to: what was sent, and the block whose copy is lost; whether it was done, where nothing was sent; or what
-/// was asked.
-#[derive(Clone, Copy, PartialEq, Eq)]
-enum Came {
-    Sent(Out, Option<BlockNo>),
-    Done(bool),
-    Word(Option<u32>),
-    Old(Option<Old>),
-    Count(usize),
-    Says(Answer),
-}
-
-fn came_of(rt: &impl Abort, comes: &Comes) -> Came {
-    match comes {
-        Comes::Sends(to, says) => Came::Sent(out_of(rt, *to, says), None),
-        Comes::GivesUp(to, says) => Came::Sent(out_of(rt, *to, says), Some(block())),
-        Comes::Done(is_done) => Came::Done(*is_done),
-        Comes::Word(word) => Came::Word(*word),
-        Comes::Old(Some(had)) => Came::Old(Some(old_of(*had))),
-        Comes::Old(None) => Came::Old(None),
-        Comes::Count(count) => Came::Count(*count),
-        Comes::Says(answer) => Came::Says(*answer),
-    }
-}
-
-/// The word at the start of the block, where it has a line.
-fn load(cache: &Cache) -> Option<u32> {
-    let block = BlockNo::of(START)?;
-    if cache.lines.state(block) == LineState::Absent {
-        return None;
-    }
-    Some(cache.load(START))
-}
-
-fn asked(out: Option<Out>) -> Came {
-    match out {
-        Some(out) => Came::Sent(out, None),
-        None => Came::Done(false),
-    }
-}
-
-/// The row of a message. It isn't done where it has no row, is refused, or another number of messages was said.
-fn took(
-    rt: &impl Abort,
-    cache: &mut Cache,
-    log: &mut LogBuffer,
-    tag: Interval,
-    now: Interval,
-    says: &Says,
-) -> Came {
-    let message = message(cache.node, block(), tag, body_of(rt, says));
-    match deliver(cache, &message, now, log) {
-        Some((Look::Sends(1), CacheStep::Took(Some(out), lost))) => Came::Sent(out, lost),
-        Some((Look::Sends(0), CacheStep::Took(None, None))) => Came::Done(true),
-        _ => Came::Done(false),
-    }
-}
-
-fn stored(cache: &mut Cache, log: &mut LogBuffer, now: Interval, value: u32) -> Came {
-    let write = Write {
-        address: START,
-        width: Width::Word,
-        value,
-    };
-    Came::Done(store(cache, &write, now, log))
-}
-
-fn comes_to(
-    rt: &impl Abort,
-    cache: &mut Cache,
-    log: &mut LogBuffer,
-    now: Interval,
-    act: &Act,
-) -> Came {
-    match act {
-        Act::Miss(need) => asked(miss(cache, block(), *need, now, log)),
-        Act::Take(tag, says) => took(rt, cache, log, *tag, now, says),
-        Act::Store(value) => stored(cache, log, now, *value),
-        Act::Put => asked(put(cache, block(), now)),
-        Act::Load => Came::Word(load(cache)),
-        Act::OldAt(k) => Came::Old(log.old_at(false, block(), *k).copied()),
-        Act::Entries => Came::Count(log.count()),
-        Act::Evict => Came::Says(cache.evict_answer(block())),
-    }
-}
-
-/// The first row of a schedule that comes to something else, at this node and with room for so many entries.
-fn first_wrong(
-    rt: &impl Abort,
-    alloc: Global,
+/// A node, the room of its log, and a schedule in parts.
+#[derive(Clone, Copy)]
+struct Schedule {
+    name: &'static str,
     here: u8,
     room: u16,
-    rows: &[Row],
-) -> Result<Option<usize>, Memory> {
-    let mut cache = small_cache(alloc, node(rt, here))?;
-    let mut log = LogBuffer::new(alloc, room)?;
-    'rows: for (place, row) in rows.iter().enumerate() {
-        if comes_to(rt, &mut cache, &mut log, row.0, &row.1) != came_of(rt, &row.2) {
-            return Ok(Some(place));
-        }
-    }
-    Ok(None)
+    parts: &'static [Part],
 }
 
-fn plays(rt: &impl Abort, alloc: Global, here: u8, room: u16, rows: &[Row]) -> Result<(), Fail> {
-    let wrong = first_wrong(rt, alloc, here, room, rows)?;
-    assert!(rt; wrong.is_none(), "row {wrong:?}");
-    Ok(())
-}
-
-// What begins most schedules at node 0, and at node 1: it asks to write, and gets the block with 0 or 1 in its first word.
-const ASKS_0: Row = (0, Act::Miss(Need::Write), Comes::Sends(0, Says::GetM));
+// What begins most schedules: it asks to write, and gets the block with 0 or 1 in its first word; or it asks to read, and gets it
+// alone.
+const ASKS: Row = (0, 64, Act::Miss(Need::Write), Does::Sends(0, Says::GetM));
 
 const OWNS_0: Row = (
     0,
+    64,
     Act::Take(0, Says::DataM(0, 0)),
-    Comes::Sends(0, Says::Unblock(0)),
+    Does::Sends(0, Says::Unblock(0)),
 );
 
 const OWNS_1: Row = (
     0,
+    64,
     Act::Take(0, Says::DataM(1, 0)),
-    Comes::Sends(0, Says::Unblock(0)),
+    Does::Sends(0, Says::Unblock(0)),
+);
+
+const READS: Row = (0, 64, Act::Miss(Need::Read), Does::Sends(0, Says::GetS));
+
+const ALONE: Row = (
+    0,
+    64,
+    Act::Take(0, Says::DataE(0)),
+    Does::Sends(0, Says::Unblock(0)),
+);
+
+/// Node 1 writes it.
+const LETS_WRITE_1: Row = (
+    0,
+    64,
+    Act::Take(0, Says::FwdGetM(1, 0)),
+    Does::GivesUp(1, Says::DataM(1, 0)),
 );
 
 /// Two nodes add 1 to a word, one after the other: the first one's part.
-const FIRST_WRITER: [Row; 6] = [
-    ASKS_0,
-    OWNS_0,
-    (0, Act::Store(1), Comes::Done(true)),
-    (
-        0,
-        Act::Take(0, Says::FwdGetM(1, 0)),
-        Comes::GivesUp(1, Says::DataM(1, 0)),
-    ),
-    (0, Act::Entries, Comes::Count(1)),
-    (0, Act::OldAt(0), Comes::Old(Some(Had::Nothing))),
-];
-
-#[test]
-fn a_written_block_moves_to_the_next_writer(rt: HostRuntime) -> Result<(), Fail> {
-    plays(&rt, rt.alloc(), 0, 4, &FIRST_WRITER)
-}
+const FIRST_WRITER: Schedule = Schedule {
+    name: "a written block moves to the next writer",
+    here: 0,
+    room: 4,
+    parts: &[Part {
+        rows: &[
+            ASKS,
+            OWNS_0,
+            (0, 64, Act::Store(1), Does::Silent),
+            LETS_WRITE_1,
+        ],
+        sees: &[
+            (64, Sees::Entries(1)),
+            (64, Sees::Old(0, Some(Had::Nothing))),
+        ],
+    }],
+};
 
 /// The same, the second one's part, after which it stores in its next interval.
-const SECOND_WRITER: [Row; 9] = [
-    ASKS_0,
-    OWNS_1,
-    (0, Act::Load, Comes::Word(Some(1))),
-    (1, Act::Store(2), Comes::Done(true)),
-    (1, Act::Store(3), Comes::Done(true)),
-    (1, Act::Load, Comes::Word(Some(3))),
-    (1, Act::Entries, Comes::Count(2)),
-    (1, Act::OldAt(0), Comes::Old(Some(Had::Nothing))),
-    (1, Act::OldAt(1), Comes::Old(Some(Had::Owned(1)))),
-];
-
-#[test]
-fn a_write_in_the_next_interval_is_noted_again(rt: HostRuntime) -> Result<(), Fail> {
-    plays(&rt, rt.alloc(), 1, 4, &SECOND_WRITER)
-}
+const SECOND_WRITER: Schedule = Schedule {
+    name: "a write in the next interval is noted again",
+    here: 1,
+    room: 4,
+    parts: &[
+        Part {
+            rows: &[ASKS, OWNS_1],
+            sees: &[(64, Sees::Word(Some(1)))],
+        },
+        Part {
+            rows: &[
+                (1, 64, Act::Store(2), Does::Silent),
+                (1, 64, Act::Store(3), Does::Silent),
+            ],
+            sees: &[
+                (64, Sees::Word(Some(3))),
+                (64, Sees::Entries(2)),
+                (64, Sees::Old(0, Some(Had::Nothing))),
+                (64, Sees::Old(1, Some(Had::Owned(1)))),
+            ],
+        },
+    ],
+};
 
 /// The home was two intervals ahead when it sent the data, which waited for the requester.
-const LATER_TAG: [Row; 5] = [
-    ASKS_0,
-    (1, Act::Take(2, Says::DataM(0, 0)), Comes::Done(false)),
-    (
-        2,
-        Act::Take(2, Says::DataM(0, 0)),
-        Comes::Sends(0, Says::Unblock(2)),
-    ),
-    (2, Act::OldAt(2), Comes::Old(Some(Had::Nothing))),
-    (2, Act::OldAt(3), Comes::Old(None)),
-];
-
-#[test]
-fn the_interval_of_atomicity_is_the_tag(rt: HostRuntime) -> Result<(), Fail> {
-    plays(&rt, rt.alloc(), 1, 4, &LATER_TAG)
-}
+const LATER_TAG: Schedule = Schedule {
+    name: "the interval of atomicity is the tag",
+    here: 1,
+    room: 4,
+    parts: &[Part {
+        rows: &[
+            ASKS,
+            (1, 64, Act::Take(2, Says::DataM(0, 0)), Does::Nothing),
+            (
+                2,
+                64,
+                Act::Take(2, Says::DataM(0, 0)),
+                Does::Sends(0, Says::Unblock(2)),
+            ),
+        ],
+        sees: &[
+            (64, Sees::Old(2, Some(Had::Nothing))),
+            (64, Sees::Old(3, None)),
+        ],
+    }],
+};
 
 /// The requester began its next interval before the data came.
-const EARLIER_TAG: [Row; 4] = [
-    ASKS_0,
-    (
-        1,
-        Act::Take(0, Says::DataM(0, 0)),
-        Comes::Sends(0, Says::Unblock(0)),
-    ),
-    (1, Act::OldAt(0), Comes::Old(Some(Had::Nothing))),
-    (1, Act::OldAt(1), Comes::Old(None)),
-];
-
-#[test]
-fn an_arrival_is_noted_in_the_interval_of_its_tag(rt: HostRuntime) -> Result<(), Fail> {
-    plays(&rt, rt.alloc(), 1, 4, &EARLIER_TAG)
-}
-
-const READS_0: Row = (0, Act::Miss(Need::Read), Comes::Sends(0, Says::GetS));
-
-const ALONE_0: Row = (
-    0,
-    Act::Take(0, Says::DataE(0)),
-    Comes::Sends(0, Says::Unblock(0)),
-);
+const EARLIER_TAG: Schedule = Schedule {
+    name: "an arrival is noted in the interval of its tag",
+    here: 1,
+    room: 4,
+    parts: &[Part {
+        rows: &[
+            ASKS,
+            (
+                1,
+                64,
+                Act::Take(0, Says::DataM(0, 0)),
+                Does::Sends(0, Says::Unblock(0)),
+            ),
+        ],
+        sees: &[
+            (64, Sees::Old(0, Some(Had::Nothing))),
+            (64, Sees::Old(1, None)),
+        ],
+    }],
+};
 
 /// The core holds a reservation on a block that it had alone, until another node writes it.
-const RESERVATION: [Row; 4] = [
-    READS_0,
-    ALONE_0,
-    (
-        0,
-        Act::Take(0, Says::FwdGetM(1, 0)),
-        Comes::GivesUp(1, Says::DataM(0, 0)),
-    ),
-    (0, Act::Load, Comes::Word(None)),
-];
-
-#[test]
-fn a_forwarded_write_ends_a_reservation(rt: HostRuntime) -> Result<(), Fail> {
-    plays(&rt, rt.alloc(), 0, 4, &RESERVATION)
-}
+const RESERVATION: Schedule = Schedule {
+    name: "a forwarded write ends a reservation",
+    here: 0,
+    room: 4,
+    parts: &[Part {
+        rows: &[
+            READS,
+            ALONE,
+            (
+                0,
+                64,
+                Act::Take(0, Says::FwdGetM(1, 0)),
+                Does::GivesUp(1, Says::DataM(0, 0)),
+            ),
+        ],
+        sees: &[(64, Sees::Word(None))],
+    }],
+};
 
 /// Another node's write reached the home before the request to give the block up.
-const OVERTAKEN_PUT: [Row; 7] = [
-    ASKS_0,
-    OWNS_0,
-    (0, Act::Store(1), Comes::Done(true)),
-    (0, Act::Put, Comes::Sends(0, Says::PutReq)),
-    (
-        0,
-        Act::Take(0, Says::FwdGetM(1, 0)),
-        Comes::GivesUp(1, Says::DataM(1, 0)),
-    ),
-    (0, Act::Take(0, Says::PutDone), Comes::Done(true)),
-    (0, Act::Evict, Comes::Says(Answer::NotCached)),
-];
-
-#[test]
-fn a_put_is_overtaken(rt: HostRuntime) -> Result<(), Fail> {
-    plays(&rt, rt.alloc(), 0, 4, &OVERTAKEN_PUT)
-}
+const OVERTAKEN_PUT: Schedule = Schedule {
+    name: "a put is overtaken",
+    here: 0,
+    room: 4,
+    parts: &[Part {
+        rows: &[
+            ASKS,
+            OWNS_0,
+            (0, 64, Act::Store(1), Does::Silent),
+            (0, 64, Act::Put, Does::Sends(0, Says::PutReq)),
+            LETS_WRITE_1,
+            (0, 64, Act::Take(0, Says::PutDone), Does::Silent),
+        ],
+        sees: &[(64, Sees::NotCached)],
+    }],
+};
 
 /// Its copy is replaced by the content that comes with the ownership.
-const READER_AND_WRITER: [Row; 7] = [
-    READS_0,
-    (
-        0,
-        Act::Take(0, Says::DataS(1)),
-        Comes::Sends(0, Says::Unblock(0)),
-    ),
-    (0, Act::Load, Comes::Word(Some(1))),
-    ASKS_0,
-    OWNS_1,
-    (0, Act::Store(5), Comes::Done(true)),
-    (0, Act::Load, Comes::Word(Some(5))),
-];
-
-#[test]
-fn a_reader_becomes_a_writer(rt: HostRuntime) -> Result<(), Fail> {
-    plays(&rt, rt.alloc(), 0, 4, &READER_AND_WRITER)
-}
+const READER_AND_WRITER: Schedule = Schedule {
+    name: "a reader becomes a writer",
+    here: 0,
+    room: 4,
+    parts: &[
+        Part {
+            rows: &[
+                READS,
+                (
+                    0,
+                    64,
+                    Act::Take(0, Says::DataS(1)),
+                    Does::Sends(0, Says::Unblock(0)),
+                ),
+            ],
+            sees: &[(64, Sees::Word(Some(1)))],
+        },
+        Part {
+            rows: &[ASKS, OWNS_1, (0, 64, Act::Store(5), Does::Silent)],
+            sees: &[(64, Sees::Word(Some(5)))],
+        },
+    ],
+};
 
 /// A reader that found nobody else writes without a message, and then another node reads.
-const ONLY_READER: [Row; 6] = [
-    READS_0,
-    ALONE_0,
-    (0, Act::Store(6), Comes::Done(true)),
-    (
-        0,
-        Act::Take(0, Says::FwdGetS(1)),
-        Comes::Sends(1, Says::DataS(6)),
-    ),
-    (0, Act::Load, Comes::Word(Some(6))),
-    (0, Act::Store(7), Comes::Done(false)),
-];
-
-#[test]
-fn the_only_reader_writes_without_a_message(rt: HostRuntime) -> Result<(), Fail> {
-    plays(&rt, rt.alloc(), 0, 4, &ONLY_READER)
-}
+const ONLY_READER: Schedule = Schedule {
+    name: "the only reader writes without a message",
+    here: 0,
+    room: 4,
+    parts: &[
+        Part {
+            rows: &[
+                READS,
+                ALONE,
+                (0, 64, Act::Store(6), Does::Silent),
+                (
+                    0,
+                    64,
+                    Act::Take(0, Says::FwdGetS(1)),
+                    Does::Sends(1, Says::DataS(6)),
+                ),
+            ],
+            sees: &[(64, Sees::Word(Some(6)))],
+        },
+        Part {
+            rows: &[(0, 64, Act::Store(7), Does::Nothing)],
+            sees: &[],
+        },
+    ],
+};
 
 /// A log that is full of this interval's entries takes a further write of the same block.
-const FULL_LOG: [Row; 6] = [
-    ASKS_0,
-    OWNS_0,
-    (0, Act::Entries, Comes::Count(1)),
-    (0, Act::Store(1), Comes::Done(true)),
-    (1, Act::Store(2), Comes::Done(false)),
-    (
-        0,
-        Act::Take(0, Says::FwdGetM(1, 0)),
-        Comes::GivesUp(1, Says::DataM(1, 0)),
-    ),
+const FULL_LOG: Schedule = Schedule {
+    name: "a full log has the entry already",
+    here: 0,
+    room: 1,
+    parts: &[
+        Part {
+            rows: &[ASKS, OWNS_0],
+            sees: &[(64, Sees::Entries(1))],
+        },
+        Part {
+            rows: &[
+                (0, 64, Act::Store(1), Does::Silent),
+                (1, 64, Act::Store(2), Does::Nothing),
+                LETS_WRITE_1,
+            ],
+            sees: &[],
+        },
+    ],
+};
+
+/// Both frames of the set are taken: by block 66, to be written, and block 65, to be read. Its home is node 1.
+const FULL_SET: Part = Part {
+    rows: &[
+        (2, 66, Act::Miss(Need::Write), Does::Sends(0, Says::GetM)),
+        (
+            2,
+            66,
+            Act::Take(1, Says::DataM(7, 0)),
+            Does::Sends(0, Says::Unblock(1)),
+        ),
+        (2, 65, Act::Miss(Need::Read), Does::Sends(1, Says::GetS)),
+        (
+            2,
+            65,
+            Act::Take(1, Says::DataS(8)),
+            Does::Sends(1, Says::Unblock(1)),
+        ),
+    ],
+    sees: &[
+        (64, Sees::Access(Need::Read, Probe1::NeedsEvict)),
+        (64, Sees::Access(Need::Write, Probe1::NeedsEvict)),
+        (65, Sees::Access(Need::Read, Probe1::Ready)),
+        (65, Sees::Access(Need::Write, Probe1::Miss)),
+        (64, Sees::Least(Some(65), Some(65))),
+        (64, Sees::Open(None, None)),
+    ],
+};
+
+const LEAST_LINE: Schedule = Schedule {
+    name: "a full set takes no further block, and its least line goes",
+    here: 1,
+    room: 4,
+    parts: &[
+        FULL_SET,
+        Part {
+            rows: &[(7, 65, Act::Miss(Need::Write), Does::Sends(1, Says::GetM))],
+            sees: &[
+                (64, Sees::Least(None, Some(66))),
+                (64, Sees::Open(Some(7), Some(65))),
+            ],
+        },
+        Part {
+            rows: &[(6, 66, Act::Put, Does::Sends(0, Says::PutReq))],
+            sees: &[
+                (64, Sees::Least(None, None)),
+                (64, Sees::Open(Some(6), Some(65))),
+            ],
+        },
+    ],
+};
+
+const DROPPED_COPY: Schedule = Schedule {
+    name: "a dropped copy is gone",
+    here: 1,
+    room: 4,
+    parts: &[
+        Part {
+            rows: super::SHARED,
+            sees: &[(64, Sees::Evictable)],
+        },
+        Part {
+            rows: &[(2, 64, Act::Drop, Does::Silent)],
+            sees: &[(64, Sees::NotCached)],
+        },
+    ],
+};
+
+const SCHEDULES: &[Schedule] = &[
+    FIRST_WRITER,
+    SECOND_WRITER,
+    LATER_TAG,
+    EARLIER_TAG,
+    RESERVATION,
+    OVERTAKEN_PUT,
+    READER_AND_WRITER,
+    ONLY_READER,
+    FULL_LOG,
+    LEAST_LINE,
+    DROPPED_COPY,
 ];
 
+/// The word at the start of block 64, where it has a line.
+fn load(cache: &Cache) -> Option<u32> {
+    let address = 0x8000_1000;
+    let block = BlockNo::of(address)?;
+    if cache.lines.state(block) == LineState::Absent {
+        return None;
+    }
+    Some(cache.load(address))
+}
+
+fn number_of(block: Option<BlockNo>) -> Option<u16> {
+    Some(block?.number())
+}
+
+fn had(log: &LogBuffer, block: BlockNo, k: Interval, wanted: Option<Had>) -> bool {
+    match (log.old_at(false, block, k), wanted) {
+        (Some(old), Some(had)) => *old == old_of(had),
+        (None, None) => true,
+        _ => false,
+    }
+}
+
+fn is_seen(cache: &Cache, log: &LogBuffer, number: u16, sees: &Sees) -> bool {
+    let block = BlockNo::new(number);
+    match *sees {
+        Sees::Word(word) => load(cache) == word,
+        Sees::Old(k, wanted) => had(log, block, k, wanted),
+        Sees::Entries(count) => log.count() == count,
+        Sees::Evictable => cache.evict_answer(block) == Answer::Evicted,
+        Sees::NotCached => cache.evict_answer(block) == Answer::NotCached,
+        Sees::Access(need, wanted) => probe(cache, log, number, need) == Some(wanted),
+        Sees::Least(shared, any) => {
+            number_of(cache.least_line(block, false)) == shared
+                && number_of(cache.least_line(block, true)) == any
+        }
+        Sees::Open(least, missed) => {
+            cache.least_open() == least && number_of(cache.open_block()) == missed
+        }
+    }
+}
+
+fn all_seen(cache: &Cache, log: &LogBuffer, all: &[(u16, Sees)]) -> bool {
+    'sees: for sees in all.iter() {
+        if !is_seen(cache, log, sees.0, &sees.1) {
+            return false;
+        }
+    }
+    true
+}
+
+fn is_played(rt: &impl Abort, cache: &mut Cache, log: &mut LogBuffer, part: &Part) -> bool {
+    all_come(rt, cache, log, part.rows) && all_seen(cache, log, part.sees)
+}
+
+/// The first part in which something is otherwise.
+fn first_wrong(
+    rt: &impl Abort,
+    cache: &mut Cache,
+    log: &mut LogBuffer,
+    parts: &[Part],
+) -> Option<usize> {
+    'parts: for (place, part) in parts.iter().enumerate() {
+        if !is_played(rt, cache, log, part) {
+            return Some(place);
+        }
+    }
+    None
+}
+
+fn plays(rt: &impl Abort, alloc: Global, schedule: &Schedule) -> Result<Option<usize>, Memory> {
+    let mut cache = small_cache(rt, alloc, schedule.here)?;
+    let mut log = LogBuffer::new(alloc, schedule.room)?;
+    Ok(first_wrong(rt, &mut cache, &mut log, schedule.parts))
+}
+
 #[test]
-fn a_full_log_has_the_entry_already(rt: HostRuntime) -> Result<(), Fail> {
-    plays(&rt, rt.alloc(), 0, 1, &FULL_LOG)
+fn each_schedule_comes_to_what_it_says(rt: HostRuntime) -> Result<(), Fail> {
+    'schedules: for schedule in SCHEDULES.iter() {
+        let wrong = plays(&rt, rt.alloc(), schedule)?;
+        assert!(rt; wrong.is_none(), "{}: part {wrong:?}", schedule.name);
+    }
+    Ok(())
 }

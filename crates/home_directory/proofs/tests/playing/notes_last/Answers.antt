@@ -5,7 +5,7 @@ use Rattle.std.specs.Option.{option_map, option_copied, is_some}
 use Rattle.std.proofs.lemmas.Bool.Decides.{nat_tests}
 use Rattle.log_buffer.specs.Log.{LogEntry, is_about, entry_at, logged_to}
 use Rattle.sn_base.specs.declared.log.Old.{Old}
-use Rattle.home_directory.proofs.tests.exchanges.notes_last.Goals as goal
+use Rattle.home_directory.proofs.tests.playing.notes_last.Goals as goal
 
 unmapped : (o : Option LogEntry) → option_map (λ (e : LogEntry). e.old) o ≡ None → o ≡ None
 unmapped None h = refl
