@@ -25,14 +25,14 @@ fn shown(alloc: Global, request: &Request) -> Result<String, AllocError> {
             )
         }
         Request::Run(r) => {
-            let (c, rules) = (&r.config, &r.rules);
+            let (c, rules) = (&r.config, &r.rules.rules);
             let (watch, report) = (r.watch, r.report);
             let kill = match rules.kill {
                 Some((switch, events)) => Some((switch.number(), events)),
                 None => None,
             };
             let (interval, wait, lose_every) = (rules.interval, rules.wait, rules.lose_every);
-            let (budget, seed) = (rules.budget, rules.seed);
+            let (budget, seed) = (r.rules.budget, r.rules.seed);
             format!(in alloc;
                 "run {} ({} nodes, {} sets, {} ways, log {}) interval {interval} wait {wait} lose {lose_every} kill {kill:?} budget {budget} seed {seed} {watch:?} {report:?}",
                 r.program, c.nodes, c.sets, c.ways, c.log

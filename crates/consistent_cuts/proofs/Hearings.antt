@@ -8,7 +8,6 @@ use Rattle.sn_base.specs.declared.config.Config.{Config}
 use Rattle.sn_base.specs.declared.event.Answer.TheVariants.{MissOpen, PutOpen, NetFull, LogFull, PutBegun, NotArrived, Held, Delivered}
 use Rattle.sn_base.specs.declared.log.LogEntry.{LogEntry}
 use Rattle.sn_msg.specs.declared.Message.{Message}
-use Rattle.sn_msg.specs.declared.Body.{Body}
 use Rattle.sn_msg.specs.declared.Body.TheVariants as body
 use Rattle.sn_msg.specs.declared.Body.TheVariants.{PutReq}
 use Rattle.sn_model.specs.declared.cache.LineState.{LineState}
@@ -17,18 +16,18 @@ use Rattle.sn_model.specs.declared.cache.Out.{Out}
 use Rattle.sn_model.specs.declared.net.Told.{Told}
 use Rattle.sn_model.specs.declared.net.Told.TheVariants as told
 use Rattle.sn_model.specs.Caches.{line_of, misses_on}
-use Rattle.sn_model.specs.CacheRows.{CacheReply, send, forward_read, forward_write, invalidate, put_go, put_done}
-use Rattle.sn_model.specs.HomeRows.{HomeReply, put_data}
-use Rattle.sn_model.specs.Homes.{Transaction}
-use Rattle.sn_model.specs.Fabric.{Fabric, Flight, Moved, first_node, node_at, with_node, with_net, home_node, home_of, refused}
+use Rattle.sn_model.specs.CacheRows.{CacheReply, send}
+use Rattle.sn_model.specs.HomeRows.{HomeReply}
+use Rattle.sn_model.specs.Fabric.{Fabric, Flight, Moved, first_node, node_at, with_node, with_net, home_node, refused}
 use Rattle.sn_model.specs.Net.{net_limit, sending, is_full, flight_of, without_flight, is_there}
 use Rattle.sn_model.specs.NodeEvents.{evicted, evicts, begins_put, has_put, with_put, without_copy}
-use Rattle.sn_model.specs.NetEvents.{delivered, delivers, delivers_flight, fits_in, outcome_of, unless_busy, learned, node_after}
-use Rattle.sn_model.specs.NetEvents.{home_after, Outcome, AtCache, AtHome, copy_lost, logged_at, kept_at}
+use Rattle.sn_model.specs.NetEvents.{delivered, delivers, delivers_flight, fits_in, outcome_of, learned, node_after}
+use Rattle.sn_model.specs.NetEvents.{home_after, Outcome, AtCache, AtHome, copy_lost}
 use Rattle.sn_coherence.specs.Block as block
 use Rattle.fabric_coherence.specs.View.{Beside, block_seen, message_seen}
 use Rattle.fabric_coherence.specs.Steps.{IsInFlight}
 use Rattle.fabric_coherence.specs.Coherent.{IsKept}
+use Rattle.fabric_coherence.proofs.EachOutcome.{each_outcome}
 use Rattle.consistent_cuts.proofs.Clocks.{IsSameClocks, same_clocks, part_set, same_with_node, same_nodes, same_then, cache_clocks}
 use Rattle.consistent_cuts.proofs.Clocks.{home_clocks}
 
@@ -115,10 +114,6 @@ module _ (config : Config) (s : Fabric) (t : Beside) (m : Message) (kept : IsKep
       (sending (with_net (home_after s m.to m.block reply) (without_flight s.net m.id)) m.to m.block reply.sends Delivered)
       (home_clocks s m reply)
 
-  unless : (begun : Option Transaction) (reply : HomeReply) → Comes (unless_busy begun reply)
-  unless None reply = at_home reply
-  unless (Some transaction) reply = same_clocks s
-
   -- news of a point: its number is not above the point
   low : (k : ℕ) → m.body ≡ body.Advance k → k ≤ s.point
   low k is =
@@ -141,24 +136,10 @@ module _ (config : Config) (s : Fabric) (t : Beside) (m : Message) (kept : IsKep
           ≡ cond (n == m.to) (max (node_at s n).known k) (node_at s n).known
       known_after n = let l = flight.to in grind (arith, nat_tests, get_or-set_same, get_or-set_other)
 
-  by_body : (x : Body) → m.body ≡ x → Comes (outcome_of s m x)
-  by_body body.GetS is = unless (home_of s m.block).transaction _
-  by_body body.GetM is = unless (home_of s m.block).transaction _
-  by_body body.PutReq is = unless (home_of s m.block).transaction _
-  by_body (body.Unblock fixed) is = at_home _
-  by_body (body.PutData content) is = at_home (put_data (kept_at s m.to m.block) m.block m.tag m.from content)
-  by_body (body.FwdGetS r) is = at_cache (forward_read (logged_at s m.to) m.block r)
-  by_body (body.FwdGetM r due) is = at_cache (forward_write (logged_at s m.to) m.block (node_at s m.to).now r due)
-  by_body (body.Inv r) is = at_cache (invalidate (logged_at s m.to) m.block r)
-  by_body (body.DataS content) is = at_cache _
-  by_body (body.DataM content due) is = at_cache _
-  by_body (body.DataE content) is = at_cache _
-  by_body (body.UpgOk due) is = at_cache _
-  by_body body.InvAck is = at_cache _
-  by_body body.PutGo is = at_cache (put_go (logged_at s m.to) (home_node s m.block) m.block (node_at s m.to).now)
-  by_body body.PutDone is = at_cache (put_done (logged_at s m.to))
-  by_body (body.Ready k) is = (flight.from, same_nodes s (with_net s (without_flight s.net m.id)) refl refl)
-  by_body (body.Advance k) is = (flight.to, low k is, news k)
+  comes : Comes (outcome_of s m m.body)
+  comes =
+      each_outcome s m Comes at_cache at_home (same_clocks s)
+      (λ k. (flight.from, same_nodes s (with_net s (without_flight s.net m.id)) refl refl)) (λ k is. (flight.to, low k is, news k))
 
 -- a message that may be in flight; `there` is that a message which is found is in flight
 module _ (config : Config) (s : Fabric) (t : Beside) (kept : IsKept s t) (id : ℕ) (there : (f : Flight) → flight_of s.net.flights id ≡ Some f → IsInFlight s f.message) where
@@ -169,7 +150,7 @@ module _ (config : Config) (s : Fabric) (t : Beside) (kept : IsKept s t) (id : �
       else delivers config s f.message (outcome_of s f.message f.message.body)).told
   arriving f flight false b = same_clocks s
   arriving f flight true true = same_clocks s
-  arriving f flight true false = by_body config s t f.message kept flight f.message.body refl
+  arriving f flight true false = comes config s t f.message kept flight
 
   found : (x : Option Flight) → flight_of s.net.flights id ≡ x →
       Rightly s (delivers_flight config s x).fabric (delivers_flight config s x).told

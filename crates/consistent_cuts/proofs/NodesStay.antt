@@ -1,23 +1,19 @@
 -- No event of the machine brings or takes a node.
-use Rattle.std.proofs.Common.{◌≡◌, ℕ, ◌+◌, length, Option, Some, None, refl, arith}
+use Rattle.std.proofs.Common.{◌≡◌, ℕ, ◌+◌, length, Option, Some, None, refl}
 use Rattle.sn_base.specs.Image.{ImageData}
 use Rattle.sn_base.specs.declared.config.Config.{Config}
 use Rattle.sn_base.specs.declared.event.Event.{Event}
 use Rattle.sn_base.specs.declared.event.Event.TheVariants as event
-use Rattle.rv_core.specs.declared.step.Want.{Want}
-use Rattle.rv_core.specs.declared.step.Want.TheVariants as want
 use Rattle.sn_model.specs.declared.cache.Need.{Need}
-use Rattle.sn_model.specs.declared.cache.Need.TheVariants as need
 use Rattle.sn_model.specs.FabricEvents.{FabricEvent, moved_by}
 use Rattle.sn_model.specs.FabricEvents as fabric
 use Rattle.sn_model.specs.Access.{accessed}
 use Rattle.sn_model.specs.PointEvents.{advanced}
-use Rattle.rv_core.specs.Core.{block_of}
-use Rattle.rv_core.specs.Step.{want_of}
-use Rattle.sn_model.specs.Machine.{State, processor_at}
-use Rattle.sn_model.specs.Instructions.{Stepped, retired, stepped, step_wanting, accessing, takes_input, next_byte}
+use Rattle.sn_model.specs.Machine.{State}
+use Rattle.sn_model.specs.Instructions.{Stepped, stepped}
 use Rattle.sn_model.specs.MachineEvents.{validates, unready_node}
 use Rattle.sn_model.specs.Step.{step_of}
+use Rattle.sn_model.proofs.EachStep.{each_step}
 use Rattle.consistent_cuts.proofs.Half.{half}
 use Rattle.consistent_cuts.proofs.Places.{same_length}
 
@@ -32,27 +28,8 @@ module _ (image : ImageData) (config : Config) (s : State) where
   unfolding moved_by
   accessed_stays n block access = moved_stays (fabric.Access n block access)
 
-  retired_stays : (n : ℕ) → Stays (retired image s n)
-  retired_stays n = same_length s.fabric n _
-
-  accessing_stays : (n address : ℕ) (access : Need) → Stays (accessing image config s n address access)
-  accessing_stays n address access = grind (arith, accessed_stays n (block_of address) access, retired_stays n)
-
-  input_stays : (n : ℕ) (byte : Option ℕ) → Stays (takes_input image s n byte)
-  input_stays n None = refl
-  input_stays n (Some byte) = retired_stays n
-
-  wanting_stays : (n : ℕ) (w : Want) → Stays (step_wanting image config s n w)
-  wanting_stays n want.Nothing = retired_stays n
-  wanting_stays n want.Input = input_stays n (next_byte s n)
-  wanting_stays n (want.Load address) = accessing_stays n address need.Read
-  wanting_stays n (want.Lr address) = accessing_stays n address need.Read
-  wanting_stays n (want.Store address) = accessing_stays n address need.Write
-  wanting_stays n (want.Amo address) = accessing_stays n address need.Write
-  wanting_stays n (want.Sc address) = grind (arith, accessing_stays n address need.Write, retired_stays n)
-
   stepped_stays : (n : ℕ) → Stays (stepped image config s n)
-  stepped_stays n = grind (arith, wanting_stays n (want_of image (processor_at s n).core))
+  stepped_stays n = each_step image config s n Stays (same_length s.fabric n _) (accessed_stays n) refl refl refl
 
   validates_stays : (unready : Option ℕ) → length (advanced s.fabric (s.fabric.point + 1)).fabric.nodes ≡ length s.fabric.nodes →
       Stays (validates s unready)

@@ -9,12 +9,12 @@ use Rattle.sn_base.specs.Image.{ImageData}
 use Rattle.sn_base.specs.declared.config.Config.{Config}
 use Rattle.sn_base.specs.declared.event.Event.{Event}
 use Rattle.sn_base.specs.declared.event.Event.TheVariants.{Step, Evict, Edge, Hop, Deliver, Lose, Kill, Report, Validate, Recover, Input}
+use Rattle.sn_base.specs.declared.rules.Rules.{Rules}
 use Rattle.route_plan.specs.Distances.{is_dead}
 use Rattle.sn_model.specs.Caches.{block_count}
 use Rattle.sn_model.specs.Fabric.{Flight}
 use Rattle.sn_model.specs.Machine.{State, processor_at}
 use Rattle.sn_machine.specs.Looks.{wanted_block}
-use Rattle.due_events.specs.declared.rules.Rules.{Rules}
 use Rattle.due_events.specs.Numbers.{Numbers}
 use Rattle.due_events.specs.Lists.{foreseen, needs_evict, event_if, delivery, hop, leaves_for, least_to_leave, own_places, places_of}
 use Rattle.due_events.specs.Lists.{list_of}

@@ -6,11 +6,11 @@ use Rattle.sn_base.specs.Image.{ImageData}
 use Rattle.sn_base.specs.declared.config.Config.{Config}
 use Rattle.sn_base.specs.declared.event.Event.{Event}
 use Rattle.sn_base.specs.declared.event.Event.TheVariants.{Hop, Deliver, Lose, Kill, Recover}
+use Rattle.sn_base.specs.declared.rules.Rules.{Rules}
 use Rattle.rv_core.specs.Execution.{end_of}
 use Rattle.route_plan.specs.Distances.{is_dead}
 use Rattle.sn_model.specs.Machine.{State}
 use Rattle.sn_machine.specs.Looks.{have_ended}
-use Rattle.due_events.specs.declared.rules.Rules.{Rules}
 use Rattle.due_events.specs.Numbers.{Numbers}
 use Rattle.due_events.specs.Lists.{event_if, list_of}
 

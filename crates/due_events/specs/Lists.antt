@@ -9,6 +9,7 @@ use Rattle.sn_base.specs.declared.event.Event.{Event}
 use Rattle.sn_base.specs.declared.event.Event.TheVariants.{Step, Evict, Edge, Hop, Deliver, Report, Validate}
 use Rattle.sn_base.specs.declared.event.Answer.{Answer}
 use Rattle.sn_base.specs.declared.event.Answer.TheVariants.{Retired, Missed, NeedsEvict, Delivered, Reported}
+use Rattle.sn_base.specs.declared.rules.Rules.{Rules}
 use Rattle.rv_core.specs.Core.{is_running}
 use Rattle.route_plan.specs.Grid.{node_of}
 use Rattle.sn_model.specs.Caches.{block_count}
@@ -20,7 +21,6 @@ use Rattle.sn_model.specs.MachineEvents.{is_edged, is_validated}
 use Rattle.sn_model.specs.Step.{step_of}
 use Rattle.sn_fabric.specs.Fabric.{can_go}
 use Rattle.sn_machine.specs.Looks.{wanted_block}
-use Rattle.due_events.specs.declared.rules.Rules.{Rules}
 use Rattle.due_events.specs.Numbers.{Numbers}
 
 -- the answer that an event would have now

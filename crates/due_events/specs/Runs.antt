@@ -3,9 +3,9 @@ use Rattle.std.specs.Prelude.{ℕ, List, [], ◌∷◌, Option, Some, None}
 use Rattle.sn_base.specs.Image.{ImageData}
 use Rattle.sn_base.specs.declared.config.Config.{Config}
 use Rattle.sn_base.specs.declared.event.Event.{Event}
+use Rattle.sn_base.specs.declared.rules.Rules.{Rules}
 use Rattle.sn_model.specs.Machine.{State}
 use Rattle.sn_model.specs.Step.{step_of}
-use Rattle.due_events.specs.declared.rules.Rules.{Rules}
 use Rattle.due_events.specs.Numbers.{Numbers, numbers_after}
 use Rattle.due_events.specs.Due.{due_of}
 

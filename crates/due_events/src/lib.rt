@@ -6,9 +6,5 @@
 //! of a run that are due one after another. Whoever drives a machine, alone or in threads, cites them.
 //! `EachDue` in proofs/ shows that what holds of each event that a driver can make holds of the one that is due.
 //!
-//! The code here is only the plain type that the definitions and the drivers share.
+//! There is no code here: the rules are a type of `sn_base`, since the words of a call are read into them too.
 #![tactic(auto)]
-
-mod rules;
-
-pub use rules::Rules;

@@ -35,6 +35,7 @@ mod CacheOutcomes
 mod KeptCache
 pub mod KeptEvents
 pub mod RowsMet
+pub mod EachOutcome
 pub mod NodesStay
 pub mod Told
 pub mod Reports

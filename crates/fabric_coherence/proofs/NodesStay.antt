@@ -6,28 +6,23 @@ use Rattle.sn_base.specs.declared.config.Config.{Config}
 use Rattle.sn_base.specs.declared.event.Answer.TheVariants.{Retired, Waits, LogFull, NetFull, NeedsEvict, PutOpen, MissOpen}
 use Rattle.sn_base.specs.declared.event.Answer.TheVariants.{CheckpointsFull, Arrived, AlreadyDead, NotArrived, Held}
 use Rattle.sn_msg.specs.declared.Message.{Message}
-use Rattle.sn_msg.specs.declared.Body.{Body}
-use Rattle.sn_msg.specs.declared.Body.TheVariants.{GetS, GetM, FwdGetS, FwdGetM, Inv, DataS, DataM, DataE, UpgOk, InvAck, Unblock, PutReq}
-use Rattle.sn_msg.specs.declared.Body.TheVariants.{PutGo, PutData, PutDone, Ready, Advance}
 use Rattle.sn_model.specs.declared.cache.LineState.{LineState}
 use Rattle.sn_model.specs.declared.cache.LineState.TheVariants as state
 use Rattle.sn_model.specs.declared.cache.Need.{Need}
 use Rattle.sn_model.specs.Caches.{line_of, is_present, misses_on, puts_on, frames_taken}
-use Rattle.sn_model.specs.CacheRows.{CacheReply, forward_read, forward_write, invalidate, data_shared, data_modified, data_exclusive}
-use Rattle.sn_model.specs.CacheRows.{upgrade_granted, acknowledge, put_go, put_done}
-use Rattle.sn_model.specs.HomeRows.{HomeReply, unblock, put_data}
-use Rattle.sn_model.specs.Homes.{Transaction}
+use Rattle.sn_model.specs.CacheRows.{CacheReply}
+use Rattle.sn_model.specs.HomeRows.{HomeReply}
 use Rattle.sn_model.specs.Access.{missed, misses, has_miss, serves, lacks_room, accesses, accessed, with_write}
-use Rattle.sn_model.specs.Fabric.{Fabric, Flight, Moved, node_at, home_of, home_node, refused, answered}
+use Rattle.sn_model.specs.Fabric.{Fabric, Flight, Moved, node_at, refused, answered}
 use Rattle.sn_model.specs.FabricEvents.{FabricEvent, Access, Write, Evict, Edge, Hop, Deliver, Lose, Kill, Report, Advance as Advances}
 use Rattle.sn_model.specs.FabricEvents.{Recover, moved_by}
 use Rattle.sn_model.specs.Net.{net_limit, routes_of, flight_of, is_there, is_full, next_switch}
 use Rattle.sn_model.specs.NodeEvents.{evicts, begins_put, has_put, checkpoint_limit}
-use Rattle.sn_model.specs.NetEvents.{AtCache, AtHome, logged_at, kept_at, get_shared, get_modified, put_request, unless_busy, outcome_of}
-use Rattle.sn_model.specs.NetEvents.{node_after, delivers, delivers_flight, hops, hops_to, loses}
+use Rattle.sn_model.specs.NetEvents.{AtCache, AtHome, learned, outcome_of, node_after, delivers, delivers_flight, hops, hops_to, loses}
 use Rattle.sn_model.specs.PointEvents.{recovers, restored, restored_node, living_switches}
 use Rattle.route_plan.specs.Distances.{is_dead}
 use Rattle.route_plan.specs.Routes.{first_cut_off}
+use Rattle.fabric_coherence.proofs.EachOutcome.{each_outcome}
 
 abbrev Stays : Fabric → Moved → Type 0
 Stays s x = length x.fabric.nodes ≡ length s.nodes
@@ -80,38 +75,17 @@ module _ (config : Config) (s : Fabric) (m : Message) where
       (by_test s (nat_lt (net_limit + 1) (length s.net.flights + length reply.sends)) (refused s NetFull) _ refl
       (length-set s.nodes m.to (record (node_at s m.to) { log = reply.after.log })))
 
-  request : (open_one : Option Transaction) (reply : HomeReply) → Stays s (delivers config s m (unless_busy open_one reply))
-  request None reply = at_home reply
-  request (Some transaction) reply = refl
-
-  by_body : (x : Body) → Stays s (delivers config s m (outcome_of s m x))
-  by_body GetS =
-      request (home_of s m.block).transaction
-      (get_shared (kept_at s m.to m.block) m.block (node_at s m.to).now m.from (home_of s m.block).holder)
-  by_body GetM =
-      request (home_of s m.block).transaction
-      (get_modified (kept_at s m.to m.block) m.block (node_at s m.to).now m.from (home_of s m.block).holder)
-  by_body PutReq = request (home_of s m.block).transaction (put_request (kept_at s m.to m.block) (node_at s m.to).now m.from)
-  by_body (Unblock fixed) = at_home (unblock (kept_at s m.to m.block) m.block fixed (home_of s m.block).transaction)
-  by_body (PutData content) = at_home (put_data (kept_at s m.to m.block) m.block m.tag m.from content)
-  by_body (FwdGetS r) = at_cache (forward_read (logged_at s m.to) m.block r)
-  by_body (FwdGetM r due) = at_cache (forward_write (logged_at s m.to) m.block (node_at s m.to).now r due)
-  by_body (Inv r) = at_cache (invalidate (logged_at s m.to) m.block r)
-  by_body (DataS content) = at_cache (data_shared (logged_at s m.to) (home_node s m.block) m.block m.tag content)
-  by_body (DataM content due) = at_cache (data_modified (logged_at s m.to) (home_node s m.block) m.block m.tag content due)
-  by_body (DataE content) = at_cache (data_exclusive (logged_at s m.to) (home_node s m.block) m.block m.tag content)
-  by_body (UpgOk due) = at_cache (upgrade_granted (logged_at s m.to) (home_node s m.block) m.tag due)
-  by_body InvAck = at_cache (acknowledge (logged_at s m.to) (home_node s m.block))
-  by_body PutGo = at_cache (put_go (logged_at s m.to) (home_node s m.block) m.block (node_at s m.to).now)
-  by_body PutDone = at_cache (put_done (logged_at s m.to))
-  by_body (Ready k) = refl
-  by_body (Advance k) = length-set s.nodes m.to _
+  stays_delivers : Stays s (delivers config s m (outcome_of s m m.body))
+  stays_delivers =
+      each_outcome s m (λ x. Stays s (delivers config s m x)) at_cache at_home refl (λ k. refl)
+      (λ k is. length-set s.nodes m.to (learned (node_at s m.to) k))
 
 stays_flight : (config : Config) (s : Fabric) (found : Option Flight) → Stays s (delivers_flight config s found)
 stays_flight config s None = refl
 stays_flight config s (Some f) = by_test s (not (is_there f)) (refused s NotArrived) _ refl
     (by_test s (nat_lt (node_at s f.message.to).now f.message.tag) (refused s Held)
-    (delivers config s f.message (outcome_of s f.message f.message.body)) refl (by_body config s f.message f.message.body))
+    (delivers config s f.message (outcome_of s f.message f.message.body)) refl
+    (stays_delivers config s f.message))
 
 length_restored : (s : Fabric) (k : ℕ) → length (restored s k).nodes ≡ length s.nodes
 unfolding restored

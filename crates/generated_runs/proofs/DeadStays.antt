@@ -3,27 +3,22 @@ use Rattle.std.proofs.Common.{◌≡◌, ℕ, ◌+◌, ◌-◌, Bool, true, fals
 use Rattle.std.proofs.Common.{nat_lt, nat_le, Option, Some, None}
 use Rattle.sn_base.specs.declared.config.Config.{Config}
 use Rattle.sn_base.specs.declared.event.Answer.{Answer}
-use Rattle.sn_base.specs.declared.event.Answer.TheVariants.{CutOff, Retired, Missed, PutBegun, Validated, Reported, Waits, Ended, LogFull}
+use Rattle.sn_base.specs.declared.event.Answer.TheVariants.{CutOff, Retired, Missed, PutBegun, Validated, Reported, Waits, LogFull}
 use Rattle.sn_base.specs.declared.event.Answer.TheVariants.{NetFull, NeedsEvict, PutOpen, MissOpen, CheckpointsFull, Arrived, NotArrived}
 use Rattle.sn_base.specs.declared.event.Answer.TheVariants.{Held}
 use Rattle.sn_msg.specs.declared.Message.{Message}
-use Rattle.sn_msg.specs.declared.Body.{Body}
-use Rattle.sn_msg.specs.declared.Body.TheVariants.{GetS, GetM, FwdGetS, FwdGetM, Inv, DataS, DataM, DataE, UpgOk, InvAck, Unblock, PutReq}
-use Rattle.sn_msg.specs.declared.Body.TheVariants.{PutGo, PutData, PutDone, Ready, Advance}
+use Rattle.sn_msg.specs.declared.Body.TheVariants.{PutReq, Ready}
 use Rattle.sn_model.specs.declared.cache.LineState.{LineState}
 use Rattle.sn_model.specs.declared.cache.LineState.TheVariants as state
 use Rattle.sn_model.specs.declared.cache.Need.{Need}
 use Rattle.sn_model.specs.Caches.{line_of, is_present, misses_on, puts_on, frames_taken}
-use Rattle.sn_model.specs.CacheRows.{CacheReply, send, forward_read, forward_write, invalidate, data_shared, data_modified, data_exclusive}
-use Rattle.sn_model.specs.CacheRows.{upgrade_granted, acknowledge, put_go, put_done}
-use Rattle.sn_model.specs.HomeRows.{HomeReply, unblock, put_data}
-use Rattle.sn_model.specs.Homes.{Transaction}
+use Rattle.sn_model.specs.CacheRows.{CacheReply, send}
+use Rattle.sn_model.specs.HomeRows.{HomeReply}
 use Rattle.sn_model.specs.Access.{missing, request_for, missed, misses, has_miss, serves, lacks_room, accesses, accessed}
-use Rattle.sn_model.specs.Fabric.{Fabric, Net, Flight, Moved, node_at, with_node, home_of, home_node, refused, answered}
+use Rattle.sn_model.specs.Fabric.{Fabric, Net, Flight, Moved, node_at, with_node, home_node, refused, answered}
 use Rattle.sn_model.specs.Net.{net_limit, routes_of, flight_of, is_there, is_full, next_switch, message_of, post, posted, sending}
 use Rattle.sn_model.specs.NodeEvents.{evicts, begins_put, has_put, with_put, ready_of, checkpoint_limit}
-use Rattle.sn_model.specs.NetEvents.{AtCache, AtHome, logged_at, kept_at, get_shared, get_modified, put_request, unless_busy, outcome_of}
-use Rattle.sn_model.specs.NetEvents.{delivers, delivers_flight, hops, hops_to, loses}
+use Rattle.sn_model.specs.NetEvents.{AtCache, AtHome, outcome_of, delivers, delivers_flight, hops, hops_to, loses}
 use Rattle.sn_model.specs.PointEvents.{advances, recovers, restored, living_switches}
 use Rattle.route_plan.specs.Distances.{is_dead}
 use Rattle.route_plan.specs.Routes.{first_cut_off}
@@ -31,20 +26,15 @@ use Rattle.sn_base.specs.Image.{ImageData}
 use Rattle.sn_base.specs.declared.block.Write.{Write}
 use Rattle.sn_base.specs.declared.event.Event.{Event}
 use Rattle.sn_base.specs.declared.event.Event.TheVariants as event
-use Rattle.rv_core.specs.declared.step.Want.{Want}
-use Rattle.rv_core.specs.declared.step.Want.TheVariants as want
-use Rattle.rv_core.specs.Core.{block_of, is_reserved, is_running}
-use Rattle.rv_core.specs.Step.{want_of}
 use Rattle.route_plan.specs.Distances.{Switches}
-use Rattle.sn_model.specs.declared.cache.Need.TheVariants as need
 use Rattle.sn_model.specs.declared.cache.Out.{Out}
-use Rattle.sn_model.specs.Instructions as machine
-use Rattle.sn_model.specs.Instructions.{Stepped, is_retired, carried, retired, written_by, found_at, next_with, stepped, step_wanting}
-use Rattle.sn_model.specs.Instructions.{accessing, takes_input, next_byte}
+use Rattle.sn_model.specs.Instructions.{Stepped, retired, written_by, found_at, next_with, stepped}
 use Rattle.sn_model.specs.Machine.{State, processor_at}
 use Rattle.sn_model.specs.MachineEvents.{validates, unready_node}
 use Rattle.sn_model.specs.NodeEvents.{evicted}
 use Rattle.sn_model.specs.Step.{step_of}
+use Rattle.sn_model.proofs.EachStep.{each_step}
+use Rattle.fabric_coherence.proofs.EachOutcome.{each_outcome}
 
 abbrev pub is_kill : Event → Bool
 is_kill (event.Kill switch) = true
@@ -130,38 +120,16 @@ module _ (config : Config) (s : Fabric) (m : Message) where
       (by_test s (nat_lt (net_limit + 1) (length s.net.flights + length reply.sends)) (refused s NetFull) _ (refl, refl)
       (stays_posted _ _ m.to _ m.block reply.sends, refl))
 
-  request : (open_one : Option Transaction) (reply : HomeReply) → Stays s (delivers config s m (unless_busy open_one reply))
-  request None reply = at_home reply
-  request (Some transaction) reply = (refl, refl)
-
-  by_body : (x : Body) → Stays s (delivers config s m (outcome_of s m x))
-  by_body GetS =
-      request (home_of s m.block).transaction
-      (get_shared (kept_at s m.to m.block) m.block (node_at s m.to).now m.from (home_of s m.block).holder)
-  by_body GetM =
-      request (home_of s m.block).transaction
-      (get_modified (kept_at s m.to m.block) m.block (node_at s m.to).now m.from (home_of s m.block).holder)
-  by_body PutReq = request (home_of s m.block).transaction (put_request (kept_at s m.to m.block) (node_at s m.to).now m.from)
-  by_body (Unblock fixed) = at_home (unblock (kept_at s m.to m.block) m.block fixed (home_of s m.block).transaction)
-  by_body (PutData content) = at_home (put_data (kept_at s m.to m.block) m.block m.tag m.from content)
-  by_body (FwdGetS r) = at_cache (forward_read (logged_at s m.to) m.block r)
-  by_body (FwdGetM r due) = at_cache (forward_write (logged_at s m.to) m.block (node_at s m.to).now r due)
-  by_body (Inv r) = at_cache (invalidate (logged_at s m.to) m.block r)
-  by_body (DataS content) = at_cache (data_shared (logged_at s m.to) (home_node s m.block) m.block m.tag content)
-  by_body (DataM content due) = at_cache (data_modified (logged_at s m.to) (home_node s m.block) m.block m.tag content due)
-  by_body (DataE content) = at_cache (data_exclusive (logged_at s m.to) (home_node s m.block) m.block m.tag content)
-  by_body (UpgOk due) = at_cache (upgrade_granted (logged_at s m.to) (home_node s m.block) m.tag due)
-  by_body InvAck = at_cache (acknowledge (logged_at s m.to) (home_node s m.block))
-  by_body PutGo = at_cache (put_go (logged_at s m.to) (home_node s m.block) m.block (node_at s m.to).now)
-  by_body PutDone = at_cache (put_done (logged_at s m.to))
-  by_body (Ready k) = (refl, refl)
-  by_body (Advance k) = (refl, refl)
+  stays_delivers : Stays s (delivers config s m (outcome_of s m m.body))
+  stays_delivers =
+      each_outcome s m (λ x. Stays s (delivers config s m x)) at_cache at_home (refl, refl) (λ k. (refl, refl)) (λ k is. (refl, refl))
 
 stays_flight : (config : Config) (s : Fabric) (found : Option Flight) → Stays s (delivers_flight config s found)
 stays_flight config s None = (refl, refl)
 stays_flight config s (Some f) = by_test s (not (is_there f)) (refused s NotArrived) _ (refl, refl)
     (by_test s (nat_lt (node_at s f.message.to).now f.message.tag) (refused s Held)
-    (delivers config s f.message (outcome_of s f.message f.message.body)) (refl, refl) (by_body config s f.message f.message.body))
+    (delivers config s f.message (outcome_of s f.message f.message.body)) (refl, refl)
+    (stays_delivers config s f.message))
 
 stays_recovers : (s : Fabric) (k : ℕ) (cut : Option (ℕ × ℕ)) → cut ≡ None → Stays s (recovers s k cut)
 unfolding restored
@@ -177,40 +145,11 @@ module _ (image : ImageData) (config : Config) (s : State) where
   abbrev Keeps : Stepped → Type 0
   Keeps x = (x.state.fabric.net.dead ≡ s.fabric.net.dead) × (is_cut x.answer ≡ false)
 
-  either : (test : Bool) (a b : Stepped) → Keeps a → Keeps b → Keeps (if test then a else b)
-  either true a b first second = first
-  either false a b first second = second
-
   keeps_retired : (n : ℕ) → Keeps (retired image s n)
   keeps_retired n = (stays_written s.fabric n (next_with image (processor_at s n) (found_at image s n)).effect.write, refl)
 
-  keeps_accessing : (n address : ℕ) (access : Need) → Keeps (accessing image config s n address access)
-  keeps_accessing n address access =
-      either (is_retired (accessed config s.fabric n (block_of address) access).answer) (retired image s n)
-      (carried s (accessed config s.fabric n (block_of address) access)) (keeps_retired n)
-      (stays_accessed config s.fabric n (block_of address) access)
-
-  keeps_input : (n : ℕ) (byte : Option ℕ) → Keeps (takes_input image s n byte)
-  keeps_input n None = (refl, refl)
-  keeps_input n (Some byte) = keeps_retired n
-
-  keeps_wanting : (n : ℕ) (w : Want) → Keeps (step_wanting image config s n w)
-  keeps_wanting n want.Nothing = keeps_retired n
-  keeps_wanting n want.Input = keeps_input n (next_byte s n)
-  keeps_wanting n (want.Load address) = keeps_accessing n address need.Read
-  keeps_wanting n (want.Lr address) = keeps_accessing n address need.Read
-  keeps_wanting n (want.Store address) = keeps_accessing n address need.Write
-  keeps_wanting n (want.Amo address) = keeps_accessing n address need.Write
-  keeps_wanting n (want.Sc address) =
-      either (is_reserved (processor_at s n).core.reservation (block_of address)) (accessing image config s n address need.Write)
-      (retired image s n)
-      (keeps_accessing n address need.Write) (keeps_retired n)
-
   keeps_stepped : (n : ℕ) → Keeps (stepped image config s n)
-  keeps_stepped n =
-      either (not (is_running (processor_at s n).core.end)) (machine.refused s Ended) _ (refl, refl)
-      (either (has_miss (node_at s.fabric n).cache.miss) (machine.refused s Waits) _ (refl, refl)
-      (keeps_wanting n (want_of image (processor_at s n).core)))
+  keeps_stepped n = each_step image config s n Keeps (keeps_retired n) (stays_accessed config s.fabric n) (refl, refl) (refl, refl) (refl, refl)
 
   keeps_validates : (unready : Option ℕ) → Keeps (validates s unready)
   keeps_validates (Some n) = (refl, refl)

@@ -5,10 +5,10 @@ use Rattle.sn_base.specs.Image.{ImageData}
 use Rattle.sn_base.specs.declared.config.Config.{Config}
 use Rattle.sn_base.specs.declared.event.Event.{Event}
 use Rattle.sn_base.specs.declared.event.Event.TheVariants.{Kill}
+use Rattle.sn_base.specs.declared.rules.Rules.{Rules}
 use Rattle.sn_model.specs.Caches.{block_count}
 use Rattle.sn_model.specs.Machine.{State}
 use Rattle.consistent_cuts.specs.Runs.{Fits}
-use Rattle.due_events.specs.declared.rules.Rules.{Rules}
 use Rattle.due_events.specs.Numbers.{Numbers}
 use Rattle.due_events.specs.Due.{due_of}
 use Rattle.due_events.proofs.EachDue.{HoldsOfEach, due_of-holds}

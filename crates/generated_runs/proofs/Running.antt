@@ -8,6 +8,7 @@ use Rattle.sn_base.specs.declared.event.Event.{Event}
 use Rattle.sn_base.specs.declared.event.Event.TheVariants as event
 use Rattle.sn_base.specs.declared.event.Answer.{Answer}
 use Rattle.sn_base.specs.declared.event.Answer.TheVariants as answer
+use Rattle.sn_base.specs.declared.rules.Rules.{Rules}
 use Rattle.rv_core.specs.declared.step.Record.{Record}
 use Rattle.rv_core.specs.Execution.{end_of}
 use Rattle.route_plan.specs.Routes.{first_cut_off}
@@ -16,7 +17,6 @@ use Rattle.sn_model.specs.PointEvents.{living_switches}
 use Rattle.consistent_cuts.specs.Runs.{Fits}
 use Rattle.sn_machine.specs.Looks.{have_ended}
 use Rattle.sn_machine.specs.Machine.{MachineData, IsApplied, next_of}
-use Rattle.due_events.specs.declared.rules.Rules.{Rules}
 use Rattle.due_events.specs.Numbers.{Numbers, with_retired, with_edge, with_report, with_answer, numbers_after}
 use Rattle.due_events.specs.Due.{is_over, due_of}
 use Rattle.sn_model.specs.Instructions.{Stepped}

@@ -2,13 +2,13 @@
 use Rattle.std.specs.Prelude.{◌≡◌, ℕ, zero, suc, ◌+◌, ◌%◌, List, [], ◌∷◌, None}
 use Rattle.sn_base.specs.declared.config.Config.{Config}
 use Rattle.sn_base.specs.declared.event.Event.{Event}
+use Rattle.sn_base.specs.declared.rules.Rules.{Rules}
 use Rattle.rand_core.specs.Pcg32Seed.{pcg32_seed}
 use Rattle.rand_pcg.specs.Lcg.{Lcg}
 use Rattle.rand_pcg.specs.Pcg.{pcg32, pcg32_of_seed}
 use Rattle.sn_model.specs.Fabric.{no_switches}
 use Rattle.sn_model.specs.Machine.{start_of}
 use Rattle.sn_machine.specs.Machine.{MachineData}
-use Rattle.due_events.specs.declared.rules.Rules.{Rules}
 use Rattle.due_events.specs.Numbers.{first_numbers}
 use Rattle.due_events.specs.Runs.{Draw, events_due}
 use Rattle.sn_driver.specs.Driver.{DriverData}

@@ -4,6 +4,7 @@ use Rattle.std.specs.List.{All}
 use Rattle.rv_core.specs.Execution.{IsExecution, out_of}
 use Rattle.sn_base.specs.Config.{config_fits}
 use Rattle.sn_base.specs.Events.{event_fits}
+use Rattle.sn_base.specs.Rules.{AreRules}
 use Rattle.sn_model.specs.Trace.{Entry as Retirement}
 use Rattle.consistent_cuts.specs.Headline.{IsConsistent}
 use Rattle.sn_io.specs.Outside.{followed_by}
@@ -14,7 +15,6 @@ use Rattle.sink_pieces.specs.Pieces.{Ends, after, Breaks, console_text, report_t
 use Rattle.script_replay.specs.Played.{IsWatchable}
 use Rattle.script_replay.specs.Probed.{told_all}
 use Rattle.script_replay.specs.Shown.{pieces_due}
-use Rattle.sn_driver.specs.Driver.{AreRules}
 use Rattle.run_journals.specs.declared.entry.Entry.{Entry}
 use Rattle.run_journals.specs.Journal.{IsDue, events_of, state_of}
 use Rattle.node_run.specs.declared.ending.Ending.{Ending}

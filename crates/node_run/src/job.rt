@@ -1,6 +1,5 @@
 //! What is to be run, and what is shown of it.
-use due_events::Rules;
-use sn_base::{Config, Image};
+use sn_base::{Config, Image, Rules};
 
 /// What the report has of a run before the summary, with which it ends in any case.
 #[derive(Clone, Copy, PartialEq, Eq, Debug)]

@@ -12,7 +12,7 @@ mod job;
 mod reporting;
 mod running;
 
-pub use due_events::Rules;
 pub use ending::Ending;
 pub use job::{Run, RunReport, RunShowing};
 pub use running::{RunFault, run};
+pub use sn_base::Rules;

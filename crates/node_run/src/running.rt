@@ -1,9 +1,9 @@
 //! A whole run: all memory first, then the workers' turns, and then the report.
 ghost use Rattle.std.specs.Prelude.{◌≡◌, ◌≤◌, ◌⊎◌, true, IfOk, IfSome, Err};
 ghost use Rattle.sn_base.specs.Config.{config_fits};
+ghost use Rattle.sn_base.specs.Rules.{AreRules};
 ghost use Rattle.sn_io.specs.Outside.{Rose};
 ghost use Rattle.sink_pieces.specs.Pieces.{ends};
-ghost use Rattle.sn_driver.specs.Driver.{AreRules};
 ghost use Rattle.sn_probe.specs.Probes.{meters_in};
 ghost use Rattle.shared_machine.specs.Shared.{begins_with};
 ghost use Rattle.node_run.specs.Shown.{MayBegin, IsDone, IsBrokenOff};
@@ -11,9 +11,8 @@ ghost use Rattle.node_run.specs.Shown.{MayBegin, IsDone, IsBrokenOff};
 use crate::ending::{Ending, how_ended};
 use crate::job::Run;
 use crate::reporting::put_run;
-use due_events::Rules;
 use node_threads::{SharedMachine, run_nodes};
-use sn_base::{Config, Image};
+use sn_base::{Config, Image, Rules};
 use sn_driver::Driver;
 use sn_io::{Gate, Sink};
 use sn_machine::Machine;

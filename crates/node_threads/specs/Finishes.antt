@@ -3,11 +3,11 @@ use Rattle.std.specs.Prelude.{◌≡◌, ℕ, ◌≤◌, true, nat_le, if◌then
 use Rattle.std.specs.List.{All}
 use Rattle.sn_base.specs.Events.{event_fits}
 use Rattle.sn_base.specs.declared.event.Answer.{Answer}
+use Rattle.sn_base.specs.Rules.{AreRules}
 use Rattle.sn_io.specs.declared.outside.Failed.{Failed}
 use Rattle.sn_io.specs.Outside.{Rose}
 use Rattle.sn_machine.specs.Machine.{MachineData}
 use Rattle.due_events.specs.Due.{is_over}
-use Rattle.sn_driver.specs.Driver.{AreRules}
 use Rattle.sn_console.specs.Handed.{IsWritten, IsBegun}
 use Rattle.run_journals.specs.declared.entry.Entry.{Entry}
 use Rattle.run_journals.specs.Journal.{Began, IsDue, state_of, answers_of, numbers_of}

@@ -1,10 +1,9 @@
 //! What runs leave in every schedule, workers and console side by side, and probes.
 ghost use Rattle.std.specs.Prelude.{◌≡◌, ◌*◌, ◌<◌, ◌≤◌, [], IfSome};
 
-use due_events::Rules;
 use elf_load::load;
 use node_threads::{Finish, SharedMachine, run_nodes};
-use sn_base::{Answer, Config, Event, Memory, NodeId, SwitchId};
+use sn_base::{Answer, Config, Event, Memory, NodeId, Rules, SwitchId};
 use sn_driver::Driver;
 use sn_io::{Failed, Gate, MemSink, OpenGate, Sink, SureSink};
 use sn_machine::Machine;

@@ -2,8 +2,8 @@
 use Rattle.std.specs.Prelude.{ℕ, ◌+◌, ◌*◌, ◌-◌, ◌^◌, ◌==◌, Bool, true, ◌&&◌, nat_eq, nat_le, nat_lt, if◌then◌else◌, [], ◌∷◌, length}
 use Rattle.std.specs.Prelude.{slice_index, Option, Some, None, option_map, option_and_then}
 use Rattle.std.specs.List.{before_first, after_first}
-use Rattle.std.specs.Option.{option_map_or}
 use Rattle.sn_base.specs.Config.{lies_in}
+use Rattle.sn_base.specs.Rules.{rules_fit}
 use Rattle.option_values.specs.Values.{Text, number_below, number_in, number_by}
 use Rattle.option_values.specs.declared.number.NumberRule.{NumberRule}
 use Rattle.option_values.specs.declared.run.RunRules.{RunRules}
@@ -46,19 +46,15 @@ abbrev pub kill_by : ℕ → Option Text → Option (Option (ℕ × ℕ))
 kill_by nodes None = Some None
 kill_by nodes (Some text) = option_map (λ kill. Some kill) (kill_in nodes text)
 
--- a run's rules on so many nodes, by the options for its interval, its wait, its losses, its kill, its budget and its seed
+-- what a run on so many nodes goes by, from the options for its interval, its wait, its losses, its kill, its budget and its seed
 abbrev pub run_rules_by : ℕ → Option Text → Option Text → Option Text → Option Text → Option Text → Option Text → Option RunRules
 run_rules_by nodes interval wait lose_every kill budget seed =
     option_and_then (λ i. option_and_then (λ w. option_and_then (λ l. option_and_then (λ k. option_and_then (λ b. option_map (λ s.
-    record { interval = i; wait = w; lose_every = l; kill = k; budget = b; seed = s })
+    record { rules = record { interval = i; wait = w; lose_every = l; kill = k }; budget = b; seed = s })
     (number_by seed_rule seed)) (number_by budget_rule budget)) (kill_by nodes kill)) (number_by lose_rule lose_every))
     (number_by wait_rule wait))
     (number_by interval_rule interval)
 
--- whether a switch that dies is one of so many nodes
-abbrev pub kill_fits : ℕ → Option (ℕ × ℕ) → Bool
-kill_fits nodes kill = option_map_or (λ k. nat_lt k.0 (2 * nodes)) kill true
-
--- whether rules are a run's on so many nodes
+-- whether a run on so many nodes can go by them
 abbrev pub run_rules_fit : ℕ → RunRules → Bool
-run_rules_fit nodes r = nat_le 1 r.interval && nat_le 1 r.wait && kill_fits nodes r.kill && lies_in 1 1000000 r.budget
+run_rules_fit nodes r = rules_fit nodes r.rules && lies_in 1 1000000 r.budget

@@ -2,24 +2,18 @@
 ghost use Rattle.std.specs.Prelude.{◌≡◌, ◌*◌, ◌<◌, ◌≤◌, ◌&&◌, nat_eq, nat_lt, true, IfSome, option_map, length, slice_index};
 ghost use Rattle.option_values.specs.Values.{number_by};
 ghost use Rattle.sn_base.specs.Config.{lies_in};
+ghost use Rattle.sn_base.specs.Rules.{kill_fits};
 ghost use Rattle.option_values.specs.Runs.{interval_rule, wait_rule, budget_rule, lose_rule, node_in, switch_in, kill_in, kill_by};
-ghost use Rattle.option_values.specs.Runs.{run_rules_by, kill_fits, run_rules_fit};
+ghost use Rattle.option_values.specs.Runs.{run_rules_by, run_rules_fit};
 
 use crate::digits::number_in_radix;
 use crate::number::{BUDGET, INTERVAL, LOSE_EVERY, SEED, WAIT, read_events};
-use sn_base::{NodeId, SwitchId};
+use sn_base::{NodeId, Rules, SwitchId};
 
 /// What a run goes by, apart from its program and its sizes.
 #[derive(Clone, Copy, PartialEq, Eq, Debug)]
 pub struct RunRules {
-    /// How many instructions a node retires before its next clock edge is due.
-    pub interval: u32,
-    /// After how many events in which the recovery point neither rose nor was gone back to a recovery is due.
-    pub wait: u32,
-    /// Every so many moves of messages, a message is lost in place of its move; 0 where none is.
-    pub lose_every: u32,
-    /// A switch that dies, and after how many events.
-    pub kill: Option<(SwitchId, u32)>,
+    pub rules: Rules,
     /// How many events there are at most.
     pub budget: u32,
     /// Of the numbers that the workers draw.
@@ -137,10 +131,12 @@ impl RunWords<'_> {
         ensures fits { IfSome result (λ rules. run_rules_fit nodes rules ≡ true) }
     {
         Some(RunRules {
-            interval: read_interval(self.interval)?,
-            wait: read_wait(self.wait)?,
-            lose_every: read_lose_every(self.lose_every)?,
-            kill: read_kill(self.kill, nodes)?,
+            rules: Rules {
+                interval: read_interval(self.interval)?,
+                wait: read_wait(self.wait)?,
+                lose_every: read_lose_every(self.lose_every)?,
+                kill: read_kill(self.kill, nodes)?,
+            },
             budget: read_budget(self.budget)?,
             seed: SEED.read(self.seed)?,
         })

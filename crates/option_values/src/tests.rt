@@ -1,6 +1,6 @@
 //! Texts of values, and what they mean; None where they break their rule.
 use super::{LOG, RunRules, RunWords, SizeWords, read_demo_size, read_nodes, read_watch};
-use sn_base::{Config, NodeId, SwitchId};
+use sn_base::{Config, NodeId, Rules, SwitchId};
 
 #[test]
 fn a_number_has_one_to_twenty_digits_and_lies_in_its_range(rt: HostRuntime) {
@@ -138,7 +138,7 @@ fn kill_of(text: &str) -> Option<(u8, u32)> {
         ..NONE
     };
     match words.rules(4) {
-        Some(rules) => match rules.kill {
+        Some(run) => match run.rules.kill {
             Some((switch, events)) => Some((switch.number(), events)),
             None => None,
         },
@@ -201,10 +201,12 @@ fn the_rules_of_a_run_have_defaults(rt: HostRuntime) {
     assert!(rt;
         NONE.rules(1)
             == Some(RunRules {
-                interval: 100,
-                wait: 20_000,
-                lose_every: 0,
-                kill: None,
+                rules: Rules {
+                    interval: 100,
+                    wait: 20_000,
+                    lose_every: 0,
+                    kill: None,
+                },
                 budget: 1_000_000,
                 seed: 1,
             })
@@ -212,10 +214,12 @@ fn the_rules_of_a_run_have_defaults(rt: HostRuntime) {
     assert!(rt;
         given.rules(16)
             == Some(RunRules {
-                interval: 1,
-                wait: 1_000_000,
-                lose_every: 1_000_000,
-                kill: Some((SwitchId::b(node), 3)),
+                rules: Rules {
+                    interval: 1,
+                    wait: 1_000_000,
+                    lose_every: 1_000_000,
+                    kill: Some((SwitchId::b(node), 3)),
+                },
                 budget: 1,
                 seed: u64::MAX,
             })

@@ -4,9 +4,9 @@ use Rattle.std.proofs.lemmas.List.{length-map}
 use Rattle.sn_base.specs.Image.{ImageData}
 use Rattle.sn_base.specs.declared.config.Config.{Config}
 use Rattle.sn_base.specs.declared.event.Event.{Event}
+use Rattle.sn_base.specs.declared.rules.Rules.{Rules}
 use Rattle.sn_model.specs.Machine.{State}
 use Rattle.sn_model.specs.Step.{step_of, state_after}
-use Rattle.due_events.specs.declared.rules.Rules.{Rules}
 use Rattle.due_events.specs.Numbers.{Numbers, first_numbers, numbers_after}
 use Rattle.due_events.specs.Due.{due_of}
 use Rattle.due_events.specs.Runs.{Draw, numbers_along, then_others, events_due}

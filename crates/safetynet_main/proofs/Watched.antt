@@ -4,13 +4,12 @@ use Rattle.std.specs.Prelude.{IfSome}
 use Rattle.std.proofs.lemmas.Bool.Decides.{nat_tests}
 use Rattle.sn_base.specs.Config.{config_fits}
 use Rattle.sn_base.specs.declared.config.Config.{Config}
-use Rattle.sn_driver.specs.Driver.{AreRules}
+use Rattle.sn_base.specs.Rules.{AreRules, kill_fits}
 use Rattle.option_values.specs.Values.{is_word_address}
-use Rattle.option_values.specs.Runs.{kill_fits, run_rules_fit}
+use Rattle.option_values.specs.Runs.{run_rules_fit}
 use Rattle.option_values.specs.declared.run.RunRules.{RunRules}
 use Rattle.command_words.specs.Request.{watch_fits}
 use Rattle.script_replay.specs.Played.{IsWord, IsWatchable}
-use Rattle.safetynet_main.specs.Call.{driver_rules}
 
 word-is : (address : ℕ) → is_word_address address ≡ true → IsWord address
 word-is address e = record { low = grind (arith, nat_tests); high = grind (arith, nat_tests); aligned = grind (arith, nat_tests) }
@@ -23,17 +22,17 @@ kill-is : (nodes : ℕ) (kill : Option (ℕ × ℕ)) → kill_fits nodes kill �
 kill-is nodes None e = tt
 kill-is nodes (Some rule) e = grind (arith, nat_tests)
 
-kill-of_rules : (nodes : ℕ) (rules : RunRules) → run_rules_fit nodes rules ≡ true → kill_fits nodes rules.kill ≡ true
+kill-of_rules : (nodes : ℕ) (rules : RunRules) → run_rules_fit nodes rules ≡ true → kill_fits nodes rules.rules.kill ≡ true
 kill-of_rules nodes rules e = grind arith
 
 pub rules_are : (config : Config) (rules : RunRules) → config_fits config ≡ true → run_rules_fit config.nodes rules ≡ true →
-    AreRules (driver_rules rules) config.nodes
+    AreRules rules.rules config.nodes
 rules_are config rules fits ruled = record {
   some = grind (arith, nat_tests);
   few = grind (arith, nat_tests);
   interval = grind (arith, nat_tests);
   wait = grind (arith, nat_tests);
-  kill = kill-is config.nodes rules.kill (kill-of_rules config.nodes rules ruled);
+  kill = kill-is config.nodes rules.rules.kill (kill-of_rules config.nodes rules ruled);
 }
 
 pub budget_is : (nodes : ℕ) (rules : RunRules) → run_rules_fit nodes rules ≡ true → rules.budget ≤ 1000000

@@ -19,7 +19,6 @@ use Rattle.script_replay.specs.declared.job.ReportKind.TheVariants.{Events, Trac
 use Rattle.script_replay.specs.Played.{MayBegin}
 use Rattle.script_replay.specs.Probed.{tallies_due}
 use Rattle.script_replay.specs.Shown.{pieces_due, IsShown, IsShownInPart}
-use Rattle.due_events.specs.declared.rules.Rules.{Rules}
 use Rattle.run_journals.specs.declared.entry.Entry.{Entry}
 use Rattle.node_run.specs.declared.job.Run.{Run}
 use Rattle.node_run.specs.declared.job.RunReport.{RunReport}
@@ -74,10 +73,7 @@ abbrev pub text_job : Result (List ℕ) Status → Result Job Status
 text_job (Ok text) = Ok (Text text)
 text_job (Err status) = Err status
 
--- the rules by which a run's events are picked, and what it shows, by the words
-abbrev pub driver_rules : RunRules → Rules
-driver_rules r = record { interval = r.interval; wait = r.wait; lose_every = r.lose_every; kill = r.kill }
-
+-- what a run shows, by the words
 abbrev pub report_shown : AskedReport → RunReport
 report_shown asked.Summary = shown.Summary
 report_shown asked.Trace = shown.Trace
@@ -88,7 +84,7 @@ abbrev pub run_of : Config → RunRules → AskedReport → Option ℕ → Image
 run_of config rules report watch image = record {
   program = image;
   config = config;
-  rules = driver_rules rules;
+  rules = rules.rules;
   seed = rules.seed;
   budget = rules.budget;
   showing = record { report = report_shown report; watch = watch };

@@ -7,7 +7,7 @@ ghost use Rattle.command_words.specs.Request.{as_request, watch_fits, request_fi
 ghost use Rattle.option_values.specs.Runs.{run_rules_fit};
 ghost use Rattle.safetynet_main.specs.Files.{program_in, script_in, trace_in, assembly_in};
 ghost use Rattle.safetynet_main.specs.Errand.{Due, Loads};
-ghost use Rattle.safetynet_main.specs.Call.{Fetches, found_by, report_of, report_shown, driver_rules, errand_of, replay_errand, run_errand};
+ghost use Rattle.safetynet_main.specs.Call.{Fetches, found_by, report_of, report_shown, errand_of, replay_errand, run_errand};
 ghost use Rattle.safetynet_main.specs.Call.{check_errand, demo_errand, assembly_errand, listing_errand, IsRead};
 
 use crate::job::{Check, Job, Text, Trace};
@@ -16,10 +16,8 @@ use crate::reading::{
 };
 use crate::status::{ProgramCause, Status};
 use command_words::Request;
-use due_events::Rules;
 use generated_runs::generate;
 use node_run::{Run, RunReport, RunShowing};
-use option_values::RunRules;
 use rv_asm::AsmCause;
 use script_replay::{Replay, ReportKind, Script, Showing};
 use sn_base::{Config, Image};
@@ -179,17 +177,6 @@ fn report_shown(report: command_words::RunReport) -> RunReport
     }
 }
 
-fn driver_rules(rules: &RunRules) -> Rules
-    ensures { result ≡ driver_rules rules.now }
-{
-    Rules {
-        interval: rules.interval,
-        wait: rules.wait,
-        lose_every: rules.lose_every,
-        kill: rules.kill,
-    }
-}
-
 // The program of a run.
 #[tactic(auto, using(crate::proofs::Watched::watched_is, crate::proofs::Watched::rules_are, crate::proofs::Watched::budget_is))]
 fn load_run<S: Store>(
@@ -211,7 +198,7 @@ fn load_run<S: Store>(
         Err(status) => return Err(status),
     };
     let config = asked.config;
-    let rules = driver_rules(&asked.rules);
+    let rules = asked.rules.rules;
     let seed = asked.rules.seed;
     let budget = asked.rules.budget;
     let asked_report = asked.report;

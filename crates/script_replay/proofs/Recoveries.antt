@@ -7,23 +7,19 @@ use Rattle.sn_base.specs.declared.event.Event.TheVariants as event
 use Rattle.sn_base.specs.declared.event.Undo.{Undo}
 use Rattle.sn_base.specs.declared.event.Answer.{Answer}
 use Rattle.sn_base.specs.declared.event.Answer.TheVariants as answer
-use Rattle.rv_core.specs.declared.step.Want.{Want}
-use Rattle.rv_core.specs.declared.step.Want.TheVariants as want
-use Rattle.rv_core.specs.Core.{block_of}
-use Rattle.rv_core.specs.Step.{want_of}
 use Rattle.route_plan.specs.Routes.{first_cut_off}
 use Rattle.sn_model.specs.declared.cache.Need.{Need}
-use Rattle.sn_model.specs.declared.cache.Need.TheVariants as need
 use Rattle.sn_model.specs.Access.{accessed, misses}
 use Rattle.sn_model.specs.Fabric.{Fabric}
 use Rattle.sn_model.specs.Net.{flight_of}
 use Rattle.sn_model.specs.NodeEvents.{edged, reported}
 use Rattle.sn_model.specs.NetEvents.{killed}
 use Rattle.sn_model.specs.PointEvents.{advanced, recovers, living_switches}
-use Rattle.sn_model.specs.Machine.{State, processor_at}
-use Rattle.sn_model.specs.Instructions.{Stepped, stepped, step_wanting, takes_input, accessing, next_byte}
+use Rattle.sn_model.specs.Machine.{State}
+use Rattle.sn_model.specs.Instructions.{Stepped, stepped}
 use Rattle.sn_model.specs.MachineEvents.{validates, unready_node, restores}
 use Rattle.sn_model.specs.Step.{step_of}
+use Rattle.sn_model.proofs.EachStep.{each_step}
 use Rattle.consistent_cuts.proofs.EachEvent.{ordinary_evicted, ordinary_flight, ordinary_hops, ordinary_loses}
 use Rattle.consistent_cuts.proofs.SteppedCases.{is_point_answer}
 use Rattle.script_replay.specs.Played.{IsAlone}
@@ -51,25 +47,8 @@ misses_on config s n block access = grind arith
 accessed_on : (config : Config) (s : Fabric) (n block : ℕ) (access : Need) → goes_back (accessed config s n block access).answer ≡ false
 accessed_on config s n block access = grind (arith, misses_on config s n block access)
 
-module _ (image : ImageData) (config : Config) (s : State) (n : ℕ) where
-  accessing_on : (address : ℕ) (access : Need) → GoesOn (accessing image config s n address access)
-  accessing_on address access = grind (arith, accessed_on config s.fabric n (block_of address) access)
-
-  input_on : (byte : Option ℕ) → GoesOn (takes_input image s n byte)
-  input_on None = refl
-  input_on (Some byte) = refl
-
-  wanting_on : (w : Want) → GoesOn (step_wanting image config s n w)
-  wanting_on want.Nothing = refl
-  wanting_on want.Input = input_on (next_byte s n)
-  wanting_on (want.Load address) = accessing_on address need.Read
-  wanting_on (want.Lr address) = accessing_on address need.Read
-  wanting_on (want.Store address) = accessing_on address need.Write
-  wanting_on (want.Amo address) = accessing_on address need.Write
-  wanting_on (want.Sc address) = grind (arith, accessing_on address need.Write)
-
-  stepped_on : GoesOn (stepped image config s n)
-  stepped_on = grind (arith, wanting_on (want_of image (processor_at s n).core))
+stepped_on : (image : ImageData) (config : Config) (s : State) (n : ℕ) → GoesOn (stepped image config s n)
+stepped_on image config s n = each_step image config s n GoesOn refl (accessed_on config s.fabric n) refl refl refl
 
 -- the other events
 

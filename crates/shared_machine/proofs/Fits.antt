@@ -6,12 +6,12 @@ use Rattle.sn_base.specs.Image.{ImageData}
 use Rattle.sn_base.specs.declared.config.Config.{Config}
 use Rattle.sn_base.specs.declared.event.Event.{Event}
 use Rattle.sn_base.specs.declared.event.Event.TheVariants.{Kill}
+use Rattle.sn_base.specs.declared.rules.Rules.{Rules}
+use Rattle.sn_base.specs.Rules.{AreRules}
 use Rattle.sn_model.specs.Machine.{State}
-use Rattle.due_events.specs.declared.rules.Rules.{Rules}
 use Rattle.due_events.specs.Numbers.{Numbers}
 use Rattle.due_events.specs.Due.{due_of}
 use Rattle.due_events.proofs.EachDue.{HoldsOfEach, due_of-holds}
-use Rattle.sn_driver.specs.Driver.{AreRules}
 
 kill_fits : (nodes : ℕ) (kill : Option (ℕ × ℕ)) → IfSome kill (λ rule. rule.0 < 2 * nodes) →
     IfSome kill (λ rule. event_fits nodes (Kill rule.0) ≡ true)

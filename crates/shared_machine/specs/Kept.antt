@@ -2,9 +2,9 @@
 use Rattle.std.specs.Prelude.{◌≡◌, ◌+◌, ◌≤◌, true, List, [], length}
 use Rattle.std.specs.List.{All}
 use Rattle.sn_base.specs.Events.{event_fits}
+use Rattle.sn_base.specs.Rules.{AreRules}
 use Rattle.sn_model.specs.Machine.{start_of}
 use Rattle.due_events.specs.Numbers.{first_numbers}
-use Rattle.sn_driver.specs.Driver.{AreRules}
 use Rattle.run_journals.specs.Journal.{IsDue, state_of, answers_of, numbers_of}
 use Rattle.sn_console.specs.Handed.{IsFirstOf}
 use Rattle.shared_machine.specs.declared.drawing.Drawing.{Drawing}

@@ -75,7 +75,8 @@ pub record Did (driver : DriverData) (m : MachineData) (worker pick : ℕ) (spen
   pub counted : went ≡ record driver { numbers = numbers_after driver.numbers event answer }
   pub later : IsLater driver m went after
 
--- released bytes go to the console where something is validated
+-- released bytes go to the console where something is validated. How many, the ring decides, which a turn doesn't see, so here it may be
+-- none: `Outbox::offer` says that they are all that the ring is known to have room for
 
 abbrev pub Passes : Answer → List ℕ → List ℕ → Type 0
 Passes (Validated k) passed passes = IsFirstOf passed passes

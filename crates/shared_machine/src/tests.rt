@@ -4,8 +4,7 @@ ghost use Rattle.sn_console.specs.Ends.{passed};
 ghost use Rattle.shared_machine.specs.Shared.{begins_with};
 
 use crate::{Finish, RunName, SharedMachine};
-use due_events::Rules;
-use sn_base::{Config, Event, Image, NodeId, Segment};
+use sn_base::{Config, Event, Image, NodeId, Rules, Segment};
 use sn_console::{Outbox, outbox};
 use sn_driver::Driver;
 use sn_machine::Machine;

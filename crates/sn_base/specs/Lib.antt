@@ -1,5 +1,6 @@
 pub mod Nodes
 pub mod Config
+pub mod Rules
 pub mod Blocks
 pub mod Image
 pub mod Events

@@ -1,5 +1,5 @@
 //! The words that every other layer shares: nodes, switches, blocks and their bytes, programs as images,
-//! events and their answers, and the old contents that a log keeps.
+//! events and their answers, the old contents that a log keeps, a machine's sizes and a run's rules.
 //!
 //! The layers above know these values by their numbers and lists: a node is a number below 16, a block's
 //! content is a list of 64 bytes, an image says of each address its byte, whether it may be executed and
@@ -15,6 +15,7 @@ mod limits;
 mod log;
 mod memory;
 mod node;
+mod rules;
 mod switch;
 #[cfg(test)]
 mod tests;
@@ -27,6 +28,7 @@ pub use limits::{BLOCK_SIZE, BLOCKS, MESSAGES, RAM_END, RAM_SIZE, RAM_START};
 pub use log::{Entries, LogEntry, Old};
 pub use memory::Memory;
 pub use node::{NodeId, NodeSet};
+pub use rules::Rules;
 pub use switch::SwitchId;
 
 /// The number of an interval of logical time: checkpoint k is the start of interval k.

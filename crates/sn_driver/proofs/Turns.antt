@@ -4,8 +4,8 @@ use Rattle.std.specs.Option.{option_or}
 use Rattle.sn_base.specs.Image.{ImageData}
 use Rattle.sn_base.specs.declared.config.Config.{Config}
 use Rattle.sn_base.specs.declared.event.Event.{Event}
+use Rattle.sn_base.specs.declared.rules.Rules.{Rules}
 use Rattle.sn_model.specs.Machine.{State}
-use Rattle.due_events.specs.declared.rules.Rules.{Rules}
 use Rattle.due_events.specs.Numbers.{Numbers}
 use Rattle.due_events.specs.Lists.{list_of}
 use Rattle.due_events.specs.Due.{picked, first_picked}

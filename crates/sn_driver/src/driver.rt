@@ -8,8 +8,7 @@ ghost use Rattle.sn_driver.specs.Turns.{due_at, Took, IsLater};
 
 use crate::moves::node_of;
 use crate::turn::Turn;
-use due_events::Rules;
-use sn_base::{Answer, Event, Interval, NodeId};
+use sn_base::{Answer, Event, Interval, NodeId, Rules};
 use sn_machine::Machine;
 use std::marker::Model;
 
@@ -28,7 +27,8 @@ pub struct Driver {
 
 impl Model for Driver {
     ghost use Rattle.due_events.specs.Numbers.{Numbers};
-    ghost use Rattle.sn_driver.specs.Driver.{DriverData, AreRules, AreNumbers};
+    ghost use Rattle.sn_base.specs.Rules.{AreRules};
+    ghost use Rattle.sn_driver.specs.Driver.{DriverData, AreNumbers};
 
     ghost Value = { DriverData };
 

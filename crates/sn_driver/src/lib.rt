@@ -17,5 +17,5 @@ mod tests;
 mod turn;
 
 pub use driver::Driver;
-pub use due_events::Rules;
+pub use sn_base::Rules;
 pub use turn::Turn;

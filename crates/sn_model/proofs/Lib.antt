@@ -1,1 +1,2 @@
+pub mod EachStep
 pub mod Refusals

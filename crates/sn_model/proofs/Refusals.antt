@@ -7,14 +7,9 @@ use Rattle.sn_base.specs.declared.event.Event.TheVariants.{Step, Evict, Edge, Ho
 use Rattle.sn_base.specs.declared.event.Answer.{Answer}
 use Rattle.sn_base.specs.declared.log.LogEntry.{LogEntry}
 use Rattle.sn_msg.specs.declared.Message.{Message}
-use Rattle.rv_core.specs.declared.step.Want.{Want}
-use Rattle.rv_core.specs.declared.step.Want.TheVariants.{Nothing, Load, Store, Amo, Lr, Sc, Input as TakesByte}
-use Rattle.rv_core.specs.Core.{block_of}
-use Rattle.rv_core.specs.Step.{want_of}
 use Rattle.sn_model.specs.declared.cache.LineState.{LineState}
 use Rattle.sn_model.specs.declared.cache.LineState.TheVariants.{Absent, Shared, Owned, Modified, Exclusive}
 use Rattle.sn_model.specs.declared.cache.Need.{Need}
-use Rattle.sn_model.specs.declared.cache.Need.TheVariants.{Read, Write as ToWrite}
 use Rattle.sn_model.specs.declared.cache.Out.{Out}
 use Rattle.sn_model.specs.Caches.{line_of}
 use Rattle.sn_model.specs.Fabric.{Fabric, Flight, Moved, node_at, refused}
@@ -23,12 +18,13 @@ use Rattle.sn_model.specs.NodeEvents.{evicts, evicted, begins_put, edged, report
 use Rattle.sn_model.specs.NetEvents.{Outcome, Busy, AtCache, AtHome, Noted, hops, delivers, delivers_flight, outcome_of, fits_in, loses}
 use Rattle.sn_model.specs.NetEvents.{killed}
 use Rattle.sn_model.specs.PointEvents.{advanced, recovers}
-use Rattle.sn_model.specs.Machine.{State, processor_at}
-use Rattle.sn_model.specs.Instructions.{Stepped, refused as declined, stepped, step_wanting, takes_input, accessing, carried}
+use Rattle.sn_model.specs.Machine.{State}
+use Rattle.sn_model.specs.Instructions.{Stepped, refused as declined, stepped, carried}
 use Rattle.sn_model.specs.MachineEvents.{validates, hearing}
 use Rattle.sn_model.specs.Step.{step_of}
 use Rattle.sn_model.specs.Net.{flight_of}
 use Rattle.sn_model.specs.Refusals.{is_refusal}
+use Rattle.sn_model.proofs.EachStep.{each_step}
 
 -- what an event of the fabric comes to leaves the fabric, and tells nothing, where its answer is a refusal
 pub record Stays (s : Fabric) (x : Moved) : Type 0 where
@@ -130,28 +126,10 @@ declines s answer = record { unchanged = λ r. refl }
 leaves-carried : (s : State) (moved : Moved) → Stays s.fabric moved → Leaves s (carried s moved)
 leaves-carried s moved l = record { unchanged = λ r. grind (arith, l.unchanged) }
 
-leaves-accessing : (image : ImageData) (config : Config) (s : State) (n address : ℕ) (need : Need) →
-    Leaves s (accessing image config s n address need)
-leaves-accessing image config s n address need =
-    record { unchanged = λ r. grind (arith, (leaves-carried s _ (stays-accessed config s.fabric n (block_of address) need)).unchanged) }
-
-leaves-takes_input : (image : ImageData) (s : State) (n : ℕ) (byte : Option ℕ) → Leaves s (takes_input image s n byte)
-leaves-takes_input image s n None = declines s _
-leaves-takes_input image s n (Some byte) = accepted s _ refl
-
-leaves-wanting : (image : ImageData) (config : Config) (s : State) (n : ℕ) (want : Want) → Leaves s (step_wanting image config s n want)
-leaves-wanting image config s n Nothing = accepted s _ refl
-leaves-wanting image config s n (Load address) = leaves-accessing image config s n address Read
-leaves-wanting image config s n (Store address) = leaves-accessing image config s n address ToWrite
-leaves-wanting image config s n (Amo address) = leaves-accessing image config s n address ToWrite
-leaves-wanting image config s n (Lr address) = leaves-accessing image config s n address Read
-leaves-wanting image config s n (Sc address) =
-    record { unchanged = λ r. grind (arith, (leaves-accessing image config s n address ToWrite).unchanged) }
-leaves-wanting image config s n TakesByte = leaves-takes_input image s n _
-
 leaves-stepped : (image : ImageData) (config : Config) (s : State) (n : ℕ) → Leaves s (stepped image config s n)
 leaves-stepped image config s n =
-    record { unchanged = λ r. grind (arith, (leaves-wanting image config s n (want_of image (processor_at s n).core)).unchanged) }
+    each_step image config s n (Leaves s) (accepted s _ refl)
+    (λ block need. leaves-carried s _ (stays-accessed config s.fabric n block need)) (declines s _) (declines s _) (declines s _)
 
 leaves-hearing : (s : State) (moved : Moved) → Stays s.fabric moved → Leaves s (hearing s moved)
 leaves-hearing s moved l = record { unchanged = λ r. grind (arith, l.unchanged, l.untold) }

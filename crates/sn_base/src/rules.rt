@@ -1,7 +1,7 @@
-//! The rules by which events are picked.
-use sn_base::SwitchId;
+//! The rules of a run.
+use crate::switch::SwitchId;
 
-/// How a driver picks events.
+/// By what the events of a run are picked.
 #[derive(Clone, Copy, PartialEq, Eq, Debug)]
 pub struct Rules {
     /// How many instructions a node retires before its next clock edge is due, at least 1.
