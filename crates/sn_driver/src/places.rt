@@ -1,8 +1,10 @@
 //! A node's list, by its places: it is counted and read, and never made.
-ghost use Rattle.std.specs.Prelude.{◌≡◌, ◌*◌, ◌+◌, ◌<◌, ◌≤◌, true, None, length, slice_get, slice_index_or, IfSome};
+ghost use Rattle.std.specs.Prelude.{◌≡◌, ◌*◌, ◌+◌, ◌<◌, ◌≤◌, true, None, List, ◌++◌, length, map, filter_map, slice_get, slice_index_or};
+ghost use Rattle.std.specs.Prelude.{IfSome};
+ghost use Rattle.sn_base.specs.declared.event.Event.{Event};
 ghost use Rattle.sn_base.specs.Events.{event_fits};
 ghost use Rattle.sn_base.specs.declared.event.Event.TheVariants.{Step};
-ghost use Rattle.due_events.specs.Lists.{foreseen, edge, report, own_places, places_of, list_of};
+ghost use Rattle.due_events.specs.Lists.{foreseen, delivery, hop, edge, report, own_places, places_of, list_of};
 ghost use Rattle.due_events.specs.Due.{picked};
 ghost use Rattle.sn_driver.specs.Found.{HasFound};
 
@@ -12,6 +14,39 @@ use crate::found::Found;
 use crate::moves::{delivery, eviction, hop, is_behind, is_running, step, validation};
 use sn_base::{Answer, Event, NodeId};
 use sn_machine::Machine;
+
+/// Finds the deliveries of the messages in flight, after what is found already.
+fn find_deliveries(machine: &Machine, node: NodeId, found: &mut Found)
+    requires here { node < machine.now.config.nodes }
+    requires room { found.old.count ≤ 1024 }
+    ensures found { (events : List Event) → HasFound machine.now.config.nodes events found.old
+        → HasFound machine.now.config.nodes (events ++ filter_map (λ place. place)
+        (map (delivery machine.now.image machine.now.config machine.now.state node) machine.now.state.fabric.net.flights)) found.new }
+    ensures few { found.new.count ≤ found.old.count + 1024 }
+{
+    let flights = machine.net().count();
+    'places: for place in 0..flights {
+        if let Some(event) = delivery(machine, node, place) {
+            found.add(event);
+        }
+    }
+}
+
+/// Finds the hops of the messages in flight, after what is found already.
+fn find_hops(machine: &Machine, node: NodeId, found: &mut Found)
+    requires room { found.old.count ≤ 1024 }
+    ensures found { (events : List Event) → HasFound machine.now.config.nodes events found.old
+        → HasFound machine.now.config.nodes (events ++ filter_map (λ place. place)
+        (map (hop node) machine.now.state.fabric.net.flights)) found.new }
+    ensures few { found.new.count ≤ found.old.count + 1024 }
+{
+    let flights = machine.net().count();
+    'places: for place in 0..flights {
+        if let Some(event) = hop(machine, node, place) {
+            found.add(event);
+        }
+    }
+}
 
 impl Driver {
     /// The node's clock edge, where it has retired enough, can't retire, or is behind.
@@ -107,15 +142,16 @@ impl Driver {
     }
 
     /// How many events the node's list has, and the first of them.
-    #[tactic(auto, using(crate::proofs::Lists::from_place))]
     fn found(&self, machine: &Machine, node: NodeId) -> Found
         requires { node < machine.now.config.nodes }
         ensures found { HasFound machine.now.config.nodes (list_of self.now.rules machine.now.image machine.now.config machine.now.state self.now.numbers node) result }
     {
         let answer = machine.foresee(Event::Step(node));
         let mut found = Found::none();
-        'places: for place in 0..self.places(machine, node) {
-            if let Some(event) = self.at_place(machine, node, &answer, place) {
+        find_deliveries(machine, node, &mut found);
+        find_hops(machine, node, &mut found);
+        'own: for place in 0..5 {
+            if let Some(event) = self.own_event(machine, node, &answer, place) {
                 found.add(event);
             }
         }

@@ -1,32 +1,67 @@
-use Rattle.std.proofs.Common.{◌<◌, length, take, filter_map, sym, subst, arith}
-use Rattle.due_events.specs.Lists.{places_of}
+use Rattle.std.proofs.Common.{◌≡◌, ◌+◌, ◌<◌, [], ◌++◌, length, map, take, filter_map, sym, ap, ◌∙◌, subst, append-nil, arith}
+use Rattle.due_events.specs.Lists.{delivery, hop, own_places, list_of}
 use Rattle.sn_driver.specs.Found.{HasFound}
-use Rattle.sn_driver.proofs.FirstPlaces.{next-some, next-none}
+use Rattle.sn_driver.proofs.FirstPlaces.{more-some, more-none, kept-all}
 use Rattle.sn_driver.proofs.driver.Driver.found.Goals as goal
 use Rattle.sn_driver.proofs.driver.Driver.found.Goals.{in-Some, in_default}
 
-pub places-init : goal.places-init
-places-init c =
-    let h = c.none-found.ensures c.args.machine.now.config.nodes in
-    let e = h.count in
-    record { few = omega (arith, e); found = h }
+pub find_deliveries-requires-clause-room : goal.find_deliveries-requires-clause-room
+find_deliveries-requires-clause-room c = let e = (c.none-found.ensures c.args.machine.now.config.nodes).count in omega (arith, e)
 
-pub places-preserved : goal.places-preserved
-places-preserved c =
+pub find_hops-requires : goal.find_hops-requires
+find_hops-requires c =
+    let e = (c.none-found.ensures c.args.machine.now.config.nodes).count in
+    let l = c.find_deliveries.ensures.few in
+    record { room = omega (arith, e, l) }
+
+pub own-init : goal.own-init
+own-init c =
     let m = c.args.machine.now in
     let n = m.config.nodes in
-    let ps = places_of c.args.self.now.rules m.image m.config m.state c.args.self.now.numbers c.args.node in
-    let k = c.places.place in
-    let l : k < length ps = let e = c.places-place-end.ensures.same in let t = c.places-test.true in omega (arith, e, t) in
-    let before = c.places.invariant.few in
-    elim c.match-at_place.branch [
+    let ds = filter_map (λ place. place) (map (delivery m.image m.config m.state c.args.node) m.state.fabric.net.flights) in
+    let hs = filter_map (λ place. place) (map (hop c.args.node) m.state.fabric.net.flights) in
+    let none = c.none-found.ensures n in
+    let e = none.count in
+    let l = c.find_deliveries.ensures.few in
+    let k = c.find_hops.ensures.few in
+    record {
+      few = omega (arith, e, l, k);
+      found = subst (λ events. HasFound n events c.find_hops.new.found) (sym (append-nil (ds ++ hs)))
+          (c.find_hops.ensures.found ds (c.find_deliveries.ensures.found [] none));
+    }
+
+pub own-preserved : goal.own-preserved
+own-preserved c =
+    let m = c.args.machine.now in
+    let n = m.config.nodes in
+    let messages = filter_map (λ place. place) (map (delivery m.image m.config m.state c.args.node) m.state.fabric.net.flights)
+    ++ filter_map (λ place. place) (map (hop c.args.node) m.state.fabric.net.flights) in
+    let ps = own_places c.args.self.now.rules m.image m.config m.state c.args.self.now.numbers c.args.node in
+    let k = c.own.place in
+    let l : k < length ps = c.own-test.true in
+    let before = c.own.invariant.few in
+    elim c.match-own_event.branch [
       | in-Some w ↦ rw w.found-is (record {
         few = let e = w.add.ensures.count in omega (arith, e, before);
-        found = subst (λ events. HasFound n events w.add.new.self) (sym (next-some ps k l w.in-Some.event w.in-Some.ensures.same))
-            (w.add.ensures.found n (filter_map (λ place. place) (take k ps)) w.in-Some.ensures.fits c.places.invariant.found);
+        found = subst (λ events. HasFound n events w.add.new.self) (sym (more-some ps k l messages w.in-Some.event w.in-Some.ensures.same))
+            (w.add.ensures.found n (messages ++ filter_map (λ place. place) (take k ps)) w.in-Some.ensures.fits c.own.invariant.found);
       })
       | in_default w ↦ rw w.found-is (record {
         few = omega (arith, before);
-        found = subst (λ events. HasFound n events c.places.found) (sym (next-none ps k l w.in_default.ensures.same)) c.places.invariant.found;
+        found = subst (λ events. HasFound n events c.own.found) (sym (more-none ps k l messages w.in_default.ensures.same)) c.own.invariant.found;
       })
     ]
+
+pub returns : goal.returns
+returns c =
+    let m = c.args.machine.now in
+    let n = m.config.nodes in
+    let ds = map (delivery m.image m.config m.state c.args.node) m.state.fabric.net.flights in
+    let hs = map (hop c.args.node) m.state.fabric.net.flights in
+    let os = own_places c.args.self.now.rules m.image m.config m.state c.args.self.now.numbers c.args.node in
+    let all : c.own.place ≡ 5 = omega (arith, c.own-test.false, c.own.auto) in
+    record {
+      found = subst (λ events. HasFound n events c.own.found)
+          (ap (λ k. (filter_map (λ place. place) ds ++ filter_map (λ place. place) hs) ++ filter_map (λ place. place) (take k os)) all ∙ kept-all ds hs os)
+          c.own.invariant.found;
+    }
