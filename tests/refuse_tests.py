@@ -7,7 +7,9 @@ CRATES is the folder of the crates, whose tests are built (`rt test` or the gate
 a file is named and left out. Each test of each crate, or of those named, is run once with all memory, which counts its calls of the
 allocator, and then for each of these calls once with that one refused and once with that one and all after it refused. It must pass, or
 end with an error that is want of memory. A failed assertion is a wrong answer; a signal, a run without end and any other error are wrong
-too. MOST is the greatest number of calls of a test that are refused, evenly spread; without it, or with 0, all are.
+too. Only a test that asks whether threads were at work at once may fail by saying that one waited in vain, where fewer threads began than
+with all memory: nothing answers that a thread can't be had, and its work is done by another. Such runs are counted by themselves. MOST is
+the greatest number of calls of a test that are refused, evenly spread; without it, or with 0, all are.
 """
 import re
 import subprocess
@@ -22,11 +24,14 @@ from refuse_memory import built_library, environment, read_count  # noqa: E402
 # The longest that a test may take, in seconds.
 LONGEST = 120
 
-PASSED, WANT, WRONG = "passed", "want of memory", "wrong"
+PASSED, WANT, ALONE, WRONG = "passed", "want of memory", "waited in vain", "wrong"
 
 # How a test ends whose result is an error that is want of memory: its status, and the line that shows the error.
 FAILED_STATUS = 101
 MEMORY_ERROR = re.compile(rb"[Ee]rror: .*\b(Memory|AllocError|AllocFailed|OutOfMemory)\b")
+
+# What a test says whose threads weren't at work at once.
+IN_VAIN = b"waited in vain"
 
 
 def tests_of(program):
@@ -34,26 +39,32 @@ def tests_of(program):
     return [line.removesuffix(": test") for line in listed.splitlines() if line.endswith(": test")]
 
 
-def kind_of(status, said):
+def kind_of(status, said, lacks_thread):
     if status == 0:
         return PASSED
-    last = said.strip().splitlines()[0] if said.strip() else b""
-    return WANT if status == FAILED_STATUS and MEMORY_ERROR.match(last) else WRONG
+    first = said.strip().splitlines()[0] if said.strip() else b""
+    if status == FAILED_STATUS and MEMORY_ERROR.match(first):
+        return WANT
+    return ALONE if lacks_thread and IN_VAIN in said else WRONG
 
 
-def run(program, test, folder, library, call=0, all_after=False):
-    """How a test ends, what it said, and how often memory was asked for."""
-    given = environment(folder, library, call, all_after)
+def run(program, test, folder, library, call=0, all_after=False, most_threads=0):
+    """How a test ends, what it said, how often memory was asked for and how many threads began; with all memory so many begin."""
+    threads = Path(folder, "threads")
+    threads.write_bytes(b"")
+    given = {**environment(folder, library, call, all_after), "REFUSE_THREADS": str(threads)}
     try:
         done = subprocess.run([program, test], cwd=folder, stdin=subprocess.DEVNULL, capture_output=True, env=given, timeout=LONGEST)
     except subprocess.TimeoutExpired:
-        return WRONG, b"it had not ended", None
-    return kind_of(done.returncode, done.stderr), b"status %d: " % done.returncode + done.stderr, read_count(folder)
+        return WRONG, b"it had not ended", None, 0
+    begun = threads.stat().st_size
+    kind = kind_of(done.returncode, done.stderr, begun < most_threads)
+    return kind, b"status %d: " % done.returncode + done.stderr, read_count(folder), begun
 
 
 def refuse(program, test, folder, library, most):
     """The number of a test's calls for memory, and how its runs ended; what is wrong is said."""
-    kind, said, made = run(program, test, folder, library)
+    kind, said, made, threads = run(program, test, folder, library)
     if kind != PASSED:
         print(f"{test}, with all memory: {said.decode(errors='replace')}")
         return made or 0, Counter({WRONG: 1})
@@ -61,11 +72,15 @@ def refuse(program, test, folder, library, most):
     step = max(1, -(-made // most)) if most else 1
     for call in range(1, made + 1, step):
         for all_after in (False, True):
-            kind, said, _ = run(program, test, folder, library, call, all_after)
+            kind, said, _, _ = run(program, test, folder, library, call, all_after, threads)
             ended[kind] += 1
             if kind == WRONG:
                 print(f"{test}, call {call} of {made}{' and all after' if all_after else ''}: {said.decode(errors='replace')}")
     return made, ended
+
+
+def told(ended):
+    return ", ".join(f"{kind} {ended[kind]}" for kind in (WANT, PASSED, ALONE, WRONG))
 
 
 def main():
@@ -89,8 +104,8 @@ def main():
                 calls += made
                 ended += found
             whole += ended
-            print(f"{name}: {len(tests)} tests, {calls} calls for memory; want of memory {ended[WANT]}, passed {ended[PASSED]}, wrong {ended[WRONG]}", flush=True)
-    print(f"in all {whole.total()} runs: want of memory {whole[WANT]}, passed {whole[PASSED]}, wrong {whole[WRONG]}")
+            print(f"{name}: {len(tests)} tests, {calls} calls for memory; {told(ended)}", flush=True)
+    print(f"in all {whole.total()} runs: {told(whole)}")
     return 1 if whole[WRONG] else 0
 
 

@@ -1,10 +1,12 @@
 /* Stands before the C library's allocator: counts the program's calls for memory, and refuses the one whose number is in
    REFUSE_CALL, and with REFUSE_ALL_AFTER each after it too. At the end, by exit or by _exit, the count goes to the file that
-   REFUSE_COUNT names.
+   REFUSE_COUNT names. Each thread that begins is noted at once, as a byte in the file that REFUSE_THREADS names.
    Built by refuse_memory.py. Memory that the library itself wants before the program begins is counted too. */
 #define _GNU_SOURCE
 #include <dlfcn.h>
 #include <errno.h>
+#include <fcntl.h>
+#include <pthread.h>
 #include <stddef.h>
 #include <stdio.h>
 #include <stdlib.h>
@@ -21,6 +23,7 @@ static void *(*real_realloc)(void *, size_t);
 static void *(*real_aligned_alloc)(size_t, size_t);
 static int (*real_posix_memalign)(void **, size_t, size_t);
 static void (*real_free)(void *);
+static int (*real_pthread_create)(pthread_t *, const pthread_attr_t *, void *(*)(void *), void *);
 
 /* dlsym itself may ask for a few bytes before the real calls are known. */
 static char early[4096];
@@ -43,6 +46,7 @@ __attribute__((constructor)) static void begin(void) {
     real_aligned_alloc = dlsym(RTLD_NEXT, "aligned_alloc");
     real_posix_memalign = dlsym(RTLD_NEXT, "posix_memalign");
     real_free = dlsym(RTLD_NEXT, "free");
+    real_pthread_create = dlsym(RTLD_NEXT, "pthread_create");
     made = 0;
 }
 
@@ -101,4 +105,14 @@ int posix_memalign(void **place, size_t alignment, size_t size) {
     if (!real_posix_memalign) return ENOMEM;
     if (is_refused()) return ENOMEM;
     return real_posix_memalign(place, alignment, size);
+}
+
+int pthread_create(pthread_t *thread, const pthread_attr_t *kind, void *(*body)(void *), void *given) {
+    int error = real_pthread_create(thread, kind, body, given);
+    const char *name = getenv("REFUSE_THREADS");
+    if (error || !name) return error;
+    int file = open(name, O_WRONLY | O_CREAT | O_APPEND, 0600);
+    if (file < 0 || write(file, "1", 1) != 1) abort();
+    close(file);
+    return 0;
 }

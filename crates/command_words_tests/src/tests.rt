@@ -1,5 +1,6 @@
 //! Each row has the words of a line, and the request that they are, as text.
 use command_words::{Request, WordsFault, read_words};
+use sn_base::Memory;
 use std::alloc::{AllocError, Global};
 use std::test::Fail;
 
@@ -49,12 +50,12 @@ fn shown(alloc: Global, request: &Request) -> Result<String, AllocError> {
 }
 
 /// What the words of the line ask for, as text.
-fn read(alloc: Global, line: &str) -> Result<String, AllocError> {
+fn read(alloc: Global, line: &str) -> Result<String, Memory> {
     let words = words_of(alloc, line)?;
     match read_words(alloc, words.as_slice()) {
-        Ok(request) => shown(alloc, &request),
-        Err(WordsFault::Usage) => String::from_str(alloc, "usage"),
-        Err(WordsFault::Memory) => String::from_str(alloc, "memory"),
+        Ok(request) => Ok(shown(alloc, &request)?),
+        Err(WordsFault::Usage) => Ok(String::from_str(alloc, "usage")?),
+        Err(WordsFault::Memory) => Err(Memory),
     }
 }
 

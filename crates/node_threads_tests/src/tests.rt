@@ -176,10 +176,12 @@ fn a_run_ends_where_a_dead_switch_cuts_its_nodes_off(rt: HostRuntime) -> Result<
     Ok(())
 }
 
-/// A probe that counts the events of each kind.
-fn tally(alloc: Global) -> Result<ProbeSet, Fail> {
+/// So many probes that count the events of each kind.
+fn tallies(alloc: Global, count: u64) -> Result<ProbeSet, Fail> {
     let mut boxes: Vec<Box<dyn Probe + Send>> = Vec::new(alloc);
-    boxes.push(Box::new(alloc, EventTally::new())?)?;
+    for _ in 0..count {
+        boxes.push(Box::new(alloc, EventTally::new())?)?;
+    }
     Ok(ProbeSet::new(boxes))
 }
 
@@ -199,7 +201,7 @@ fn run_tallied<T: Threads + Wait + Sync + Abort>(
     rt: &T,
     alloc: Global,
 ) -> Result<(Left, Option<u64>), Fail> {
-    let mut probes = tally(alloc)?;
+    let mut probes = tallies(alloc, 1)?;
     let run = recovering(rt, alloc)?;
     let end = run_probed(rt, alloc, run, &mut probes)?;
     assert!(rt; probes.count() > 0);
@@ -248,22 +250,30 @@ fn losing(rt: &impl Abort, alloc: Global) -> Result<SharedMachine, Fail> {
     shared(rt, alloc, ADDS, 4, rules, 1_000_000)
 }
 
-/// What that leaves, and how many of its workers waited in vain for the others to begin.
-fn run_met<T: Threads + Wait + Sync + Abort>(rt: &T, alloc: Global) -> Result<(Left, u64), Fail> {
+/// What that leaves with so many probes, and how many of its workers waited in vain for the others to begin.
+fn run_met<T: Threads + Wait + Sync + Abort>(
+    rt: &T,
+    alloc: Global,
+    count: u64,
+) -> Result<(Left, u64), Fail> {
+    let mut probes = tallies(alloc, count)?;
     let run = losing(rt, alloc)?;
     let gate = Meeting {
         begun: AtomicU64::new(0),
         missed: AtomicU64::new(0),
     };
-    let end = run_alone(rt, alloc, run, &gate, &mut SureSink::new())?;
+    let end = run_by(rt, alloc, run, &gate, &mut SureSink::new(), &mut probes)?;
     Ok((end, gate.missed.load(Ordering::SeqCst)))
 }
 
 #[test]
 fn the_workers_are_in_flight_at_once(rt: HostRuntime) -> Result<(), Fail> {
-    let (end, missed) = run_met(&rt, rt.alloc())?;
-    assert!(rt; missed == 0 && end.finish == Finish::Over);
-    assert!(rt; end.committed == 20 && end.released == 0 && end.word == 4);
+    for count in [0, 100] {
+        let (end, missed) = run_met(&rt, rt.alloc(), count)?;
+        assert!(rt; missed == 0, "a worker waited in vain");
+        assert!(rt; end.finish == Finish::Over);
+        assert!(rt; end.committed == 20 && end.released == 0 && end.word == 4);
+    }
     Ok(())
 }
 
@@ -338,7 +348,8 @@ fn run_late<T: Threads + Wait + Sync + Abort>(
 #[test]
 fn the_console_is_written_beside_the_run(rt: HostRuntime) -> Result<(), Fail> {
     let (end, put, missed) = run_late(&rt, rt.alloc())?;
-    assert!(rt; missed == 0 && end.finish == Finish::Budget);
+    assert!(rt; missed == 0, "a turn waited in vain");
+    assert!(rt; end.finish == Finish::Budget);
     assert!(rt; end.released > 38 && put == end.released as u64);
     Ok(())
 }

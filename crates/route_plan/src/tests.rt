@@ -94,9 +94,7 @@ fn agrees_at(rt: &impl Abort, alloc: Global, rows: u32, columns: u32) -> Result<
 {
     let nodes = (rows * columns) as u8;
     assert!(rt; cut_off(nodes, Dead::none()) == None);
-    let routes = plan(alloc, nodes, Dead::none())
-        .ok()
-        .ok_or("there is memory, and nothing is cut off")?;
+    let routes = plan(alloc, nodes, Dead::none())?;
     for to in 0..nodes {
         let links = links_by_trying(rows, columns, usize::from(to));
         for from in 0..nodes {
@@ -120,7 +118,7 @@ fn every_walk_is_as_short_as_the_links_allow(rt: HostRuntime) -> Result<(), Fail
 #[test]
 fn a_walk_goes_round_a_dead_switch(rt: HostRuntime) -> Result<(), Fail> {
     let (zero, one) = (node(&rt, 0), node(&rt, 1));
-    let mut routes = plan(rt.alloc(), 4, Dead::none()).ok().ok_or("no routes")?;
+    let mut routes = plan(rt.alloc(), 4, Dead::none())?;
     let walk = walk_of(rt.alloc(), &routes, one, zero)?;
     assert!(rt; walk.as_slice() == [2, 0].as_slice());
     let dead = Dead::none().with(SwitchId::a(zero));
@@ -135,7 +133,7 @@ fn a_walk_goes_round_a_dead_switch(rt: HostRuntime) -> Result<(), Fail> {
 fn a_node_without_a_living_switch_is_cut_off_from_itself(rt: HostRuntime) -> Result<(), Fail> {
     let zero = node(&rt, 0);
     let dead = Dead::none().with(SwitchId::a(zero)).with(SwitchId::b(zero));
-    let mut routes = plan(rt.alloc(), 4, Dead::none()).ok().ok_or("no routes")?;
+    let mut routes = plan(rt.alloc(), 4, Dead::none())?;
     assert!(rt; routes.replan(dead) == Err((zero, zero)));
     let walk = walk_of(rt.alloc(), &routes, node(&rt, 1), zero)?;
     assert!(rt; walk.as_slice() == [2, 0].as_slice());
@@ -147,7 +145,7 @@ fn a_node_without_a_living_switch_is_cut_off_from_itself(rt: HostRuntime) -> Res
 #[test]
 fn a_ring_of_two_has_one_link(rt: HostRuntime) -> Result<(), Fail> {
     let (zero, one) = (node(&rt, 0), node(&rt, 1));
-    let routes = plan(rt.alloc(), 2, Dead::none()).ok().ok_or("no routes")?;
+    let routes = plan(rt.alloc(), 2, Dead::none())?;
     let walk = walk_of(rt.alloc(), &routes, zero, one)?;
     assert!(rt; walk.as_slice() == [0, 2].as_slice());
     assert!(rt; cut_off(2, Dead::none().with(SwitchId::a(zero))) == Some((zero, one)));

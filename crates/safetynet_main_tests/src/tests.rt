@@ -8,6 +8,7 @@ mod statuses;
 mod texts;
 
 use safetynet_main::{Status, safetynet};
+use sn_base::Memory;
 use sn_io::{MemSink, MemStore, OpenGate};
 use sn_probe::Probe;
 use std::alloc::{AllocError, Global};
@@ -55,7 +56,7 @@ struct Case {
     report: &'static str,
 }
 
-/// What a call left.
+/// What a call left that had the memory that it wants.
 #[derive(Drop)]
 struct Left {
     status: Status,
@@ -108,6 +109,9 @@ fn call_over(
         probes,
         &OpenGate::new(),
     );
+    if status == Status::Memory {
+        return Err(Fail::from(Memory));
+    }
     Ok(Left {
         status,
         console,

@@ -3,10 +3,12 @@ use crate::{
     Failed, Fetched, FileStore, Gate, MemSink, MemStore, OpenGate, Sink, StdSink, Store,
     StoreFault, SureSink,
 };
+use sn_base::Memory;
 use std::io::{self, BufWriter};
 use std::test::Fail;
 
-/// Takes at most three bytes at a write, and nothing once it has five. What it took stands in the list that it was given.
+/// Takes at most three bytes at a write, and nothing once it has five. What it took stands in the list that it was given, which
+/// has room for that: a write that finds no memory would look like one that fails.
 #[derive(Drop)]
 struct Narrow<'a> {
     bytes: &'a mut Vec<u8>,
@@ -28,8 +30,10 @@ impl io::Write for Narrow<'_> {
 }
 
 #[test]
-fn a_writer_that_takes_a_few_bytes_at_a_time_has_the_beginning(rt: HostRuntime) {
-    let mut bytes = Vec::new(rt.alloc());
+fn a_writer_that_takes_a_few_bytes_at_a_time_has_the_beginning(
+    rt: HostRuntime,
+) -> Result<(), Fail> {
+    let mut bytes = Vec::with_capacity(rt.alloc(), 5)?;
     let mut sink = StdSink::new(Narrow { bytes: &mut bytes });
     assert_eq!(rt; sink.put(b"abcd"), Ok(()));
     assert_eq!(rt; sink.put(b""), Ok(()));
@@ -37,11 +41,12 @@ fn a_writer_that_takes_a_few_bytes_at_a_time_has_the_beginning(rt: HostRuntime) 
     assert_eq!(rt; sink.finish(), Ok(()));
     drop(sink);
     assert_eq!(rt; bytes.as_slice(), b"abcde".as_slice());
+    Ok(())
 }
 
 #[test]
 fn what_is_held_back_comes_at_the_finish(rt: HostRuntime) -> Result<(), Fail> {
-    let mut bytes = Vec::new(rt.alloc());
+    let mut bytes = Vec::with_capacity(rt.alloc(), 5)?;
     let held = BufWriter::with_capacity(rt.alloc(), 64, Narrow { bytes: &mut bytes })?;
     let mut sink = StdSink::new(held);
     assert_eq!(rt; sink.put(b"abc"), Ok(()));
@@ -74,6 +79,16 @@ impl io::Read for Slow {
     }
 }
 
+/// What a fetch came to that had the memory that it wants.
+fn with_memory(
+    fetched: Result<Fetched, StoreFault>,
+) -> Result<Result<Fetched, StoreFault>, Memory> {
+    match fetched {
+        Err(StoreFault::Memory) => Err(Memory),
+        answer => Ok(answer),
+    }
+}
+
 #[test]
 fn a_file_is_whole_exactly_where_its_end_comes_within_the_limit(
     rt: HostRuntime,
@@ -89,11 +104,8 @@ fn a_file_is_whole_exactly_where_its_end_comes_within_the_limit(
     ] {
         let left = Vec::from_slice(rt.alloc(), b"cba")?;
         let mut into = Vec::new(rt.alloc());
-        assert_eq!(rt;
-            read_whole(Slow { left, end }, limit, &mut into),
-            want,
-            "at {limit}"
-        );
+        let found = with_memory(read_whole(Slow { left, end }, limit, &mut into))?;
+        assert_eq!(rt; found, want, "at {limit}");
         assert_eq!(rt; into.as_slice(), content.as_bytes(), "at {limit}");
     }
     Ok(())
@@ -123,7 +135,8 @@ fn a_store_in_memory_fails_for_what_it_lacks_and_at_named_calls(
         ("c", 3, Err(StoreFault::Failed), ""),
     ] {
         let mut into = Vec::new(alloc);
-        assert_eq!(rt; store.fetch(name, limit, &mut into), want, "at {name}");
+        let found = with_memory(store.fetch(name, limit, &mut into))?;
+        assert_eq!(rt; found, want, "at {name}");
         assert_eq!(rt; into.as_slice(), content.as_bytes(), "at {name}");
     }
     Ok(())
@@ -148,11 +161,10 @@ fn a_sure_sink_takes_all(rt: HostRuntime) {
 }
 
 #[test]
-fn a_file_that_is_not_there_is_a_failure(rt: HostRuntime) {
+fn a_file_that_is_not_there_is_a_failure(rt: HostRuntime) -> Result<(), Fail> {
     let mut into = Vec::new(rt.alloc());
     let mut store = FileStore::new(&rt);
-    assert_eq!(rt;
-        store.fetch("no such file", 10, &mut into),
-        Err(StoreFault::Failed)
-    );
+    let found = with_memory(store.fetch("no such file", 10, &mut into))?;
+    assert_eq!(rt; found, Err(StoreFault::Failed));
+    Ok(())
 }

@@ -61,7 +61,7 @@ fn program(alloc: Global, words: &[u32]) -> Result<Image, Memory> {
     Ok(Image::new(segments, 0x8000_0000))
 }
 
-/// The verdict on a trace of two nodes.
+/// The verdict on a trace of two nodes that had the memory that it wants.
 fn verdict<T: Threads + Sync, G: Gate + Sync>(
     rt: &T,
     alloc: Global,
@@ -79,7 +79,10 @@ fn verdict<T: Threads + Sync, G: Gate + Sync>(
             read: row.3,
         })?;
     }
-    Ok(check(rt, alloc, &image, 2, records.as_slice(), gate))
+    match check(rt, alloc, &image, 2, records.as_slice(), gate) {
+        Err(CheckFault::Memory) => Err(Fail::from(Memory)),
+        decided => Ok(decided),
+    }
 }
 
 fn plain(core: u8) -> Row {
@@ -182,6 +185,9 @@ fn the_cores_are_replayed_at_once(rt: HostRuntime) -> Result<(), Fail> {
     };
     let rows = [plain(0), plain(0), plain(0), plain(1), plain(1), saw(1, 1)];
     assert!(rt; verdict(&rt, rt.alloc(), &ADDS, &rows, &gate)? == Ok(()));
-    assert_eq!(rt; gate.missed.load(Ordering::SeqCst), 0);
+    assert!(rt;
+        gate.missed.load(Ordering::SeqCst) == 0,
+        "a core waited in vain"
+    );
     Ok(())
 }

@@ -3,6 +3,7 @@ use crate::{listing_of, words_text};
 use rv_asm::assemble;
 use sn_base::{Image, Memory, Segment};
 use std::alloc::Global;
+use std::test::Fail;
 
 /// The program that puts `A` out and ends, in its first 20 bytes of memory.
 fn program(alloc: Global) -> Result<Image, Memory> {
@@ -32,10 +33,8 @@ fn a_program_has_its_lines(rt: HostRuntime) -> Result<(), Memory> {
 }
 
 #[test]
-fn the_lines_are_the_program_again(rt: HostRuntime) -> Result<(), Memory> {
-    let Ok(words) = assemble(rt.alloc(), LINES) else {
-        return Err(Memory);
-    };
+fn the_lines_are_the_program_again(rt: HostRuntime) -> Result<(), Fail> {
+    let words = assemble(rt.alloc(), LINES)?;
     let text = words_text(rt.alloc(), words.as_slice())?;
     let digits = b"04100513\n00100893\n00000073\n05d00893\n00000073\n";
     assert_eq!(rt; text.as_slice(), digits.as_slice());

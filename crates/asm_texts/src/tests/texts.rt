@@ -1,29 +1,34 @@
 //! Texts, what they are, and why some are refused.
 use rv_asm::{AsmCause, AsmFault, assemble};
+use sn_base::Memory;
 use std::alloc::Global;
 
-fn is_text_of(alloc: Global, text: &[u8], words: &[u32]) -> bool {
+fn is_text_of(alloc: Global, text: &[u8], words: &[u32]) -> Result<bool, Memory> {
     match assemble(alloc, text) {
-        Ok(found) => found.as_slice() == words,
-        Err(_) => false,
+        Ok(found) => Ok(found.as_slice() == words),
+        Err(AsmFault::Refused(_)) => Ok(false),
+        Err(AsmFault::Memory) => Err(Memory),
     }
 }
 
-fn is_refused(alloc: Global, text: &[u8], cause: AsmCause) -> bool {
+fn is_refused(alloc: Global, text: &[u8], cause: AsmCause) -> Result<bool, Memory> {
     match assemble(alloc, text) {
-        Err(AsmFault::Refused(found)) => found == cause,
-        _ => false,
+        Ok(_) => Ok(false),
+        Err(AsmFault::Refused(found)) => Ok(found == cause),
+        Err(AsmFault::Memory) => Err(Memory),
     }
 }
 
 #[test]
-fn a_counting_loop_jumps_back_to_its_label(rt: HostRuntime) {
+fn a_counting_loop_jumps_back_to_its_label(rt: HostRuntime) -> Result<(), Memory> {
     let text = b"loop:\naddi t0, t0, 1\njal zero, loop\n";
-    assert!(rt; is_text_of(rt.alloc(), text, &[0x0012_8293, 0xffdf_f06f]));
+    let is_so = is_text_of(rt.alloc(), text, &[0x0012_8293, 0xffdf_f06f])?;
+    assert!(rt; is_so);
+    Ok(())
 }
 
 #[test]
-fn a_program_that_puts_a_letter_out(rt: HostRuntime) {
+fn a_program_that_puts_a_letter_out(rt: HostRuntime) -> Result<(), Memory> {
     let text = b"# 80000000\naddi x10, x0, 65\naddi x17, x0, 1\necall\naddi x17, x0, 93\necall";
     let words = [
         0x0410_0513,
@@ -32,20 +37,25 @@ fn a_program_that_puts_a_letter_out(rt: HostRuntime) {
         0x05d0_0893,
         0x0000_0073,
     ];
-    assert!(rt; is_text_of(rt.alloc(), text, &words));
+    let is_so = is_text_of(rt.alloc(), text, &words)?;
+    assert!(rt; is_so);
+    Ok(())
 }
 
 #[test]
-fn blanks_and_cases_of_numbers(rt: HostRuntime) {
+fn blanks_and_cases_of_numbers(rt: HostRuntime) -> Result<(), Memory> {
     let text = b"\t lw\ta0 ,\t-0x1 ( sp )";
-    assert!(rt; is_refused(rt.alloc(), text, AsmCause::BadLine(1)));
+    let is_so = is_refused(rt.alloc(), text, AsmCause::BadLine(1))?;
+    assert!(rt; is_so);
     let text =
         b"\t lw\ta0 ,\t-000000000004 ( sp )\t# \xff\r\n\r\nsw fp,0x7Ff(s0)\n.word 0xFFFFFFFF\n";
-    assert!(rt; is_text_of(rt.alloc(), text, &[0xffc1_2503, 0x7e84_2fa3, 0xffff_ffff]));
+    let is_so = is_text_of(rt.alloc(), text, &[0xffc1_2503, 0x7e84_2fa3, 0xffff_ffff])?;
+    assert!(rt; is_so);
+    Ok(())
 }
 
 #[test]
-fn each_refusal_has_its_cause_and_its_line(rt: HostRuntime) {
+fn each_refusal_has_its_cause_and_its_line(rt: HostRuntime) -> Result<(), Memory> {
     let rows: [(&[u8], AsmCause); 15] = [
         (b"addi x5, x5, 2048", AsmCause::OutOfRange(1)),
         (b"jal x0, end", AsmCause::NoLabel(1)),
@@ -67,6 +77,8 @@ fn each_refusal_has_its_cause_and_its_line(rt: HostRuntime) {
         (b"jal x0, end\naddi x1, x1", AsmCause::BadLine(2)),
     ];
     for (text, cause) in rows {
-        assert!(rt; is_refused(rt.alloc(), text, cause), "{cause:?}");
+        let is_so = is_refused(rt.alloc(), text, cause)?;
+        assert!(rt; is_so, "{cause:?}");
     }
+    Ok(())
 }

@@ -1,24 +1,23 @@
 //! Lines and their words, as another assembler writes them (LLVM's, for riscv32 with A).
-use rv_asm::{assemble, disassemble};
+use rv_asm::{AsmFault, assemble, disassemble};
 use sn_base::Memory;
 use std::alloc::Global;
 
-fn has_line(alloc: Global, line: &str, word: u32) -> bool {
-    match disassemble(alloc, &[word]) {
-        Ok(text) => text.as_slice().strip_suffix(b"\n") == Some(line.as_bytes()),
-        Err(Memory) => false,
-    }
+fn has_line(alloc: Global, line: &str, word: u32) -> Result<bool, Memory> {
+    let text = disassemble(alloc, &[word])?;
+    Ok(text.as_slice().strip_suffix(b"\n") == Some(line.as_bytes()))
 }
 
-fn has_word(alloc: Global, line: &str, word: u32) -> bool {
+fn has_word(alloc: Global, line: &str, word: u32) -> Result<bool, Memory> {
     match assemble(alloc, line.as_bytes()) {
-        Ok(words) => words.as_slice() == [word].as_slice(),
-        Err(_) => false,
+        Ok(words) => Ok(words.as_slice() == [word].as_slice()),
+        Err(AsmFault::Refused(_)) => Ok(false),
+        Err(AsmFault::Memory) => Err(Memory),
     }
 }
 
 #[test]
-fn each_instruction_has_its_line_and_its_word(rt: HostRuntime) {
+fn each_instruction_has_its_line_and_its_word(rt: HostRuntime) -> Result<(), Memory> {
     let rows: [(&str, u32); 52] = [
         ("lui x5, 1048575", 0xffff_f2b7),
         ("auipc x31, 0", 0x0000_0f97),
@@ -74,9 +73,12 @@ fn each_instruction_has_its_line_and_its_word(rt: HostRuntime) {
         ("amomaxu.w x3, x4, (x5)", 0xe042_a1af),
     ];
     for (line, word) in rows {
-        assert!(rt; has_line(rt.alloc(), line, word), "{line}");
-        assert!(rt; has_word(rt.alloc(), line, word), "{line}");
+        let is_listed = has_line(rt.alloc(), line, word)?;
+        assert!(rt; is_listed, "{line}");
+        let is_read = has_word(rt.alloc(), line, word)?;
+        assert!(rt; is_read, "{line}");
     }
+    Ok(())
 }
 
 #[test]

@@ -49,18 +49,17 @@ fn linked(alloc: Global) -> Result<Vec<u8>, AllocError> {
 }
 
 /// Why a file is refused, or nothing where it is accepted.
-fn cause(alloc: Global, bytes: &[u8]) -> Option<LoadCause> {
+fn cause(alloc: Global, bytes: &[u8]) -> Result<Option<LoadCause>, Memory> {
     match load(alloc, bytes) {
-        Err(LoadFault::Refused(cause)) => Some(cause),
-        _ => None,
+        Ok(_) => Ok(None),
+        Err(LoadFault::Refused(cause)) => Ok(Some(cause)),
+        Err(LoadFault::Memory) => Err(Memory),
     }
 }
 
 /// Why the linker's file with these bytes changed is refused.
-fn cause_with(alloc: Global, place: usize, bytes: &[u8]) -> Option<LoadCause> {
-    let Ok(mut file) = linked(alloc) else {
-        return None;
-    };
+fn cause_with(alloc: Global, place: usize, bytes: &[u8]) -> Result<Option<LoadCause>, Memory> {
+    let mut file = linked(alloc)?;
     put(file.as_mut_slice(), place, bytes);
     cause(alloc, file.as_slice())
 }
@@ -68,10 +67,12 @@ fn cause_with(alloc: Global, place: usize, bytes: &[u8]) -> Option<LoadCause> {
 /// A place of the linker's file, the bytes that are put there, and why the file is refused then.
 type Change = (usize, &'static [u8], Option<LoadCause>);
 
-fn each_has_its_cause(rt: &impl Abort, alloc: Global, changes: &[Change]) {
+fn each_has_its_cause(rt: &impl Abort, alloc: Global, changes: &[Change]) -> Result<(), Memory> {
     for (place, bytes, wanted) in changes {
-        assert!(rt; cause_with(alloc, *place, bytes) == *wanted, "at {place}");
+        let found = cause_with(alloc, *place, bytes)?;
+        assert!(rt; found == *wanted, "at {place}");
     }
+    Ok(())
 }
 
 /// The words that an image gives at these places, where it gives one.
@@ -128,19 +129,18 @@ fn cause_of_cut(length: usize) -> LoadCause {
     }
 }
 
-fn is_refused_at_each_cut(rt: &impl Abort, alloc: Global, file: &[u8]) {
+fn is_refused_at_each_cut(rt: &impl Abort, alloc: Global, file: &[u8]) -> Result<(), Memory> {
     for length in 0..file.len() {
-        assert!(rt;
-            cause(alloc, &file[..length]) == Some(cause_of_cut(length)),
-            "at {length}"
-        );
+        let found = cause(alloc, &file[..length])?;
+        assert!(rt; found == Some(cause_of_cut(length)), "at {length}");
     }
+    Ok(())
 }
 
 #[test]
 fn every_cut_is_refused_by_the_place_that_is_missing(rt: HostRuntime) -> Result<(), Fail> {
     let file = linked(rt.alloc())?;
-    is_refused_at_each_cut(&rt, rt.alloc(), file.as_slice());
+    is_refused_at_each_cut(&rt, rt.alloc(), file.as_slice())?;
     Ok(())
 }
 
@@ -171,8 +171,8 @@ const FIELDS: [Change; 10] = [
 ];
 
 #[test]
-fn fields_are_tried_in_order(rt: HostRuntime) {
-    each_has_its_cause(&rt, rt.alloc(), &FIELDS);
+fn fields_are_tried_in_order(rt: HostRuntime) -> Result<(), Memory> {
+    each_has_its_cause(&rt, rt.alloc(), &FIELDS)
 }
 
 const TABLES: [Change; 3] = [
@@ -182,8 +182,8 @@ const TABLES: [Change; 3] = [
 ];
 
 #[test]
-fn a_table_has_at_most_64_headers(rt: HostRuntime) {
-    each_has_its_cause(&rt, rt.alloc(), &TABLES);
+fn a_table_has_at_most_64_headers(rt: HostRuntime) -> Result<(), Memory> {
+    each_has_its_cause(&rt, rt.alloc(), &TABLES)
 }
 
 const MOST: &[u8] = &[0xff, 0xff, 0xff, 0xff];
@@ -262,8 +262,8 @@ const GREATEST: [Change; 38] = [
 ];
 
 #[test]
-fn greatest_numbers_do_not_wrap(rt: HostRuntime) {
-    each_has_its_cause(&rt, rt.alloc(), &GREATEST);
+fn greatest_numbers_do_not_wrap(rt: HostRuntime) -> Result<(), Memory> {
+    each_has_its_cause(&rt, rt.alloc(), &GREATEST)
 }
 
 /// Flags of the code, then the data's address in memory, its sizes and its flags: at the end of memory and past it, below memory, at
@@ -283,8 +283,10 @@ const SEGMENTS: [Change; 7] = [
 ];
 
 #[test]
-fn segments_lie_in_memory_apart_and_are_not_both_written_and_executed(rt: HostRuntime) {
-    each_has_its_cause(&rt, rt.alloc(), &SEGMENTS);
+fn segments_lie_in_memory_apart_and_are_not_both_written_and_executed(
+    rt: HostRuntime,
+) -> Result<(), Memory> {
+    each_has_its_cause(&rt, rt.alloc(), &SEGMENTS)
 }
 
 const ENTRIES: [Change; 4] = [
@@ -295,8 +297,8 @@ const ENTRIES: [Change; 4] = [
 ];
 
 #[test]
-fn the_entry_is_a_word_of_code(rt: HostRuntime) {
-    each_has_its_cause(&rt, rt.alloc(), &ENTRIES);
+fn the_entry_is_a_word_of_code(rt: HostRuntime) -> Result<(), Memory> {
+    each_has_its_cause(&rt, rt.alloc(), &ENTRIES)
 }
 
 #[test]
@@ -329,24 +331,27 @@ const TEXTS: [(&[u8], LoadCause); 8] = [
 ];
 
 #[test]
-fn lines_that_are_no_words_are_named(rt: HostRuntime) {
+fn lines_that_are_no_words_are_named(rt: HostRuntime) -> Result<(), Memory> {
     for (text, wanted) in &TEXTS {
-        same(&rt, "a text", &cause(rt.alloc(), text), &Some(*wanted));
+        let found = cause(rt.alloc(), text)?;
+        same(&rt, "a text", &found, &Some(*wanted));
     }
+    Ok(())
 }
 
 /// Why a text of so many words is refused, and then one with a further word and a last line that is none.
 fn causes_of_words(
     alloc: Global,
     count: usize,
-) -> Result<(Option<LoadCause>, Option<LoadCause>), AllocError> {
+) -> Result<(Option<LoadCause>, Option<LoadCause>), Memory> {
     let mut text = Vec::new(alloc);
     for _ in 0..count {
         text.extend_from_slice(b"00000013\n")?;
     }
-    let most = cause(alloc, text.as_slice());
+    let most = cause(alloc, text.as_slice())?;
     text.extend_from_slice(b"00000013\nx\n")?;
-    Ok((most, cause(alloc, text.as_slice())))
+    let more = cause(alloc, text.as_slice())?;
+    Ok((most, more))
 }
 
 #[test]

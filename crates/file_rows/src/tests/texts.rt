@@ -1,6 +1,6 @@
 //! Scripts and traces that are read, each refusal at its line, and lines as they are written.
 use rv_core::{Cause, CoreState, End, Record};
-use sn_base::{Answer, BlockNo, Event, NodeId, SwitchId, Undo};
+use sn_base::{Answer, BlockNo, Event, Memory, NodeId, SwitchId, Undo};
 use sn_model::Sent;
 use sn_msg::{Body, Message};
 use sn_text::{Line, ScriptCause, ScriptFault, read_script, read_trace};
@@ -90,10 +90,10 @@ const REFUSED_TRACES: [(&str, ScriptCause); 23] = [
     ),
 ];
 
-/// The cause for which a text is refused for four nodes.
-fn cause_of(alloc: Global, text: &str, is_trace: bool) -> Option<ScriptCause> {
+/// The cause for which a text is refused for four nodes, or nothing where it isn't.
+fn cause_of(alloc: Global, text: &str, is_trace: bool) -> Result<Option<ScriptCause>, Memory> {
     if text.len() > 100 {
-        return None;
+        return Ok(None);
     }
     let fault = if is_trace {
         read_trace(alloc, text.as_bytes(), 4).err()
@@ -101,21 +101,29 @@ fn cause_of(alloc: Global, text: &str, is_trace: bool) -> Option<ScriptCause> {
         read_script(alloc, text.as_bytes(), 4).err()
     };
     match fault {
-        Some(ScriptFault::Refused(cause)) => Some(cause),
-        _ => None,
+        Some(ScriptFault::Refused(cause)) => Ok(Some(cause)),
+        Some(ScriptFault::Memory) => Err(Memory),
+        None => Ok(None),
     }
 }
 
-fn each_is_refused(rt: &impl Abort, alloc: Global, rows: &[(&str, ScriptCause)], is_trace: bool) {
+fn each_is_refused(
+    rt: &impl Abort,
+    alloc: Global,
+    rows: &[(&str, ScriptCause)],
+    is_trace: bool,
+) -> Result<(), Memory> {
     for (text, cause) in rows {
-        assert!(rt; cause_of(alloc, text, is_trace) == Some(*cause));
+        let found = cause_of(alloc, text, is_trace)?;
+        assert!(rt; found == Some(*cause));
     }
+    Ok(())
 }
 
 #[test]
-fn the_first_cause_is_given_at_its_line(rt: HostRuntime) {
-    each_is_refused(&rt, rt.alloc(), &REFUSED_SCRIPTS, false);
-    each_is_refused(&rt, rt.alloc(), &REFUSED_TRACES, true);
+fn the_first_cause_is_given_at_its_line(rt: HostRuntime) -> Result<(), Memory> {
+    each_is_refused(&rt, rt.alloc(), &REFUSED_SCRIPTS, false)?;
+    each_is_refused(&rt, rt.alloc(), &REFUSED_TRACES, true)
 }
 
 fn written(rt: &impl Abort, line: &Line, text: &str) {
@@ -224,21 +232,25 @@ fn recoveries(alloc: Global, count: usize, last: &str) -> Result<String, AllocEr
 }
 
 /// How many events a script has, or the cause for which it is refused.
-fn count_read(alloc: Global, text: &[u8]) -> Result<usize, ScriptFault> {
+fn count_read(alloc: Global, text: &[u8]) -> Result<Result<usize, ScriptCause>, Memory> {
     if text.len() > 100_000_000 {
-        return Ok(0);
+        return Ok(Ok(0));
     }
-    let events = read_script(alloc, text, 16)?;
-    Ok(events.len())
+    match read_script(alloc, text, 16) {
+        Ok(events) => Ok(Ok(events.len())),
+        Err(ScriptFault::Refused(cause)) => Ok(Err(cause)),
+        Err(ScriptFault::Memory) => Err(Memory),
+    }
 }
 
 #[test]
 fn a_million_events_and_no_more(rt: HostRuntime) -> Result<(), Fail> {
     let most = recoveries(rt.alloc(), 1_000_000, "# no event")?;
-    assert!(rt; count_read(rt.alloc(), most.as_bytes()) == Ok(1_000_000));
+    let found = count_read(rt.alloc(), most.as_bytes())?;
+    assert!(rt; found == Ok(1_000_000));
     let more = recoveries(rt.alloc(), 1_000_000, "step 15")?;
-    let many = ScriptFault::Refused(ScriptCause::TooMany);
-    assert!(rt; count_read(rt.alloc(), more.as_bytes()) == Err(many));
+    let found = count_read(rt.alloc(), more.as_bytes())?;
+    assert!(rt; found == Err(ScriptCause::TooMany));
     Ok(())
 }
 
