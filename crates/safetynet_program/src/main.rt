@@ -14,7 +14,6 @@ ghost use Rattle.sn_io.specs.Outside.{Rose, followed_by};
 
 use own_pages::{Page, page_of, show};
 use safetynet_main::{Status, safetynet, trap_word};
-use sn_base::Memory;
 use sn_io::{FileStore, OpenGate, Sink, StdSink};
 use sn_probe::{EventTally, Probe};
 use std::alloc::Global;
@@ -47,13 +46,6 @@ fn answer<C: Sink>(console: &mut C, page: Page) -> Status
     }
 }
 
-// The probes that are told the events: how often each kind came.
-fn probes(alloc: Global) -> Result<Vec<Box<dyn Probe + Send>>, Memory> {
-    let mut probes: Vec<Box<dyn Probe + Send>> = Vec::new(alloc);
-    probes.push(Box::new(alloc, EventTally::new())?)?;
-    Ok(probes)
-}
-
 // Does a command over the system's files and streams. The report goes out in large pieces, which spares a call of the
 // system for each event, but at once where it goes to a terminal.
 fn perform<T, C, R>(rt: &T, alloc: Global, words: &[String], console: C, report: R) -> Status
@@ -66,9 +58,13 @@ where
     let Ok(writer) = BufWriter::with_capacity(alloc, held_back, report) else {
         return Status::Memory;
     };
-    let Ok(probes) = probes(alloc) else {
+    let mut probes: Vec<Box<dyn Probe + Send>> = Vec::new(alloc);
+    let Ok(tally) = Box::new(alloc, EventTally::new()) else {
         return Status::Memory;
     };
+    if probes.push(tally).is_err() {
+        return Status::Memory;
+    }
     let mut report = StdSink::new(writer);
     let mut console = StdSink::new(console);
     let mut store = FileStore::new(rt);
