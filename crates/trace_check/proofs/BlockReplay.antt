@@ -1,6 +1,6 @@
 -- The accesses to the blocks of a part, one after the other.
-use Rattle.std.proofs.Common.{◌≡◌, ◌≢◌, ℕ, suc, ◌-◌, ◌*◌, ◌/◌, ◌%◌, ◌<◌, ◌⊎◌, inl, inr, Bool, true, false, not, ◌&&◌, ◌||◌, cond, ◌==◌, is_some, Option, Some, None, List, [], take, drop, slice_get, get_or, refl, sym, ap, subst, ◌∙◌, arith}
-use Rattle.std.specs.Prelude.{nat_eq}
+use Rattle.std.proofs.Common.{◌≡◌, ◌≢◌, ℕ, suc, ◌+◌, ◌-◌, ◌*◌, ◌/◌, ◌%◌, ◌<◌, ◌⊎◌, inl, inr, Bool, true, false, not, ◌&&◌, ◌||◌, cond, ◌==◌, is_some, Option, Some, None, List, [], take, drop, slice_get, get_or, refl, sym, ap, subst, ◌∙◌, arith}
+use Rattle.std.specs.Prelude.{nat_eq, pred}
 use Rattle.std.proofs.lemmas.Bool.Decides.{nat_tests}
 use Rattle.std.proofs.lemmas.Bool.{cases_order}
 use Rattle.byteorder.specs.Endian.{little_number}
@@ -15,7 +15,7 @@ use Rattle.rv_core.specs.Core.{bare, block_of, is_access}
 use Rattle.rv_core.specs.Step.{want_of, next_of}
 use Rattle.rv_core.specs.Wanted.{wanted_address, writes_memory, IsInside, WriteFits}
 use Rattle.rv_core.specs.Flat.{flat_start, core_at}
-use Rattle.rv_core.proofs.CoreLaws.{want_bare, effect_bare}
+use Rattle.rv_core.proofs.CoreLaws.{want_bare, effect_bare, want_inside, write_fits}
 use Rattle.sn_consistency.specs.Words as words
 use Rattle.sn_consistency.specs.Words.{Content, kind, kind_of, address_of, block, place, block_word, reads, writes, content_after, write_block}
 use Rattle.sn_consistency.specs.Entries.{Entry, wrote, writes_to}
@@ -27,8 +27,9 @@ use Rattle.trace_check.specs.declared.cell.Cell.{Cell}
 use Rattle.trace_check.specs.Deeds.{reads_memory, deed_of}
 use Rattle.trace_check.specs.Cells.{is_lr, is_sc, word_in, Finds, Stands, IsAfter}
 use Rattle.trace_check.specs.declared.cells.Cells.{Cells}
-use Rattle.trace_check.specs.CellPlaces.{first_cell, missing, cell_by, cell_at}
-use Rattle.trace_check.specs.Parts.{wanted_block, is_in, IsFitting, PartPasses}
+use Rattle.trace_check.specs.CellPlaces.{first_cell, missing, cell_by, cell_at, IsReplay}
+use Rattle.trace_check.specs.Tags.{wanted_block, tag_by}
+use Rattle.trace_check.specs.Parts.{is_in, IsFitting, PartPasses}
 use Rattle.trace_check.proofs.BlockStart.{first_stands}
 
 -- the words of the projections, by what is wanted
@@ -254,6 +255,21 @@ in_part parts part w e = go (tested (is_access w)) (pick (wanted_block w % parts
     go (inl a) (inr m) = let f : true ≡ false = sym e ∙ outside_part parts part w m in absurd (cc)
     go (inr a) m = let f : true ≡ false = sym e ∙ idle_part parts part w a in absurd (cc)
 
+-- the tag of an access to a block of the part, and of what is none
+pub tag_in : (parts part : ℕ) (w : Want) → is_in parts part w ≡ true → tag_by parts w ≡ suc part
+tag_in parts part w e = let h = in_part parts part w e in ap (λ q. cond q (suc (wanted_block w % parts)) 0) h.0 ∙ ap (λ n. suc n) h.1
+
+pub tag_out : (parts part : ℕ) (w : Want) → is_in parts part w ≡ false → tag_by parts w ≢ suc part
+tag_out parts part w i e = go (tested (is_access w))
+  where
+    go : ((is_access w ≡ true) ⊎ (is_access w ≡ false)) → ⊥
+    go (inl a) =
+        let f : suc (wanted_block w % parts) ≡ suc part = sym (ap (λ q. cond q (suc (wanted_block w % parts)) 0) a) ∙ e in
+        let m : wanted_block w % parts ≡ part = ap pred f in
+        let t : true ≡ false = sym (inside_part parts part w a m) ∙ i in
+        absurd (cc)
+    go (inr a) = let f : 0 ≡ suc part = sym (ap (λ q. cond q (suc (wanted_block w % parts)) 0) a) ∙ e in absurd (omega (arith, f))
+
 -- where no cell is kept, each block's is that at the start
 none_kept : (image : ImageData) (cells : Cells) → cells.kept.items ≡ [] → (b : ℕ) → cell_at image cells b ≡ first_cell image b
 none_kept image cells e b =
@@ -320,3 +336,45 @@ module _
 pub part_all : (image : ImageData) (N parts part : ℕ) (rs : List Record) (k : ℕ) (cells : ℕ → Cell) → IsPartReplayed image N parts part rs k cells →
     (limit : ℕ) → k ≡ limit → Passes (PartPasses image N parts part rs) limit limit
 part_all image N parts part rs k cells p limit e = record { within = omega arith; good = subst (PartPasses image N parts part rs) e p.good; bad = λ q g. absurd (omega (arith, q)) }
+
+-- a record by its tag: where that is of an access to a block of the part, the access is replayed, and else nothing is done
+module _ (image : ImageData) (N parts part : ℕ) (rs : List Record) (k : ℕ) (r : Record) (e : slice_get rs k ≡ Some r) where
+  abbrev Y : CoreState
+  Y = core_after image r.core (core_at (flat_start image N) r.core) (take k rs)
+
+  abbrev did : DeedData
+  did = deed_of image Y r
+
+  does_fit : IsFitting did r
+  does_fit = (want_inside image Y, write_fits image Y r.seen r.sc_done r.read)
+
+  module _
+      (old new : Cells) (p : IsPartReplayed image N parts part rs k (cell_at image old)) (tag : ℕ) (is : tag ≡ tag_by parts did.want) (found : Bool)
+      (away : tag ≢ suc part → (found ≡ true) × ((b : ℕ) → cell_at image new b ≡ cell_at image old b))
+      (mine : tag ≡ suc part → is_access did.want ≡ true → IsReplay image old did r found new) where
+    of_part : is_in parts part did.want ≡ true → IsReplay image old did r found new
+    of_part i = mine (is ∙ tag_in parts part did.want i) (in_part parts part did.want i).0
+
+    of_none : is_in parts part did.want ≡ false → (found ≡ true) × ((b : ℕ) → cell_at image new b ≡ cell_at image old b)
+    of_none i = away (λ t. tag_out parts part did.want i (sym is ∙ t))
+
+    pub tagged_more : found ≡ true → IsPartReplayed image N parts part rs (k + 1) (cell_at image new)
+    tagged_more t =
+        let f : suc k ≡ k + 1 = omega arith in
+        subst (λ j. IsPartReplayed image N parts part rs j (cell_at image new)) f
+        (part_more image N parts part rs k (cell_at image old) p r e did refl does_fit (cell_at image new)
+        (λ i. (of_none i).1) (λ i. (of_part i).finds.0 t) (λ i. (of_part i).after t) (λ b n. others b n (tested (is_in parts part did.want))))
+      where
+        others : (b : ℕ) → b ≢ wanted_block did.want → ((is_in parts part did.want ≡ true) ⊎ (is_in parts part did.want ≡ false)) → cell_at image new b ≡ cell_at image old b
+        others b n (inl i) = (of_part i).others b n
+        others b n (inr i) = (of_none i).1 b
+
+    pub tagged_stops : (limit : ℕ) → k < limit → found ≡ false → Passes (PartPasses image N parts part rs) limit k
+    tagged_stops limit l f = go (tested (is_in parts part did.want))
+      where
+        refused : found ≡ true → ⊥
+        refused t = let x : false ≡ true = sym f ∙ t in absurd (cc)
+
+        go : ((is_in parts part did.want ≡ true) ⊎ (is_in parts part did.want ≡ false)) → Passes (PartPasses image N parts part rs) limit k
+        go (inl i) = part_stops image N parts part rs k (cell_at image old) p r e did refl does_fit limit l i (λ g. refused ((of_part i).finds.1 g))
+        go (inr i) = absurd (refused (of_none i).0)

@@ -11,7 +11,10 @@ use Rattle.projection_places.specs.Passes.{Passes}
 use Rattle.projection_places.proofs.Folds.{core_more, core_last, core_next}
 use Rattle.trace_check.specs.DeedData.{DeedData}
 use Rattle.trace_check.specs.Deeds.{deed_of, core_deeds}
+use Rattle.trace_check.specs.declared.deeds.Deeds.{Deeds}
+use Rattle.trace_check.specs.Tags.{AreKept, KeepsNone}
 use Rattle.trace_check.specs.Slots.{AreInside}
+use Rattle.trace_check.proofs.Tagged.{kept_none}
 
 -- a record that is the core's own, and one that is not
 pub own_step : (image : ImageData) (n : ℕ) (c : CoreState) (r : Record) → n ≡ r.core → core_step image n c r ≡ next image c r
@@ -19,6 +22,12 @@ own_step image n c r e = let t : (n == r.core) ≡ true = grind (arith, nat_test
 
 pub other_step : (image : ImageData) (n : ℕ) (c : CoreState) (r : Record) → n ≢ r.core → core_step image n c r ≡ c
 other_step image n c r e = let t : (n == r.core) ≡ false = grind (arith, nat_tests) in rw t refl
+
+pub own_deed : (image : ImageData) (n : ℕ) (c : CoreState) (r : Record) → n ≡ r.core → core_deeds image n c (r ∷ []) ≡ deed_of image c r ∷ []
+own_deed image n c r e = let t : (n == r.core) ≡ true = grind (arith, nat_tests) in ap (λ q. cond q (deed_of image c r ∷ []) []) t
+
+pub other_deed : (image : ImageData) (n : ℕ) (c : CoreState) (r : Record) → n ≢ r.core → core_deeds image n c (r ∷ []) ≡ []
+other_deed image n c r e = let t : (n == r.core) ≡ false = grind (arith, nat_tests) in ap (λ q. cond q (deed_of image c r ∷ []) []) t
 
 module _ (image : ImageData) (n : ℕ) where
   deeds_next : (c : CoreState) (rs : List Record) (k : ℕ) (r : Record) → slice_get rs k ≡ Some r →
@@ -39,17 +48,17 @@ module _ (image : ImageData) (n : ℕ) where
       go false h = h c
 
 -- the core after the first k records, which it passes, and what its own among them did
-pub record IsReplayed (image : ImageData) (N n : ℕ) (c : CoreState) (rs : List Record) (k : ℕ) (now : CoreState) (did : List DeedData) : Type 0 where
+pub record IsReplayed (image : ImageData) (N parts n : ℕ) (c : CoreState) (rs : List Record) (k : ℕ) (now : CoreState) (kept : Deeds) : Type 0 where
   pub inside : AreInside N rs k
   pub good : CoreGood image N n c (take k rs)
   pub state : now ≡ core_after image n c (take k rs)
-  pub deeds : did ≡ core_deeds image n c (take k rs)
+  pub deeds : AreKept parts (core_deeds image n c (take k rs)) kept
 
-module _ (image : ImageData) (N n : ℕ) (c : CoreState) (rs : List Record) where
-  pub replayed_none : (did : List DeedData) → did ≡ [] → IsReplayed image N n c rs zero c did
-  replayed_none did e = record { inside = λ j r l i. absurd (omega (arith, l)); good = tt; state = refl; deeds = e }
+module _ (image : ImageData) (N parts n : ℕ) (c : CoreState) (rs : List Record) where
+  pub replayed_none : (kept : Deeds) → KeepsNone kept → IsReplayed image N parts n c rs zero c kept
+  replayed_none kept e = record { inside = λ j r l i. absurd (omega (arith, l)); good = tt; state = refl; deeds = kept_none parts kept e }
 
-  module _ (k : ℕ) (now : CoreState) (did : List DeedData) (p : IsReplayed image N n c rs k now did) where
+  module _ (k : ℕ) (now : CoreState) (kept : Deeds) (p : IsReplayed image N parts n c rs k now kept) where
     module _ (r : Record) (e : slice_get rs k ≡ Some r) where
       inside_more : r.core < N → AreInside N rs (suc k)
       inside_more l = λ j x h i. go j x h i (cases_order j k)
@@ -59,16 +68,17 @@ module _ (image : ImageData) (N n : ℕ) (c : CoreState) (rs : List Record) wher
           go j x h i (inr (inl less)) = p.inside j x less i
           go j x h i (inr (inr more)) = absurd (omega (arith, h, more))
 
-      pub replayed_more : (later : CoreState) (done : List DeedData) → (r.core < N) × (n ≡ r.core → Replays image N now r) →
-          later ≡ core_step image n now r → done ≡ did ++ core_deeds image n now (r ∷ []) →
-          IsReplayed image N n c rs (suc k) later done
-      replayed_more later done g s d = record {
+      pub replayed_more : (later : CoreState) (more : Deeds) → (r.core < N) × (n ≡ r.core → Replays image N now r) →
+          later ≡ core_step image n now r →
+          ((did : List DeedData) → AreKept parts did kept → AreKept parts (did ++ core_deeds image n now (r ∷ [])) more) →
+          IsReplayed image N parts n c rs (suc k) later more
+      replayed_more later more g s d = record {
         inside = inside_more g.0;
         good = core_more image N n c rs k r e p.good (λ i. subst (λ x. Replays image N x r) p.state (g.1 i));
         state = s ∙ ap (λ x. core_step image n x r) p.state ∙ sym (core_next image n c rs k r e);
-        deeds = d ∙ ap (λ x. x ++ core_deeds image n now (r ∷ [])) p.deeds
-            ∙ ap (λ x. core_deeds image n c (take k rs) ++ core_deeds image n x (r ∷ [])) p.state
-            ∙ sym (deeds_next image n c rs k r e);
+        deeds = subst (λ xs. AreKept parts xs more)
+            (ap (λ x. core_deeds image n c (take k rs) ++ core_deeds image n x (r ∷ [])) p.state ∙ sym (deeds_next image n c rs k r e))
+            (d (core_deeds image n c (take k rs)) p.deeds);
       }
 
       pub replayed_stops : k < length rs → ((r.core < N) × (n ≡ r.core → Replays image N now r) → ⊥) →
@@ -86,5 +96,5 @@ module _ (image : ImageData) (N n : ℕ) (c : CoreState) (rs : List Record) wher
       bad = λ m g. absurd (omega (arith, m));
     }
 
-    pub deeds_all : k ≡ length rs → did ≡ core_deeds image n c (take (length rs) rs)
-    deeds_all e = subst (λ j. did ≡ core_deeds image n c (take j rs)) e p.deeds
+    pub deeds_all : k ≡ length rs → AreKept parts (core_deeds image n c (take (length rs) rs)) kept
+    deeds_all e = subst (λ j. AreKept parts (core_deeds image n c (take j rs)) kept) e p.deeds

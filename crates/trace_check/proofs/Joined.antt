@@ -8,7 +8,7 @@ use Rattle.sn_base.specs.Image.{ImageData}
 use Rattle.sn_base.specs.declared.memory.Memory.{Memory}
 use Rattle.rv_core.specs.declared.state.CoreState.{CoreState}
 use Rattle.rv_core.specs.declared.step.Record.{Record}
-use Rattle.rv_core.specs.Core.{start_of}
+use Rattle.rv_core.specs.Core.{start_of, is_access}
 use Rattle.rv_core.specs.Flat.{flat_start, core_at}
 use Rattle.rv_core.proofs.CoreLaws.{want_inside, write_fits}
 use Rattle.sn_consistency.specs.Words.{next}
@@ -19,10 +19,13 @@ use Rattle.projection_places.proofs.Least.{all_done, first_refused}
 use Rattle.sn_consistency.proofs.Start.{start_shows}
 use Rattle.trace_check.specs.Verdict.{IsDone}
 use Rattle.trace_check.specs.declared.cores.Slot.{Slot}
+use Rattle.trace_check.specs.DeedData.{DeedData}
 use Rattle.trace_check.specs.Deeds.{deed_of, core_deeds}
-use Rattle.trace_check.specs.Slots.{AreReplayed, AreInside, IsPassed, HasRoom, HasDeeds, own_before}
+use Rattle.trace_check.specs.Tags.{AreKept, IsKeptAt, tag_by}
+use Rattle.trace_check.specs.Slots.{AreReplayed, AreInside, IsPassed, HasRoom, HasDeeds, HasTag, access_place, own_before}
 use Rattle.trace_check.specs.Parts.{AreFitting, IsFitting}
 use Rattle.trace_check.proofs.CorePlaces.{core_of, inside_fewer, inside_from}
+use Rattle.trace_check.proofs.Tagged.{access_tag, kept_at, some_same}
 
 -- the deed of a core's record stands where as many of the core's are before it
 core_deed_at : (image : ImageData) (n : ℕ) (c : CoreState) (rs : List Record) (m k : ℕ) (r : Record) → k < m → slice_get rs k ≡ Some r → n ≡ r.core →
@@ -43,35 +46,35 @@ core_deed_at image n c (x ∷ rs) (suc m) (suc k) r l e i = go (n == x.core) (λ
     go true h = h (next image c x)
     go false h = h c
 
-record Done (image : ImageData) (N n : ℕ) (rs : List Record) (slot : Slot) : Type 0 where
+record Done (image : ImageData) (N parts n : ℕ) (rs : List Record) (slot : Slot) : Type 0 where
   count : ℕ
   passes : Passes (IsPassed image N n rs) (length rs) count
-  deeds : slot.deeds.items ≡ core_deeds image n (core_at (flat_start image N) n) (take count rs)
+  deeds : AreKept parts (core_deeds image n (core_at (flat_start image N) n) (take count rs)) slot.deeds
 
 module _
-    (image : ImageData) (N : ℕ) (rs : List Record) (slots : List Slot) (replayed : AreReplayed image N rs slots)
+    (image : ImageData) (N parts : ℕ) (rs : List Record) (slots : List Slot) (replayed : AreReplayed image N parts rs slots)
     (done : (n : ℕ) (d : Slot) → n < N → is_ok (get_or slots n d).passed ≡ true)
     (q : ℕ) (cores : Passes (CoresPass image N (flat_start image N) rs) (length rs) q) where
   done_in : (n : ℕ) → n < N → (slot : Slot) (core : ℕ) → core ≡ n → (passed : Result ℕ Memory) → is_ok passed ≡ true →
       IfOk passed (λ p. Passes (IsPassed image N core rs) (length rs) p
-      × (slot.deeds.items ≡ core_deeds image core (start_of core image.entry) (take p rs))) → Done image N n rs slot
+      × AreKept parts (core_deeds image core (start_of core image.entry) (take p rs)) slot.deeds) → Done image N parts n rs slot
   done_in n l slot core e (Ok p) t h =
       let i : core_at (flat_start image N) n ≡ start_of n image.entry = core_of image N n l in
-      let g = subst (λ x. Passes (IsPassed image N x rs) (length rs) p × (slot.deeds.items ≡ core_deeds image x (start_of x image.entry) (take p rs))) e h in
+      let g = subst (λ x. Passes (IsPassed image N x rs) (length rs) p × AreKept parts (core_deeds image x (start_of x image.entry) (take p rs)) slot.deeds) e h in
       record {
         count = p;
         passes = g.0;
-        deeds = subst (λ x. slot.deeds.items ≡ core_deeds image n x (take p rs)) (sym i) g.1;
+        deeds = subst (λ x. AreKept parts (core_deeds image n x (take p rs)) slot.deeds) (sym i) g.1;
       }
   done_in n l slot core e (Err m) t h = absurd (cc)
 
-  of_core : (n : ℕ) (d : Slot) → n < N → Done image N n rs (get_or slots n d)
+  of_core : (n : ℕ) (d : Slot) → n < N → Done image N parts n rs (get_or slots n d)
   of_core n d l = let h = replayed.each n d l in done_in n l (get_or slots n d) (get_or slots n d).core h.0 (get_or slots n d).passed (done n d l) h.1
 
   inside : AreInside N rs q
   inside = inside_from image N (core_at (flat_start image N)) rs q cores.good
 
-  enough : (n : ℕ) → n < N → (slot : Slot) (p : Done image N n rs slot) → q ≤ p.count
+  enough : (n : ℕ) → n < N → (slot : Slot) (p : Done image N parts n rs slot) → q ≤ p.count
   enough n m slot p = go (cases_order q p.count)
     where
       go : ((q ≡ p.count) ⊎ ((q < p.count) ⊎ (p.count < q))) → q ≤ p.count
@@ -86,27 +89,40 @@ module _
           ))
 
   module _ (k : ℕ) (r : Record) (l : k < q) (e : slice_get rs k ≡ Some r) where
-    deed_there : (d : Slot) → slice_get (get_or slots r.core d).deeds.items (own_before rs r.core k) ≡ Some (deed_of image (core_after image r.core (core_at (flat_start image N) r.core) (take k rs)) r)
-    deed_there d =
+    abbrev deed : DeedData
+    deed = deed_of image (core_after image r.core (core_at (flat_start image N) r.core) (take k rs)) r
+
+    kept_there : (d : Slot) → IsKeptAt parts (get_or slots r.core d).deeds (own_before rs r.core k) deed
+    kept_there d =
         let p = of_core r.core d (inside k r l e) in
         let w = enough r.core (inside k r l e) (get_or slots r.core d) p in
-        ap (λ xs. slice_get xs (own_before rs r.core k)) p.deeds ∙ core_deed_at image r.core (core_at (flat_start image N) r.core) rs p.count k r (omega (arith, l, w)) e refl
+        kept_at parts (core_deeds image r.core (core_at (flat_start image N) r.core) (take p.count rs)) (get_or slots r.core d).deeds p.deeds
+        (own_before rs r.core k) deed (core_deed_at image r.core (core_at (flat_start image N) r.core) rs p.count k r (omega (arith, l, w)) e refl)
+
+    access_there : (d : Slot) (tag : ℕ) → HasTag rs k r (get_or slots r.core d) tag → 0 < tag →
+        (is_access deed.want ≡ true) × (slice_get (get_or slots r.core d).deeds.accesses.items (access_place rs k r (get_or slots r.core d)) ≡ Some deed)
+    access_there d tag h g =
+        let a = kept_there d in
+        let i = some_same (slice_get (get_or slots r.core d).deeds.tags.items (own_before rs r.core k)) tag (tag_by parts deed.want) h a.tag in
+        let c = access_tag parts deed.want (subst (λ x. 0 < x) i g) in
+        (c, a.access c)
 
   pub has_room : HasRoom slots rs q
   has_room = record {
     inside = λ k r l e. let h = inside k r l e in let c = replayed.count in omega (arith, h, c);
-    room = λ k r d l e. slice_get_within (get_or slots r.core d).deeds.items (own_before rs r.core k) _ (deed_there k r l e d);
+    room = λ k r d l e. slice_get_within (get_or slots r.core d).deeds.tags.items (own_before rs r.core k) _ (kept_there k r l e d).tag;
+    accesses = λ k r d tag l e h g. slice_get_within (get_or slots r.core d).deeds.accesses.items (access_place rs k r (get_or slots r.core d)) _ (access_there k r l e d tag h g).1;
   }
 
-  pub has_deeds : HasDeeds image N rs q slots
-  has_deeds = λ k r d l e. deed_there k r l e d
+  pub has_deeds : HasDeeds image N parts rs q slots
+  has_deeds = λ k r d l e. kept_there k r l e d
 
   pub are_fitting : AreFitting rs q slots
-  are_fitting = λ k r d deed l e f.
-      let a = deed_there k r l e d in
+  are_fitting = λ k r d tag did l e h g f.
+      let a = access_there k r l e d tag h g in
       let c = core_after image r.core (core_at (flat_start image N) r.core) (take k rs) in
-      let i : deed ≡ deed_of image c r = cc in
-      subst (λ x. IsFitting x r) (sym i) (want_inside image c, write_fits image c r.seen r.sc_done r.read)
+      let i = some_same (slice_get (get_or slots r.core d).deeds.accesses.items (access_place rs k r (get_or slots r.core d))) did (deed_of image c r) f a.1 in
+      subst (λ x. (is_access x.want ≡ true) × IsFitting x r) (sym i) (a.0, (want_inside image c, write_fits image c r.seen r.sc_done r.read))
 
 -- what holds of a result holds of it in other words
 pub if_ok : {A E : Type 0} (x : Result A E) (P Q : A → Type 0) → ((a : A) → P a → Q a) → IfOk x P → IfOk x Q

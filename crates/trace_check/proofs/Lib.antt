@@ -1,3 +1,4 @@
+pub mod Tagged
 pub mod MayDo
 pub mod CoreReplay
 pub mod CorePlaces

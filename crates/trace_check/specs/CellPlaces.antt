@@ -1,10 +1,14 @@
 -- Where the cells of blocks are kept.
-use Rattle.std.specs.Prelude.{◌≡◌, ℕ, suc, ◌+◌, ◌*◌, false, if◌then◌else◌, ◌==◌, [], length, get_or, replicate}
+use Rattle.std.specs.Prelude.{◌≡◌, ◌≢◌, ℕ, suc, ◌+◌, ◌*◌, ◌↔◌, Bool, true, false, IsTrue, if◌then◌else◌, ◌==◌, [], length, get_or, replicate}
 use Rattle.sn_base.specs.Blocks.{ram_start}
 use Rattle.sn_base.specs.Image.{ImageData, bytes_from}
+use Rattle.rv_core.specs.declared.step.Record.{Record}
 use Rattle.trace_check.specs.declared.cell.Cell.{Cell}
 use Rattle.trace_check.specs.declared.cells.Kept.{Kept}
 use Rattle.trace_check.specs.declared.cells.Cells.{Cells}
+use Rattle.trace_check.specs.Cells.{Finds, IsAfter}
+use Rattle.trace_check.specs.DeedData.{DeedData}
+use Rattle.trace_check.specs.Tags.{wanted_block}
 
 -- a block's cell at the start: the bytes that the program gives it, and no core has an LR of it
 abbrev pub first_cell : ImageData → ℕ → Cell
@@ -25,3 +29,9 @@ cell_at image cells block = cell_by image block (get_or cells.kept.items (get_or
 -- each block has a place
 abbrev pub IsWide : Cells → Type 0
 IsWide cells = length cells.places.items ≡ 65536
+
+-- an access is replayed: whether it finds what the earlier ones left, and if so, what it leaves
+pub record IsReplay (image : ImageData) (old : Cells) (deed : DeedData) (r : Record) (found : Bool) (new : Cells) : Type 0 where
+  pub finds : IsTrue found ↔ Finds (cell_at image old (wanted_block deed.want)) deed.want r
+  pub after : found ≡ true → IsAfter (cell_at image old (wanted_block deed.want)) deed r (cell_at image new (wanted_block deed.want))
+  pub others : (b : ℕ) → b ≢ wanted_block deed.want → cell_at image new b ≡ cell_at image old b

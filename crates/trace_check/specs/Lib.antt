@@ -1,5 +1,6 @@
 pub mod DeedData
 pub mod Deeds
+pub mod Tags
 pub mod Cells
 pub mod CellPlaces
 pub mod Slots

@@ -1,5 +1,5 @@
 //! One core's records, replayed by themselves, up to the first record of a core that isn't there.
-ghost use Rattle.std.specs.Prelude.{◌≡◌, ℕ, ◌<◌, ◌↔◌, ◌++◌, [], ◌∷◌, true, false, is_some, length, take, IfOk, IfSome, IsSome, IsTrue};
+ghost use Rattle.std.specs.Prelude.{◌≡◌, ℕ, ◌<◌, ◌≤◌, ◌↔◌, ◌++◌, [], ◌∷◌, List, true, false, is_some, length, take, IfOk, IfSome, IsSome, IsTrue};
 ghost use Rattle.sn_base.specs.Image.{fetched};
 ghost use Rattle.rv_decode.specs.Table.{instr_fits};
 ghost use Rattle.rv_core.specs.Core.{start_of, is_running, is_input, holds_reservation};
@@ -8,29 +8,44 @@ ghost use Rattle.rv_core.specs.Wanted.{IsInside};
 ghost use Rattle.sn_consistency.specs.Projections.{Replays, core_step};
 ghost use Rattle.projection_places.specs.Passes.{Passes};
 ghost use Rattle.trace_check.specs.Deeds.{reads_memory, MayDo, deed_of, core_deeds};
+ghost use Rattle.trace_check.specs.DeedData.{DeedData};
 ghost use Rattle.trace_check.specs.Slots.{IsPassed};
+ghost use Rattle.trace_check.specs.Tags.{KeepsNone, AreKept};
 
 use crate::deed::Deed;
+use crate::deeds::Deeds;
 use rv_core::{Cause, CoreState, End, Record, Want};
 use rv_decode::Instr;
 use sn_base::{BlockNo, Image, Memory, NodeId};
 
-/// How many records the core passes, from the first on, and what its own among them do, which is put into `deeds`.
+/// How many records the core passes, from the first on, and what its own among them do, which is put into `deeds` for so
+/// many parts of the blocks.
 pub fn replay(
     image: &Image,
     nodes: u8,
     core: NodeId,
+    parts: u16,
     records: &[Record],
-    deeds: &mut Vec<Deed>,
+    deeds: &mut Deeds,
 ) -> Result<usize, Memory>
     requires inside { core < nodes }
-    requires fresh { deeds.old.items ≡ [] }
+    requires parts { 0 < parts }
+    requires few { parts ≤ 16 }
+    requires fresh { KeepsNone deeds.old }
     ensures passed { IfOk result (λ p. Passes (IsPassed image.now nodes core records.now) (length records.now) p) }
-    ensures deeds { IfOk result (λ p. deeds.new.items ≡ core_deeds image.now core (start_of core image.now.entry) (take p records.now)) }
+    ensures deeds { IfOk result (λ p. AreKept parts (core_deeds image.now core (start_of core image.now.entry) (take p records.now)) deeds.new) }
 {
     let mut state = CoreState::start(core, image.entry());
     'records: for place in 0..records.len() {
-        if !replay_record(image, nodes, core, &mut state, &records[place], deeds)? {
+        if !replay_record(
+            image,
+            nodes,
+            core,
+            parts,
+            &mut state,
+            &records[place],
+            deeds,
+        )? {
             return Ok(place);
         }
     }
@@ -42,15 +57,19 @@ fn replay_record(
     image: &Image,
     nodes: u8,
     core: NodeId,
+    parts: u16,
     state: &mut CoreState,
     taken: &Record,
-    deeds: &mut Vec<Deed>,
+    deeds: &mut Deeds,
 ) -> Result<bool, Memory>
-    requires { core < nodes }
+    requires inside { core < nodes }
+    requires parts { 0 < parts }
+    requires few { parts ≤ 16 }
     ensures good { IfOk result (λ good. IsTrue good ↔ ((taken.now.core < nodes) × (core ≡ taken.now.core → Replays image.now nodes state.old taken.now))) }
     ensures state { IfOk result (λ good. good ≡ true → state.new ≡ core_step image.now core state.old taken.now) }
-    ensures deeds { IfOk result (λ good. good ≡ true → deeds.new.items ≡ deeds.old.items ++ core_deeds image.now core state.old (taken.now ∷ [])) }
-    ensures kept { IfOk result (λ good. good ≡ false → deeds.new.items ≡ deeds.old.items) }
+    ensures deeds { IfOk result (λ good. good ≡ true → (did : List DeedData) → AreKept parts did deeds.old →
+        AreKept parts (did ++ core_deeds image.now core state.old (taken.now ∷ [])) deeds.new) }
+    ensures kept { IfOk result (λ good. good ≡ false → deeds.new ≡ deeds.old) }
 {
     if taken.core != core {
         return Ok(taken.core.number() < nodes);
@@ -59,7 +78,7 @@ fn replay_record(
         return Ok(false);
     };
     let deed = take(image, state, step, taken);
-    deeds.push(deed)?;
+    deeds.push(deed, parts)?;
     Ok(true)
 }
 

@@ -1,11 +1,12 @@
 //! The cores' replays: each in a thread of its own, into a slot of its own.
-ghost use Rattle.std.specs.Prelude.{◌≡◌, ℕ, ◌<◌, ◌≤◌, [], true, length, is_ok, slice_index_or, IfOk, OnOk};
+ghost use Rattle.std.specs.Prelude.{◌≡◌, ℕ, ◌<◌, ◌≤◌, true, length, is_ok, slice_index_or, IfOk, OnOk};
 ghost use Rattle.projection_places.specs.Passes.{Passes, CoresPass};
 ghost use Rattle.rv_core.specs.Flat.{flat_start};
 ghost use Rattle.trace_check.specs.Slots.{IsFresh, AreFresh, HasReplayed, AreReplayed};
+ghost use Rattle.trace_check.specs.Tags.{KeepsNone};
 
 use crate::core_replay::replay;
-use crate::deed::Deed;
+use crate::deeds::Deeds;
 use rv_core::Record;
 use sn_base::{Image, Memory, NodeId};
 use sn_io::Gate;
@@ -17,7 +18,7 @@ use std::{mem, thread};
 #[derive(Drop)]
 pub struct Slot {
     pub core: NodeId,
-    pub deeds: Vec<Deed>,
+    pub deeds: Deeds,
     pub passed: Result<usize, Memory>,
 }
 
@@ -39,7 +40,7 @@ fn fresh_slot(alloc: Global, number: u8, room: usize) -> Result<Slot, Memory>
     ensures { IfOk result (λ slot. IsFresh number slot) }
 {
     let core = NodeId::new(number).unwrap();
-    let deeds = Vec::with_capacity(alloc, room)?;
+    let deeds = Deeds::with_room(alloc, room)?;
     Ok(Slot {
         core,
         deeds,
@@ -47,28 +48,31 @@ fn fresh_slot(alloc: Global, number: u8, room: usize) -> Result<Slot, Memory>
     })
 }
 
-/// Replays each core's records in its slot.
+/// Replays each core's records in its slot, which keeps what they do for so many parts of the blocks.
 pub fn replay_cores<T: Threads + Sync, G: Gate + Sync>(
     rt: &T,
     alloc: Global,
     image: &Image,
     nodes: u8,
+    parts: u16,
     records: &[Record],
     gate: &G,
     slots: &mut [Slot],
 )
     requires some { 0 < nodes }
+    requires parts { 0 < parts }
+    requires few { parts ≤ 16 }
     requires fresh { AreFresh nodes slots.old }
-    ensures { AreReplayed image.now nodes records.now slots.new }
+    ensures { AreReplayed image.now nodes parts records.now slots.new }
 {
     thread::for_each_mut(
         rt,
         slots,
         usize::from(nodes),
         &|_, slot: &mut Slot|
-            requires { (slot.old.core < nodes) × (slot.old.deeds.items ≡ []) }
-            ensures { (slot.new.core ≡ slot.old.core) × HasReplayed image.entry.now nodes records.entry.now slot.new }
-        { replay_slot(alloc, image, nodes, records, gate, slot) },
+            requires { (slot.old.core < nodes) × (0 < parts) × (parts ≤ 16) × KeepsNone slot.old.deeds }
+            ensures { (slot.new.core ≡ slot.old.core) × HasReplayed image.entry.now nodes parts records.entry.now slot.new }
+        { replay_slot(alloc, image, nodes, parts, records, gate, slot) },
     );
 }
 
@@ -76,19 +80,22 @@ fn replay_slot<G: Gate>(
     alloc: Global,
     image: &Image,
     nodes: u8,
+    parts: u16,
     records: &[Record],
     gate: &G,
     slot: &mut Slot,
 )
     requires inside { slot.old.core < nodes }
-    requires fresh { slot.old.deeds.items ≡ [] }
+    requires parts { 0 < parts }
+    requires few { parts ≤ 16 }
+    requires fresh { KeepsNone slot.old.deeds }
     ensures core { slot.new.core ≡ slot.old.core }
-    ensures replayed { HasReplayed image.now nodes records.now slot.new }
+    ensures replayed { HasReplayed image.now nodes parts records.now slot.new }
 {
     gate.before(u32::from(slot.core.number()), 1);
-    // The slots lie side by side, and threads that write next to each other are slow: here each writes a vector of its own.
-    let mut deeds = mem::replace(&mut slot.deeds, Vec::new(alloc));
-    slot.passed = replay(image, nodes, slot.core, records, &mut deeds);
+    // The slots lie side by side, and threads that write next to each other are slow: here each writes vectors of its own.
+    let mut deeds = mem::replace(&mut slot.deeds, Deeds::new(alloc));
+    slot.passed = replay(image, nodes, slot.core, parts, records, &mut deeds);
     slot.deeds = deeds;
 }
 
@@ -100,7 +107,7 @@ pub fn count_passed(
     slots: &[Slot],
 ) -> Result<usize, Memory>
     requires some { 1 ≤ nodes }
-    requires replayed { AreReplayed image.now nodes records.now slots.now }
+    requires replayed { (parts : ℕ) × AreReplayed image.now nodes parts records.now slots.now }
     ensures passed { IfOk result (λ p. Passes (CoresPass image.now nodes (flat_start image.now nodes) records.now) (length records.now) p) }
     ensures done { OnOk result ((n : ℕ) (d : Slot) → n < nodes → is_ok (slice_index_or slots.now n d).passed ≡ true) }
 {

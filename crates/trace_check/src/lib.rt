@@ -17,8 +17,10 @@ mod cells;
 mod core_replay;
 mod cores;
 mod deed;
+mod deeds;
 mod kind;
 mod parts;
+mod tag;
 mod verdict;
 
 pub use verdict::{CheckFault, check};

@@ -6,8 +6,9 @@ ghost use Rattle.projection_places.specs.Passes.{Passes, BlocksPass};
 ghost use Rattle.trace_check.specs.Parts.{AreFitting, HasPassed};
 ghost use Rattle.trace_check.specs.Slots.{HasRoom, HasDeeds};
 
-use crate::blocks::{Part, replay_part};
+use crate::blocks::replay_part;
 use crate::cores::Slot;
+use crate::tag::Part;
 use rayon::current_num_threads;
 use rayon::prelude::*;
 use rv_core::Record;
@@ -15,23 +16,34 @@ use sn_base::{Image, Memory};
 use std::alloc::Global;
 use std::thread::Threads;
 
-/// How many of the first records all blocks pass. The slots have what these do.
+/// How many parts there are.
+pub fn part_count<T: Threads>(rt: &T) -> u16
+    ensures some { 0 < result }
+    ensures few { result ≤ 16 }
+{
+    // Each part walks over all records, so more parts than processors would only take longer.
+    current_num_threads(rt).min(16) as u16
+}
+
+/// How many of the first records all blocks pass. The slots have what these do, for so many parts.
 pub fn replay_blocks<T: Threads + Sync>(
     rt: &T,
     alloc: Global,
     image: &Image,
+    parts: u16,
     records: &[Record],
     count: usize,
     slots: &[Slot],
 ) -> Result<usize, Memory>
+    requires some { 0 < parts }
+    requires few { parts ≤ 16 }
     requires within { count ≤ length records.now }
     requires room { HasRoom slots.now records.now count }
     requires fits { AreFitting records.now count slots.now }
-    ensures { IfOk result (λ p. (nodes : ℕ) → HasDeeds image.now nodes records.now count slots.now →
+    ensures { IfOk result (λ p. (nodes : ℕ) → HasDeeds image.now nodes parts records.now count slots.now →
         Passes (BlocksPass image.now (flat_start image.now nodes) records.now) count p) }
 {
-    // Each part walks over all records, so more parts than processors would only take longer.
-    let parts = current_num_threads(rt).min(16);
+    let parts = usize::from(parts);
     let mut passed: [Result<usize, Memory>; 16] = [Ok(0); 16];
     replay_parts(
         rt,
@@ -92,7 +104,7 @@ fn least_of(
     requires some { 0 < length passed.now }
     requires each { (part : ℕ) (d : Result ℕ Memory) → part < length passed.now →
         HasPassed image.now (length passed.now) part records.now count slots.now (slice_index_or passed.now part d) }
-    ensures { IfOk result (λ p. (nodes : ℕ) → HasDeeds image.now nodes records.now count slots.now →
+    ensures { IfOk result (λ p. (nodes : ℕ) → HasDeeds image.now nodes (length passed.now) records.now count slots.now →
         Passes (BlocksPass image.now (flat_start image.now nodes) records.now) count p) }
 {
     let mut least = count;

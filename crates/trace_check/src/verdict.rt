@@ -8,7 +8,7 @@ ghost use Rattle.trace_check.specs.Verdict.{IsDecided, IsDone};
 ghost use Rattle.trace_check.specs.declared.verdict.CheckFault.TheVariants.{NotLegal};
 
 use crate::cores::{Slot, count_passed, fresh_slots, replay_cores};
-use crate::parts::replay_blocks;
+use crate::parts::{part_count, replay_blocks};
 use rv_core::Record;
 use sn_base::{Image, Memory};
 use sn_io::Gate;
@@ -82,7 +82,8 @@ fn count_in_slots<T: Threads + Sync, G: Gate + Sync>(
     requires fresh { AreFresh nodes slots.old }
     ensures { IfOk result (λ done. IsDone image.now nodes records.now done) }
 {
-    replay_cores(rt, alloc, image, nodes, records, gate, slots);
+    let parts = part_count(rt);
+    replay_cores(rt, alloc, image, nodes, parts, records, gate, slots);
     let passed = count_passed(image, nodes, records, slots)?;
-    replay_blocks(rt, alloc, image, records, passed, slots)
+    replay_blocks(rt, alloc, image, parts, records, passed, slots)
 }

@@ -1,27 +1,29 @@
-use Rattle.std.proofs.Common.{◌≡◌, ℕ, ◌↔◌, true, ap, subst, ◌∙◌}
-use Rattle.std.specs.Prelude.{IsTrue}
+use Rattle.std.proofs.Common.{◌≡◌, ◌≢◌, ℕ, ◌↔◌, true, Result, Ok, Err, ap, subst, ◌∙◌}
+use Rattle.std.specs.Prelude.{IfOk, IfSome, IsTrue}
 use Rattle.trace_check.specs.declared.cell.Cell.{Cell}
 use Rattle.trace_check.specs.Cells.{Finds, IsAfter}
-use Rattle.trace_check.specs.CellPlaces.{cell_at}
-use Rattle.trace_check.specs.Parts.{is_in, wanted_block}
-use Rattle.trace_check.proofs.Joined.{if_ok}
+use Rattle.trace_check.specs.CellPlaces.{cell_at, IsReplay}
+use Rattle.trace_check.specs.Tags.{wanted_block}
 use Rattle.trace_check.proofs.blocks.replay_access.Goals as goal
 
-pub returns-in-Some-clause-finds : goal.returns-in-Some-clause-finds
-returns-in-Some-clause-finds c =
-    let cell : ℕ → Cell = λ b. cell_at c.args.image.now c.args.cells.now b in
-    let want = c.args.deed.now.want in
-    let same = c.in-Some.ensures.block ∙ ap wanted_block c.want.ensures in
-    if_ok c.replay.result (λ found. IsTrue found ↔ Finds (cell c.in-Some.block) want c.args.taken.now)
-    (λ found. is_in c.args.part.count c.args.part.number want ≡ true → IsTrue found ↔ Finds (cell (wanted_block want)) want c.args.taken.now)
-    (λ found h e. subst (λ b. IsTrue found ↔ Finds (cell b) want c.args.taken.now) same h) c.replay.ensures.finds
+all_three : {A E : Type 0} (x : Result A E) (P Q R S : A → Type 0) → ((a : A) → P a → Q a → R a → S a) → IfOk x P → IfOk x Q → IfOk x R → IfOk x S
+all_three (Ok a) P Q R S f p q r = f a p q r
+all_three (Err e) P Q R S f p q r = p
 
-pub returns-in-Some-clause-after : goal.returns-in-Some-clause-after
-returns-in-Some-clause-after c =
+pub returns-clause-done : goal.returns-clause-done
+returns-clause-done c =
     let cell : ℕ → Cell = λ b. cell_at c.args.image.now c.args.cells.now b in
     let later : ℕ → Cell = λ b. cell_at c.args.image.now c.replay.new.self b in
     let want = c.args.deed.now.want in
-    let same = c.in-Some.ensures.block ∙ ap wanted_block c.want.ensures in
-    if_ok c.replay.result (λ found. found ≡ true → IsAfter (cell c.in-Some.block) c.args.deed.now c.args.taken.now (later c.in-Some.block))
-    (λ found. is_in c.args.part.count c.args.part.number want ≡ true → found ≡ true → IsAfter (cell (wanted_block want)) c.args.deed.now c.args.taken.now (later (wanted_block want)))
-    (λ found h e t. subst (λ b. IsAfter (cell b) c.args.deed.now c.args.taken.now (later b)) same (h t)) c.replay.ensures.after
+    let block = c.unwrap-block.result in
+    let same : block ≡ wanted_block want = subst (λ o. IfSome o (λ b. b ≡ wanted_block c.want.result)) c.unwrap-block.ensures c.block_in.ensures.block ∙ ap wanted_block c.want.ensures in
+    all_three c.replay.result (λ found. IsTrue found ↔ Finds (cell block) want c.args.taken.now)
+    (λ found. found ≡ true → IsAfter (cell block) c.args.deed.now c.args.taken.now (later block))
+    (λ found. (b : ℕ) → b ≢ block → later b ≡ cell b)
+    (λ found. IsReplay c.args.image.now c.args.cells.now c.args.deed.now c.args.taken.now found c.replay.new.self)
+    (λ found f a o. record {
+      finds = subst (λ b. IsTrue found ↔ Finds (cell b) want c.args.taken.now) same f;
+      after = λ t. subst (λ b. IsAfter (cell b) c.args.deed.now c.args.taken.now (later b)) same (a t);
+      others = λ b n. o b (λ e. n (e ∙ same));
+    })
+    c.replay.ensures.finds c.replay.ensures.after c.replay.ensures.others

@@ -1,8 +1,11 @@
-use Rattle.std.proofs.Common.{◌≡◌, ◌<◌, true, false, ◌∙◌, sym, refl, arith}
+use Rattle.std.proofs.Common.{◌≡◌, ◌≢◌, ◌<◌, true, false, [], ◌∷◌, ◌++◌, ◌∙◌, sym, ap, subst, refl, append-nil, arith}
 use Rattle.std.proofs.lemmas.Bool.Decides.{nat_tests}
+use Rattle.rv_core.specs.Wanted.{IsInside}
+use Rattle.rv_core.proofs.CoreLaws.{want_inside}
 use Rattle.sn_consistency.specs.Words.{next}
 use Rattle.trace_check.proofs.MayDo.{replays_to, replays_from}
-use Rattle.trace_check.proofs.CoreReplay.{own_step}
+use Rattle.trace_check.specs.Tags.{AreKept}
+use Rattle.trace_check.proofs.CoreReplay.{own_step, own_deed, other_deed}
 use Rattle.trace_check.proofs.core_replay.replay_record.Goals as goal
 use Rattle.trace_check.proofs.core_replay.replay_record.Goals.{In_default, In_ok-push}
 
@@ -21,7 +24,7 @@ returns-in_default-clause-good c = (
 pub returns-clause-good : goal.returns-clause-good
 returns-clause-good c =
     let m = c.in-Some.ensures.some.0 refl in (
-      (λ t. let l : c.args.taken.now.core < c.args.nodes = let q = c.requires in let e = own c in omega (arith, e, q) in
+      (λ t. let l : c.args.taken.now.core < c.args.nodes = let q = c.requires.inside in let e = own c in omega (arith, e, q) in
           (l, λ e. replays_to c.args.image.now c.args.nodes c.args.state.now c.args.taken.now l m.0 m.1)),
       λ h. refl,
     )
@@ -32,3 +35,20 @@ as_next c = c.take-deed.ensures.state
 
 pub returns-clause-state : goal.returns-clause-state
 returns-clause-state c = λ t. as_next c ∙ sym (own_step c.args.image.now c.args.core c.args.state.now c.args.taken.now (own c))
+
+pub returns-clause-deeds : goal.returns-clause-deeds
+returns-clause-deeds c = λ t did k.
+    subst (λ xs. AreKept c.args.parts (did ++ xs) c.push.new.self)
+    (ap (λ d. d ∷ []) c.take-deed.ensures.deed ∙ sym (own_deed c.args.image.now c.args.core c.args.state.now c.args.taken.now (own c)))
+    (c.in_ok-push.ensures did k)
+
+pub returns-then-ne-clause-deeds : goal.returns-then-ne-clause-deeds
+returns-then-ne-clause-deeds c = λ t did k.
+    let a = c.if-ne.true in
+    let b = c.ne.ensures in
+    let o : c.args.core ≢ c.args.taken.now.core = grind (arith, nat_tests) in
+    subst (λ xs. AreKept c.args.parts xs c.args.deeds.now)
+    (sym (ap (λ xs. did ++ xs) (other_deed c.args.image.now c.args.core c.args.state.now c.args.taken.now o) ∙ append-nil did)) k
+
+pub push-requires-clause-inside : goal.push-requires-clause-inside
+push-requires-clause-inside c = subst (λ d. IsInside d.want) (sym c.take-deed.ensures.deed) (want_inside c.args.image.now c.args.state.now)

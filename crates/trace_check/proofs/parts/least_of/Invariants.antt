@@ -6,4 +6,4 @@ use Rattle.trace_check.proofs.parts.least_of.Given as goal
 
 -- the least so far
 abbrev pub invariant-parts : goal.invariant-parts
-invariant-parts l = (N : ℕ) → HasDeeds l.image N l.records l.count l.slots → Passes (PartsBelow l.image N (length l.passed) l.records l.part) l.count l.least
+invariant-parts l = (N : ℕ) → HasDeeds l.image N (length l.passed) l.records l.count l.slots → Passes (PartsBelow l.image N (length l.passed) l.records l.part) l.count l.least
