@@ -1,15 +1,13 @@
 //! The accesses to the blocks of one part, replayed by themselves.
-ghost use Rattle.std.specs.Prelude.{◌≡◌, ◌≢◌, ℕ, suc, ◌<◌, ◌≤◌, true, [], length, slice_get, Some, IfOk};
+ghost use Rattle.std.specs.Prelude.{◌≡◌, ◌<◌, ◌≤◌, true, [], length, IfOk};
 ghost use Rattle.rv_core.specs.Core.{is_access};
-ghost use Rattle.trace_check.specs.CellPlaces.{IsWide, IsReplay, cell_at};
-ghost use Rattle.trace_check.specs.DeedData.{DeedData};
+ghost use Rattle.trace_check.specs.CellPlaces.{IsWide, IsReplay};
 ghost use Rattle.trace_check.specs.Parts.{IsFitting, AreFitting, HasPassed};
 ghost use Rattle.trace_check.specs.Slots.{HasRoom};
 
 use crate::cells::Cells;
 use crate::cores::Slot;
 use crate::deed::Deed;
-use crate::deeds::Deeds;
 use crate::tag::{Part, accesses, block_in, is_of};
 use rv_core::Record;
 use sn_base::{Image, Memory};
@@ -58,39 +56,13 @@ fn replay_deeds(
         let core = usize::from(taken.core.number());
         let deeds = &slots[core].deeds;
         let tag = deeds.tags[own[core]];
-        if !replay_record(image, part, cells, deeds, tag, next[core], &taken)? {
+        if is_of(tag, part) && !replay_access(image, cells, &deeds.accesses[next[core]], &taken)? {
             return Ok(place);
         }
         own[core] += 1;
         next[core] += accesses(tag);
     }
     Ok(count)
-}
-
-/// Whether the part passes a record with such a tag. What the record does, if it is an access, is the next.
-fn replay_record(
-    image: &Image,
-    part: Part,
-    cells: &mut Cells,
-    deeds: &Deeds,
-    tag: u8,
-    next: usize,
-    taken: &Record,
-) -> Result<bool, Memory>
-    requires wide { IsWide cells.old }
-    requires room { 0 < tag → next < length deeds.now.accesses.items }
-    requires fits { (deed : DeedData) → 0 < tag → slice_get deeds.now.accesses.items next ≡ Some deed →
-        (is_access deed.want ≡ true) × IsFitting deed taken.now }
-    ensures wide { IsWide cells.new }
-    ensures away { IfOk result (λ found. tag ≢ suc part.number →
-        (found ≡ true) × ((b : ℕ) → cell_at image.now cells.new b ≡ cell_at image.now cells.old b)) }
-    ensures mine { IfOk result (λ found. (deed : DeedData) → tag ≡ suc part.number → slice_get deeds.now.accesses.items next ≡ Some deed →
-        IsReplay image.now cells.old deed taken.now found cells.new) }
-{
-    if !is_of(tag, part) {
-        return Ok(true);
-    }
-    replay_access(image, cells, &deeds.accesses[next], taken)
 }
 
 /// Whether an access finds what the earlier ones left. If so, it is done.

@@ -1,22 +1,23 @@
-use Rattle.std.proofs.Common.{◌≡◌, ℕ, ◌+◌, ◌<◌, ◌≤◌, true, length, get_or, slice_get, take, Some, sym, subst, refl, ap, ◌∙◌, arith}
+use Rattle.std.proofs.Common.{◌≡◌, ℕ, ◌+◌, ◌<◌, ◌≤◌, Bool, true, false, length, get_or, slice_get, take, Some, sym, subst, refl, ap, ◌∙◌, arith}
 use Rattle.std.proofs.lemmas.Option.{slice_get_read}
 use Rattle.std.proofs.lemmas.List.{length-set, get_or-replicate, get_or_default}
 use Rattle.sn_base.specs.Image.{ImageData}
 use Rattle.rv_core.specs.Core.{is_access}
 use Rattle.rv_core.specs.Flat.{flat_start, core_at}
 use Rattle.sn_consistency.specs.Projections.{core_after}
+use Rattle.trace_check.specs.declared.cells.Cells.{Cells}
 use Rattle.trace_check.specs.declared.cores.Slot.{Slot}
 use Rattle.trace_check.specs.DeedData.{DeedData}
 use Rattle.trace_check.specs.Deeds.{deed_of}
-use Rattle.trace_check.specs.CellPlaces.{cell_at}
+use Rattle.trace_check.specs.CellPlaces.{IsWide, IsReplay, cell_at}
 use Rattle.trace_check.specs.Tags.{tag_by, of_access, accesses_before, IsKeptAt}
 use Rattle.trace_check.specs.Parts.{IsFitting}
 use Rattle.trace_check.specs.Slots.{HasDeeds, HasTag, access_place, own_before}
 use Rattle.trace_check.proofs.Tagged.{some_same, accesses_few, one_or_none}
 use Rattle.trace_check.proofs.OwnBefore.{own_set, next_set}
-use Rattle.trace_check.proofs.BlockReplay.{part_start, part_all, tagged_more, tagged_stops}
+use Rattle.trace_check.proofs.BlockReplay.{IsPartReplayed, part_start, part_all, tagged_more, tagged_stops}
 use Rattle.trace_check.proofs.blocks.replay_deeds.Goals as goal
-use Rattle.trace_check.proofs.blocks.replay_deeds.Goals.{After-from-core}
+use Rattle.trace_check.proofs.blocks.replay_deeds.Goals.{After-from-core, else-is_of-via-then-is_of+in_ok-replay_access+else-not-branch, else-is_of-via-else-is_of}
 
 -- the record at the place, its core, and what is counted for it
 found : (c : After-from-core) → slice_get c.args.records.now c.records.place ≡ Some c.index-records-place.result
@@ -124,13 +125,49 @@ index-tag-requires c =
     let o = v.deeds.tags.ok.0 in
     omega (arith, h, o)
 
-pub replay_record-requires-clause-room : goal.replay_record-requires-clause-room
-replay_record-requires-clause-room c =
-    access_room ((goal.at.replay_record-requires-clause-room c).After-from-core) c.index-slots-core.result c.index-tag.result.now c.index-tag.ensures
+pub index-requires : goal.index-requires
+index-requires c =
+    let at = (goal.at.index-requires c).After-from-core in
+    let t = c.is_of.ensures.0 c.if-is_of.true in
+    let h = access_room at c.index-slots-core.result c.index-tag.result.now c.index-tag.ensures (omega (arith, t)) in
+    let v = get_or c.args.slots.now c.from-core.result c.index-slots-core.result in
+    let o = v.deeds.accesses.ok.0 in
+    omega (arith, h, o)
 
-pub replay_record-requires-clause-fits : goal.replay_record-requires-clause-fits
-replay_record-requires-clause-fits c =
-    fitting ((goal.at.replay_record-requires-clause-fits c).After-from-core) c.index-slots-core.result c.index-tag.result.now c.index-tag.ensures
+-- the deed that is read
+there : (c : After-from-core) (slot : Slot) (tag : ℕ) → IsRead c slot tag → 0 < tag → (deed : DeedData) →
+    deed ≡ get_or (get_or c.args.slots.now c.from-core.result slot).deeds.accesses.items (get_or c.records.next c.from-core.result 0) deed →
+    slice_get (get_or c.args.slots.now c.from-core.result slot).deeds.accesses.items (get_or c.records.next c.from-core.result 0) ≡ Some deed
+there c slot tag is l deed e =
+    slice_get_read (get_or c.args.slots.now c.from-core.result slot).deeds.accesses.items (length (get_or c.args.slots.now c.from-core.result slot).deeds.accesses.items)
+    (get_or c.records.next c.from-core.result 0) deed refl (access_room c slot tag is l) e
+
+pub replay_access-requires-clause-access : goal.replay_access-requires-clause-access
+replay_access-requires-clause-access c =
+    let at = (goal.at.replay_access-requires-clause-access c).After-from-core in
+    let t = c.is_of.ensures.0 c.if-is_of.true in
+    let l : 0 < c.index-tag.result.now = omega (arith, t) in
+    (fitting at c.index-slots-core.result c.index-tag.result.now c.index-tag.ensures c.index.result.now l
+    (there at c.index-slots-core.result c.index-tag.result.now c.index-tag.ensures l c.index.result.now c.index.ensures)).0
+
+pub replay_access-requires-clause-fits : goal.replay_access-requires-clause-fits
+replay_access-requires-clause-fits c =
+    let at = (goal.at.replay_access-requires-clause-fits c).After-from-core in
+    let t = c.is_of.ensures.0 c.if-is_of.true in
+    let l : 0 < c.index-tag.result.now = omega (arith, t) in
+    (fitting at c.index-slots-core.result c.index-tag.result.now c.index-tag.ensures c.index.result.now l
+    (there at c.index-slots-core.result c.index-tag.result.now c.index-tag.ensures l c.index.result.now c.index.ensures)).1
+
+-- what was read is what the record does
+done : (c : After-from-core) (slot : Slot) (tag : ℕ) → IsRead c slot tag → 0 < tag → (deed : DeedData) →
+    deed ≡ get_or (get_or c.args.slots.now c.from-core.result slot).deeds.accesses.items (get_or c.records.next c.from-core.result 0) deed →
+    (found : Bool) (cells : Cells) → IsReplay c.args.image.now c.records.cells deed c.index-records-place.result found cells →
+    (N : ℕ) → HasDeeds c.args.image.now N c.args.part.count c.args.records.now c.args.count c.args.slots.now → is_access (did c c.args.image.now N).want ≡ true →
+    IsReplay c.args.image.now c.records.cells (did c c.args.image.now N) c.index-records-place.result found cells
+done c slot tag is l deed e found cells p N h a =
+    subst (λ d. IsReplay c.args.image.now c.records.cells d c.index-records-place.result found cells)
+    (some_same (slice_get (get_or c.args.slots.now c.from-core.result slot).deeds.accesses.items (get_or c.records.next c.from-core.result 0)) deed (did c c.args.image.now N)
+    (there c slot tag is l deed e) (next_is c slot c.args.image.now N h a)) p
 
 pub returns-then-not-branch : goal.returns-then-not-branch
 returns-then-not-branch c =
@@ -139,11 +176,14 @@ returns-then-not-branch c =
     let slot = c.index-slots-core.result in
     let tag = c.index-tag.result.now in
     let is = c.index-tag.ensures in
-    let x = c.in_ok-replay_record.ensures in
+    let t = c.is_of.ensures.0 c.if-is_of.true in
+    let l : 0 < tag = omega (arith, t) in
     λ N h.
     tagged_stops image N c.args.part.count c.args.part.number c.args.records.now c.records.place c.index-records-place.result (found at)
-    c.records.cells c.replay_record.new.cells (c.records.invariant.replayed N h) tag (tag_is at slot tag is image N h) c.in_ok-replay_record.field-0
-    x.away (λ t a. x.mine (did at image N) t (next_is at slot image N h a)) c.args.count c.records-test.true c.if-not-branch.true
+    c.records.cells c.replay_access.new.cells (c.records.invariant.replayed N h) tag (tag_is at slot tag is image N h) c.in_ok-replay_access.field-0
+    (λ n. absurd (n t))
+    (λ i a. done at slot tag is l c.index.result.now c.index.ensures c.in_ok-replay_access.field-0 c.replay_access.new.cells c.in_ok-replay_access.ensures.done N h a)
+    c.args.count c.records-test.true c.if-not-branch.true
 
 pub overflow_add-own : goal.overflow_add-own
 overflow_add-own c =
@@ -180,7 +220,6 @@ records-preserved c =
     let slot = c.index-slots-core.result in
     let tag = c.index-tag.result.now in
     let is = c.index-tag.ensures in
-    let x = c.in_ok-replay_record.ensures in
     let core_is = core at in
     let rs = c.args.records.now in
     record {
@@ -189,11 +228,26 @@ records-preserved c =
       next_width = length-set c.records.next c.from-core.result (get_or c.records.next c.from-core.result 0 + c.accesses.result) ∙ c.records.invariant.next_width;
       next = λ n d l. next_set rs c.records.place c.index-records-place.result (found at) c.from-core.result core_is c.args.slots.now tag c.accesses.result
           (tagged at slot tag is) c.accesses.ensures c.records.next c.records.invariant.next_width d (λ m h. c.records.invariant.next m d h) n l;
-      wide = c.replay_record.ensures.wide;
-      replayed = λ N h.
-          tagged_more image N c.args.part.count c.args.part.number rs c.records.place c.index-records-place.result (found at)
-          c.records.cells c.replay_record.new.cells (c.records.invariant.replayed N h) tag (tag_is at slot tag is image N h) c.in_ok-replay_record.field-0
-          x.away (λ t a. x.mine (did at image N) t (next_is at slot image N h a)) c.if-not-branch.false;
+      wide = elim c.else-is_of.branch [
+        | else-is_of-via-then-is_of+in_ok-replay_access+else-not-branch w ↦ subst IsWide (sym w.cells-is) w.replay_access.ensures.wide
+        | else-is_of-via-else-is_of w ↦ subst IsWide (sym w.cells-is) c.records.invariant.wide
+      ];
+      replayed = λ N h. elim c.else-is_of.branch [
+        | else-is_of-via-then-is_of+in_ok-replay_access+else-not-branch w ↦
+            let t = c.is_of.ensures.0 w.if-is_of.true in
+            let l : 0 < tag = omega (arith, t) in
+            subst (λ x. IsPartReplayed image N c.args.part.count c.args.part.number rs (c.records.place + 1) (cell_at image x)) (sym w.cells-is)
+            (tagged_more image N c.args.part.count c.args.part.number rs c.records.place c.index-records-place.result (found at)
+            c.records.cells w.replay_access.new.cells (c.records.invariant.replayed N h) tag (tag_is at slot tag is image N h) w.in_ok-replay_access.field-0
+            (λ n. absurd (n t))
+            (λ i a. done at slot tag is l w.index.result.now w.index.ensures w.in_ok-replay_access.field-0 w.replay_access.new.cells w.in_ok-replay_access.ensures.done N h a)
+            w.if-not-branch.false)
+        | else-is_of-via-else-is_of w ↦
+            subst (λ x. IsPartReplayed image N c.args.part.count c.args.part.number rs (c.records.place + 1) (cell_at image x)) (sym w.cells-is)
+            (tagged_more image N c.args.part.count c.args.part.number rs c.records.place c.index-records-place.result (found at)
+            c.records.cells c.records.cells (c.records.invariant.replayed N h) tag (tag_is at slot tag is image N h) true
+            (λ n. (refl, λ b. refl)) (λ t a. let f : true ≡ false = sym (c.is_of.ensures.1 t) ∙ w.if-is_of.false in absurd (cc)) refl)
+      ];
     }
 
 pub returns : goal.returns
