@@ -138,9 +138,9 @@ def made_there(folder, turns, source):
 
 
 def best_of(program, processors, folder):
-    """The least time of five runs on so many processors."""
+    """The least time of twenty runs on so many processors."""
     pin = ["taskset", "-c", "0" if processors == 1 else f"0-{processors - 1}"]
-    return min(flat.answer_of([*pin, str(program)], folder) for _ in range(5))
+    return min(flat.answer_of([*pin, str(program)], folder) for _ in range(20))
 
 
 def peak_of(program):
