@@ -1,4 +1,4 @@
 pub mod DeadStays
 pub mod DueEvents
 pub mod Running
-pub mod Rest
+pub mod Replayed

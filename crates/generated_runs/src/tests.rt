@@ -1,58 +1,75 @@
 //! Runs of a few sizes, beside what the reference simulator makes of the same.
-use crate::generate;
-use sn_base::{Event, NodeId};
+use crate::replay_generated;
+use script_replay::{ReportKind, Showing};
+use sn_base::Memory;
+use sn_io::MemSink;
+use sn_probe::ProbeSet;
+use std::alloc::Global;
 use std::process::Abort;
 use std::test::Fail;
+use text_lines::lines_of;
 
-/// An event by a letter and the number of a message or a node.
-fn event_of(rt: &impl Abort, letter: char, number: u8) -> Event {
-    let id = u64::from(number);
-    let node = NodeId::new(number % 16).expect(rt, "a node has a number below 16");
-    match letter {
-        's' => Event::Step(node),
-        'h' => Event::Hop(id),
-        'd' => Event::Deliver(id),
-        'l' => Event::Lose(id),
-        'e' => Event::Edge(node),
-        'r' => Event::Report(node),
-        _ => Event::Validate,
+/// Replays a run of so many events, and puts each with its answer to the report.
+fn report_of(rt: &impl Abort, alloc: Global, size: u32, report: &mut MemSink) -> Result<(), Fail>
+    requires { size ≤ 1000000 }
+{
+    let mut console = MemSink::with_room(alloc, 10_000)?;
+    let mut probes = ProbeSet::new(Vec::new(alloc));
+    let showing = Showing {
+        report: ReportKind::Events,
+        watch: None,
+    };
+    let done = replay_generated(alloc, size, showing, &mut probes, &mut console, report);
+    assert!(rt; done == Ok(()));
+    Ok(())
+}
+
+/// The lines of a report that are an event's, which begin with its place.
+fn event_lines<'a>(alloc: Global, report: &'a [u8]) -> Result<Vec<&'a [u8]>, Memory> {
+    let mut found = Vec::new(alloc);
+    let mut lines = lines_of(report);
+    'lines: while let Some(line) = lines.next_line() {
+        if line.first().is_some_and(|byte| byte.is_ascii_digit()) {
+            found.push(line)?;
+        }
     }
+    Ok(found)
 }
 
 #[test]
 fn a_run_of_24_events(rt: HostRuntime) -> Result<(), Fail> {
     let rows = [
-        ('s', 0),
-        ('s', 1),
-        ('s', 2),
-        ('s', 3),
-        ('s', 0),
-        ('s', 1),
-        ('s', 2),
-        ('s', 3),
-        ('s', 0),
-        ('s', 1),
-        ('s', 2),
-        ('s', 3),
-        ('d', 1),
-        ('h', 2),
-        ('h', 3),
-        ('h', 4),
-        ('d', 5),
-        ('h', 4),
-        ('h', 4),
-        ('d', 6),
-        ('s', 0),
-        ('s', 0),
-        ('d', 3),
-        ('d', 7),
+        "1 step 0:",
+        "2 step 1:",
+        "3 step 2:",
+        "4 step 3:",
+        "5 step 0:",
+        "6 step 1:",
+        "7 step 2:",
+        "8 step 3:",
+        "9 step 0:",
+        "10 step 1:",
+        "11 step 2:",
+        "12 step 3:",
+        "13 deliver 1:",
+        "14 hop 2:",
+        "15 hop 3:",
+        "16 hop 4:",
+        "17 deliver 5:",
+        "18 hop 4:",
+        "19 hop 4:",
+        "20 deliver 6:",
+        "21 step 0:",
+        "22 step 0:",
+        "23 deliver 3:",
+        "24 deliver 7:",
     ];
-    let (text, events) = generate(rt.alloc(), 24)?;
-    let words = b"800012b7\n00100313\n0062a3af\n03f3f513\n03050513\n00100893\n00000073\nfedff06f\n";
-    assert!(rt; text.as_slice() == words.as_slice());
-    assert!(rt; events.len() == rows.len());
-    for (event, (letter, number)) in events.iter().zip(&rows) {
-        assert!(rt; *event == event_of(&rt, *letter, *number));
+    let mut report = MemSink::with_room(rt.alloc(), 100_000)?;
+    report_of(&rt, rt.alloc(), 24, &mut report)?;
+    let lines = event_lines(rt.alloc(), report.bytes())?;
+    assert!(rt; lines.len() == rows.len());
+    for (line, row) in lines.iter().zip(&rows) {
+        assert!(rt; line.starts_with(row.as_bytes()));
     }
     Ok(())
 }
@@ -62,19 +79,21 @@ fn a_run_of_300_events_loses_a_message_after_its_first_validation(
     rt: HostRuntime,
 ) -> Result<(), Fail> {
     let rows = [
-        (12, 'd', 1),
-        (80, 'e', 0),
-        (87, 'r', 0),
-        (157, 'r', 1),
-        (166, 'v', 0),
-        (182, 'l', 29),
-        (299, 's', 2),
+        (12, "13 deliver 1:"),
+        (80, "81 edge 0:"),
+        (87, "88 report 0:"),
+        (157, "158 report 1:"),
+        (166, "167 validate:"),
+        (182, "183 lose 29:"),
+        (299, "300 step 2:"),
     ];
-    let (_text, events) = generate(rt.alloc(), 300)?;
-    assert!(rt; events.len() == 300);
-    for (place, letter, number) in &rows {
-        assert!(rt; *place < events.len());
-        assert!(rt; events[*place] == event_of(&rt, *letter, *number));
+    let mut report = MemSink::with_room(rt.alloc(), 100_000)?;
+    report_of(&rt, rt.alloc(), 300, &mut report)?;
+    let lines = event_lines(rt.alloc(), report.bytes())?;
+    assert!(rt; lines.len() == 300);
+    for (place, row) in &rows {
+        assert!(rt; *place < lines.len());
+        assert!(rt; lines[*place].starts_with(row.as_bytes()));
     }
     Ok(())
 }

@@ -8,10 +8,11 @@ ghost use Rattle.safetynet_main.specs.Status.{has_written};
 ghost use Rattle.safetynet_main.specs.Call.{Fetches, Comes, Follows, AsksNothing, due_of, EndsIn, IsRead};
 
 use crate::checking::check;
+use crate::demo::demo;
 use crate::files::load;
 use crate::job::Job;
 use crate::status::{Status, ended_as};
-use command_words::{WordsFault, read_words};
+use command_words::{Request, WordsFault, read_words};
 use node_run::{RunFault, run};
 use script_replay::{ReplayFault, replay};
 use sink_pieces::put_console;
@@ -82,6 +83,9 @@ fn answer<T: Threads + Wait + Sync, S: Store, C: Sink + Send, R: Sink, G: Gate +
         Err(WordsFault::Usage) => return Status::Usage,
         Err(WordsFault::Memory) => return Status::Memory,
     };
+    if let Request::Demo(size) = &request {
+        return demo(alloc, *size, console, report, probes);
+    }
     match load(alloc, store, &request) {
         Ok(job) => perform(rt, alloc, job, console, report, probes, gate),
         Err(status) => status,

@@ -1,14 +1,14 @@
-//! Files fetched from the store, and read; and a run that is generated in their place.
-ghost use Rattle.std.specs.Prelude.{◌≡◌, ◌≢◌, ◌≤◌, true, length, Some, Ok, Err, IfOk, string_bytes};
+//! Files fetched from the store, and read.
+ghost use Rattle.std.specs.Prelude.{◌≡◌, ◌≢◌, ◌≤◌, ℕ, true, length, Some, Ok, Err, IfOk, string_bytes};
 ghost use Rattle.sn_base.specs.Config.{lies_in, config_fits};
 ghost use Rattle.sn_io.specs.Outside.{Found};
 ghost use Rattle.consistent_cuts.specs.Runs.{AllFit};
 ghost use Rattle.command_words.specs.Request.{as_request, watch_fits, request_fits};
 ghost use Rattle.option_values.specs.Runs.{run_rules_fit};
 ghost use Rattle.safetynet_main.specs.Files.{program_in, script_in, trace_in, assembly_in};
-ghost use Rattle.safetynet_main.specs.Errand.{Due, Loads};
+ghost use Rattle.safetynet_main.specs.Errand.{Loads};
 ghost use Rattle.safetynet_main.specs.Call.{Fetches, found_by, report_of, report_shown, errand_of, replay_errand, run_errand};
-ghost use Rattle.safetynet_main.specs.Call.{check_errand, demo_errand, assembly_errand, listing_errand, IsRead};
+ghost use Rattle.safetynet_main.specs.Call.{check_errand, assembly_errand, listing_errand, IsRead};
 
 use crate::job::{Check, Job, Text, Trace};
 use crate::reading::{
@@ -16,11 +16,10 @@ use crate::reading::{
 };
 use crate::status::{ProgramCause, Status};
 use command_words::Request;
-use generated_runs::generate;
 use node_run::{Run, RunReport, RunShowing};
 use rv_asm::AsmCause;
 use script_replay::{Replay, ReportKind, Script, Showing};
-use sn_base::{Config, Image};
+use sn_base::Image;
 use sn_io::{Fetched, Store, StoreFault};
 use sn_text::ScriptCause;
 use std::alloc::Global;
@@ -243,38 +242,6 @@ fn load_check<S: Store>(
     }
 }
 
-// A generated run.
-fn load_demo(alloc: Global, size: u32) -> Result<Job, Status>
-    requires { lies_in 1 1000000 size ≡ true }
-    ensures due { result ≢ Err Status.Memory → demo_errand size ≡ Due result }
-    ensures read { IfOk result IsRead }
-{
-    let Ok((text, events)) = generate(alloc, size) else {
-        return Err(Status::Memory);
-    };
-    let program = match read_program(alloc, text.as_slice()) {
-        Ok(program) => program,
-        Err(status) => return Err(status),
-    };
-    let config = Config {
-        nodes: 4,
-        sets: 16,
-        ways: 4,
-        log: 256,
-    };
-    let showing = Showing {
-        report: ReportKind::Summary,
-        watch: None,
-    };
-    let script = Script::new(events);
-    Ok(Job::Replay(Replay {
-        program,
-        config,
-        showing,
-        script,
-    }))
-}
-
 fn load_assembly<S: Store>(alloc: Global, store: &mut S, text: &str) -> Result<Job, Status>
     ensures loads { result ≢ Err Status.Memory →
         Loads (Fetches S.files S.sure S.faults S.gave) (assembly_errand text.now) result store.old store.new }
@@ -303,9 +270,11 @@ fn load_listing<S: Store>(alloc: Global, store: &mut S, program: &str) -> Result
     }
 }
 
-/// What is due for a request: its files are fetched and read one after another, and the first that is refused decides.
+/// What is due for a request that names files: they are fetched and read one after another, and the first that is refused
+/// decides.
 pub fn load<S: Store>(alloc: Global, store: &mut S, request: &Request) -> Result<Job, Status>
-    requires { request_fits (as_request request.now) ≡ true }
+    requires fits { request_fits (as_request request.now) ≡ true }
+    requires files { (size : ℕ) → request.now ≡ Request.Demo size → ⊥ }
     ensures loads { result ≢ Err Status.Memory →
         Loads (Fetches S.files S.sure S.faults S.gave) (errand_of (Some (as_request request.now))) result store.old store.new }
     ensures read { IfOk result IsRead }
@@ -317,6 +286,6 @@ pub fn load<S: Store>(alloc: Global, store: &mut S, request: &Request) -> Result
         Request::Check(asked) => load_check(alloc, store, asked),
         Request::Assemble(text) => load_assembly(alloc, store, text.as_str()),
         Request::Disassemble(program) => load_listing(alloc, store, program.as_str()),
-        Request::Demo(size) => load_demo(alloc, *size),
+        Request::Demo(_) => unreachable!(),
     }
 }

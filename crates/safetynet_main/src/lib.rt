@@ -9,6 +9,7 @@
 
 mod call;
 mod checking;
+mod demo;
 mod files;
 mod job;
 mod reading;

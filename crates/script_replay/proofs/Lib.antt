@@ -7,5 +7,8 @@ pub mod Tallies
 pub mod SoFar
 pub mod ToldSoFar
 pub mod Stops
+pub mod Playing
 pub mod Shown
 pub mod Performed
+pub mod SameReplay
+pub mod Listed

@@ -1,12 +1,11 @@
 -- What a machine that is ready puts is what the definition says of its program and events.
-use Rattle.std.proofs.Common.{◌≡◌, ℕ, ◌+◌, ◌<◌, List, ◌++◌, map, length, take, ap, sym, subst, ◌∙◌, inl, inr}
+use Rattle.std.proofs.Common.{◌≡◌, ℕ, ◌+◌, ◌<◌, ◌≤◌, List, ◌++◌, map, length, take, refl, ap, sym, subst, ◌∙◌, inl, inr, arith}
 use Rattle.sn_base.specs.Image.{ImageData}
 use Rattle.sn_base.specs.declared.config.Config.{Config}
 use Rattle.sn_base.specs.declared.event.Event.{Event}
 use Rattle.sn_model.specs.Machine.{State, start_of}
 use Rattle.sn_machine.specs.Machine.{MachineData}
 use Rattle.consistent_cuts.specs.Headline.{IsRun}
-use Rattle.consistent_cuts.specs.Runs.{AllFit}
 use Rattle.sink_pieces.specs.Pieces.{Piece, Ends, after, Breaks}
 use Rattle.sn_probe.specs.Probes.{Meter, told_from, tallies_of}
 use Rattle.script_replay.specs.declared.job.Showing.{Showing}
@@ -14,6 +13,7 @@ use Rattle.script_replay.specs.declared.job.Replay.{Replay}
 use Rattle.script_replay.specs.Pieces.{turns_from, turns_of, pieces_from, pieces_of}
 use Rattle.script_replay.specs.Probed.{answered, told_of_run, told_all, tallies_due}
 use Rattle.script_replay.specs.Played.{pieces_left, told_left, turns_left, StopsAt, StopsAtEnd, Stops, IsReady}
+use Rattle.script_replay.specs.Scheduled.{replay_of}
 use Rattle.script_replay.specs.Shown.{pieces_due, IsReplayed, IsBrokenOff, BreaksAt, BreaksAtEnd, KnowApplied}
 use Rattle.script_replay.proofs.Shown.{shown-all, shown-part}
 
@@ -46,10 +46,28 @@ ready-pieces m image config showing tallies events script room ready same =
     ∙ ap (λ (t : Config). pieces_from m.image t showing tallies 0 (start_of image config.nodes) script) ready.sizes
     ∙ ap (λ t. pieces_from t config showing tallies 0 (start_of image config.nodes) script) ready.program
 
-pub ready-fit : (m : MachineData) (image : ImageData) (config : Config) (events script : List Event) (room : ℕ) →
-    IsReady m image config room → events ≡ script → AllFit config.nodes script → AllFit m.config.nodes events
-ready-fit m image config events script room ready same fit =
-    subst (λ (t : Config). AllFit t.nodes events) (sym ready.sizes) (subst (AllFit config.nodes) (sym same) fit)
+abbrev with_parts : Showing → ImageData → Config → List Event → Replay
+with_parts showing program config script = record { program = program; config = config; showing = showing; script = script }
+
+-- the replay of these events on it is the one that it is ready for
+pub ready-replay : (m : MachineData) (r : Replay) (events : List Event) (room : ℕ) → IsReady m r.program r.config room →
+    events ≡ r.script → replay_of m r.showing events ≡ r
+ready-replay m r events room ready same =
+    ap (λ (t : ImageData). with_parts r.showing t m.config events) ready.program
+    ∙ ap (λ (t : Config). with_parts r.showing r.program t events) ready.sizes ∙ ap (with_parts r.showing r.program r.config) same
+
+-- it is as ready for that one
+pub ready-on : (m : MachineData) (r : Replay) (events : List Event) (room : ℕ) → IsReady m r.program r.config room →
+    length events ≤ room → IsReady m m.image m.config (length events)
+ready-on m r events room ready few = record {
+  program = refl;
+  sizes = refl;
+  start =
+      ready.start ∙ ap (λ (t : ImageData). start_of t r.config.nodes) (sym ready.program)
+      ∙ ap (λ (t : Config). start_of m.image t.nodes) (sym ready.sizes);
+  new = ready.new;
+  room = omega (arith, few, ready.room);
+}
 
 module _ (m : MachineData) (r : Replay) (events : List Event) (room : ℕ) (probes : List Meter) (ready : IsReady m r.program r.config room) (same : events ≡ r.script) where
   all-told : told_left m events probes ≡ told_all r probes

@@ -1,7 +1,6 @@
 -- What the probes were told so far, and what is left.
-use Rattle.std.proofs.Common.{◌≡◌, ℕ, ◌+◌, ◌<◌, List, [], ◌∷◌, ◌++◌, map, take, length, get_or, ap, sym, ◌∙◌, append_assoc, append-nil}
-use Rattle.std.proofs.Common.{arith}
-use Rattle.std.proofs.lemmas.List.{take_more, take_all, map-id}
+use Rattle.std.proofs.Common.{◌≡◌, ℕ, ◌+◌, List, [], ◌∷◌, ◌++◌, map, ap, sym, ◌∙◌, append_assoc, append-nil}
+use Rattle.std.proofs.lemmas.List.{map-id}
 use Rattle.std.proofs.lemmas.Simd.{map-map}
 use Rattle.sn_base.specs.declared.event.Event.{Event}
 use Rattle.sn_base.specs.declared.event.Answer.{Answer}
@@ -14,32 +13,24 @@ told_left-event : (m : MachineData) (event : Event) (events : List Event) (probe
     told_left (after_event m event) events (told_next m event probes) ≡ told_left m (event ∷ events) probes
 told_left-event m event events probes = map-map _ _ probes
 
--- whatever is still to come, the first so many events were told
-abbrev pub IsToldSoFar : MachineData → List Event → List Meter → ℕ → MachineData → List Meter → Type 0
-IsToldSoFar start events before i m now_ = (rest : List Event) → told_left m rest now_ ≡ told_left start (take i events ++ rest) before
+-- whatever is still to come, these events were told before it
+abbrev pub IsToldSoFar : MachineData → List Event → List Meter → MachineData → List Meter → Type 0
+IsToldSoFar start done before m now_ = (rest : List Event) → told_left m rest now_ ≡ told_left start (done ++ rest) before
 
 -- one more is told
-pub told-next : (start m next : MachineData) (events : List Event) (before now_ behind : List Meter) (i : ℕ) (event : Event) →
-    i < length events → event ≡ get_or events i event → next ≡ after_event m event → behind ≡ told_next m event now_ →
-    IsToldSoFar start events before i m now_ → IsToldSoFar start events before (i + 1) next behind
-told-next start m next events before now_ behind i event below is_event is told h rest =
+pub told-next : (start m next : MachineData) (done : List Event) (before now_ behind : List Meter) (event : Event) →
+    next ≡ after_event m event → behind ≡ told_next m event now_ →
+    IsToldSoFar start done before m now_ → IsToldSoFar start (done ++ event ∷ []) before next behind
+told-next start m next done before now_ behind event is told h rest =
     ap (λ (t : MachineData). told_left t rest behind) is ∙ ap (told_left (after_event m event) rest) told
     ∙ told_left-event m event rest now_ ∙ h (event ∷ rest)
-    ∙ ap (λ t. told_left start t before)
-    (ap (λ e. take i events ++ e ∷ rest) is_event
-    ∙ sym (ap (λ t. t ++ rest) (take_more events i event below) ∙ append_assoc (take i events) (get_or events i event ∷ []) rest))
+    ∙ ap (λ t. told_left start t before) (sym (append_assoc done (event ∷ []) rest))
 
--- the first so many were told and no others
-pub told-first : (start m : MachineData) (events : List Event) (before now_ : List Meter) (i : ℕ) →
-    IsToldSoFar start events before i m now_ → now_ ≡ told_left start (take i events) before
-told-first start m events before now_ i h =
-    sym (map-id now_) ∙ h [] ∙ ap (λ t. told_left start t before) (append-nil (take i events))
-
--- all were told
-pub told-all : (start m : MachineData) (events : List Event) (before now_ : List Meter) (i : ℕ) → length events ≡ i →
-    IsToldSoFar start events before i m now_ → now_ ≡ told_left start events before
-told-all start m events before now_ i e h =
-    told-first start m events before now_ i h ∙ ap (λ t. told_left start t before) (take_all i events (omega (arith, e)))
+-- these were told and no others
+pub told-done : (start m : MachineData) (done : List Event) (before now_ : List Meter) →
+    IsToldSoFar start done before m now_ → now_ ≡ told_left start done before
+told-done start m done before now_ h =
+    sym (map-id now_) ∙ h [] ∙ ap (λ t. told_left start t before) (append-nil done)
 
 -- what the set of probes is told of an applied event is its number and its answer
 pub told-applied : (m n : MachineData) (event : Event) (said : Answer) (number : ℕ) (now_ behind : List Meter) → IsApplied m n event said →

@@ -1,4 +1,5 @@
 pub mod Pieces
 pub mod Probed
 pub mod Played
+pub mod Scheduled
 pub mod Shown

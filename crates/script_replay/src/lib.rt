@@ -1,4 +1,5 @@
-//! A replay: a script's events applied to a machine one after another, with all that is put of them.
+//! A replay: events applied to a machine one after another, with all that is put of them. They are a script's, or those of
+//! another schedule: which comes next, the machine may decide on which those before it were applied.
 //!
 //! The layer above knows it as a list of pieces, a function of the program, the machine's sizes, the events, what is to be
 //! shown, and the probes that are told each event; and it knows that at every moment the committed trace is an execution of the
@@ -10,7 +11,9 @@ mod job;
 mod lines;
 mod play;
 mod replaying;
+mod schedule;
 
 pub use job::{Replay, ReportKind, Script, Showing};
 pub use play::{put_end, put_summary};
-pub use replaying::{ReplayFault, replay};
+pub use replaying::{ReplayFault, replay, replay_on};
+pub use schedule::Schedule;

@@ -1,17 +1,20 @@
 //! Events one after another: what each releases goes to the console, and its group of lines to the report.
-ghost use Rattle.std.specs.Prelude.{◌≡◌, ℕ, List, [], ◌∷◌, ◌+◌, ◌≤◌, ◌++◌, ◌⊎◌, true, length, drop, Option, OnOk, OnErr, codes};
+ghost use Rattle.std.specs.Prelude.{◌≡◌, ℕ, List, [], ◌∷◌, ◌+◌, ◌≤◌, ◌++◌, ◌⊎◌, true, length, drop, Option, OnOk, OnErr, IfOk, codes};
 ghost use Rattle.sn_base.specs.Events.{event_fits};
 ghost use Rattle.sn_io.specs.Outside.{Rose};
 ghost use Rattle.consistent_cuts.specs.Runs.{AllFit};
 ghost use Rattle.sink_pieces.specs.Pieces.{ends, after, Breaks};
+ghost use Rattle.sn_machine.specs.Machine.{next_of};
 ghost use Rattle.sn_probe.specs.Probes.{meters_in, tallies_of};
 ghost use Rattle.script_replay.specs.Pieces.{group_pieces, trace_pieces, tally_pieces};
 ghost use Rattle.script_replay.specs.Played.{after_event, group_now, summed_up, end_now, turn_now, pieces_left, told_next, told_left};
 ghost use Rattle.script_replay.specs.Played.{Stops};
 ghost use Rattle.script_replay.specs.Played.{IsAlone, IsWatchable};
+ghost use Rattle.script_replay.specs.Scheduled.{left_on};
 
 use crate::job::{ReportKind, Showing};
 use crate::lines::{write_group, write_summary, write_tally};
+use crate::schedule::Schedule;
 use rv_core::Record;
 use sink_pieces::{put_console, put_report};
 use sn_base::{Answer, Event};
@@ -163,11 +166,12 @@ fn turn<C: Sink, R: Sink>(
     probes: &mut ProbeSet,
     console: &mut C,
     report: &mut R,
-) -> Result<(), Failed>
+) -> Result<Answer, Failed>
     requires fits { event_fits machine.old.config.nodes event.now ≡ true }
     requires room { 1 ≤ machine.old.spare }
     requires watched { IsWatchable showing.now.watch }
     ensures next { machine.new ≡ after_event machine.old event.now }
+    ensures answer { IfOk result (λ answer. answer ≡ (next_of machine.old event.now).answer) }
     ensures told { meters_in first tally step probes.new.probes.items
         ≡ told_next machine.old event.now (meters_in first tally step probes.old.probes.items) }
     ensures ok { OnOk result (ends (C.written console.new) (R.written report.new)
@@ -185,33 +189,37 @@ fn turn<C: Sink, R: Sink>(
     let view = machine.recovered();
     put_console(console, fresh(view.released(), had))?;
     put_group(line, event, &answer, machine, showing, report)?;
-    Ok(())
+    Ok(answer)
 }
 
-/// Applies all events, tells each to the probes and puts its pieces, and then puts those of the end.
-pub fn play<C: Sink, R: Sink>(
+/// Applies the events of a schedule one after another, tells each to the probes and puts its pieces, and then puts those of the
+/// end.
+pub fn play<S: Schedule, C: Sink, R: Sink>(
     machine: &mut Machine,
     line: &mut Line,
-    events: &[Event],
+    schedule: &mut S,
     showing: &Showing,
     probes: &mut ProbeSet,
     console: &mut C,
     report: &mut R,
 ) -> Result<(), Failed>
-    requires fit { AllFit machine.old.config.nodes events.now }
-    requires room { length events.now ≤ machine.old.spare }
+    requires serves { S.serves schedule.old machine.old.config.nodes }
+    requires fit { AllFit machine.old.config.nodes (left_on (S.left schedule.old) machine.old) }
+    requires room { length (left_on (S.left schedule.old) machine.old) ≤ machine.old.spare }
     requires watched { IsWatchable showing.now.watch }
     ensures ok { OnOk result (ends (C.written console.new) (R.written report.new)
         ≡ after (ends (C.written console.old) (R.written report.old))
         (pieces_left machine.old showing.now
-        (tallies_of (told_left machine.old events.now (meters_in first tally step probes.old.probes.items))) events.now)) }
+        (tallies_of (told_left machine.old (left_on (S.left schedule.old) machine.old)
+        (meters_in first tally step probes.old.probes.items))) (left_on (S.left schedule.old) machine.old))) }
     ensures told { OnOk result (meters_in first tally step probes.new.probes.items
-        ≡ told_left machine.old events.now (meters_in first tally step probes.old.probes.items)) }
+        ≡ told_left machine.old (left_on (S.left schedule.old) machine.old) (meters_in first tally step probes.old.probes.items)) }
     ensures err { OnErr result (Breaks
         (pieces_left machine.old showing.now
-        (tallies_of (told_left machine.old events.now (meters_in first tally step probes.old.probes.items))) events.now)
+        (tallies_of (told_left machine.old (left_on (S.left schedule.old) machine.old)
+        (meters_in first tally step probes.old.probes.items))) (left_on (S.left schedule.old) machine.old))
         (ends (C.written console.old) (R.written report.old)) (ends (C.written console.new) (R.written report.new))) }
-    ensures stops { OnErr result (Stops machine.old showing.now events.now
+    ensures stops { OnErr result (Stops machine.old showing.now (left_on (S.left schedule.old) machine.old)
         (ends (C.written console.old) (R.written report.old)) (meters_in first tally step probes.old.probes.items)
         (ends (C.written console.new) (R.written report.new)) (meters_in first tally step probes.new.probes.items)) }
     ensures console_later { C.faults console.old ≤ C.faults console.new }
@@ -219,8 +227,9 @@ pub fn play<C: Sink, R: Sink>(
     ensures cause { OnErr result
         (Rose (C.faults console.old) (C.faults console.new) ⊎ Rose (R.faults report.old) (R.faults report.new)) }
 {
-    'events: for event in events {
-        turn(machine, line, event, showing, probes, console, report)?;
+    'events: while let Some(event) = schedule.next(machine) {
+        let answer = turn(machine, line, &event, showing, probes, console, report)?;
+        schedule.note(&event, &answer);
     }
     put_end(line, machine, showing, probes, report)?;
     Ok(())

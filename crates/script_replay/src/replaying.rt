@@ -1,15 +1,17 @@
 //! A whole replay: all memory first, and then the events.
-ghost use Rattle.std.specs.Prelude.{◌≡◌, ◌≤◌, ◌⊎◌, true, OnOk, IfSome, Err};
+ghost use Rattle.std.specs.Prelude.{◌≡◌, ◌≤◌, ◌⊎◌, true, length, OnOk, IfSome, Err};
 ghost use Rattle.sn_base.specs.Config.{config_fits};
 ghost use Rattle.sn_io.specs.Outside.{Rose};
 ghost use Rattle.sink_pieces.specs.Pieces.{ends};
 ghost use Rattle.sn_probe.specs.Probes.{meters_in};
 ghost use Rattle.script_replay.specs.Played.{MayBegin, IsReady};
 ghost use Rattle.script_replay.specs.Probed.{told_all};
+ghost use Rattle.script_replay.specs.Scheduled.{left_on, replay_of};
 ghost use Rattle.script_replay.specs.Shown.{IsReplayed, IsBrokenOff, KnowApplied};
 
-use crate::job::Replay;
+use crate::job::{Replay, Showing};
 use crate::play::play;
+use crate::schedule::{Listed, Schedule};
 use sn_base::{Config, Image};
 use sn_io::Sink;
 use sn_machine::Machine;
@@ -38,6 +40,57 @@ fn machine_for(alloc: Global, program: Image, config: Config, events: u32) -> Op
     match machine.reserve(events) {
         Ok(()) => Some(machine),
         Err(_) => None,
+    }
+}
+
+/// Applies the events of a schedule on a machine that is at its program's start, tells each to every probe, puts the released
+/// bytes to the console, and puts what is to be shown to the report: the replay of the events that are left on the machine.
+pub fn replay_on<S: Schedule, C: Sink, R: Sink>(
+    alloc: Global,
+    machine: Machine,
+    schedule: S,
+    showing: Showing,
+    probes: &mut ProbeSet,
+    console: &mut C,
+    report: &mut R,
+) -> Result<(), ReplayFault>
+    requires ready { IsReady machine machine.image machine.config (length (left_on (S.left schedule) machine)) }
+    requires serves { S.serves schedule machine.config.nodes }
+    requires begin { MayBegin (replay_of machine showing (left_on (S.left schedule) machine)) }
+    ensures ok { OnOk result (IsReplayed (replay_of machine showing (left_on (S.left schedule) machine))
+        (meters_in first tally step probes.old.probes.items)
+        (ends (C.written console.old) (R.written report.old)) (ends (C.written console.new) (R.written report.new))) }
+    ensures told { OnOk result (meters_in first tally step probes.new.probes.items
+        ≡ told_all (replay_of machine showing (left_on (S.left schedule) machine))
+        (meters_in first tally step probes.old.probes.items)) }
+    ensures sink { result ≡ Err ReplayFault.Sink → IsBrokenOff (replay_of machine showing (left_on (S.left schedule) machine))
+        (meters_in first tally step probes.old.probes.items)
+        (ends (C.written console.old) (R.written report.old)) (ends (C.written console.new) (R.written report.new)) }
+    ensures applied { result ≡ Err ReplayFault.Sink → KnowApplied (replay_of machine showing (left_on (S.left schedule) machine))
+        (meters_in first tally step probes.old.probes.items)
+        (ends (C.written console.old) (R.written report.old)) (ends (C.written console.new) (R.written report.new))
+        (meters_in first tally step probes.new.probes.items) }
+    ensures memory { result ≡ Err ReplayFault.Memory →
+        (console.new ≡ console.old) × (report.new ≡ report.old) × (probes.new ≡ probes.old) }
+    ensures cause { result ≡ Err ReplayFault.Sink
+        → Rose (C.faults console.old) (C.faults console.new) ⊎ Rose (R.faults report.old) (R.faults report.new) }
+{
+    let mut machine = machine;
+    let mut schedule = schedule;
+    let Ok(mut line) = Line::new(alloc) else {
+        return Err(ReplayFault::Memory);
+    };
+    match play(
+        &mut machine,
+        &mut line,
+        &mut schedule,
+        &showing,
+        probes,
+        console,
+        report,
+    ) {
+        Ok(()) => Ok(()),
+        Err(_) => Err(ReplayFault::Sink),
     }
 }
 
@@ -78,22 +131,16 @@ pub fn replay<C: Sink, R: Sink>(
         script,
     } = job;
     let events = script.events();
-    let Some(mut machine) = machine_for(alloc, program, config, events.len() as u32) else {
+    let Some(machine) = machine_for(alloc, program, config, events.len() as u32) else {
         return Err(ReplayFault::Memory);
     };
-    let Ok(mut line) = Line::new(alloc) else {
-        return Err(ReplayFault::Memory);
-    };
-    match play(
-        &mut machine,
-        &mut line,
-        events,
-        &showing,
+    replay_on(
+        alloc,
+        machine,
+        Listed::new(events),
+        showing,
         probes,
         console,
         report,
-    ) {
-        Ok(()) => Ok(()),
-        Err(_) => Err(ReplayFault::Sink),
-    }
+    )
 }

@@ -2,12 +2,18 @@ use Rattle.std.proofs.Common.{ap, refl}
 use Rattle.std.specs.Prelude.{Ok, Err}
 use Rattle.safetynet_main.specs.Call.{Fetches}
 use Rattle.safetynet_main.proofs.CallLaws.{comes-none, comes-some}
+use Rattle.safetynet_main.proofs.Demos.{comes-demo}
 use Rattle.safetynet_main.proofs.call.answer.Goals as goal
 
 pub returns-in-Err-Usage-clause-comes : goal.returns-in-Err-Usage-clause-comes
 returns-in-Err-Usage-clause-comes g c = λ no.
     comes-none (Fetches g.S.Store.files g.S.Store.sure g.S.Store.faults g.S.Store.gave) _ _ _ _
     (c.in-Err-Usage.ensures.usage (ap (λ t. Err t) c.in-Err-Usage.field-0-is))
+
+pub returns-in-Demo-clause-comes : goal.returns-in-Demo-clause-comes
+returns-in-Demo-clause-comes g c = λ m.
+    comes-demo (Fetches g.S.Store.files g.S.Store.sure g.S.Store.faults g.S.Store.gave) _ _ c.in-Ok.request _ _ _ _ _ c.in-Ok.ensures.ok
+    c.in-Demo.is (c.demo.ensures.follows m)
 
 pub returns-clause-comes : goal.returns-clause-comes
 returns-clause-comes g c = λ no.

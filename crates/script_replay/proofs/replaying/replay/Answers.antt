@@ -1,27 +1,35 @@
-use Rattle.script_replay.proofs.Performed.{ready-fit, performed-all, performed-part, performed-told, performed-applied}
+use Rattle.std.proofs.Common.{◌∙◌, subst, sym, ap, length, arith}
+use Rattle.script_replay.specs.Played.{MayBegin}
+use Rattle.script_replay.proofs.Performed.{ready-replay, ready-on}
+use Rattle.script_replay.proofs.SameReplay.{as-replayed, as-broken, as-applied, as-told}
 use Rattle.script_replay.proofs.replaying.replay.Goals as goal
 
-pub play-requires-clause-fit : goal.play-requires-clause-fit
-play-requires-clause-fit g c =
-    ready-fit c.in-Some.machine c.args.job.program c.args.job.config c.events-events.result.now c.args.job.script _ c.in-Some.ensures
-    c.events-events.ensures c.requires.run.events_fit
+pub replay_on-requires-clause-ready : goal.replay_on-requires-clause-ready
+replay_on-requires-clause-ready g c =
+    ready-on c.in-Some.machine c.args.job c.new.result _ c.in-Some.ensures
+    (omega (arith, ap length c.new.ensures, ap length c.events-events.ensures, c.requires.few))
 
-pub returns-in-Ok-play-clause-ok : goal.returns-in-Ok-play-clause-ok
-returns-in-Ok-play-clause-ok g c =
-    performed-all c.in-Some.machine c.args.job c.events-events.result.now _ _ _ _ c.in-Some.ensures c.events-events.ensures c.requires.run
-    c.in-Ok-play.ensures.ok
+pub replay_on-requires-clause-begin : goal.replay_on-requires-clause-begin
+replay_on-requires-clause-begin g c =
+    subst MayBegin
+    (sym (ready-replay c.in-Some.machine c.args.job c.new.result _ c.in-Some.ensures (c.new.ensures ∙ c.events-events.ensures))) c.requires
 
-pub returns-in-Ok-play-clause-told : goal.returns-in-Ok-play-clause-told
-returns-in-Ok-play-clause-told g c =
-    performed-told c.in-Some.machine c.args.job c.events-events.result.now _ _ c.in-Some.ensures c.events-events.ensures _
-    c.in-Ok-play.ensures.told
+pub returns-clause-ok : goal.returns-clause-ok
+returns-clause-ok g c =
+    as-replayed _ c.args.job (ready-replay c.in-Some.machine c.args.job c.new.result _ c.in-Some.ensures (c.new.ensures ∙ c.events-events.ensures))
+    _ _ _ c.replay_on.result c.replay_on.ensures.ok
+
+pub returns-clause-told : goal.returns-clause-told
+returns-clause-told g c =
+    as-told c.replay_on.result _ c.args.job _ _
+    (ready-replay c.in-Some.machine c.args.job c.new.result _ c.in-Some.ensures (c.new.ensures ∙ c.events-events.ensures)) c.replay_on.ensures.told
 
 pub returns-clause-sink : goal.returns-clause-sink
-returns-clause-sink g c = λ no.
-    performed-part c.in-Some.machine c.args.job c.events-events.result.now _ _ _ _ c.in-Some.ensures c.events-events.ensures c.requires.run
-    c.in-Err.ensures.err
+returns-clause-sink g c =
+    as-broken _ c.args.job (ready-replay c.in-Some.machine c.args.job c.new.result _ c.in-Some.ensures (c.new.ensures ∙ c.events-events.ensures))
+    _ _ _ c.replay_on.ensures.sink
 
 pub returns-clause-applied : goal.returns-clause-applied
-returns-clause-applied g c = λ no.
-    performed-applied c.in-Some.machine c.args.job c.events-events.result.now _ _ _ _ _ c.in-Some.ensures c.events-events.ensures
-    c.in-Err.ensures.stops
+returns-clause-applied g c =
+    as-applied _ c.args.job (ready-replay c.in-Some.machine c.args.job c.new.result _ c.in-Some.ensures (c.new.ensures ∙ c.events-events.ensures))
+    _ _ _ _ c.replay_on.ensures.applied

@@ -1,17 +1,12 @@
-//! The text and the events.
-ghost use Rattle.std.specs.Prelude.{◌≡◌, ◌≤◌, ◌++◌, ◌*◌, true, IfOk, OnOk, length};
+//! The machine that a run begins on.
+ghost use Rattle.std.specs.Prelude.{◌≡◌, ◌≤◌, ◌++◌, ◌*◌, IfOk, OnOk};
 ghost use Rattle.std.specs.List.{flat_map};
 ghost use Rattle.byteorder.specs.Endian.{little_bytes};
-ghost use Rattle.asm_texts.specs.Texts.{words_text};
-ghost use Rattle.counting_program.specs.Program.{counting_words, counting_image};
-ghost use Rattle.consistent_cuts.specs.Runs.{AllFit};
-ghost use Rattle.generated_runs.specs.Generated.{generated_events, IsFresh};
+ghost use Rattle.counting_program.specs.Program.{counting_image};
+ghost use Rattle.generated_runs.specs.Generated.{generated_config, IsFresh};
 
-use crate::turns::drive;
-use asm_texts::words_text;
 use byteorder::{ByteOrder, LittleEndian};
-use sn_base::{Config, Event, Image, Memory, RAM_START, Segment};
-use sn_driver::{Driver, Rules};
+use sn_base::{Config, Image, Memory, RAM_START, Segment};
 use sn_machine::Machine;
 use std::alloc::Global;
 
@@ -57,7 +52,7 @@ fn counting_image(alloc: Global) -> Result<Image, Memory>
 }
 
 /// A fresh machine of the program, with room for so many events.
-fn start(alloc: Global, size: u32) -> Result<Machine, Memory>
+pub fn start(alloc: Global, size: u32) -> Result<Machine, Memory>
     requires { size ≤ 1000000 }
     ensures fresh { IfOk result (λ machine. IsFresh machine) }
     ensures room { IfOk result (λ machine. size ≤ machine.spare) }
@@ -72,26 +67,4 @@ fn start(alloc: Global, size: u32) -> Result<Machine, Memory>
     let mut machine = Machine::new(alloc, image, config)?;
     machine.reserve(size)?;
     Ok(machine)
-}
-
-/// The program's text, one word a line, and exactly so many events: those that are due, one after another, in turns of workers 0 to
-/// 3 and again from 0, with the numbers that the generator gives that the size seeds.
-pub fn generate(alloc: Global, size: u32) -> Result<(Vec<u8>, Vec<Event>), Memory>
-    requires some { 1 ≤ size }
-    requires few { size ≤ 1000000 }
-    ensures text { IfOk result (λ run. run.0.items ≡ words_text counting_words) }
-    ensures due { IfOk result (λ run. run.1.items ≡ generated_events size) }
-    ensures count { IfOk result (λ run. length run.1.items ≡ size) }
-    ensures fit { IfOk result (λ run. AllFit 4 run.1.items) }
-{
-    let text = words_text(alloc, &COUNTING)?;
-    let machine = start(alloc, size)?;
-    let rules = Rules {
-        interval: 20,
-        wait: 2_000,
-        lose_every: 97,
-        kill: None,
-    };
-    let events = drive(alloc, machine, Driver::new(rules, 4), size)?;
-    Ok((text, events))
 }
