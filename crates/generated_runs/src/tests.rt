@@ -1,4 +1,6 @@
 //! Runs of a few sizes, beside what the reference simulator makes of the same.
+ghost use Rattle.std.specs.Prelude.{◌≤◌};
+
 use crate::replay_generated;
 use script_replay::{ReportKind, Showing};
 use sn_base::Memory;
