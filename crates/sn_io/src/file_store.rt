@@ -1,5 +1,6 @@
 //! A store over the files of the system: a trusted edge.
-ghost use Rattle.std.specs.Prelude.{◌≡◌, ◌≢◌, ◌⊎◌, ◌+◌, [], length, take, nat_lt, if◌then◌else◌, Some, Ok, Err, IfOk, OnOk, OnErr, IfSome};
+ghost use Rattle.std.specs.Prelude.{◌≡◌, ◌≢◌, ◌+◌, [], length, take, nat_lt, if◌then◌else◌, Some, Ok, Err, IfOk, IfErr, OnOk, IfSome};
+ghost use Rattle.std.specs.IoError.{error_kind};
 ghost use Rattle.sn_io.specs.Outside.{found_in, found_of};
 
 use crate::outside::{Fetched, Store, StoreFault};
@@ -42,7 +43,8 @@ fn read_past<F: Read + Drop>(file: F, limit: usize, into: &mut Vec<u8>) -> io::R
 // What it comes to that so many bytes were read, or that reading failed.
 fn fetched_by(read: &io::Result<usize>, limit: usize) -> Result<Fetched, StoreFault>
     ensures read { IfOk read.now (λ count. result ≡ Ok (if nat_lt limit count then Fetched.Longer else Fetched.Whole)) }
-    ensures failed { OnErr read.now ((result ≡ Err StoreFault.Failed) ⊎ (result ≡ Err StoreFault.Memory)) }
+    ensures lacked { IfErr read.now (λ error. error_kind error ≡ ErrorKind.OutOfMemory → result ≡ Err StoreFault.Memory) }
+    ensures failed { IfErr read.now (λ error. error_kind error ≢ ErrorKind.OutOfMemory → result ≡ Err StoreFault.Failed) }
 {
     match read {
         Ok(count) if *count > limit => Ok(Fetched::Longer),
