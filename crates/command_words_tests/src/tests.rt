@@ -59,7 +59,7 @@ fn read(alloc: Global, line: &str) -> Result<String, Memory> {
     }
 }
 
-const REQUESTS: [(&str, &str); 31] = [
+const REQUESTS: &[(&str, &str)] = &[
     (
         "replay p s",
         "replay p s (4 nodes, 16 sets, 4 ways, log 256) None false",
@@ -172,12 +172,12 @@ const REQUESTS: [(&str, &str); 31] = [
 fn words_that_are_requests(rt: HostRuntime) -> Result<(), Fail> {
     for (line, request) in REQUESTS {
         let read = read(rt.alloc(), line)?;
-        assert_eq!(rt; read.as_str(), request, "at {line}");
+        assert_eq!(rt; read.as_str(), *request, "at {line}");
     }
     Ok(())
 }
 
-const USAGE: [&str; 82] = [
+const USAGE: &[&str] = &[
     "",
     "''",
     "help",

@@ -438,11 +438,11 @@ fn run_witnessed<T: Threads + Wait + Sync + Abort>(
 }
 
 /// How many probes there are, and how often they are told something in a run of 400 events.
-const TOLD: [(u64, u64); 3] = [(0, 0), (1, 400), (100, 40_000)];
+const TOLD: &[(u64, u64)] = &[(0, 0), (1, 400), (100, 40_000)];
 
 #[test]
 fn each_probe_is_told_each_event_and_dropped_once(rt: HostRuntime) -> Result<(), Fail> {
-    for (count, wanted) in &TOLD {
+    for (count, wanted) in TOLD {
         let (told, before, after) = run_witnessed(&rt, rt.alloc(), *count)?;
         assert!(rt; told == *wanted && before == 0 && after == *count);
     }

@@ -145,7 +145,7 @@ fn every_cut_is_refused_by_the_place_that_is_missing(rt: HostRuntime) -> Result<
 }
 
 /// Fields of the file's header, in the order in which they are tried.
-const FIELDS: [Change; 10] = [
+const FIELDS: &[Change] = &[
     (
         1,
         &[0x46],
@@ -172,10 +172,10 @@ const FIELDS: [Change; 10] = [
 
 #[test]
 fn fields_are_tried_in_order(rt: HostRuntime) -> Result<(), Memory> {
-    each_has_its_cause(&rt, rt.alloc(), &FIELDS)
+    each_has_its_cause(&rt, rt.alloc(), FIELDS)
 }
 
-const TABLES: [Change; 3] = [
+const TABLES: &[Change] = &[
     (44, &[64], None),
     (44, &[65], Some(LoadCause::TooManySegments(65))),
     (44, &[0], Some(LoadCause::BadEntry(0x8000_0000))),
@@ -183,14 +183,14 @@ const TABLES: [Change; 3] = [
 
 #[test]
 fn a_table_has_at_most_64_headers(rt: HostRuntime) -> Result<(), Memory> {
-    each_has_its_cause(&rt, rt.alloc(), &TABLES)
+    each_has_its_cause(&rt, rt.alloc(), TABLES)
 }
 
 const MOST: &[u8] = &[0xff, 0xff, 0xff, 0xff];
 
 /// The greatest number in each field of the file's header and of the three that follow, alone; in several fields of one; and in the
 /// table's place where it has 64 headers.
-const GREATEST: [Change; 38] = [
+const GREATEST: &[Change] = &[
     (0, MOST, Some(LoadCause::BadHexLine(1))),
     (4, &[255], Some(LoadCause::WrongField(Field::Class, 255))),
     (5, &[255], Some(LoadCause::WrongField(Field::Order, 255))),
@@ -263,12 +263,12 @@ const GREATEST: [Change; 38] = [
 
 #[test]
 fn greatest_numbers_do_not_wrap(rt: HostRuntime) -> Result<(), Memory> {
-    each_has_its_cause(&rt, rt.alloc(), &GREATEST)
+    each_has_its_cause(&rt, rt.alloc(), GREATEST)
 }
 
 /// Flags of the code, then the data's address in memory, its sizes and its flags: at the end of memory and past it, below memory, at
 /// the last byte of the code and after it, and empty.
-const SEGMENTS: [Change; 7] = [
+const SEGMENTS: &[Change] = &[
     (108, &[7], Some(LoadCause::WritableCode(1))),
     (124, &[0xf8, 0xff, 0x3f, 0x80, 0, 0, 0, 0, 4, 0, 0, 0], None),
     (
@@ -286,10 +286,10 @@ const SEGMENTS: [Change; 7] = [
 fn segments_lie_in_memory_apart_and_are_not_both_written_and_executed(
     rt: HostRuntime,
 ) -> Result<(), Memory> {
-    each_has_its_cause(&rt, rt.alloc(), &SEGMENTS)
+    each_has_its_cause(&rt, rt.alloc(), SEGMENTS)
 }
 
-const ENTRIES: [Change; 4] = [
+const ENTRIES: &[Change] = &[
     (24, &[0x10], None),
     (24, &[0x14], Some(LoadCause::BadEntry(0x8000_0014))),
     (24, &[2], Some(LoadCause::BadEntry(0x8000_0002))),
@@ -298,7 +298,7 @@ const ENTRIES: [Change; 4] = [
 
 #[test]
 fn the_entry_is_a_word_of_code(rt: HostRuntime) -> Result<(), Memory> {
-    each_has_its_cause(&rt, rt.alloc(), &ENTRIES)
+    each_has_its_cause(&rt, rt.alloc(), ENTRIES)
 }
 
 #[test]
@@ -319,7 +319,7 @@ fn a_text_is_lines_of_words(rt: HostRuntime) -> Result<(), Fail> {
 }
 
 /// Texts, and why each is refused.
-const TEXTS: [(&[u8], LoadCause); 8] = [
+const TEXTS: &[(&[u8], LoadCause)] = &[
     (b"0410051", LoadCause::BadHexLine(1)),
     (b"00000073\n\n000000073\n", LoadCause::BadHexLine(3)),
     (b"0000007g\n", LoadCause::BadHexLine(1)),
@@ -332,7 +332,7 @@ const TEXTS: [(&[u8], LoadCause); 8] = [
 
 #[test]
 fn lines_that_are_no_words_are_named(rt: HostRuntime) -> Result<(), Memory> {
-    for (text, wanted) in &TEXTS {
+    for (text, wanted) in TEXTS {
         let found = cause(rt.alloc(), text)?;
         same(&rt, "a text", &found, &Some(*wanted));
     }

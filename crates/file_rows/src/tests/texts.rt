@@ -13,7 +13,7 @@ fn node(rt: &impl Abort, number: u8) -> NodeId {
 }
 
 /// Scripts for four nodes, each with the cause for which it is refused.
-const REFUSED_SCRIPTS: [(&str, ScriptCause); 41] = [
+const REFUSED_SCRIPTS: &[(&str, ScriptCause)] = &[
     ("step", ScriptCause::BadLine(1)),
     ("step ", ScriptCause::BadLine(1)),
     ("step  0", ScriptCause::BadLine(1)),
@@ -58,7 +58,7 @@ const REFUSED_SCRIPTS: [(&str, ScriptCause); 41] = [
 ];
 
 /// Traces of four cores, each with the cause for which it is refused.
-const REFUSED_TRACES: [(&str, ScriptCause); 23] = [
+const REFUSED_TRACES: &[(&str, ScriptCause)] = &[
     ("0", ScriptCause::BadLine(1)),
     ("0 00000000", ScriptCause::BadLine(1)),
     ("0 00000000 ", ScriptCause::BadLine(1)),
@@ -122,8 +122,8 @@ fn each_is_refused(
 
 #[test]
 fn the_first_cause_is_given_at_its_line(rt: HostRuntime) -> Result<(), Memory> {
-    each_is_refused(&rt, rt.alloc(), &REFUSED_SCRIPTS, false)?;
-    each_is_refused(&rt, rt.alloc(), &REFUSED_TRACES, true)
+    each_is_refused(&rt, rt.alloc(), REFUSED_SCRIPTS, false)?;
+    each_is_refused(&rt, rt.alloc(), REFUSED_TRACES, true)
 }
 
 fn written(rt: &impl Abort, line: &Line, text: &str) {
@@ -203,7 +203,7 @@ fn record_has_line(
 }
 
 /// A record's core, what it saw, whether it is a store-conditional that was done, and the byte of input that it read; and its line.
-const RECORDS: [(u8, u32, bool, Option<u8>, &str); 3] = [
+const RECORDS: &[(u8, u32, bool, Option<u8>, &str)] = &[
     (0, 0, false, None, "0 00000000 0\n"),
     (15, 0x1234_abcd, true, None, "15 1234abcd 1\n"),
     (3, 0xffff_ffff, false, Some(0x4e), "3 ffffffff 0 4e\n"),
@@ -212,7 +212,7 @@ const RECORDS: [(u8, u32, bool, Option<u8>, &str); 3] = [
 #[test]
 fn each_record_is_written_and_read_back(rt: HostRuntime) -> Result<(), Fail> {
     let mut line = Line::new(rt.alloc())?;
-    for (core, seen, sc_done, read, text) in &RECORDS {
+    for (core, seen, sc_done, read, text) in RECORDS {
         let record = Record {
             core: node(&rt, *core),
             seen: *seen,

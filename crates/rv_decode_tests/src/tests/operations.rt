@@ -2,7 +2,7 @@
 use super::{Row, all_met};
 use rv_decode::{Illegal, ImmOp, Instr, RegOp};
 
-const IMMEDIATE_ROWS: [Row; 9] = [
+const IMMEDIATE_ROWS: &[Row] = &[
     (
         0x3b22_8f13,
         Instr::OpImm {
@@ -106,10 +106,10 @@ const IMMEDIATE_ROWS: [Row; 9] = [
 
 #[test]
 fn operations_with_an_immediate(rt: HostRuntime) {
-    all_met(&rt, &IMMEDIATE_ROWS);
+    all_met(&rt, IMMEDIATE_ROWS);
 }
 
-const REGISTER_ROWS: [Row; 10] = [
+const REGISTER_ROWS: &[Row] = &[
     (
         0x0144_8e33,
         Instr::Op {
@@ -245,5 +245,5 @@ const REGISTER_ROWS: [Row; 10] = [
 
 #[test]
 fn operations_on_two_registers(rt: HostRuntime) {
-    all_met(&rt, &REGISTER_ROWS);
+    all_met(&rt, REGISTER_ROWS);
 }

@@ -3,7 +3,7 @@ use super::{Row, all_met};
 use rv_decode::{AmoOp, BranchOp, Illegal, ImmOp, Instr, decode};
 use sn_base::Width;
 
-const SYSTEM_ROWS: [Row; 14] = [
+const SYSTEM_ROWS: &[Row] = &[
     (0x0ff0_000f, Instr::Fence, 0x0ff0_001f, Err(Illegal)),
     (0x0000_0073, Instr::Ecall, 0x0000_007b, Err(Illegal)),
     (0x0010_0073, Instr::Ebreak, 0x0050_0073, Err(Illegal)),
@@ -144,11 +144,11 @@ const SYSTEM_ROWS: [Row; 14] = [
 
 #[test]
 fn fences_calls_and_atomics(rt: HostRuntime) {
-    all_met(&rt, &SYSTEM_ROWS);
+    all_met(&rt, SYSTEM_ROWS);
 }
 
 /// The free bits of each word have something else than an assembler writes.
-const WITH_FREE_BITS: [(u32, Instr); 4] = [
+const WITH_FREE_BITS: &[(u32, Instr)] = &[
     (0x8330_000f, Instr::Fence),
     (0x1609_a8af, Instr::Lr { rd: 17, rs1: 19 }),
     (0x1009_a8af, Instr::Lr { rd: 17, rs1: 19 }),
@@ -166,12 +166,12 @@ const WITH_FREE_BITS: [(u32, Instr); 4] = [
 #[test]
 fn free_bits_are_not_looked_at(rt: HostRuntime) {
     for (word, instr) in WITH_FREE_BITS {
-        assert!(rt; decode(word) == Ok(instr), "{word:08x}");
+        assert!(rt; decode(*word) == Ok(*instr), "{word:08x}");
     }
 }
 
 /// Operands at the end of a form, or beyond it, and whether they fit.
-const AT_THE_ENDS: [(Instr, bool); 7] = [
+const AT_THE_ENDS: &[(Instr, bool)] = &[
     (Instr::Jal { rd: 0, offset: 3 }, false),
     (
         Instr::Jal {

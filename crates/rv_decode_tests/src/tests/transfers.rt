@@ -3,7 +3,7 @@ use super::{Row, all_met};
 use rv_decode::{BranchOp, Illegal, ImmOp, Instr, LoadOp};
 use sn_base::Width;
 
-const TRANSFER_ROWS: [Row; 10] = [
+const TRANSFER_ROWS: &[Row] = &[
     (
         0x42c6_c437,
         Instr::Lui {
@@ -116,10 +116,10 @@ const TRANSFER_ROWS: [Row; 10] = [
 
 #[test]
 fn jumps_and_branches(rt: HostRuntime) {
-    all_met(&rt, &TRANSFER_ROWS);
+    all_met(&rt, TRANSFER_ROWS);
 }
 
-const MEMORY_ROWS: [Row; 8] = [
+const MEMORY_ROWS: &[Row] = &[
     (
         0x87cb_0c03,
         Instr::Load {
@@ -237,5 +237,5 @@ const MEMORY_ROWS: [Row; 8] = [
 
 #[test]
 fn loads_and_stores(rt: HostRuntime) {
-    all_met(&rt, &MEMORY_ROWS);
+    all_met(&rt, MEMORY_ROWS);
 }

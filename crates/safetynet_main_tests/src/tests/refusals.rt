@@ -10,7 +10,7 @@ use std::sync::Wait;
 use std::test::Fail;
 use std::thread::Threads;
 
-const NO_COMMANDS: [&str; 11] = [
+const NO_COMMANDS: &[&str] = &[
     "safetynet",
     "safetynet fly",
     "safetynet replay --nodes 17 a.hex a.script",
@@ -42,7 +42,7 @@ fn writes_nothing(
 #[test]
 fn words_that_are_no_command_are_usage(rt: HostRuntime) -> Result<(), Fail> {
     let (program, script) = (PUTS_A.as_bytes(), VALIDATED.as_bytes());
-    for words in &NO_COMMANDS {
+    for words in NO_COMMANDS {
         writes_nothing(&rt, rt.alloc(), words, program, script, Status::Usage)?;
     }
     Ok(())
@@ -51,7 +51,7 @@ fn words_that_are_no_command_are_usage(rt: HostRuntime) -> Result<(), Fail> {
 const NO_WORDS: Status = Status::BadProgram(ProgramCause::Load(LoadCause::Empty));
 
 /// Words, a program or a text, and a script, and how the call ends.
-const REFUSED: [(&str, &str, &str, Status); 7] = [
+const REFUSED: &[(&str, &str, &str, Status)] = &[
     (
         "safetynet replay b.hex a.script",
         PUTS_A,
@@ -83,7 +83,7 @@ const REFUSED: [(&str, &str, &str, Status); 7] = [
 
 #[test]
 fn a_file_that_is_refused_is_refused_by_its_first_cause(rt: HostRuntime) -> Result<(), Fail> {
-    for (words, program, script, status) in &REFUSED {
+    for (words, program, script, status) in REFUSED {
         let (program, script) = (program.as_bytes(), script.as_bytes());
         writes_nothing(&rt, rt.alloc(), words, program, script, *status)?;
     }
@@ -96,7 +96,7 @@ fn comment(alloc: Global, length: usize) -> Result<Vec<u8>, AllocError> {
 }
 
 /// Calls whose program or text is a comment of so many bytes, and how they end: 16 MiB are the most.
-const LONG_PROGRAMS: [(&str, usize, Status); 4] = [
+const LONG_PROGRAMS: &[(&str, usize, Status)] = &[
     ("safetynet asm a.hex", 16_777_216, Status::Done),
     (
         "safetynet asm a.hex",
@@ -113,7 +113,7 @@ const LONG_PROGRAMS: [(&str, usize, Status); 4] = [
 
 #[test]
 fn a_program_or_a_text_has_at_most_16_mebibytes(rt: HostRuntime) -> Result<(), Fail> {
-    for (words, length, status) in &LONG_PROGRAMS {
+    for (words, length, status) in LONG_PROGRAMS {
         let file = comment(rt.alloc(), *length)?;
         writes_nothing(&rt, rt.alloc(), words, file.as_slice(), b"", *status)?;
     }
@@ -121,12 +121,12 @@ fn a_program_or_a_text_has_at_most_16_mebibytes(rt: HostRuntime) -> Result<(), F
 }
 
 /// Calls whose script or trace is too long: 32 MiB are the most.
-const LONG_SCRIPTS: [&str; 2] = [WORDS, "safetynet check --nodes 1 a.hex a.script"];
+const LONG_SCRIPTS: &[&str] = &[WORDS, "safetynet check --nodes 1 a.hex a.script"];
 
 #[test]
 fn a_script_or_a_trace_has_at_most_32_mebibytes(rt: HostRuntime) -> Result<(), Fail> {
     let file = comment(rt.alloc(), 33_554_433)?;
-    for words in &LONG_SCRIPTS {
+    for words in LONG_SCRIPTS {
         let want = Status::BadScript(ScriptCause::TooLong);
         writes_nothing(
             &rt,
