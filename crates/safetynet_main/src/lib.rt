@@ -16,4 +16,4 @@ mod reading;
 mod status;
 
 pub use call::safetynet;
-pub use status::{ProgramCause, Status, trap_word};
+pub use status::{ProgramCause, Status};

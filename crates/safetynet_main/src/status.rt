@@ -1,7 +1,6 @@
 //! How a call ends.
 ghost use Rattle.std.specs.Prelude.{◌≡◌, ◌++◌, codes};
 ghost use Rattle.safetynet_main.specs.Status.{number_of, load_name, program_name, script_name, asm_name, word_of, place_of};
-ghost use Rattle.sn_text.specs.Text.{cause_text};
 ghost use Rattle.safetynet_main.specs.Outcome.{ending_status};
 
 use elf_load::LoadCause;
@@ -115,21 +114,6 @@ pub fn ended_as(ending: Ending) -> Status
         Ending::Trapped(node, cause) => Status::Trapped(node, cause),
         Ending::CutOff(a, b) => Status::CutOff(a, b),
         Ending::Spent => Status::Budget,
-    }
-}
-
-/// The name of a trap's cause, which stands after the node.
-pub fn trap_word(cause: Cause) -> &'static str
-    ensures { result.now ≡ cause_text cause }
-{
-    match cause {
-        Cause::Illegal => "illegal",
-        Cause::FetchFault => "fetch",
-        Cause::MisalignedTarget => "target",
-        Cause::MisalignedAccess => "misaligned",
-        Cause::AccessFault => "access",
-        Cause::UnknownCall => "call",
-        Cause::Break => "break",
     }
 }
 

@@ -6,16 +6,18 @@
 //! standard error. Calls for help or the version are its own to answer.
 #![tactic(auto)]
 
-ghost use Rattle.std.specs.Prelude.{◌≡◌, ◌≢◌, map, string_bytes};
+ghost use Rattle.std.specs.Prelude.{◌≡◌, ◌≢◌, false, map, string_bytes};
 ghost use Rattle.command_words.specs.Command.{the_app};
 ghost use Rattle.own_pages.specs.Pages.{page_by};
 ghost use Rattle.own_pages.specs.Texts.{text_on};
+ghost use Rattle.safetynet_main.specs.Status.{has_written};
 ghost use Rattle.sn_io.specs.Outside.{Rose, followed_by};
 
 use own_pages::{Page, page_of, show};
-use safetynet_main::{Status, safetynet, trap_word};
+use safetynet_main::{Status, safetynet};
 use sn_io::{FileStore, OpenGate, Sink, StdSink};
 use sn_probe::{EventTally, Probe};
+use sn_text::trap_name;
 use std::alloc::Global;
 use std::env;
 use std::io::{BufWriter, ErrorKind, IsTerminal, Write};
@@ -43,6 +45,22 @@ fn answer<C: Sink>(console: &mut C, page: Page) -> Status
     match show(console, page) {
         Ok(()) => Status::Done,
         Err(_) => Status::SinkFault,
+    }
+}
+
+// How the call ends once what is held back of its report has gone out: where that fails, a text that was written is not whole.
+fn finished<R: Write + Drop>(report: &mut StdSink<R>, status: Status) -> Status
+    ensures failed { result ≢ status → result ≡ Status.SinkFault }
+    ensures unwritten { has_written status ≡ false → result ≡ status }
+{
+    match status {
+        Status::Done
+        | Status::Refused(_)
+        | Status::Budget
+        | Status::CutOff(_, _)
+        | Status::Trapped(_, _)
+            if report.finish().is_err() => { Status::SinkFault }
+        _ => status,
     }
 }
 
@@ -79,15 +97,7 @@ where
         probes,
         &gate,
     );
-    match status {
-        Status::Done
-        | Status::Refused(_)
-        | Status::Budget
-        | Status::CutOff(_, _)
-        | Status::Trapped(_, _)
-            if report.finish().is_err() => { Status::SinkFault }
-        _ => status,
-    }
+    finished(&mut report, status)
 }
 
 // Names on standard error the status of a call in which not all is done, a trace is refused, or a run didn't end with all
@@ -101,7 +111,7 @@ fn name_status(rt: &HostRuntime, status: &Status) {
             eprintln!(rt;
                 "# safetynet: {word} {} {}",
                 node.number(),
-                trap_word(*cause)
+                trap_name(*cause)
             )
         }
         _ => eprintln!(rt; "# safetynet: {word}"),

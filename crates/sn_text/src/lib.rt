@@ -22,4 +22,5 @@ pub use cause::{Fault, ScriptCause, ScriptFault};
 pub use laws::{scripts_are_read_back, traces_are_read_back};
 pub use line::Line;
 pub use script::read_script;
+pub use state_text::trap_name;
 pub use trace::read_trace;

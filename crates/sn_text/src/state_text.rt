@@ -46,7 +46,8 @@ fn place_of(body: &Body, block: BlockNo) -> u64
     }
 }
 
-fn name_of_cause(cause: Cause) -> &'static str
+/// The name of a trap's cause, as the lines of cores have it.
+pub fn trap_name(cause: Cause) -> &'static str
     ensures name { result.now ≡ cause_text cause }
     ensures short { length result.now ≤ 10 }
 {
@@ -155,7 +156,7 @@ impl Line {
             End::Exited(code) => self.named("exited", u64::from(*code)),
             End::Trapped(cause) => {
                 self.text("trapped ");
-                self.text(name_of_cause(*cause));
+                self.text(trap_name(*cause));
             }
         }
     }

@@ -2,12 +2,12 @@
 use elf_load::LoadCause;
 use rv_asm::AsmCause;
 use rv_core::Cause;
-use safetynet_main::{ProgramCause, Status, trap_word};
+use safetynet_main::{ProgramCause, Status};
 use sn_base::NodeId;
-use sn_text::ScriptCause;
+use sn_text::{ScriptCause, trap_name};
 use std::process::Abort;
 
-const STATUSES: [(Status, u8, &str); 10] = [
+const STATUSES: &[(Status, u8, &str)] = &[
     (Status::Done, 0, "done"),
     (Status::Usage, 1, "usage"),
     (Status::StoreFault, 2, "store"),
@@ -32,7 +32,7 @@ const STATUSES: [(Status, u8, &str); 10] = [
     ),
 ];
 
-const TRAPS: [(Cause, &str); 7] = [
+const TRAPS: &[(Cause, &str)] = &[
     (Cause::Illegal, "illegal"),
     (Cause::FetchFault, "fetch"),
     (Cause::MisalignedTarget, "target"),
@@ -51,7 +51,7 @@ fn is_shown(rt: &impl Abort, status: Status, number: u8, word: &str) {
 
 #[test]
 fn a_status_has_its_number_and_word(rt: HostRuntime) {
-    for (status, number, word) in &STATUSES {
+    for (status, number, word) in STATUSES {
         is_shown(&rt, *status, *number, word);
     }
 }
@@ -67,7 +67,7 @@ fn a_status_with_nodes_or_a_place_has_its_number_and_word(rt: HostRuntime) {
 
 #[test]
 fn a_trap_has_its_word(rt: HostRuntime) {
-    for (cause, word) in &TRAPS {
-        assert!(rt; trap_word(*cause) == *word, "of {word}");
+    for (cause, word) in TRAPS {
+        assert!(rt; trap_name(*cause) == *word, "of {word}");
     }
 }
