@@ -1,8 +1,8 @@
 #!/usr/bin/env bash
 # Runs each example by the README's first command and compares console, report and status with the files beside it: the first
 # program once as hexadecimal words and once as an ELF file, and those of examples/shared, examples/asm and examples/traces by the
-# words that their scripts and traces begin with. What a replay shows as its trace is to be legal. Then runs programs, scripts and
-# words that are refused, and compares the status and its word.
+# words that their scripts and traces begin with. What a replay shows as its trace is to be legal, and a file may be empty. Then runs
+# programs, scripts and words that are refused, and compares the status and its word.
 set -u
 cd "$(dirname "$0")/../.." || exit 1
 failed=0 passed=0
@@ -58,13 +58,63 @@ for script in examples/shared/*.script examples/asm/*.script; do
   fi
 done
 
+# The records of three of these traces are those of examples/traces, or all but the last of them.
+records_are() { # script of examples/shared, trace of examples/traces, how many of its records, the command's words
+  local script=examples/shared/$1.script trace=examples/traces/$2.trace many=$3
+  shift 3
+  ./safetynet replay --trace "$@" "$script" 2>"$work/trace" >/dev/null
+  if diff <(grep -v '^#' "$work/trace") <(grep -v '^#' "$trace" | head -n "$many"); then
+    passed=$((passed + 1))
+  else
+    echo "the trace of $script isn't the first $many records of $trace" >&2
+    failed=$((failed + 1))
+  fi
+}
+records_are shared_word additions 6 --nodes 2 examples/shared/count.hex
+records_are late_addition additions 5 --nodes 2 examples/shared/count.hex
+records_are input input 4 --nodes 1 examples/shared/echo.hex
+
+# A file of no bytes is a script without an event, and a trace without a record.
+: >"$work/empty"
+puts_report() { # the command's words; the report is the standard input
+  ./safetynet "$@" >"$work/console" 2>"$work/report"
+  local status=$?
+  if [ "$status" -eq 0 ] && [ ! -s "$work/console" ] && diff - <(grep -v '^probe ' "$work/report"); then
+    passed=$((passed + 1))
+  else
+    echo "$*: status $status, or another console or report" >&2
+    failed=$((failed + 1))
+  fi
+}
+puts_report replay --nodes 1 examples/first/a.hex "$work/empty" <<'END'
+events 0
+point 0
+committed 0
+released 0
+core 0 80000000 running
+END
+puts_report check --nodes 2 examples/shared/count.hex "$work/empty" <<'END'
+legal 0
+END
+# The first event of a demonstration is a step of node 0, which nothing has validated yet.
+puts_report demo 1 <<'END'
+events 1
+point 0
+committed 0
+released 0
+core 0 80000000 running
+core 1 80000000 running x10=00000001
+core 2 80000000 running x10=00000002
+core 3 80000000 running x10=00000003
+END
+
 # A demonstration has as many events as are asked for, and is the same each time.
-./safetynet demo 1000 >"$work/console" 2>"$work/report" && ./safetynet demo 1000 >"$work/text" 2>"$work/trace"
+./safetynet demo 100000 >"$work/console" 2>"$work/report" && ./safetynet demo 100000 >"$work/text" 2>"$work/trace"
 status=$?
-if [ "$status" -eq 0 ] && cmp -s "$work/console" "$work/text" && cmp -s "$work/report" "$work/trace" && [ "$(head -n 1 "$work/report")" = "events 1000" ]; then
+if [ "$status" -eq 0 ] && cmp -s "$work/console" "$work/text" && cmp -s "$work/report" "$work/trace" && [ "$(head -n 1 "$work/report")" = "events 100000" ]; then
   passed=$((passed + 1))
 else
-  echo "a demonstration of 1000 events: status $status, or another report the second time" >&2
+  echo "a demonstration of 100000 events: status $status, or another report the second time" >&2
   failed=$((failed + 1))
 fi
 
@@ -88,6 +138,9 @@ refused_script() { # word
 
 printf '0410051' >"$work/program"
 refused_program 3 'program badhexline'
+# The three bytes that some editors put before a text are no part of a word, an event or a record.
+printf '\xef\xbb\xbf04100513\n' >"$work/program"
+refused_program 3 'program badhexline'
 head -c 4115 examples/first/a.elf >"$work/program"
 refused_program 3 'program truncated'
 # A comment of 16 MiB is a file without a word, and one of a byte more is too long.
@@ -97,6 +150,8 @@ printf '#' >>"$work/program"
 refused_program 3 'program toolong'
 
 printf 'step 0\n step 0\n' >"$work/script"
+refused_script 'script badline'
+printf '\xef\xbb\xbfstep 0\n' >"$work/script"
 refused_script 'script badline'
 printf 'step 1\n' >"$work/script"
 refused_script 'script outofrange'
@@ -113,6 +168,8 @@ refused_script 'script toolong'
 
 printf '2 00000000 0\n' >"$work/trace"
 refused 4 'script outofrange' examples/shared/count.hex "$work/trace" 2 check
+printf '\xef\xbb\xbf0 00000000 0\n' >"$work/trace"
+refused 4 'script badline' examples/shared/count.hex "$work/trace" 2 check
 printf '0 00000000 0\n0 00000000 0 4G\n' >"$work/trace"
 refused 4 'script badline' examples/shared/echo.hex "$work/trace" 1 check
 printf '\r\r\r' >"$work/trace"

@@ -123,7 +123,7 @@ has 1 '^  msg 2049 ready '
 
 # Every second event is a recovery: nothing is committed, and each step is undone.
 for ((i = 0; i < 500; i++)); do printf 'step %d\nrecover\n' $((i % 2)); done >"$work/script"
-ends 0 'probe 0 9 500' replay --nodes 2 examples/asm/mailbox.hex "$work/script"
+ends 0 'probe 0 9 500' replay --nodes 2 "$count" "$work/script"
 has 500 ': recovered 0 undone 0 dropped 0$'
 has 1 '^committed 0$'
 
