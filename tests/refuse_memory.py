@@ -11,6 +11,7 @@ which a run ends, and its journal, replayed, must give its console and its summa
 The library that refuses is built by cc from tests/refuse_memory/refuse.c.
 """
 import os
+import struct
 import subprocess
 import sys
 import tempfile
@@ -33,10 +34,26 @@ LETTER = "".join(f"{word:08x}\n" for word in [0x04100513, 0x00100893, 0x00000073
 SCRIPT = b"step 0\nstep 0\nstep 0\nedge 0\nreport 0\ndeliver 1\nvalidate\n"
 RECOVERY = b"step 0\nstep 0\nstep 1\nstep 1\nstep 1\nrecover\nedge 0\n"
 TRACE = b"0 00000000 0\n" * 3 + b"1 00000000 0\n" * 2 + b"1 00000001 0\n"
+FOUR_NODES = ["run", "--nodes", "4", "--watch", "80001000"]
 TEXT = b"start:\naddi a0, zero, 65\njal zero, start\n"
+
+
+def linked():
+    """The program LETTER as a linker writes it: a header that is skipped, code, and data of which the file has the first half."""
+    headers = [
+        (0x70000003, 0, 0, 0, 0, 0, 4, 1),
+        (1, 0x1000, 0x8000_0000, 0x8000_0000, 20, 20, 5, 0x1000),
+        (1, 0x2000, 0x8000_1000, 0x8000_1000, 4, 8, 6, 0x1000),
+    ]
+    first = struct.pack("<16sHHIIIIIHHHHHH", b"\x7fELF\1\1\1", 2, 0xF3, 1, 0x8000_0000, 52, 0, 0, 52, 32, len(headers), 0, 0, 0)
+    table = b"".join(struct.pack("<8I", *row) for row in headers)
+    code = b"".join(struct.pack("<I", int(word, 16)) for word in LETTER.split())
+    return (first + table).ljust(0x1000, b"\0") + code.ljust(0x1000, b"\0") + bytes(4)
+
 
 RUNS = [
     ("replay", ["replay", "--nodes", "1", "a", "b"], {"a": LETTER, "b": SCRIPT}),
+    ("replay of an ELF file", ["replay", "--nodes", "1", "a", "b"], {"a": linked(), "b": SCRIPT}),
     ("replay, two nodes and a recovery", ["replay", "--nodes", "2", "--watch", "80001000", "a", "b"], {"a": COUNTING, "b": RECOVERY}),
     ("replay with the trace", ["replay", "--nodes", "1", "--trace", "a", "b"], {"a": LETTER, "b": SCRIPT}),
     ("replay of a bad script", ["replay", "--nodes", "1", "a", "b"], {"a": LETTER, "b": b"step 1\n"}),
@@ -46,7 +63,8 @@ RUNS = [
     ("run with its journal", ["run", "--nodes", "1", "--interval", "2", "--journal", "a"], {"a": LETTER}),
     ("run with the trace", ["run", "--nodes", "1", "--trace", "a"], {"a": LETTER}),
     ("run, two nodes", ["run", "--nodes", "2", "--journal", "program"], {"program": COUNTING}),
-    ("run, four nodes and lost messages", ["run", "--nodes", "4", "--lose-every", "30", "--wait", "200", "--journal", "program"], {"program": COUNTING}),
+    ("run, four nodes and lost messages", [*FOUR_NODES, "--lose-every", "60", "--seed", "7", "--journal", "program"], {"program": COUNTING}),
+    ("run, four nodes, more lost messages and recoveries", [*FOUR_NODES, "--lose-every", "30", "--wait", "200", "--journal", "program"], {"program": COUNTING}),
     ("demo", ["demo", "100"], {}),
     ("asm", ["asm", "a"], {"a": TEXT}),
     ("dis", ["dis", "a"], {"a": COUNTING}),
@@ -97,7 +115,8 @@ def is_whole(program, words, folder, found, ample):
     if words[:2] != ["run", "--nodes"] or words[2] == "1":
         return found == ample
     status, console, report = found
-    return status in ENDS and not replay_differences([program], words[1:3], console, report.decode().splitlines(), folder)
+    shown = words[1:5] if words[3] == "--watch" else words[1:3]
+    return status in ENDS and not replay_differences([program], shown, console, report.decode().splitlines(), folder)
 
 
 def refuse(program, row, folder, library, most):
