@@ -2,7 +2,7 @@
 ghost use Rattle.std.specs.Prelude.{◌≤◌};
 
 use crate::replay_generated;
-use script_replay::{ReportKind, Showing};
+use script_replay::{ReplayFault, ReportKind, Showing};
 use sn_base::Memory;
 use sn_io::MemSink;
 use sn_probe::ProbeSet;
@@ -22,6 +22,9 @@ fn report_of(rt: &impl Abort, alloc: Global, size: u32, report: &mut MemSink) ->
         watch: None,
     };
     let done = replay_generated(alloc, size, showing, &mut probes, &mut console, report);
+    if done == Err(ReplayFault::Memory) {
+        return Err(Fail::from(Memory));
+    }
     assert!(rt; done == Ok(()));
     Ok(())
 }

@@ -1,5 +1,6 @@
 //! Calls, each with what it leaves: texts that come from the rules and not from this program, and each way in which a call ends.
 mod checks;
+mod generated;
 mod probes;
 mod refusals;
 mod replays;
