@@ -77,6 +77,7 @@ fn answer<T: Threads + Wait + Sync, S: Store, C: Sink + Send, R: Sink, G: Gate +
     ensures no_command { AsksNothing (ask_of (map string_bytes words.now)) →
         ((result ≡ Status.Usage) ⊎ (result ≡ Status.Memory)) × (store.new ≡ store.old) }
     ensures files { S.files store.new ≡ S.files store.old }
+    ensures stays_sure { S.sure store.old → S.sure store.new }
 {
     let request = match read_words(alloc, words) {
         Ok(request) => request,
@@ -136,8 +137,9 @@ pub fn safetynet<T: Threads + Wait + Sync, S: Store, C: Sink + Send, R: Sink, G:
         → Rose (C.faults console.old) (C.faults console.new) ⊎ Rose (R.faults report.old) (R.faults report.new) }
     ensures nothing { has_written result ≡ false → (console.new ≡ console.old) × (report.new ≡ report.old) }
 
-    // Whatever the answer is, the store's files are as before.
+    // Whatever the answer is, the store's files are as before, and it is as sure.
     ensures files { S.files store.new ≡ S.files store.old }
+    ensures stays_sure { S.sure store.old → S.sure store.new }
 {
     let mut probes = ProbeSet::new(probes);
     answer(rt, alloc, words, store, console, report, &mut probes, gate)

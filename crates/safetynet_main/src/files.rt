@@ -40,6 +40,7 @@ fn fetch_file<S: Store>(
     ensures found { result ≢ Err Unread.Memory →
         Fetches S.files S.sure S.faults S.gave store.old name.now limit (found_by result) store.new }
     ensures files { S.files store.new ≡ S.files store.old }
+    ensures stays_sure { S.sure store.old → S.sure store.new }
 {
     let mut bytes = Vec::new(alloc);
     match store.fetch(name, limit, &mut bytes) {
@@ -55,6 +56,7 @@ fn fetch_program<S: Store>(alloc: Global, store: &mut S, name: &str) -> Result<I
         × Fetches S.files S.sure S.faults S.gave store.old name.now 16777216 found store.new
         × (result ≡ program_in found) }
     ensures files { S.files store.new ≡ S.files store.old }
+    ensures stays_sure { S.sure store.old → S.sure store.new }
 {
     match fetch_file(alloc, store, name, PROGRAM_LIMIT) {
         Ok(bytes) => read_program(alloc, bytes.as_slice()),
@@ -77,6 +79,7 @@ fn fetch_script<S: Store>(
     ensures fit { IfOk result (λ script. AllFit nodes script) }
     ensures few { IfOk result (λ script. length script ≤ 1000000) }
     ensures files { S.files store.new ≡ S.files store.old }
+    ensures stays_sure { S.sure store.old → S.sure store.new }
 {
     match fetch_file(alloc, store, name, SCRIPT_LIMIT) {
         Ok(bytes) => read_script(alloc, bytes.as_slice(), nodes),
@@ -97,6 +100,7 @@ fn fetch_trace<S: Store>(
         × Fetches S.files S.sure S.faults S.gave store.old name.now 33554432 found store.new
         × (result ≡ trace_in nodes found) }
     ensures files { S.files store.new ≡ S.files store.old }
+    ensures stays_sure { S.sure store.old → S.sure store.new }
 {
     match fetch_file(alloc, store, name, SCRIPT_LIMIT) {
         Ok(bytes) => read_trace(alloc, bytes.as_slice(), nodes),
@@ -111,6 +115,7 @@ fn fetch_assembly<S: Store>(alloc: Global, store: &mut S, name: &str) -> Result<
         × Fetches S.files S.sure S.faults S.gave store.old name.now 16777216 found store.new
         × (result ≡ assembly_in found) }
     ensures files { S.files store.new ≡ S.files store.old }
+    ensures stays_sure { S.sure store.old → S.sure store.new }
 {
     match fetch_file(alloc, store, name, PROGRAM_LIMIT) {
         Ok(bytes) => read_assembly(alloc, bytes.as_slice()),
@@ -145,6 +150,7 @@ fn load_replay<S: Store>(
         result store.old store.new }
     ensures read { IfOk result IsRead }
     ensures files { S.files store.new ≡ S.files store.old }
+    ensures stays_sure { S.sure store.old → S.sure store.new }
 {
     let program = match fetch_program(alloc, store, asked.program.as_str()) {
         Ok(program) => program,
@@ -191,6 +197,7 @@ fn load_run<S: Store>(
         result store.old store.new }
     ensures read { IfOk result IsRead }
     ensures files { S.files store.new ≡ S.files store.old }
+    ensures stays_sure { S.sure store.old → S.sure store.new }
 {
     let program = match fetch_program(alloc, store, asked.program.as_str()) {
         Ok(program) => program,
@@ -226,6 +233,7 @@ fn load_check<S: Store>(
         (check_errand asked.now.nodes (string_bytes asked.now.program) (string_bytes asked.now.trace)) result store.old store.new }
     ensures read { IfOk result IsRead }
     ensures files { S.files store.new ≡ S.files store.old }
+    ensures stays_sure { S.sure store.old → S.sure store.new }
 {
     let program = match fetch_program(alloc, store, asked.program.as_str()) {
         Ok(program) => program,
@@ -247,6 +255,7 @@ fn load_assembly<S: Store>(alloc: Global, store: &mut S, text: &str) -> Result<J
         Loads (Fetches S.files S.sure S.faults S.gave) (assembly_errand text.now) result store.old store.new }
     ensures read { IfOk result IsRead }
     ensures files { S.files store.new ≡ S.files store.old }
+    ensures stays_sure { S.sure store.old → S.sure store.new }
 {
     match fetch_assembly(alloc, store, text) {
         Ok(text) => Ok(Job::Text(text)),
@@ -259,6 +268,7 @@ fn load_listing<S: Store>(alloc: Global, store: &mut S, program: &str) -> Result
         Loads (Fetches S.files S.sure S.faults S.gave) (listing_errand program.now) result store.old store.new }
     ensures read { IfOk result IsRead }
     ensures files { S.files store.new ≡ S.files store.old }
+    ensures stays_sure { S.sure store.old → S.sure store.new }
 {
     let program = match fetch_program(alloc, store, program) {
         Ok(program) => program,
@@ -279,6 +289,7 @@ pub fn load<S: Store>(alloc: Global, store: &mut S, request: &Request) -> Result
         Loads (Fetches S.files S.sure S.faults S.gave) (errand_of (Some (as_request request.now))) result store.old store.new }
     ensures read { IfOk result IsRead }
     ensures files { S.files store.new ≡ S.files store.old }
+    ensures stays_sure { S.sure store.old → S.sure store.new }
 {
     match request {
         Request::Replay(asked) => load_replay(alloc, store, asked),
