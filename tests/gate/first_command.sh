@@ -135,20 +135,33 @@ rm -rf "$repo"/crates/*/out "$work/bin"/*
 for tool in bash env dirname readlink cat find; do ln -s "$(command -v "$tool")" "$work/bin/$tool"; done
 PATH_TO=$work/bin
 check "--version needs no build" 0 "$(cat crates/safetynet_program/version.txt)" 0 --version
-for words in '' --help -h help 'replay --help' 'check --help' 'demo --help' 'asm --help' 'dis --help' 'run --help'; do
+help_calls=('' --help -h help) version_calls=(--version)
+for command in replay run check demo asm dis; do
+  help_calls+=("$command --help" "$command -h" "$command help" "help $command")
+  version_calls+=("$command --version")
+done
+for words in "${help_calls[@]}"; do
   # Each word is one of its own.
   check "the page that '$words' asks for needs no build" 0 "$(./safetynet --help)" 0 $words
 done
-is_so "--help begins with the program's page" diff crates/safetynet_program/help.txt <(head -n "$(wc -l <crates/safetynet_program/help.txt)" "$work/out")
+is_so "--help begins with the program's page" diff crates/safetynet_program/help.txt <(head -n "$(wc -l <crates/safetynet_program/help.txt)" <(./safetynet --help))
+for words in "${version_calls[@]}"; do
+  check "the page that '$words' asks for needs no build" 0 "$(cat crates/safetynet_program/version.txt)" 0 $words
+done
 check "all else is refused" 125 "" 0 x
+check "a call for a page with another word too" 125 "" 0 replay --help x
+check "a page of no command" 125 "" 0 help fly
 check "and says why" 125 "" 0 --build
 is_so "rt is named" grep -q "rt is not on the path" "$work/err"
 
 # The pages are what the program itself says.
 ./safetynet --build || { echo "the program was not built" >&2; exit 1; }
 program=$top/crates/safetynet_program/out/safetynet_program
-for word in help version; do
-  is_so "$word.txt is what the program says to --$word" diff "crates/safetynet_program/$word.txt" <("$program" "--$word")
+for words in "${help_calls[@]}"; do
+  is_so "help.txt is what the program says to '$words'" diff crates/safetynet_program/help.txt <("$program" $words)
+done
+for words in "${version_calls[@]}"; do
+  is_so "version.txt is what the program says to '$words'" diff crates/safetynet_program/version.txt <("$program" $words)
 done
 
 echo "first command: $passed passed, $failed failed"
