@@ -181,7 +181,7 @@ fn each_of_all_fails(
     alloc: Global,
     of: Outside,
 ) -> Result<(), Fail> {
-    for command in COMMANDS {
+    for command in &COMMANDS {
         let calls = match of {
             Outside::Store => command.fetches,
             Outside::Console => command.console,

@@ -35,7 +35,7 @@ const UNSEEN: &str =
 
 const COUNTER: &str = "loop:\naddi t0, t0, 1\njal zero, loop\n";
 
-pub const COMMANDS: &[Command] = &[
+pub const COMMANDS: [Command; 11] = [
     Command {
         words: "safetynet replay --nodes 1 a b",
         program: PUTS_A,

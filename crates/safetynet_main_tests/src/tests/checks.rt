@@ -25,7 +25,7 @@ const BROKEN: Faults = Faults {
     report: 1,
 };
 
-const VERDICTS: &[Case] = &[
+const VERDICTS: [Case; 4] = [
     Case {
         words: TWO_NODES,
         program: COUNTS,
@@ -66,5 +66,5 @@ const VERDICTS: &[Case] = &[
 
 #[test]
 fn a_trace_is_judged_by_its_first_record_without_a_step(rt: HostRuntime) -> Result<(), Fail> {
-    each_is_left(&rt, rt.alloc(), VERDICTS)
+    each_is_left(&rt, rt.alloc(), &VERDICTS)
 }

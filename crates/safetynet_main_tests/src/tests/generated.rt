@@ -61,7 +61,7 @@ fn the_trace_of_a_generated_run_is_legal(rt: HostRuntime) -> Result<(), Fail> {
     let trace = traced(&rt, rt.alloc())?;
     let program = COUNTING.as_bytes();
     let left = call(&rt, rt.alloc(), CHECK, program, trace.bytes(), NO_FAULT)?;
-    assert!(rt; left.report.bytes() == b"legal 3178\n");
+    assert!(rt; left.report.bytes() == b"legal 3178\n".as_slice());
     Ok(())
 }
 

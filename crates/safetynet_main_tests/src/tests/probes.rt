@@ -184,7 +184,7 @@ const REFUSED: Ending = Ending {
     ..DONE
 };
 
-const ENDS: &[Ending] = &[
+const ENDS: [Ending; 12] = [
     DONE,
     Ending { probes: 1, ..DONE },
     Ending {
@@ -247,7 +247,7 @@ fn ended(
 
 #[test]
 fn each_probe_is_dropped_once_however_the_call_ends(rt: HostRuntime) -> Result<(), Fail> {
-    for ending in ENDS {
+    for ending in &ENDS {
         let (status, dropped) = ended(&rt, rt.alloc(), ending)?;
         assert!(rt;
             status == ending.status && dropped == ending.probes,

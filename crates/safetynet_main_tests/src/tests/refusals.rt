@@ -51,7 +51,7 @@ fn words_that_are_no_command_are_usage(rt: HostRuntime) -> Result<(), Fail> {
 const NO_WORDS: Status = Status::BadProgram(ProgramCause::Load(LoadCause::Empty));
 
 /// Words, a program or a text, and a script, and how the call ends.
-const REFUSED: &[(&str, &str, &str, Status)] = &[
+const REFUSED: [(&str, &str, &str, Status); 7] = [
     (
         "safetynet replay b.hex a.script",
         PUTS_A,
@@ -83,7 +83,7 @@ const REFUSED: &[(&str, &str, &str, Status)] = &[
 
 #[test]
 fn a_file_that_is_refused_is_refused_by_its_first_cause(rt: HostRuntime) -> Result<(), Fail> {
-    for (words, program, script, status) in REFUSED {
+    for (words, program, script, status) in &REFUSED {
         let (program, script) = (program.as_bytes(), script.as_bytes());
         writes_nothing(&rt, rt.alloc(), words, program, script, *status)?;
     }
@@ -96,7 +96,7 @@ fn comment(alloc: Global, length: usize) -> Result<Vec<u8>, AllocError> {
 }
 
 /// Calls whose program or text is a comment of so many bytes, and how they end: 16 MiB are the most.
-const LONG_PROGRAMS: &[(&str, usize, Status)] = &[
+const LONG_PROGRAMS: [(&str, usize, Status); 4] = [
     ("safetynet asm a.hex", 16_777_216, Status::Done),
     (
         "safetynet asm a.hex",
@@ -113,7 +113,7 @@ const LONG_PROGRAMS: &[(&str, usize, Status)] = &[
 
 #[test]
 fn a_program_or_a_text_has_at_most_16_mebibytes(rt: HostRuntime) -> Result<(), Fail> {
-    for (words, length, status) in LONG_PROGRAMS {
+    for (words, length, status) in &LONG_PROGRAMS {
         let file = comment(rt.alloc(), *length)?;
         writes_nothing(&rt, rt.alloc(), words, file.as_slice(), b"", *status)?;
     }

@@ -67,7 +67,7 @@ const GIVEN_TRACE: &str = "\
 # core 0 80000010 running x10=00000041 x17=00000001
 ";
 
-const SHOWN: &[Case] = &[
+const SHOWN: [Case; 3] = [
     Case {
         words: WORDS,
         program: PUTS_A,
@@ -99,7 +99,7 @@ const SHOWN: &[Case] = &[
 
 #[test]
 fn a_replay_shows_what_its_options_ask(rt: HostRuntime) -> Result<(), Fail> {
-    each_is_left(&rt, rt.alloc(), SHOWN)
+    each_is_left(&rt, rt.alloc(), &SHOWN)
 }
 
 /// The ELF file of `PUTS_A`, as a linker writes it.
@@ -121,7 +121,7 @@ fn an_elf_file_is_run_as_its_words_are(rt: HostRuntime) -> Result<(), Fail> {
     Ok(())
 }
 
-const BROKEN_OFF: &[Case] = &[
+const BROKEN_OFF: [Case; 4] = [
     Case {
         words: WORDS,
         program: PUTS_A,
@@ -178,5 +178,5 @@ const BROKEN_OFF: &[Case] = &[
 
 #[test]
 fn a_call_that_fails_leaves_the_beginning_of_each_text(rt: HostRuntime) -> Result<(), Fail> {
-    each_is_left(&rt, rt.alloc(), BROKEN_OFF)
+    each_is_left(&rt, rt.alloc(), &BROKEN_OFF)
 }

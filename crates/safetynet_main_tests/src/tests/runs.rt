@@ -51,7 +51,7 @@ core 0 80000000 trapped illegal
 
 const RUN: &str = "safetynet run --nodes 1 a.hex";
 
-const SPENT: &[Case] = &[
+const SPENT: [Case; 2] = [
     Case {
         words: "safetynet run --nodes 1 --budget 3 a.hex",
         program: LOOPS,
@@ -74,10 +74,10 @@ const SPENT: &[Case] = &[
 
 #[test]
 fn a_run_ends_with_its_budget(rt: HostRuntime) -> Result<(), Fail> {
-    each_is_left(&rt, rt.alloc(), SPENT)
+    each_is_left(&rt, rt.alloc(), &SPENT)
 }
 
-const ENDED: &[Case] = &[Case {
+const ENDED: [Case; 1] = [Case {
     words: RUN,
     program: PUTS_A,
     script: "",
@@ -89,7 +89,7 @@ const ENDED: &[Case] = &[Case {
 
 #[test]
 fn a_run_ends_with_all_exits(rt: HostRuntime) -> Result<(), Fail> {
-    each_is_left(&rt, rt.alloc(), ENDED)
+    each_is_left(&rt, rt.alloc(), &ENDED)
 }
 
 #[test]
@@ -101,7 +101,7 @@ fn a_run_ends_with_its_least_trap(rt: HostRuntime) -> Result<(), Fail> {
     Ok(())
 }
 
-const BROKEN_OFF: &[Case] = &[Case {
+const BROKEN_OFF: [Case; 1] = [Case {
     words: RUN,
     program: PUTS_A,
     script: "",
@@ -117,5 +117,5 @@ const BROKEN_OFF: &[Case] = &[Case {
 
 #[test]
 fn a_run_whose_console_fails_reports_nothing(rt: HostRuntime) -> Result<(), Fail> {
-    each_is_left(&rt, rt.alloc(), BROKEN_OFF)
+    each_is_left(&rt, rt.alloc(), &BROKEN_OFF)
 }

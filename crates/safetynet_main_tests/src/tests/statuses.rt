@@ -7,7 +7,7 @@ use sn_base::NodeId;
 use sn_text::{ScriptCause, trap_name};
 use std::process::Abort;
 
-const STATUSES: &[(Status, u8, &str)] = &[
+const STATUSES: [(Status, u8, &str); 10] = [
     (Status::Done, 0, "done"),
     (Status::Usage, 1, "usage"),
     (Status::StoreFault, 2, "store"),
@@ -51,7 +51,7 @@ fn is_shown(rt: &impl Abort, status: Status, number: u8, word: &str) {
 
 #[test]
 fn a_status_has_its_number_and_word(rt: HostRuntime) {
-    for (status, number, word) in STATUSES {
+    for (status, number, word) in &STATUSES {
         is_shown(&rt, *status, *number, word);
     }
 }

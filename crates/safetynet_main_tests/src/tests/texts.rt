@@ -27,7 +27,7 @@ addi x17, x0, 93
 ecall
 ";
 
-const TEXTS: &[Case] = &[
+const TEXTS: [Case; 3] = [
     Case {
         words: "safetynet asm a.hex",
         program: COUNTER,
@@ -59,5 +59,5 @@ const TEXTS: &[Case] = &[
 
 #[test]
 fn other_commands_put_their_texts(rt: HostRuntime) -> Result<(), Fail> {
-    each_is_left(&rt, rt.alloc(), TEXTS)
+    each_is_left(&rt, rt.alloc(), &TEXTS)
 }
