@@ -16,11 +16,8 @@ const COUNTING: &str = "\
 
 const CHECK: &str = "safetynet check a.hex --nodes 4 a.script";
 
-/// The place of a record in which core 2 saw the word that all count in.
-const SEEN: usize = 3_165;
-
-/// Where in the trace the last digit of the word is that the record saw: each record before it has a line of 13 bytes.
-const DIGIT: usize = 13 * (SEEN - 1) + 9;
+/// Where in the trace the last digit of the word is that record 3,165 saw, which is core 2's: a line has 13 bytes.
+const DIGIT: usize = 41_141;
 
 /// What is shown of a run of 100,000 events whose report is the trace.
 fn traced(rt: &impl Abort, alloc: Global) -> Result<MemSink, Fail> {
@@ -46,13 +43,13 @@ fn traced(rt: &impl Abort, alloc: Global) -> Result<MemSink, Fail> {
     Ok(report)
 }
 
-/// The trace with another digit.
-fn changed(rt: &impl Abort, alloc: Global, trace: &[u8]) -> Result<Vec<u8>, Fail> {
-    assert!(rt; DIGIT < trace.len() && trace[DIGIT] == b'e');
+/// The trace with the digit `f` in place of an `e`.
+fn changed(rt: &impl Abort, alloc: Global, trace: &[u8], at: usize) -> Result<Vec<u8>, Fail> {
+    assert!(rt; at < trace.len() && trace[at] == b'e');
     let mut text = Vec::new(alloc);
-    text.extend_from_slice(&trace[..DIGIT])?;
+    text.extend_from_slice(&trace[..at])?;
     text.push(b'f')?;
-    text.extend_from_slice(&trace[DIGIT + 1..])?;
+    text.extend_from_slice(&trace[at + 1..])?;
     Ok(text)
 }
 
@@ -68,7 +65,7 @@ fn the_trace_of_a_generated_run_is_legal(rt: HostRuntime) -> Result<(), Fail> {
 #[test]
 fn a_generated_run_with_another_word_seen_is_refused_there(rt: HostRuntime) -> Result<(), Fail> {
     let trace = traced(&rt, rt.alloc())?;
-    let text = changed(&rt, rt.alloc(), trace.bytes())?;
+    let text = changed(&rt, rt.alloc(), trace.bytes(), DIGIT)?;
     let program = COUNTING.as_bytes();
     let left = call(&rt, rt.alloc(), CHECK, program, text.as_slice(), NO_FAULT)?;
     assert!(rt; left.status == Status::Refused(3_165));
