@@ -9,7 +9,8 @@ use Rattle.rv_decode.specs.Table.{IsWordOf, word_of, instr_fits}
 use Rattle.rv_decode.proofs.Sound.{decoded-sound}
 use Rattle.rv_statement.specs.Lines.{trimmed, bare, front_or}
 use Rattle.rv_statement.specs.Reading.{Read, fixed, word_in, said, said_or, operation_of, instruction_of, statement_of}
-use Rattle.rv_asm.specs.Text.{digits_text, if_written, written, line_of, word_text}
+use Rattle.text_lines.specs.Hex.{hex_word}
+use Rattle.rv_asm.specs.Text.{if_written, written, line_of, word_text}
 use Rattle.asm_round_trip.proofs.Bytes.{all, all-at, all-weaker, is_solid, is_inner, solid-inner, inner-no_comment, inner-no_colon}
 use Rattle.asm_round_trip.proofs.Bytes.{solid-begins, solid-ends}
 use Rattle.asm_round_trip.proofs.Cuts.{cut-nowhere, trimmed-none}
@@ -27,26 +28,26 @@ record Says (text : List ℕ) (word : ℕ) : Type 0 where
 word_in-is : (word : ℕ) → word < 2 ^ 32 → word_in (pos word) ≡ Some word
 word_in-is word h = rw (le-leb 0 word (omega arith), lt-ltb word (2 ^ 32) h) refl
 
-prefixed-solid : (word : ℕ) → all is_solid (codes "0x" ++ digits_text word) ≡ true
+prefixed-solid : (word : ℕ) → all is_solid (codes "0x" ++ hex_word word) ≡ true
 prefixed-solid word = digits-text_solid word
 
-number-stands : (word : ℕ) → Stands (codes "0x" ++ digits_text word)
+number-stands : (word : ℕ) → Stands (codes "0x" ++ hex_word word)
 number-stands word =
-    let text = codes "0x" ++ digits_text word in
+    let text = codes "0x" ++ hex_word word in
     record {
       begins = solid-begins text (prefixed-solid word) (omega arith);
       ends = solid-ends text (prefixed-solid word) (omega arith);
       inner = all-weaker is_solid is_inner solid-inner text (prefixed-solid word);
     }
 
-directive-read : (word : ℕ) → word < 2 ^ 32 → operation_of (codes ".word") (codes "0x" ++ digits_text word) ≡ Some (fixed (Some word))
+directive-read : (word : ℕ) → word < 2 ^ 32 → operation_of (codes ".word") (codes "0x" ++ hex_word word) ≡ Some (fixed (Some word))
 unfolding operation_of
 directive-read word h = ap (option_map (λ number. fixed (word_in number))) (word-read word h) ∙ ap (λ w. Some (fixed w)) (word_in-is word h)
 
-plain-says : (word : ℕ) → word < 2 ^ 32 → Says (codes ".word 0x" ++ digits_text word) word
+plain-says : (word : ℕ) → word < 2 ^ 32 → Says (codes ".word 0x" ++ hex_word word) word
 plain-says word h = record {
-  stands = spaced-stands (codes ".word") (codes "0x" ++ digits_text word) (record { begins = record { some = omega arith; first = refl }; ends = record { some = omega arith; last = refl }; inner = refl }) (number-stands word);
-  reads = spaced-read (codes ".word") (codes "0x" ++ digits_text word) refl (number-stands word) ∙ directive-read word h;
+  stands = spaced-stands (codes ".word") (codes "0x" ++ hex_word word) (record { begins = record { some = omega arith; first = refl }; ends = record { some = omega arith; last = refl }; inner = refl }) (number-stands word);
+  reads = spaced-read (codes ".word") (codes "0x" ++ hex_word word) refl (number-stands word) ∙ directive-read word h;
 }
 
 -- ---- each word

@@ -12,7 +12,7 @@ use Rattle.std.specs.Fmt.{signed_decimal}
 use Rattle.std.specs.Str.Parse.{AllDigits, digits_value, digits_value_after}
 use lib.Signed.{mag}
 use Rattle.rv_statement.specs.Operands.{digit_value, digits_from, digits_of, begins, number_of}
-use Rattle.rv_asm.specs.Text.{hex_digit, digits_text}
+use Rattle.text_lines.specs.Hex.{hex_digit, hex_word}
 use Rattle.asm_round_trip.proofs.Bytes.{all, is_solid}
 
 same-value : (c : ℕ) → 48 ≤ c → c ≤ 57 → value_of c ≡ c - 48
@@ -144,10 +144,10 @@ are-below word = (
   ),
 )
 
-pub word-read : (word : ℕ) → word < 2 ^ 32 → number_of (codes "0x" ++ digits_text word) ≡ Some (pos word)
-unfolding number_of digits_of digits_text
+pub word-read : (word : ℕ) → word < 2 ^ 32 → number_of (codes "0x" ++ hex_word word) ≡ Some (pos word)
+unfolding number_of digits_of hex_word
 word-read word small = ap (option_map pos) (hex-read 0 (digits_in word) (are-below word)) ∙ ap (λ n. Some (pos n)) (digits-whole word small)
 
-pub digits-text_solid : (word : ℕ) → all is_solid (digits_text word) ≡ true
-unfolding digits_text
+pub digits-text_solid : (word : ℕ) → all is_solid (hex_word word) ≡ true
+unfolding hex_word
 digits-text_solid word = hex-all_solid (digits_in word) (are-below word)

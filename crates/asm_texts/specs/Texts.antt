@@ -4,11 +4,12 @@ use Rattle.std.specs.List.{flat_map, range_with_len}
 use Rattle.std.specs.Option.{is_some}
 use Rattle.sn_base.specs.Blocks.{ram_start}
 use Rattle.sn_base.specs.Image.{SegmentData, fetched}
-use Rattle.rv_asm.specs.Text.{digits_text, word_text}
+use Rattle.text_lines.specs.Hex.{hex_word}
+use Rattle.rv_asm.specs.Text.{word_text}
 
 -- a word as eight lower-case digits, ended by LF
 abbrev pub digits_line : ℕ → List ℕ
-digits_line word = digits_text word ++ codes "\n"
+digits_line word = hex_word word ++ codes "\n"
 
 -- one line a word
 abbrev pub words_text : List ℕ → List ℕ

@@ -12,7 +12,7 @@ use Rattle.sn_model.specs.Fabric.{Flight}
 use Rattle.sn_model.specs.Machine.{State, Processor}
 use Rattle.sn_model.specs.NodeEvents.{ready_of}
 use Rattle.sn_model.specs.Step.{step_of}
-use Rattle.sn_model.specs.Trace.{Entry}
+use Rattle.sn_model.specs.Trace.{TraceEntry}
 use Rattle.consistent_cuts.specs.Example.{storing, small, plain, retirement, validating, IsCommittedByIntervals}
 use Rattle.consistent_cuts.specs.Headline.{IsRun}
 use Rattle.consistent_cuts.proofs.Walk.{Moment, Leads, Comes, all_fit, least_at_start}
@@ -38,7 +38,7 @@ ahead = processor (added 1) (begun 1 ∷ begun 1 ∷ [])
 abbrev last : List Processor
 last = processor (added 0) (begun 0 ∷ added 0 ∷ added 0 ∷ []) ∷ processor (added 1) (begun 1 ∷ begun 1 ∷ added 1 ∷ []) ∷ []
 
-abbrev entries : List Entry
+abbrev entries : List TraceEntry
 entries = retirement 1 1 ∷ retirement 0 0 ∷ []
 
 -- the two nodes in these intervals, with nothing reported and both retirements waiting

@@ -26,13 +26,13 @@ use Rattle.sn_model.specs.Machine.{State}
 use Rattle.sn_model.specs.Instructions.{carried}
 use Rattle.sn_model.specs.MachineEvents.{heard, hearing, edges, validates, commits, unready_node, restores, is_recovered, is_edged}
 use Rattle.sn_model.specs.Step.{step_of}
-use Rattle.sn_model.specs.Trace.{Entry as Retired, traced}
+use Rattle.sn_model.specs.Trace.{TraceEntry, traced}
 use Rattle.sn_coherence.specs.Records.{Records, unreserves, rolls_back}
 use Rattle.sn_consistency.specs.Entries.{Entry}
 use Rattle.sn_consistency.specs.Sorted.{cut_off}
 use Rattle.fabric_coherence.specs.Recorded.{KeepsRecords, MayBeRecorded, recorded_by, heard_by}
 use Rattle.consistent_cuts.specs.Joined.{IsJoined, Joins}
-use Rattle.consistent_cuts.specs.Runs.{Fits}
+use Rattle.consistent_cuts.specs.Runs.{EventFits}
 use Rattle.consistent_cuts.proofs.Clocks.{IsQuiet, same_hopped, same_lost, same_killed, same_reported}
 use Rattle.consistent_cuts.proofs.Hearings.{Rightly, rightly_evicted, rightly_delivered}
 use Rattle.consistent_cuts.proofs.Hears.{hearing_joins}
@@ -83,7 +83,7 @@ ordinary_loses s None = refl
 ordinary_loses s (Some f) = refl
 
 -- so the retirements stay
-stays_by : (image : ImageData) (s : State) (e : Event) (a : Answer) (trace : List Retired) → IsNoStep e → is_point_answer a ≡ false →
+stays_by : (image : ImageData) (s : State) (e : Event) (a : Answer) (trace : List TraceEntry) → IsNoStep e → is_point_answer a ≡ false →
     traced image s e a trace ≡ trace
 stays_by image s e a trace plain b = by_answer a b
   where
@@ -114,7 +114,7 @@ all_above [] point e n l = absurd (omega (arith, l))
 all_above (x ∷ xs) point e zero l = grind (arith, nat_tests, (position_step x xs (λ k. nat_le k point) e).0)
 all_above (x ∷ xs) point e (suc n) l = all_above xs point (position_step x xs (λ k. nat_le k point) e).1 n (grind (arith, l))
 
-module _ (half : FabricHalf) (image : ImageData) (config : Config) (s : State) (trace : List Retired) (r : ℕ → Records) (list : ℕ → List Entry) (j : IsJoined image s r list trace) where
+module _ (half : FabricHalf) (image : ImageData) (config : Config) (s : State) (trace : List TraceEntry) (r : ℕ → Records) (list : ℕ → List Entry) (j : IsJoined image s r list trace) where
   abbrev N : ℕ
   N = length s.fabric.nodes
 
@@ -260,7 +260,7 @@ module _ (half : FabricHalf) (image : ImageData) (config : Config) (s : State) (
   abbrev EventJoins : Event → Type 0
   EventJoins e = Joins image (step_of image config s e).state (traced image s e (step_of image config s e).answer trace)
 
-  pub event_joins : (e : Event) → Fits N e → EventJoins e
+  pub event_joins : (e : Event) → EventFits N e → EventJoins e
   unfolding step_of
   event_joins (event.Step n) fits = stepped_joins half image config s n trace (is_node n fits.numbers) (r, list, j)
   event_joins (event.Evict n block) fits =

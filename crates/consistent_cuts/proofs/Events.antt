@@ -27,7 +27,7 @@ use Rattle.sn_model.specs.Instructions as step
 use Rattle.sn_model.specs.MachineEvents.{hearing, edges, with_checkpoint, validates, commits, unready_node, restores, given}
 use Rattle.sn_model.specs.Step.{step_of}
 use Rattle.sn_model.specs.RecoveryPoint.{IsRestored}
-use Rattle.sn_model.specs.Trace.{Entry as Retired, entry_at, traced}
+use Rattle.sn_model.specs.Trace.{TraceEntry, entry_at, traced}
 use Rattle.sn_coherence.specs.Records.{Records}
 use Rattle.sn_consistency.specs.Entries.{Entry}
 use Rattle.sn_consistency.specs.Committed.{Begins}
@@ -37,7 +37,7 @@ use Rattle.fabric_coherence.specs.Coherent.{NothingUnfinished}
 use Rattle.consistent_cuts.specs.Headline.{IsStepOfRun, IsUntouched, MayUnreserve, Reserving}
 use Rattle.consistent_cuts.specs.Joined.{IsJoined}
 use Rattle.consistent_cuts.specs.Lists.{retirement_of}
-use Rattle.consistent_cuts.specs.Runs.{Fits}
+use Rattle.consistent_cuts.specs.Runs.{EventFits}
 use Rattle.consistent_cuts.proofs.Clocks.{part_set}
 use Rattle.consistent_cuts.proofs.EachEvent.{ordinary_evicted, ordinary_flight, ordinary_hops, ordinary_loses, all_reported}
 use Rattle.consistent_cuts.proofs.FabricAfter.{FabricHalf}
@@ -53,13 +53,13 @@ no_validation a k e is = true≢false (sym (ap is_point_answer is) ∙ e)
 no_recovery : (a : Answer) (undo : Undo) → is_point_answer a ≡ false → a ≡ answer.Recovered undo → ⊥
 no_recovery a undo e is = true≢false (sym (ap is_point_answer is) ∙ e)
 
--- an answer that leaves the retirements isn't Retired
+-- an answer that leaves the retirements isn't TraceEntry
 leaves_unretired : (image : ImageData) (s : State) (n : ℕ) (a : Answer) → LeavesTrace image s n a → a ≡ answer.Retired → ⊥
 leaves_unretired image s n a leaves is =
     let h : traced image s (event.Step n) answer.Retired [] ≡ [] = subst (λ x. traced image s (event.Step n) x [] ≡ []) is (leaves.1 []) in
     cc
 
-module _ (half : FabricHalf) (image : ImageData) (config : Config) (s : State) (r : ℕ → Records) (list : ℕ → List Entry) (trace : List Retired) (j : IsJoined image s r list trace) (count : length s.fabric.nodes ≡ config.nodes) where
+module _ (half : FabricHalf) (image : ImageData) (config : Config) (s : State) (r : ℕ → Records) (list : ℕ → List Entry) (trace : List TraceEntry) (j : IsJoined image s r list trace) (count : length s.fabric.nodes ≡ config.nodes) where
   abbrev N : ℕ
   N = length s.fabric.nodes
 
@@ -319,7 +319,7 @@ module _ (half : FabricHalf) (image : ImageData) (config : Config) (s : State) (
     unreserves = λ n block l a b. tt;
   }
 
-  pub event_says : (e : Event) → Fits config.nodes e → Says e (step_of image config s e)
+  pub event_says : (e : Event) → EventFits config.nodes e → Says e (step_of image config s e)
   unfolding step_of
   event_says (event.Step n) fits = step_of_run n (is_node n fits.numbers)
     where

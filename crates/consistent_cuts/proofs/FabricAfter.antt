@@ -12,7 +12,7 @@ use Rattle.rv_core.proofs.CoreLaws.{write_fits}
 use Rattle.sn_model.specs.declared.cache.Need.TheVariants as need
 use Rattle.sn_model.specs.Access.{stored, written_in}
 use Rattle.sn_model.specs.Caches.{block_count, line_of, is_present}
-use Rattle.sn_model.specs.Fabric.{Fabric, Flight, node_at, first_fabric, initial_block}
+use Rattle.sn_model.specs.Fabric.{Fabric, Flight, node_at, first_fabric, initial_block, line_of_node}
 use Rattle.sn_model.specs.Net.{flight_of}
 use Rattle.sn_model.specs.Cuts.{is_unfinished}
 use Rattle.sn_model.specs.FabricEvents.{FabricEvent, moved_by}
@@ -21,7 +21,7 @@ use Rattle.sn_model.specs.Instructions.{found_at, found_by, written_by, retired}
 use Rattle.sn_coherence.specs.Records.{Records, no_records, loads, loads_reserved, stores, stores_conditional, unreserves}
 use Rattle.sn_consistency.specs.Words.{write_block}
 use Rattle.consistent_cuts.specs.Outlined.{Agrees}
-use Rattle.consistent_cuts.specs.Accesses.{line_at, write_of, CanServe, CanServeWant, CanRetire, records_wanting, records_after}
+use Rattle.consistent_cuts.specs.Accesses.{write_of, CanServe, CanServeWant, CanRetire, records_wanting, records_after}
 use Rattle.fabric_coherence.specs.Events.{CanUse, CanWrite}
 use Rattle.fabric_coherence.specs.Recorded.{KeepsRecords, MayBeRecorded, recorded_by, at_block}
 use Rattle.fabric_coherence.specs.Told.{Tells}
@@ -69,7 +69,7 @@ module _ (keep : FabricHalf) (config : Config) (s : State) (r : ℕ → Records)
   abbrev Kept : Want → Bool → Option Write → Type 0
   Kept w done write =
       KeepsRecords (written_by s.fabric n write)
-      (records_wanting w done r n (node_at s.fabric n).now (λ b. write_block write (line_at s.fabric n b).content))
+      (records_wanting w done r n (node_at s.fabric n).now (λ b. write_block write (line_of_node s.fabric n b).content))
 
   -- what doesn't write
   same : (w : Want) (done : Bool) (write : Option Write) → writes_memory w done ≡ false → WriteFits w done write → Kept w done None →

@@ -24,21 +24,21 @@ use Rattle.sn_model.specs.Machine.{State, start_of, processor_at}
 use Rattle.sn_model.specs.Instructions.{found_at, retired, stepped, written_by}
 use Rattle.sn_model.specs.MachineEvents.{validates, unready_node}
 use Rattle.sn_model.specs.Step.{step_of, state_after}
-use Rattle.sn_model.specs.Trace.{Entry as Retired, traced}
+use Rattle.sn_model.specs.Trace.{TraceEntry, traced}
 use Rattle.sn_coherence.specs.Records.{Records}
 use Rattle.sn_consistency.specs.Entries.{Entry}
 use Rattle.fabric_coherence.specs.Events.{MayBe, CanUse}
-use Rattle.fabric_coherence.specs.Runs.{IsRun, fabric_after}
+use Rattle.fabric_coherence.specs.Runs.{IsFabricRun, fabric_after}
 use Rattle.fabric_coherence.specs.Start.{first_beside}
 use Rattle.fabric_coherence.proofs.KeptStart.{start-kept}
-use Rattle.fabric_bounds.specs.Bounds.{HasRoom, IsServedRun, KeepsBounds}
+use Rattle.fabric_bounds.specs.Bounds.{HasLogRoom, IsServedRun, KeepsBounds}
 use Rattle.fabric_bounds.specs.Counts.{CountsTo}
 use Rattle.fabric_bounds.proofs.Runs.{start_bounded, run_keeps_bounds}
 use Rattle.fabric_bounds.proofs.Numbers.{start_counts, counts_from_the_start}
 use Rattle.consistent_cuts.specs.Accesses.{CanServe, CanServeWant, CanRetire, write_of}
 use Rattle.consistent_cuts.specs.Joined.{IsJoined, Holds}
 use Rattle.consistent_cuts.specs.OfFabric.{GoesBy}
-use Rattle.consistent_cuts.specs.Runs.{Fits, AllFit}
+use Rattle.consistent_cuts.specs.Runs.{EventFits, AllFit}
 use Rattle.consistent_cuts.proofs.EachEvent.{all_reported}
 use Rattle.consistent_cuts.proofs.Half.{half}
 use Rattle.consistent_cuts.specs.Headline.{IsRun as HeadRun, reached}
@@ -49,7 +49,7 @@ use Rattle.consistent_cuts.proofs.SteppedCases.{stepped_cases}
 pub stays : (config : Config) (s : Fabric) → GoesBy config s s 1
 stays config s = record { events = []; few = omega arith; served = tt; after = refl }
 
-pub goes : (config : Config) (s : Fabric) (e : FabricEvent) → MayBe s e → HasRoom config s e →
+pub goes : (config : Config) (s : Fabric) (e : FabricEvent) → MayBe s e → HasLogRoom config s e →
     GoesBy config s (moved_by config s e).fabric 1
 goes config s e may room = record { events = e ∷ []; few = omega arith; served = ((may, room), tt); after = refl }
 
@@ -73,11 +73,11 @@ goes_then config s t u m n k a b l = record {
 }
 
 -- a served run is a run
-pub served_run : (config : Config) (s : Fabric) (es : List FabricEvent) → IsServedRun config s es → IsRun config s es
+pub served_run : (config : Config) (s : Fabric) (es : List FabricEvent) → IsServedRun config s es → IsFabricRun config s es
 served_run config s [] r = tt
 served_run config s (e ∷ es) r = (r.0.0, served_run config (moved_by config s e).fabric es r.1)
 
-module _ (image : ImageData) (config : Config) (s : State) (r : ℕ → Records) (list : ℕ → List Entry) (trace : List Retired) (j : IsJoined image s r list trace) where
+module _ (image : ImageData) (config : Config) (s : State) (r : ℕ → Records) (list : ℕ → List Entry) (trace : List TraceEntry) (j : IsJoined image s r list trace) where
   abbrev N : ℕ
   N = length s.fabric.nodes
 
@@ -124,7 +124,7 @@ module _ (image : ImageData) (config : Config) (s : State) (r : ℕ → Records)
       goes config s.fabric (fabric.Advance (s.fabric.point + 1))
       (refl, half.finished s.fabric r j.fabric (all_reported half image config s trace r list j e)) tt
 
-  pub event_goes : (e : Event) → Fits N e → Goes (step_of image config s e).state.fabric
+  pub event_goes : (e : Event) → EventFits N e → Goes (step_of image config s e).state.fabric
   unfolding step_of moved_by
   event_goes (event.Step n) fits = stepped_goes n (is_node n fits.numbers)
   event_goes (event.Evict n block) fits =
@@ -140,7 +140,7 @@ module _ (image : ImageData) (config : Config) (s : State) (r : ℕ → Records)
   event_goes event.Recover fits = goes config s.fabric (fabric.Recover s.fabric.point) refl tt
   event_goes (event.Input n byte) fits = stays config s.fabric
 
-pub run_goes : (image : ImageData) (config : Config) (nodes : ℕ) (s : State) (trace : List Retired) (events : List Event) →
+pub run_goes : (image : ImageData) (config : Config) (nodes : ℕ) (s : State) (trace : List TraceEntry) (events : List Event) →
     Holds image nodes s trace → AllFit nodes events →
     GoesBy config s.fabric (state_after image config s events).fabric (length events)
 run_goes image config nodes s trace [] h fits = record { events = []; few = omega arith; served = tt; after = refl }
@@ -151,8 +151,8 @@ run_goes image config nodes s trace (e ∷ events) h fits =
     (traced image s e (step_of image config s e).answer trace) events (step_holds image config nodes s trace e h fits.0) fits.1)
     (omega arith)
   where
-    first : Holds image nodes s trace → Fits nodes e → GoesBy config s.fabric (step_of image config s e).state.fabric 1
-    first (count, (r, list, j)) fit = event_goes image config s r list trace j e (subst (λ n. Fits n e) (sym count) fit)
+    first : Holds image nodes s trace → EventFits nodes e → GoesBy config s.fabric (step_of image config s e).state.fabric 1
+    first (count, (r, list, j)) fit = event_goes image config s r list trace j e (subst (λ n. EventFits n e) (sym count) fit)
 
 -- of a fitting configuration, from a program's start
 module _ (image : ImageData) (config : Config) (events : List Event) (run : HeadRun config events) where

@@ -9,11 +9,12 @@ use Rattle.rv_core.specs.declared.step.Want.TheVariants.{Nothing, Load, Store, A
 use Rattle.rv_core.specs.Core.{block_of, is_reserved}
 use Rattle.rv_core.specs.Step.{want_of}
 use Rattle.rv_core.proofs.CoreLaws.{want_bare}
+use Rattle.sn_model.specs.Fabric.{line_of_node}
 use Rattle.sn_model.specs.Machine.{State, processor_at}
 use Rattle.sn_model.specs.Instructions.{found_by, taken_by, next_byte}
 use Rattle.sn_coherence.specs.Records.{Records}
 use Rattle.sn_consistency.specs.Words.{kind, block, place, kind_of, address_of, reads, writes, is_sc, takes, block_word}
-use Rattle.consistent_cuts.specs.Accesses.{entry_of, line_at, IsRead, IsWritten, IsServed}
+use Rattle.consistent_cuts.specs.Accesses.{entry_of, IsReadable, IsWritable, IsServed}
 
 -- by what is wanted
 
@@ -93,7 +94,7 @@ module _ (s : State) (r : ℕ → Records) (n : ℕ) where
   taken_within Input done h l = rw (next_is h) (omega arith)
 
   pub read_by : (w : Want) (done : Bool) → IsServed w done s r n → (reads (kind_of w) || writes (kind_of w) done) ≡ true →
-      IsRead s.fabric r n (block_of (address_of w))
+      IsReadable s.fabric r n (block_of (address_of w))
   unfolding kind_of address_of
   read_by Nothing done h e = cc
   read_by (Load a) done h e = h
@@ -105,7 +106,7 @@ module _ (s : State) (r : ℕ → Records) (n : ℕ) where
   read_by Input done h e = cc
 
   pub written_by : (w : Want) (done : Bool) → IsServed w done s r n → writes (kind_of w) done ≡ true →
-      IsWritten s.fabric r n (block_of (address_of w))
+      IsWritable s.fabric r n (block_of (address_of w))
   unfolding kind_of address_of
   written_by Nothing done h e = cc
   written_by (Load a) done h e = cc
@@ -118,7 +119,7 @@ module _ (s : State) (r : ℕ → Records) (n : ℕ) where
 
   -- the word seen is that of the line
   pub word_by : (w : Want) → reads (kind_of w) ≡ true →
-      (found_by s n w).seen ≡ block_word (line_at s.fabric n (block_of (address_of w))).content ((address_of w - ram_start) % 64 / 4 * 4)
+      (found_by s n w).seen ≡ block_word (line_of_node s.fabric n (block_of (address_of w))).content ((address_of w - ram_start) % 64 / 4 * 4)
   unfolding kind_of address_of block_word
   word_by Nothing e = cc
   word_by (Load a) e = refl

@@ -11,11 +11,11 @@ use Rattle.sn_model.specs.declared.cache.LineState.TheVariants as line
 use Rattle.sn_model.specs.declared.cache.Need.TheVariants as need
 use Rattle.sn_model.specs.Access.{has_miss}
 use Rattle.sn_model.specs.Caches.{Miss, block_count, is_present, is_writable_state, misses_on}
-use Rattle.sn_model.specs.Fabric.{node_at}
+use Rattle.sn_model.specs.Fabric.{node_at, line_of_node}
 use Rattle.sn_model.specs.Machine.{State, processor_at}
 use Rattle.sn_model.specs.Instructions.{found_at}
 use Rattle.sn_coherence.specs.Records.{Records}
-use Rattle.consistent_cuts.specs.Accesses.{line_at, CanServe, CanServeWant, CanRetire, IsRead, IsWritten, IsServed, MayRetire}
+use Rattle.consistent_cuts.specs.Accesses.{CanServe, CanServeWant, CanRetire, IsReadable, IsWritable, IsServed, MayRetire}
 use Rattle.fabric_coherence.specs.Told.{Tells}
 
 -- a line that may be written is there
@@ -31,8 +31,8 @@ none_on None b e = refl
 none_on (Some miss) b e = cc
 
 module _ (config : Config) (s : State) (r : ℕ → Records) (n : ℕ) (tells : (b : ℕ) → b < block_count → Tells s.fabric b (r b)) where
-  present_read : (b : ℕ) → b < block_count → n < length s.fabric.nodes → is_present (line_at s.fabric n b).state ≡ true →
-      IsRead s.fabric r n b
+  present_read : (b : ℕ) → b < block_count → n < length s.fabric.nodes → is_present (line_of_node s.fabric n b).state ≡ true →
+      IsReadable s.fabric r n b
   present_read b low l there = record {
     below = low;
     present = there;
@@ -40,12 +40,12 @@ module _ (config : Config) (s : State) (r : ℕ → Records) (n : ℕ) (tells : 
     newest = ((tells b low).read n l there).1;
   }
 
-  served_read : (b : ℕ) → CanServe config s.fabric n b need.Read → IsRead s.fabric r n b
+  served_read : (b : ℕ) → CanServe config s.fabric n b need.Read → IsReadable s.fabric r n b
   served_read b can = present_read b can.line.block can.line.node can.serving
 
-  served_write : (b : ℕ) → CanServe config s.fabric n b need.Write → IsWritten s.fabric r n b
+  served_write : (b : ℕ) → CanServe config s.fabric n b need.Write → IsWritable s.fabric r n b
   served_write b can = record {
-    read = present_read b can.line.block can.line.node (writable_present (line_at s.fabric n b).state can.serving);
+    read = present_read b can.line.block can.line.node (writable_present (line_of_node s.fabric n b).state can.serving);
     writable = can.serving;
     alone = (tells b can.line.block).write n can.line can.serving;
     unreserved =

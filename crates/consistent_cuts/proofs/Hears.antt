@@ -14,7 +14,7 @@ use Rattle.sn_model.specs.Caches.{block_count}
 use Rattle.sn_model.specs.Fabric.{Fabric, node_at}
 use Rattle.sn_model.specs.Machine.{State, Processor, processor_at, with_processor, first_processor}
 use Rattle.sn_model.specs.MachineEvents.{heard, unreserved, without_reservation, freed, checkpoint_of}
-use Rattle.sn_model.specs.Trace.{Entry as Retired}
+use Rattle.sn_model.specs.Trace.{TraceEntry}
 use Rattle.sn_coherence.specs.Records.{Records, unreserves, hears}
 use Rattle.sn_consistency.specs.Entries.{Entry}
 use Rattle.sn_consistency.specs.Kept as sorted
@@ -95,7 +95,7 @@ heard_lost r n block = record {
     access_same b m true = refl
     access_same b m false = refl
 
-module _ (image : ImageData) (s : State) (r : ℕ → Records) (list : ℕ → List Entry) (trace : List Retired) (j : IsJoined image s r list trace) (f : Fabric) where
+module _ (image : ImageData) (s : State) (r : ℕ → Records) (list : ℕ → List Entry) (trace : List TraceEntry) (j : IsJoined image s r list trace) (f : Fabric) where
   abbrev N : ℕ
   N = length s.fabric.nodes
 

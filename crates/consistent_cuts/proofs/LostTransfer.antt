@@ -28,7 +28,7 @@ use Rattle.sn_model.specs.Net.{flight_of}
 use Rattle.sn_model.specs.NodeEvents.{ready_of}
 use Rattle.sn_model.specs.PointEvents.{restored}
 use Rattle.sn_model.specs.Step.{step_of}
-use Rattle.sn_model.specs.Trace.{Entry}
+use Rattle.sn_model.specs.Trace.{TraceEntry}
 use Rattle.mosi_cache.proofs.Counts.{none-taken}
 use Rattle.mosi_cache.proofs.Frames.{empty-at}
 use Rattle.fabric_coherence.proofs.KeptStart.{first_homes_at, length-first_homes, length-empty_lines}
@@ -146,11 +146,11 @@ twos = waits 0 0 ∷ waits 0 0 ∷ []
 abbrev threes : List Retirement
 threes = waits 0 0 ∷ waits 0 0 ∷ waits 0 0 ∷ []
 
-abbrev entries : List Entry
+abbrev entries : List TraceEntry
 entries = retirement 0 0 ∷ retirement 0 0 ∷ []
 
 -- node 0 with a core, and node 1 at the entry
-abbrev at_first : Node → List HomeEntry → List Flight → ℕ → CoreState → List Retirement → List Entry → Moment
+abbrev at_first : Node → List HomeEntry → List Flight → ℕ → CoreState → List Retirement → List TraceEntry → Moment
 at_first first entries flights next core pending trace =
     moment (fabric (first ∷ bare 0 ∷ []) entries flights next 0) (processor core (begun 0 ∷ []) ∷ processor (begun 1) (begun 1 ∷ []) ∷ [])
     (0 ∷ 0 ∷ []) pending [] trace
@@ -173,7 +173,7 @@ got = at_first (node 0 complete None written_log) taken (flight 3 0 0 0 64 (Unbl
 abbrev unblocked : Moment
 unblocked = at_first (node 0 complete None written_log) closed [] 4 (pointed 0) twos entries
 
-abbrev all_entries : List Entry
+abbrev all_entries : List TraceEntry
 all_entries = retirement 0 0 ∷ retirement 0 0 ∷ retirement 0 0 ∷ []
 
 abbrev three_done : Moment
@@ -239,7 +239,7 @@ third = record {
 abbrev fours : List Retirement
 fours = waits 0 0 ∷ waits 0 0 ∷ waits 0 0 ∷ waits 1 0 ∷ []
 
-abbrev four_entries : List Entry
+abbrev four_entries : List TraceEntry
 four_entries = retirement 0 0 ∷ retirement 0 0 ∷ retirement 0 0 ∷ retirement 1 0 ∷ []
 
 abbrev edged_0 : Processor
@@ -333,7 +333,7 @@ hears_1 = record { answers = refl; state = refl; trace = refl }
 abbrev told : List Flight
 told = flight 6 0 0 1 0 (Advance 1) 0 ∷ flight 7 0 1 1 0 (Advance 1) 0 ∷ []
 
-abbrev five_entries : List Entry
+abbrev five_entries : List TraceEntry
 five_entries = retirement 0 0 ∷ retirement 0 0 ∷ retirement 0 0 ∷ retirement 1 0 ∷ retirement 1 1 ∷ []
 
 abbrev four_plain : List Record

@@ -11,7 +11,7 @@ use Rattle.sn_model.specs.Fabric.{node_at}
 use Rattle.sn_model.specs.Cuts.{names_at}
 use Rattle.sn_model.specs.Machine.{State, processor_at}
 use Rattle.sn_model.specs.RecoveryPoint.{KeepsCheckpoint, HasOneHolderWith, IsCut, block_in}
-use Rattle.sn_model.specs.Trace.{Entry as Retired}
+use Rattle.sn_model.specs.Trace.{TraceEntry}
 use Rattle.sn_coherence.specs.Records.{Records}
 use Rattle.sn_consistency.specs.Words as words
 use Rattle.sn_consistency.specs.Entries.{Entry}
@@ -38,7 +38,7 @@ got [] i d l = absurd (omega (arith, l))
 got (x ∷ xs) zero d l = refl
 got (x ∷ xs) (suc i) d l = got xs i d (omega (arith, l))
 
-module _ (half : FabricHalf) (image : ImageData) (s : State) (r : ℕ → Records) (list : ℕ → List Entry) (trace : List Retired) (j : IsJoined image s r list trace) where
+module _ (half : FabricHalf) (image : ImageData) (s : State) (r : ℕ → Records) (list : ℕ → List Entry) (trace : List TraceEntry) (j : IsJoined image s r list trace) where
   abbrev N : ℕ
   N = length s.fabric.nodes
 

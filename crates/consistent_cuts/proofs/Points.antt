@@ -16,7 +16,7 @@ use Rattle.sn_model.specs.Machine.{State, Processor, Retirement, first_processor
 use Rattle.sn_model.specs.Instructions.{taken_by, records_of}
 use Rattle.sn_model.specs.MachineEvents.{committed_next, restored_rest, restored_processor, restored_processors, checkpoint_of}
 use Rattle.sn_model.specs.PointEvents.{restored, restored_node, restored_homes, restored_net}
-use Rattle.sn_model.specs.Trace.{Entry as Retired}
+use Rattle.sn_model.specs.Trace.{TraceEntry}
 use Rattle.sn_coherence.specs.Records.{Records, rolls_back}
 use Rattle.sn_consistency.specs.Entries.{Entry}
 use Rattle.sn_consistency.specs.Sorted.{at_cut, cut_off}
@@ -55,7 +55,7 @@ module _ (image : ImageData) (u : State) (N n k : ℕ) (high : N ≤ n) (nodes :
     ap (λ p. checkpoint_of p 0 k) nobodys_processor ∙ one_checkpoint (k - 0) ∙ ap bare (sym nobodys_core),
   )
 
-module _ (image : ImageData) (s : State) (r : ℕ → Records) (list : ℕ → List Entry) (trace : List Retired) (j : IsJoined image s r list trace) where
+module _ (image : ImageData) (s : State) (r : ℕ → Records) (list : ℕ → List Entry) (trace : List TraceEntry) (j : IsJoined image s r list trace) where
   abbrev N : ℕ
   N = length s.fabric.nodes
 
@@ -149,7 +149,7 @@ pub restored_is : (s : State) → record (restored_rest s) { fabric = restored s
 unfolding restored restored_rest
 restored_is s = refl
 
-module _ (image : ImageData) (s : State) (r : ℕ → Records) (list : ℕ → List Entry) (trace : List Retired) (j : IsJoined image s r list trace) where
+module _ (image : ImageData) (s : State) (r : ℕ → Records) (list : ℕ → List Entry) (trace : List TraceEntry) (j : IsJoined image s r list trace) where
   abbrev M : ℕ
   M = length s.fabric.nodes
 

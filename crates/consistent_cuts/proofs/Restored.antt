@@ -9,7 +9,7 @@ use Rattle.sn_model.specs.Fabric.{Fabric, node_at, home_of, no_entry}
 use Rattle.sn_model.specs.Machine.{State}
 use Rattle.sn_model.specs.PointEvents.{restored_homes}
 use Rattle.sn_model.specs.RecoveryPoint.{IsRestored, IsRestoredNode, IsOwned}
-use Rattle.sn_model.specs.Trace.{Entry as Retired}
+use Rattle.sn_model.specs.Trace.{TraceEntry}
 use Rattle.sn_coherence.specs.Records.{Records}
 use Rattle.sn_consistency.specs.Entries.{Entry}
 use Rattle.consistent_cuts.specs.Headline.{IsUntouched}
@@ -31,7 +31,7 @@ none_open s k i [] b = refl
 none_open s k i (h ∷ homes) zero = refl
 none_open s k i (h ∷ homes) (suc b) = none_open s k (i + 1) homes b
 
-module _ (half : FabricHalf) (image : ImageData) (s : State) (r : ℕ → Records) (list : ℕ → List Entry) (trace : List Retired) (j : IsJoined image s r list trace) where
+module _ (half : FabricHalf) (image : ImageData) (s : State) (r : ℕ → Records) (list : ℕ → List Entry) (trace : List TraceEntry) (j : IsJoined image s r list trace) where
   abbrev N : ℕ
   N = length s.fabric.nodes
 

@@ -10,7 +10,7 @@ use Rattle.sn_model.specs.Fabric.{node_at}
 use Rattle.sn_model.specs.FabricEvents.{Access, moved_by}
 use Rattle.sn_model.specs.Machine.{State}
 use Rattle.sn_model.specs.Instructions.{stepped}
-use Rattle.sn_model.specs.Trace.{Entry as Retired, entry_at, traced}
+use Rattle.sn_model.specs.Trace.{TraceEntry, entry_at, traced}
 use Rattle.sn_coherence.specs.Records.{Records}
 use Rattle.sn_consistency.specs.Entries.{Entry}
 use Rattle.sn_consistency.specs.Kept as sorted
@@ -30,7 +30,7 @@ use Rattle.consistent_cuts.proofs.FabricAfter.{FabricHalf, fabric_keeps}
 use Rattle.consistent_cuts.proofs.EntryMade.{same_record, same_out}
 use Rattle.consistent_cuts.proofs.SteppedCases.{stepped_cases}
 
-module _ (half : FabricHalf) (image : ImageData) (config : Config) (s : State) (n : ℕ) (r : ℕ → Records) (list : ℕ → List Entry) (trace : List Retired) (joined : IsJoined image s r list trace) where
+module _ (half : FabricHalf) (image : ImageData) (config : Config) (s : State) (n : ℕ) (r : ℕ → Records) (list : ℕ → List Entry) (trace : List TraceEntry) (joined : IsJoined image s r list trace) where
   module _ (can : CanRetire image config s n) where
     pub may : MayRetire image s r n
     may = may_retire config s r n (half.tell s.fabric r joined.fabric) image can
@@ -73,7 +73,7 @@ module _ (half : FabricHalf) (image : ImageData) (config : Config) (s : State) (
   )
 
 -- a step keeps what is joined, with the retirement that it may add
-pub stepped_joins : FabricHalf → (image : ImageData) (config : Config) (s : State) (n : ℕ) (trace : List Retired) →
+pub stepped_joins : FabricHalf → (image : ImageData) (config : Config) (s : State) (n : ℕ) (trace : List TraceEntry) →
     n < length s.fabric.nodes → Joins image s trace →
     Joins image (stepped image config s n).state (traced image s (Step n) (stepped image config s n).answer trace)
 stepped_joins half image config s n trace l (r, list, joined) =

@@ -15,7 +15,7 @@ use Rattle.sn_consistency.specs.Words.{kind, block, place, kind_of, address_of, 
 use Rattle.sn_consistency.specs.Entries.{Entry, Fits, wrote, touches}
 use Rattle.sn_consistency.specs.Kept.{Retires}
 use Rattle.consistent_cuts.specs.Outlined.{outline_of, interval_of, IsRestShaped, Agrees}
-use Rattle.consistent_cuts.specs.Accesses.{entry_of, IsRead, IsWritten, MayRetire}
+use Rattle.consistent_cuts.specs.Accesses.{entry_of, IsReadable, IsWritable, MayRetire}
 use Rattle.consistent_cuts.proofs.Finds.{unseen_by, done_sc_by, done_by, byte_by, takes_by, read_by, written_by, word_by, wanted, kind_is}
 use Rattle.consistent_cuts.proofs.Finds.{block_is, place_is}
 
@@ -40,10 +40,10 @@ module _ (image : ImageData) (s : State) (r : ℕ → Records) (n : ℕ) (shape 
   pub written : wrote image (entry_of image s n) ≡ writes (kind_of (wanted image s n)) done
   written = ap (λ k. writes k done) (kind_is image s n)
 
-  pub read_there : touches image (entry_of image s n) ≡ true → IsRead s.fabric r n at
+  pub read_there : touches image (entry_of image s n) ≡ true → IsReadable s.fabric r n at
   read_there e = read_by s r n (wanted image s n) done may.served (sym touched ∙ e)
 
-  pub written_there : wrote image (entry_of image s n) ≡ true → IsWritten s.fabric r n at
+  pub written_there : wrote image (entry_of image s n) ≡ true → IsWritable s.fabric r n at
   written_there e = written_by s r n (wanted image s n) done may.served (sym written ∙ e)
 
   fits : Fits image (length s.fabric.nodes) (entry_of image s n)

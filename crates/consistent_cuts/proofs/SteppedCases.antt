@@ -18,14 +18,14 @@ use Rattle.sn_model.specs.declared.cache.Need.{Need}
 use Rattle.sn_model.specs.declared.cache.Need.TheVariants as need
 use Rattle.sn_model.specs.Access.{accessed, missed, has_miss, serves, lacks_room}
 use Rattle.sn_model.specs.Caches.{block_count, line_of, is_present, puts_on, frames_taken}
-use Rattle.sn_model.specs.Fabric.{Fabric, node_at}
+use Rattle.sn_model.specs.Fabric.{Fabric, node_at, line_of_node}
 use Rattle.sn_model.specs.Fabric as fabric
 use Rattle.sn_model.specs.Net.{is_full}
 use Rattle.sn_model.specs.Machine.{State, processor_at}
 use Rattle.sn_model.specs.Instructions.{Stepped, found_by, refused, carried, retired, stepped, step_wanting, accessing, is_retired}
 use Rattle.sn_model.specs.Instructions.{takes_input, next_byte, taken_by}
-use Rattle.sn_model.specs.Trace.{Entry, traced}
-use Rattle.consistent_cuts.specs.Accesses.{line_at, CanServe, CanServeWant, CanRetire}
+use Rattle.sn_model.specs.Trace.{TraceEntry, traced}
+use Rattle.consistent_cuts.specs.Accesses.{CanServe, CanServeWant, CanRetire}
 
 -- a choice by a test
 by_test : {A : Type 0} (P : A → Type 0) (test : Bool) (a b : A) → (test ≡ true → P a) → (test ≡ false → P b) → P (if test then a else b)
@@ -36,7 +36,7 @@ by_test P false a b f g = g refl
 
 module _ (config : Config) (s : Fabric) (n b : ℕ) (l : n < length s.nodes) (low : b < block_count) (need : Need) where
   served : (a p c d e f : Bool) → has_miss (node_at s n).cache.miss ≡ a → puts_on (node_at s n).cache.put b ≡ p →
-      serves need (line_at s n b).state ≡ c → lacks_room config (node_at s n) b need ≡ d →
+      serves need (line_of_node s n b).state ≡ c → lacks_room config (node_at s n) b need ≡ d →
       is_retired (if a then fabric.refused s Waits else if p then fabric.refused s Waits
       else if c then (if d then fabric.refused s LogFull else fabric.answered s Retired) else if e then fabric.refused s NeedsEvict
       else if f then fabric.refused s NetFull else missed s n b need).answer ≡ true →
@@ -65,7 +65,7 @@ is_point_answer _ = false
 
 -- no answer of an access or a refusal of a step takes a retirement away, and none but Retired adds one
 abbrev pub LeavesTrace : ImageData → State → ℕ → Answer → Type 0
-LeavesTrace image s n answer = (is_point_answer answer ≡ false) × ((trace : List Entry) → traced image s (Step n) answer trace ≡ trace)
+LeavesTrace image s n answer = (is_point_answer answer ≡ false) × ((trace : List TraceEntry) → traced image s (Step n) answer trace ≡ trace)
 
 access_leaves : (image : ImageData) (s : State) (n b : ℕ) (access : Need) (a p c d e f : Bool) →
     is_retired (if a then fabric.refused s.fabric Waits else if p then fabric.refused s.fabric Waits

@@ -13,7 +13,7 @@ use Rattle.sn_model.specs.NodeEvents.{after_edge}
 use Rattle.sn_model.specs.Machine.{State, Processor, processor_at, with_processor}
 use Rattle.sn_model.specs.Instructions.{taken_by}
 use Rattle.sn_model.specs.MachineEvents.{with_checkpoint, checkpoint_of}
-use Rattle.sn_model.specs.Trace.{Entry as Retired}
+use Rattle.sn_model.specs.Trace.{TraceEntry}
 use Rattle.sn_coherence.specs.Records.{Records, unreserves}
 use Rattle.sn_consistency.specs.Entries.{Entry}
 use Rattle.sn_consistency.specs.Kept as sorted
@@ -25,7 +25,7 @@ use Rattle.consistent_cuts.proofs.Hears.{at_each, kept_checkpoint, recount}
 use Rattle.consistent_cuts.proofs.Outlines.{same_history, edge_keeps, input_keeps}
 use Rattle.consistent_cuts.proofs.Traced.{traced_same}
 
-module _ (image : ImageData) (s : State) (r : ℕ → Records) (list : ℕ → List Entry) (trace : List Retired) (j : IsJoined image s r list trace) (e : ℕ) (l : e < length s.fabric.nodes) where
+module _ (image : ImageData) (s : State) (r : ℕ → Records) (list : ℕ → List Entry) (trace : List TraceEntry) (j : IsJoined image s r list trace) (e : ℕ) (l : e < length s.fabric.nodes) where
   abbrev N : ℕ
   N = length s.fabric.nodes
 

@@ -20,14 +20,14 @@ use Rattle.log_buffer.specs.Log.{old_at}
 use Rattle.sn_base.specs.declared.log.LogEntry.{LogEntry}
 use Rattle.sn_model.specs.Machine.{State}
 use Rattle.sn_model.specs.Step.{step_of, state_after}
-use Rattle.sn_model.specs.Trace.{Entry, traced, trace_after}
+use Rattle.sn_model.specs.Trace.{TraceEntry, traced, trace_after}
 use Rattle.consistent_cuts.specs.Runs.{AllFit, block_fits}
 use Rattle.fabric_coherence.proofs.KeptStart.{first_homes_at, length-first_homes}
 
 -- a state, and the retirements up to it
 pub record Moment : Type 0 where
   pub state : State
-  pub trace : List Entry
+  pub trace : List TraceEntry
 
 module _ (image : ImageData) (config : Config) where
   -- an event leads from one to the other, with this answer
@@ -52,7 +52,7 @@ module _ (image : ImageData) (config : Config) where
         ap (λ (x : Answer). trace_after image config (step_of image config a.state event).state events
         (traced image a.state event x a.trace)) h.answers
         ∙ ap (λ (s : State). trace_after image config s events (traced image a.state event answer a.trace)) h.state
-        ∙ ap (λ (es : List Entry). trace_after image config b.state events es) h.trace
+        ∙ ap (λ (es : List TraceEntry). trace_after image config b.state events es) h.trace
         ∙ k.trace;
   }
 

@@ -12,7 +12,7 @@ use Rattle.sn_model.specs.Caches.{Line, Miss, empty_lines}
 use Rattle.sn_model.specs.Fabric.{Fabric, Node, Flight, first_homes, no_switches}
 use Rattle.sn_model.specs.Homes.{HomeEntry}
 use Rattle.sn_model.specs.Machine.{Processor, Retirement, start_of as first_state}
-use Rattle.sn_model.specs.Trace.{Entry}
+use Rattle.sn_model.specs.Trace.{TraceEntry}
 use Rattle.consistent_cuts.specs.Example.{storing, small, plain}
 use Rattle.consistent_cuts.proofs.Walk.{Moment, Leads, Comes, leads, stays}
 
@@ -57,7 +57,7 @@ fabric nodes entries flights next point = record {
   point = point;
 }
 
-abbrev pub moment : Fabric → List Processor → List ℕ → List Retirement → List Record → List Entry → Moment
+abbrev pub moment : Fabric → List Processor → List ℕ → List Retirement → List Record → List TraceEntry → Moment
 moment f processors reported pending committed trace = record {
   state = record {
     fabric = f;

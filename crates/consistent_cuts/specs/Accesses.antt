@@ -10,8 +10,8 @@ use Rattle.sn_base.specs.declared.config.Config.{Config}
 use Rattle.sn_model.specs.declared.cache.Need.{Need}
 use Rattle.sn_model.specs.declared.cache.Need.TheVariants.{Read, Write as ToWrite}
 use Rattle.sn_model.specs.Access.{has_miss, serves, lacks_room}
-use Rattle.sn_model.specs.Caches.{Line, block_count, line_of, is_present, is_writable_state}
-use Rattle.sn_model.specs.Fabric.{Fabric, node_at}
+use Rattle.sn_model.specs.Caches.{block_count, is_present, is_writable_state}
+use Rattle.sn_model.specs.Fabric.{Fabric, node_at, line_of_node}
 use Rattle.sn_model.specs.Instructions.{found_at, next_with, record_with, taken_by}
 use Rattle.sn_model.specs.Machine.{State, processor_at}
 use Rattle.sn_coherence.specs.Records.{Records, loads, loads_reserved, stores, stores_conditional, unreserves}
@@ -24,17 +24,13 @@ use Rattle.sn_consistency.specs.Entries.{Entry}
 abbrev pub entry_of : ImageData → State → ℕ → Entry
 entry_of image s n = record { found = bare (processor_at s n).core; did = record_with n (found_at image s n) }
 
--- a node's line of a block
-abbrev pub line_at : Fabric → ℕ → ℕ → Line
-line_at s n b = line_of (node_at s n).cache b
-
 -- what a node's next instruction writes
 abbrev pub write_of : ImageData → State → ℕ → Option Write
 write_of image s n = (next_with image (processor_at s n) (found_at image s n)).effect.write
 
 -- what it makes of a block: what its line has, with what is written
 abbrev pub content_left : ImageData → State → ℕ → ℕ → Content
-content_left image s n b = write_block (write_of image s n) (line_at s.fabric n b).content
+content_left image s n b = write_block (write_of image s n) (line_of_node s.fabric n b).content
 
 -- the records without node n's reservations
 abbrev pub unreserved_at : (ℕ → Records) → ℕ → ℕ → Records
@@ -60,27 +56,27 @@ records_after image s r n =
     (content_left image s n)
 
 -- a line of block b at node n that may be read: it has the newest content, and no write lies above the node's interval
-pub record IsRead (s : Fabric) (r : ℕ → Records) (n b : ℕ) : Type 0 where
+pub record IsReadable (s : Fabric) (r : ℕ → Records) (n b : ℕ) : Type 0 where
   pub below : b < block_count
-  pub present : is_present (line_at s n b).state ≡ true
-  pub content : (line_at s n b).content ≡ (r b).value
+  pub present : is_present (line_of_node s n b).state ≡ true
+  pub content : (line_of_node s n b).content ≡ (r b).value
   pub newest : (r b).last_write ≤ (node_at s n).now + 1
 
 -- one that may be written: no access lies above the node's interval either, and no other node has the block reserved
-pub record IsWritten (s : Fabric) (r : ℕ → Records) (n b : ℕ) : Type 0 where
-  pub read : IsRead s r n b
-  pub writable : is_writable_state (line_at s n b).state ≡ true
+pub record IsWritable (s : Fabric) (r : ℕ → Records) (n b : ℕ) : Type 0 where
+  pub read : IsReadable s r n b
+  pub writable : is_writable_state (line_of_node s n b).state ≡ true
   pub alone : (m : ℕ) → (r b).last_access m ≤ (node_at s n).now + 1
   pub unreserved : (m : ℕ) → m < length s.nodes → m ≢ n → (r b).reserved m ≡ false
 
 -- what an instruction of node n needs to retire, by what it wants; done is whether a store-conditional is
 abbrev pub IsServed : Want → Bool → State → (ℕ → Records) → ℕ → Type 0
 IsServed Nothing done s r n = ⊤
-IsServed (Load a) done s r n = IsRead s.fabric r n (block_of a)
-IsServed (Store a) done s r n = IsWritten s.fabric r n (block_of a)
-IsServed (Amo a) done s r n = IsWritten s.fabric r n (block_of a)
-IsServed (Lr a) done s r n = IsRead s.fabric r n (block_of a)
-IsServed (Sc a) true s r n = IsWritten s.fabric r n (block_of a)
+IsServed (Load a) done s r n = IsReadable s.fabric r n (block_of a)
+IsServed (Store a) done s r n = IsWritable s.fabric r n (block_of a)
+IsServed (Amo a) done s r n = IsWritable s.fabric r n (block_of a)
+IsServed (Lr a) done s r n = IsReadable s.fabric r n (block_of a)
+IsServed (Sc a) true s r n = IsWritable s.fabric r n (block_of a)
 IsServed (Sc a) false s r n = ⊤
 IsServed Input done s r n = taken_by s n < length (processor_at s n).given
 
@@ -93,7 +89,7 @@ pub record MayRetire (image : ImageData) (s : State) (r : ℕ → Records) (n : 
 -- by the machine alone: node n can use its line of block b, that line serves what is needed of it, and the log has room for what that notes
 pub record CanServe (config : Config) (s : Fabric) (n b : ℕ) (need : Need) : Type 0 where
   pub line : CanUse s n b
-  pub serving : serves need (line_at s n b).state ≡ true
+  pub serving : serves need (line_of_node s n b).state ≡ true
   pub room : lacks_room config (node_at s n) b need ≡ false
 
 -- what an instruction of node n wants is served; what wants no line is, an input where a byte is left

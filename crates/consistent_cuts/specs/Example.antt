@@ -12,7 +12,7 @@ use Rattle.sn_model.specs.Caches.{Line, line_of}
 use Rattle.sn_model.specs.Fabric.{node_at}
 use Rattle.sn_model.specs.Net.{flight_of}
 use Rattle.sn_model.specs.Step.{step_of}
-use Rattle.sn_model.specs.Trace.{Entry}
+use Rattle.sn_model.specs.Trace.{TraceEntry}
 use Rattle.consistent_cuts.specs.Headline.{reached, retirements}
 
 -- addi x6, x0, 1 · lui x5, 0x80001 · sw x6, 0(x5): a store to block 64, whose home is node 0
@@ -35,7 +35,7 @@ small = record { nodes = 2; sets = 16; ways = 4; log = 16 }
 abbrev pub plain : ℕ → Record
 plain node = record { core = node; seen = 0; sc_done = false; read = None }
 
-abbrev pub retirement : ℕ → ℕ → Entry
+abbrev pub retirement : ℕ → ℕ → TraceEntry
 retirement node interval = record { interval = interval; did = plain node; out = None }
 
 -- Node 0 does all three instructions: it gets the block from its home, and stores 1. Node 1 does its first.

@@ -22,7 +22,7 @@ use Rattle.sn_model.specs.Instructions.{Stepped, records_of}
 use Rattle.sn_model.specs.MachineEvents.{bytes_of}
 use Rattle.sn_model.specs.RecoveryPoint.{IsCut, IsRestored}
 use Rattle.sn_model.specs.Step.{state_after}
-use Rattle.sn_model.specs.Trace.{Entry, entry_at, trace_after, committed_trace}
+use Rattle.sn_model.specs.Trace.{TraceEntry, entry_at, trace_after, committed_trace}
 use Rattle.sn_consistency.specs.Committed.{Begins}
 use Rattle.fabric_coherence.specs.Coherent.{NothingUnfinished}
 use Rattle.consistent_cuts.specs.Lists.{retirement_of}
@@ -38,11 +38,11 @@ pub record IsRun (config : Config) (events : List Event) : Type 0 where
 abbrev pub reached : ImageData → Config → List Event → State
 reached image config events = state_after image config (start_of image config.nodes) events
 
-abbrev pub retirements : ImageData → Config → List Event → List Entry
+abbrev pub retirements : ImageData → Config → List Event → List TraceEntry
 retirements image config events = trace_after image config (start_of image config.nodes) events []
 
 -- what holds at each moment
-pub record IsConsistent (image : ImageData) (nodes : ℕ) (s : State) (trace : List Entry) : Type 0 where
+pub record IsConsistent (image : ImageData) (nodes : ℕ) (s : State) (trace : List TraceEntry) : Type 0 where
   -- the machine has its nodes
   pub count : length s.fabric.nodes ≡ nodes
   -- the committed trace is an execution without faults, and the one that the retirements make, interval by interval

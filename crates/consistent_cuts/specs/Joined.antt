@@ -2,7 +2,7 @@
 use Rattle.std.specs.Prelude.{◌≡◌, ℕ, List, length}
 use Rattle.sn_base.specs.Image.{ImageData}
 use Rattle.sn_model.specs.Machine.{State}
-use Rattle.sn_model.specs.Trace.{Entry as Retired}
+use Rattle.sn_model.specs.Trace.{TraceEntry}
 use Rattle.sn_coherence.specs.Records.{Records}
 use Rattle.sn_consistency.specs.Entries.{Entry}
 use Rattle.sn_consistency.specs.Kept as sorted
@@ -11,7 +11,7 @@ use Rattle.consistent_cuts.specs.Outlined.{outline_of, start_places, IsRestShape
 use Rattle.consistent_cuts.specs.Lists.{IsTraced, IsSortedFrom}
 
 -- with these records of each block, this sorted list, and these retirements along the run
-pub record IsJoined (image : ImageData) (s : State) (r : ℕ → Records) (list : ℕ → List Entry) (trace : List Retired) : Type 0 where
+pub record IsJoined (image : ImageData) (s : State) (r : ℕ → Records) (list : ℕ → List Entry) (trace : List TraceEntry) : Type 0 where
   pub fabric : KeepsRecords s.fabric r
   pub shape : IsRestShaped s
   pub agrees : Agrees s r
@@ -19,9 +19,9 @@ pub record IsJoined (image : ImageData) (s : State) (r : ℕ → Records) (list 
   pub traced : IsTraced s trace
   pub made : IsSortedFrom image list trace
 
-abbrev pub Joins : ImageData → State → List Retired → Type 0
+abbrev pub Joins : ImageData → State → List TraceEntry → Type 0
 Joins image s trace = (r : ℕ → Records) × (list : ℕ → List Entry) × IsJoined image s r list trace
 
 -- what holds of a machine of so many nodes, with these retirements along its run
-abbrev pub Holds : ImageData → ℕ → State → List Retired → Type 0
+abbrev pub Holds : ImageData → ℕ → State → List TraceEntry → Type 0
 Holds image nodes s trace = (length s.fabric.nodes ≡ nodes) × Joins image s trace

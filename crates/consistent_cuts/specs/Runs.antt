@@ -11,10 +11,10 @@ block_fits (Evict node block) = nat_lt block block_count
 block_fits _ = true
 
 -- the nodes, the switch and the block that an event names are there
-pub record Fits (nodes : ℕ) (event : Event) : Type 0 where
+pub record EventFits (nodes : ℕ) (event : Event) : Type 0 where
   pub numbers : event_fits nodes event ≡ true
   pub block : block_fits event ≡ true
 
 abbrev pub AllFit : ℕ → List Event → Type 0
 AllFit nodes [] = ⊤
-AllFit nodes (event ∷ events) = Fits nodes event × AllFit nodes events
+AllFit nodes (event ∷ events) = EventFits nodes event × AllFit nodes events

@@ -5,7 +5,7 @@ ghost use Rattle.sn_base.specs.declared.config.Config.{Config};
 ghost use Rattle.sn_base.specs.declared.event.Event.{Event};
 ghost use Rattle.sn_model.specs.Step.{step_of};
 ghost use Rattle.consistent_cuts.specs.Headline.{IsRun, IsConsistent, IsStepOfRun, reached, retirements};
-ghost use Rattle.consistent_cuts.specs.Runs.{Fits};
+ghost use Rattle.consistent_cuts.specs.Runs.{EventFits};
 
 /// For every program, every fitting configuration and every list of events, in whatever order: the committed trace is an
 /// execution without faults, the recovery point is a cut of its last state, released bytes are its output, what a node has
@@ -19,6 +19,7 @@ pub fn every_moment_is_consistent()
 /// And whatever comes next: a validation comes only where nothing before its checkpoint is unfinished, and commits just the
 /// interval before it; nothing else changes what is committed or released; a recovery leaves just the cut.
 pub fn every_event_is_consistent()
-    ensures { (image : ImageData) (config : Config) (events : List Event) (event : Event) → IsRun config events → Fits config.nodes event
+    ensures { (image : ImageData) (config : Config) (events : List Event) (event : Event) → IsRun config events →
+        EventFits config.nodes event
         → IsStepOfRun image config (reached image config events) event (step_of image config (reached image config events) event) }
 {}

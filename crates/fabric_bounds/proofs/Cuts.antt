@@ -21,7 +21,7 @@ use Rattle.fabric_coherence.specs.View.{Beside, block_seen, line_seen, miss_seen
 use Rattle.fabric_coherence.specs.Leads.{is_framed}
 use Rattle.fabric_coherence.specs.Coherent.{IsKept}
 use Rattle.fabric_coherence.proofs.Recovery.{restored_line_at}
-use Rattle.fabric_bounds.specs.Bounds.{Fits, cache_at, EdgeFits, IsBounded}
+use Rattle.fabric_bounds.specs.Bounds.{CacheFits, cache_at, EdgeFits, IsBounded}
 use Rattle.fabric_bounds.proofs.Steps.{fewer_fits}
 
 -- what is held is what is owned there
@@ -123,7 +123,7 @@ module _ (config : Config) (s : Fabric) (t : Beside) (kept : IsKept s t) (bounde
       (cases_lt b block_count)
 
   -- up to now, what is held had a frame at that edge; above now, what is held is owned now
-  up_to_now : k ≤ (node_at s n).now → Fits config (cache_at (node_at s n) k)
+  up_to_now : k ≤ (node_at s n).now → CacheFits config (cache_at (node_at s n) k)
   up_to_now reached =
       fewer_fits config (cache_at (node_at s n) k) edge.0
       (in_memory edge.0 (λ b low e. edge.2 b low ((kept.blocks b low).frames.holds_framed n k l from reached (holds_of b low e)))) edge.1
@@ -131,7 +131,7 @@ module _ (config : Config) (s : Fabric) (t : Beside) (kept : IsKept s t) (bounde
       edge : EdgeFits config t n k
       edge = bounded.edges n k l
 
-  above_now : (node_at s n).now < k → Fits config (cache_at (node_at s n) k)
+  above_now : (node_at s n).now < k → CacheFits config (cache_at (node_at s n) k)
   above_now later =
       fewer_fits config (cache_at (node_at s n) k) (node_at s n).cache (in_memory (node_at s n).cache still) (bounded.frames n l)
     where
@@ -147,7 +147,7 @@ module _ (config : Config) (s : Fabric) (t : Beside) (kept : IsKept s t) (bounde
           let p : is_present (line_of (node_at s n).cache b).state ≡ true = owned_present (line_of (node_at s n).cache b).state owns in
           rw p refl
 
-  pub cut_fits : Fits config (cache_at (node_at s n) k)
+  pub cut_fits : CacheFits config (cache_at (node_at s n) k)
   cut_fits =
       ⊎_elim (λ (later : (node_at s n).now < k). above_now later) (λ (reached : k ≤ (node_at s n).now). up_to_now reached)
       (cases_lt (node_at s n).now k)

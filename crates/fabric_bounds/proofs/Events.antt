@@ -34,7 +34,7 @@ use Rattle.mosi_cache.proofs.Taken.{TakesFewer}
 use Rattle.fabric_coherence.specs.View.{Beside}
 use Rattle.fabric_coherence.specs.Coherent.{IsKept}
 use Rattle.fabric_coherence.specs.Events.{CanWrite, MayBe}
-use Rattle.fabric_bounds.specs.Bounds.{HasRoom}
+use Rattle.fabric_bounds.specs.Bounds.{HasLogRoom}
 use Rattle.fabric_bounds.proofs.Lists.{shorter}
 use Rattle.fabric_bounds.proofs.Steps.{IsStep, fewer_fits, node_stays, one_steps, quiet_step, sending_step, same_step, by_test}
 use Rattle.fabric_bounds.proofs.Rows.{or_left, writable_takes, line_fewer}
@@ -205,7 +205,7 @@ abbrev pub IsNoRecovery : FabricEvent → Type 0
 IsNoRecovery (Recover k) = ⊥
 IsNoRecovery _ = ⊤
 
-pub event_step : (config : Config) (s : Fabric) (t : Beside) (event : FabricEvent) → IsKept s t → MayBe s event → HasRoom config s event →
+pub event_step : (config : Config) (s : Fabric) (t : Beside) (event : FabricEvent) → IsKept s t → MayBe s event → HasLogRoom config s event →
     IsNoRecovery event → IsStep config s (moved_by config s event)
 unfolding moved_by
 event_step config s t (Access n block access) kept may room other = accessed_step config s n may.0 block access

@@ -7,7 +7,7 @@ use Rattle.sn_base.specs.declared.config.Config.{Config}
 use Rattle.sn_model.specs.Caches.{Cache, Miss, line_of, is_present, misses_on, frames_taken}
 use Rattle.mosi_cache.proofs.Taken.{TakesFewer, taken-more}
 use Rattle.mosi_cache.proofs.Fits.{taken-of-set}
-use Rattle.fabric_bounds.specs.Bounds.{Fits}
+use Rattle.fabric_bounds.specs.Bounds.{CacheFits}
 use Rattle.fabric_bounds.proofs.Steps.{fewer_fits}
 
 one_more : (sets ways x y i j : ℕ) → i ≤ j + (if nat_eq (x % sets) (y % sets) then 1 else 0) → j ≤ ways → (x % sets ≡ y % sets → j < ways) →
@@ -23,7 +23,7 @@ new_or_old p m e h = grind arith
 had_one : (p m e : Bool) → (e ≡ true → p ≡ true) → (p || e) ≡ true → (p || m) ≡ true
 had_one p m e h k = grind arith
 
-module _ (config : Config) (c : Cache) (miss : Miss) (fits : Fits config c) where
+module _ (config : Config) (c : Cache) (miss : Miss) (fits : CacheFits config c) where
   abbrev missing : Cache
   missing = record c { miss = Some miss }
 
@@ -35,7 +35,7 @@ module _ (config : Config) (c : Cache) (miss : Miss) (fits : Fits config c) wher
       equal : nat_eq miss.block b ≡ true → miss.block ≡ b
       equal e = grind (arith, nat_tests)
 
-  finds_room : frames_taken c config.sets miss.block < config.ways → Fits config missing
+  finds_room : frames_taken c config.sets miss.block < config.ways → CacheFits config missing
   finds_room l y =
       one_more config.sets config.ways miss.block y (frames_taken missing config.sets y) (frames_taken c config.sets y)
       (taken-more missing c config.sets miss.block y
@@ -43,7 +43,7 @@ module _ (config : Config) (c : Cache) (miss : Miss) (fits : Fits config c) wher
       (fits y) (λ e. subst (λ k. k < config.ways) (taken-of-set c config.sets miss.block y e) l)
 
   pub miss_fits : (not (is_present (line_of c miss.block).state) && nat_le config.ways (frames_taken c config.sets miss.block)) ≡ false →
-      Fits config missing
+      CacheFits config missing
   miss_fits h = ⊎_elim
       (λ (p : is_present (line_of c miss.block).state ≡ true). fewer_fits config missing c (has_line p) fits)
       (λ (p : is_present (line_of c miss.block).state ≡ false). finds_room

@@ -15,7 +15,7 @@ use Rattle.route_plan.specs.Routes.{first_cut_off}
 use Rattle.fabric_coherence.specs.View.{Beside}
 use Rattle.fabric_coherence.specs.Coherent.{IsKept, Keeps}
 use Rattle.fabric_coherence.specs.Events.{MayBe}
-use Rattle.fabric_coherence.specs.Runs.{IsRun, fabric_after}
+use Rattle.fabric_coherence.specs.Runs.{IsFabricRun, fabric_after}
 use Rattle.fabric_coherence.proofs.KeptEvents.{each_keeps}
 use Rattle.fabric_coherence.proofs.NodesStay.{nodes_same}
 use Rattle.fabric_coherence.proofs.Recovery.{each_node, replicated}
@@ -115,7 +115,7 @@ one_more e s x count step counts = record {
     next_number : (old new sent : ℕ) → old ≤ most_sent * e + 1 → sent ≤ most_sent → new ≡ old + sent → new ≤ most_sent * (e + 1) + 1
     next_number old new sent h f g = omega arith
 
-run_counts : (config : Config) (e : ℕ) (s : Fabric) (events : List FabricEvent) → Keeps s → CountsTo e s → IsRun config s events →
+run_counts : (config : Config) (e : ℕ) (s : Fabric) (events : List FabricEvent) → Keeps s → CountsTo e s → IsFabricRun config s events →
     CountsTo (e + length events) (fabric_after config s events)
 run_counts config e s [] keeps counts run = subst (λ k. CountsTo k s) (none_more e) counts
 run_counts config e s (event ∷ events) keeps counts run =
@@ -126,7 +126,7 @@ run_counts config e s (event ∷ events) keeps counts run =
     then_one : (a b : ℕ) → a + 1 + b ≡ a + suc b
     then_one a b = omega arith
 
-pub counts_from_the_start : (config : Config) (s : Fabric) (events : List FabricEvent) → Keeps s → CountsTo 0 s → IsRun config s events →
+pub counts_from_the_start : (config : Config) (s : Fabric) (events : List FabricEvent) → Keeps s → CountsTo 0 s → IsFabricRun config s events →
     CountsTo (length events) (fabric_after config s events)
 counts_from_the_start config s events keeps counts run =
     subst (λ k. CountsTo k (fabric_after config s events)) (none_before (length events)) (run_counts config 0 s events keeps counts run)

@@ -21,14 +21,14 @@ use Rattle.fabric_coherence.specs.Start.{first_beside}
 use Rattle.fabric_coherence.proofs.KeptEvents.{each_keeps_frames}
 use Rattle.fabric_coherence.proofs.NodesStay.{nodes_same}
 use Rattle.fabric_coherence.proofs.Recovery.{each_node, replicated}
-use Rattle.fabric_bounds.specs.Bounds.{Fits, EdgeFits, IsBounded, KeepsBounds, HasRoom, IsServedRun}
+use Rattle.fabric_bounds.specs.Bounds.{CacheFits, EdgeFits, IsBounded, KeepsBounds, HasLogRoom, IsServedRun}
 use Rattle.fabric_bounds.proofs.Steps.{IsStep, same_step}
 use Rattle.fabric_bounds.proofs.Events.{IsNoRecovery, event_step}
 use Rattle.fabric_bounds.proofs.Cuts.{framed_takes, cut_fits}
 
 -- the start
 
-empty_fits : (config : Config) → Fits config empty_cache
+empty_fits : (config : Config) → CacheFits config empty_cache
 empty_fits config = fits-none config.sets config.ways
 
 first_at : (nodes n : ℕ) → slice_index_or (replicate nodes first_node) n first_node ≡ first_node
@@ -38,7 +38,7 @@ pub start_bounded : (image : ImageData) (config : Config) (nodes : ℕ) → IsBo
 start_bounded image config nodes = record {
   logs = λ n l. subst (λ (x : Node). length x.log ≤ config.log) (sym (first_at nodes n)) (omega arith);
   net = omega arith;
-  frames = λ n l. subst (λ (x : Node). Fits config x.cache) (sym (first_at nodes n)) (empty_fits config);
+  frames = λ n l. subst (λ (x : Node). CacheFits config x.cache) (sym (first_at nodes n)) (empty_fits config);
   edges = λ n j l. (empty_cache, empty_fits config, λ b low e. absurd (cc));
 }
 
@@ -79,7 +79,7 @@ restored_bounded config s t u count kept frames bounded = record {
       (there n l);
   net = omega arith;
   frames =
-      λ n l. each_node (λ m x y. m < length s.nodes → Fits config y.cache) s
+      λ n l. each_node (λ m x y. m < length s.nodes → CacheFits config y.cache) s
       (λ m k h. cut_fits config s t kept bounded m s.point h (omega arith)) (λ m k h. absurd (omega arith)) n (there n l);
   edges = λ n j l. edge_fits config s t u frames bounded n j (there n l);
 }
@@ -117,7 +117,7 @@ no_recovery_or (Kill switch) = inr tt
 no_recovery_or (Report n) = inr tt
 no_recovery_or (Advance k) = inr tt
 
-event_bounded : (config : Config) (s : Fabric) (t u : Beside) (event : FabricEvent) → IsKept s t → MayBe s event → HasRoom config s event →
+event_bounded : (config : Config) (s : Fabric) (t u : Beside) (event : FabricEvent) → IsKept s t → MayBe s event → HasLogRoom config s event →
     KeepsFrames s t u → IsBounded config s t → IsBounded config (moved_by config s event).fabric u
 event_bounded config s t u event kept may room frames bounded = ⊎_elim
     (λ (r : (k : ℕ) × (event ≡ Recover k)). subst (λ e. MayBe s e → IsBounded config (moved_by config s e).fabric u) (sym r.1)
@@ -127,7 +127,7 @@ event_bounded config s t u event kept may room frames bounded = ⊎_elim
     (no_recovery_or event)
 
 pub each_keeps_bounds : (config : Config) (s : Fabric) (event : FabricEvent) → KeepsBounds config s → MayBe s event →
-    HasRoom config s event → KeepsBounds config (moved_by config s event).fabric
+    HasLogRoom config s event → KeepsBounds config (moved_by config s event).fabric
 each_keeps_bounds config s event k may room =
     let g = each_keeps_frames config s k.0 event k.1 may in
     (g.0, g.1, event_bounded config s k.0 g.0 event k.1 may room g.2 k.2)

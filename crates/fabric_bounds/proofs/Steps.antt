@@ -11,13 +11,13 @@ use Rattle.sn_model.specs.Caches.{Cache}
 use Rattle.sn_model.specs.Fabric.{Fabric, Node, Moved, node_at, first_node, answered}
 use Rattle.sn_model.specs.Net.{net_limit, routes_of, sending}
 use Rattle.mosi_cache.proofs.Taken.{TakesFewer, taken-fewer}
-use Rattle.fabric_bounds.specs.Bounds.{Fits}
+use Rattle.fabric_bounds.specs.Bounds.{CacheFits}
 use Rattle.fabric_bounds.specs.Counts.{SendsFew, most_sent}
 use Rattle.fabric_bounds.proofs.Lists.{read_set, flights-posted, next-posted, length-sent}
 
 pub record NodeSteps (config : Config) (old new : Node) : Type 0 where
   pub log : length old.log ≤ config.log → length new.log ≤ config.log
-  pub frames : Fits config old.cache → Fits config new.cache
+  pub frames : CacheFits config old.cache → CacheFits config new.cache
   pub now : new.now ≤ old.now + 1
 
 pub record IsStep (config : Config) (s : Fabric) (x : Moved) : Type 0 where
@@ -27,7 +27,7 @@ pub record IsStep (config : Config) (s : Fabric) (x : Moved) : Type 0 where
   pub point : x.fabric.point ≤ s.point + 1
 
 -- a cache that takes fewer frames fits
-pub fewer_fits : (config : Config) (c d : Cache) → TakesFewer c d → Fits config d → Fits config c
+pub fewer_fits : (config : Config) (c d : Cache) → TakesFewer c d → CacheFits config d → CacheFits config c
 fewer_fits config c d h f y = omega (arith, taken-fewer c d config.sets y h, f y)
 
 pub node_stays : (config : Config) (node : Node) → NodeSteps config node node

@@ -18,8 +18,8 @@ use Rattle.fabric_coherence.specs.Events.{MayBe}
 use Rattle.fabric_coherence.specs.View.{Beside}
 
 -- a cache fits: in no set more blocks take a frame than it has ways
-abbrev pub Fits : Config → Cache → Type 0
-Fits config cache = FitsSets cache config.sets config.ways
+abbrev pub CacheFits : Config → Cache → Type 0
+CacheFits config cache = FitsSets cache config.sets config.ways
 
 -- the cache that a recovery to checkpoint k leaves a node
 abbrev pub cache_at : Node → ℕ → Cache
@@ -28,14 +28,14 @@ cache_at node k = restored_cache node.log k node.cache
 -- the blocks that had frames of node n at its edge to interval j are some that fit: those of a cache that does
 abbrev pub EdgeFits : Config → Beside → ℕ → ℕ → Type 0
 EdgeFits config t n j =
-    (cache : Cache) × Fits config cache × ((b : ℕ) → b < block_count → t.framed b n j ≡ true → takes_frame cache b ≡ true)
+    (cache : Cache) × CacheFits config cache × ((b : ℕ) → b < block_count → t.framed b n j ≡ true → takes_frame cache b ≡ true)
 
 -- no log has more entries than it may, no more messages are in flight than may be, each cache fits, and so did the blocks
 -- that had frames at each edge
 pub record IsBounded (config : Config) (s : Fabric) (t : Beside) : Type 0 where
   pub logs : (n : ℕ) → n < length s.nodes → length (node_at s n).log ≤ config.log
   pub net : length s.net.flights ≤ net_limit
-  pub frames : (n : ℕ) → n < length s.nodes → Fits config (node_at s n).cache
+  pub frames : (n : ℕ) → n < length s.nodes → CacheFits config (node_at s n).cache
   pub edges : (n j : ℕ) → n < length s.nodes → EdgeFits config t n j
 
 -- all sentences of coherence and these bounds, with something beside the fabric
@@ -43,15 +43,15 @@ abbrev pub KeepsBounds : Config → Fabric → Type 0
 KeepsBounds config s = (t : Beside) × IsKept s t × IsBounded config s t
 
 -- a write was served: the log has the room for what it notes
-abbrev pub HasRoom : Config → Fabric → FabricEvent → Type 0
-HasRoom config s (Write n w) = lacks_room config (node_at s n) (block_of w.address) ToWrite ≡ false
-HasRoom config s _ = ⊤
+abbrev pub HasLogRoom : Config → Fabric → FabricEvent → Type 0
+HasLogRoom config s (Write n w) = lacks_room config (node_at s n) (block_of w.address) ToWrite ≡ false
+HasLogRoom config s _ = ⊤
 
 -- each event of the list can happen when its turn comes, and each write was served
 abbrev pub IsServedRun : Config → Fabric → List FabricEvent → Type 0
 IsServedRun config s [] = ⊤
 IsServedRun config s (event ∷ events) =
-    (MayBe s event × HasRoom config s event) × IsServedRun config (moved_by config s event).fabric events
+    (MayBe s event × HasLogRoom config s event) × IsServedRun config (moved_by config s event).fabric events
 
 -- the messages that bring a line to a cache
 abbrev pub brings_line : Body → Bool

@@ -9,8 +9,8 @@ ghost use Rattle.sn_model.specs.FabricEvents.{FabricEvent, moved_by};
 ghost use Rattle.sn_model.specs.Net.{flight_of, net_limit};
 ghost use Rattle.fabric_coherence.specs.Coherent.{Keeps};
 ghost use Rattle.fabric_coherence.specs.Events.{MayBe};
-ghost use Rattle.fabric_coherence.specs.Runs.{IsRun, fabric_after};
-ghost use Rattle.fabric_bounds.specs.Bounds.{Fits, cache_at, brings_line, HasRoom, KeepsBounds, IsServedRun};
+ghost use Rattle.fabric_coherence.specs.Runs.{IsFabricRun, fabric_after};
+ghost use Rattle.fabric_bounds.specs.Bounds.{CacheFits, cache_at, brings_line, HasLogRoom, KeepsBounds, IsServedRun};
 ghost use Rattle.fabric_bounds.specs.Counts.{SendsFew, CountsTo};
 
 /// At the start all bounds are kept.
@@ -21,7 +21,7 @@ pub fn start_is_bounded()
 
 /// Every event that can happen keeps them, whatever its answer is, where a write was served.
 pub fn each_event_keeps_bounds()
-    ensures { (config : Config) (s : Fabric) (event : FabricEvent) → KeepsBounds config s → MayBe s event → HasRoom config s event
+    ensures { (config : Config) (s : Fabric) (event : FabricEvent) → KeepsBounds config s → MayBe s event → HasLogRoom config s event
         → KeepsBounds config (moved_by config s event).fabric }
 {}
 
@@ -39,7 +39,7 @@ pub fn what_is_bounded()
         length (node_at s n).log ≤ config.log }
     ensures net { (config : Config) (s : Fabric) → KeepsBounds config s → length s.net.flights ≤ net_limit }
     ensures frames { (config : Config) (s : Fabric) (n : ℕ) → KeepsBounds config s → n < length s.nodes
-        → Fits config (node_at s n).cache }
+        → CacheFits config (node_at s n).cache }
 {}
 
 /// A message that brings a line finds that its block has a frame already: so the cache fits with the line too.
@@ -52,7 +52,7 @@ pub fn answers_find_their_frames()
 /// blocks that take a frame of that cache are those that are held there.
 pub fn cuts_fit_the_sets()
     ensures fits { (config : Config) (s : Fabric) (n k : ℕ) → KeepsBounds config s → n < length s.nodes → s.point ≤ k
-        → Fits config (cache_at (node_at s n) k) }
+        → CacheFits config (cache_at (node_at s n) k) }
     ensures held { (s : Fabric) (n b k : ℕ) → Keeps s → n < length s.nodes → b < block_count
         → takes_frame (cache_at (node_at s n) k) b ≡ is_some (holds_at s n b k) }
 {}
@@ -66,7 +66,7 @@ pub fn each_event_sends_few()
 /// end of 64 bits.
 pub fn numbers_do_not_run_out()
     ensures counts { (image : ImageData) (config : Config) (nodes : ℕ) (events : List FabricEvent) → 1 ≤ nodes → nodes ≤ 16
-        → IsRun config (first_fabric image nodes) events
+        → IsFabricRun config (first_fabric image nodes) events
         → CountsTo (length events) (fabric_after config (first_fabric image nodes) events) }
     ensures next { (s : Fabric) (events : ℕ) → CountsTo events s → events ≤ 4000000000 → s.net.next_id < 9223372036854775808 }
 {}

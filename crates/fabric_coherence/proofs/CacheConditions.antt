@@ -117,8 +117,8 @@ inside_owned : (b : block.Block) (kind : block.Kind) → Stages b → b.kind ≡
 inside_owned b block.Idle st k ta i = absurd (cc)
 inside_owned b block.Read st k ta i = absurd (cc)
 inside_owned b block.Put st k ta i = absurd (cc)
-inside_owned b block.Take st k ta i = ap block.is_owned (st.inside_other (ap block.comes_to_cache k) i)
-inside_owned b block.Move st k ta i = ap block.is_owned (st.inside_other (ap block.comes_to_cache k) i)
+inside_owned b block.Take st k ta i = ap block.is_owned (st.inside_other (ap block.brings_to_cache k) i)
+inside_owned b block.Move st k ta i = ap block.is_owned (st.inside_other (ap block.brings_to_cache k) i)
 inside_owned b block.Upgrade st k ta i = ap block.is_owned (st.inside_upgrade k i)
 
 module _ (s : Fabric) (t : Beside) (m : Message) (flight : IsInFlight s m) where

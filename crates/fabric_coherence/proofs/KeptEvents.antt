@@ -22,7 +22,7 @@ use Rattle.fabric_coherence.specs.Coherent.{IsKept, Keeps, NothingUnfinished}
 use Rattle.fabric_coherence.specs.Events.{MayBe}
 use Rattle.fabric_coherence.specs.Recorded.{KeepsRecords, MayBeRecorded, noted_by, recorded_by}
 use Rattle.fabric_coherence.specs.Leads.{KeepsFrames, Goes, Moves}
-use Rattle.fabric_coherence.specs.Runs.{IsRun, fabric_after}
+use Rattle.fabric_coherence.specs.Runs.{IsFabricRun, fabric_after}
 use Rattle.fabric_coherence.specs.CacheEvents.{comes_to_cache}
 use Rattle.fabric_coherence.proofs.KeptCommon.{frames_stay, as_it_is, by_test, kept_on, recorded_on}
 use Rattle.fabric_coherence.proofs.KeptNet.{lost_moves, hopped_moves, killed_moves, rises_goes, ready_delivered_moves}
@@ -200,7 +200,7 @@ each_keeps_records config s r event k m = (
     goes : (u : Beside) × Goes s k.0 (noted_by s event (moved_by config s event)) (moved_by config s event).fabric u
     goes = event_goes config s k.0 event k.1 (may event m).0 (may event m).1
 
-pub run_keeps : (config : Config) (s : Fabric) (events : List FabricEvent) → Keeps s → IsRun config s events →
+pub run_keeps : (config : Config) (s : Fabric) (events : List FabricEvent) → Keeps s → IsFabricRun config s events →
     Keeps (fabric_after config s events)
 run_keeps config s [] k r = k
 run_keeps config s (event ∷ events) k r = run_keeps config (moved_by config s event).fabric events (each_keeps config s event k r.0) r.1

@@ -1,4 +1,4 @@
--- Who holds a block, in the words of the fabric's definitions: one writer now, and one holder at each settled cut.
+-- Who holds a block, in the words of the fabric's definitions: one writer now, and one holder at each cut where its home has nothing open.
 use Rattle.std.specs.Prelude.{◌≡◌, ◌≢◌, ℕ, ◌<◌, ◌≤◌, true, false, List, length}
 use Rattle.sn_model.specs.declared.cache.LineState.TheVariants.{Absent}
 use Rattle.sn_model.specs.Caches.{line_of, is_writable_state, misses_on}

@@ -6,9 +6,9 @@ use Rattle.sn_model.specs.FabricEvents.{FabricEvent, moved_by}
 use Rattle.fabric_coherence.specs.Events.{MayBe}
 
 -- each event of the list can happen when its turn comes
-abbrev pub IsRun : Config → Fabric → List FabricEvent → Type 0
-IsRun config s [] = ⊤
-IsRun config s (event ∷ events) = MayBe s event × IsRun config (moved_by config s event).fabric events
+abbrev pub IsFabricRun : Config → Fabric → List FabricEvent → Type 0
+IsFabricRun config s [] = ⊤
+IsFabricRun config s (event ∷ events) = MayBe s event × IsFabricRun config (moved_by config s event).fabric events
 
 -- the fabric after them
 abbrev pub fabric_after : Config → Fabric → List FabricEvent → Fabric

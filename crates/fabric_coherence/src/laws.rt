@@ -14,7 +14,7 @@ ghost use Rattle.fabric_coherence.specs.Events.{MayBe, CanUse};
 ghost use Rattle.fabric_coherence.specs.Holders.{IsCoherent};
 ghost use Rattle.fabric_coherence.specs.Leads.{KeepsFrames};
 ghost use Rattle.fabric_coherence.specs.Recorded.{IsOfFabric};
-ghost use Rattle.fabric_coherence.specs.Runs.{IsRun, fabric_after};
+ghost use Rattle.fabric_coherence.specs.Runs.{IsFabricRun, fabric_after};
 ghost use Rattle.fabric_coherence.specs.View.{Beside};
 
 /// At the start all sentences hold of every block.
@@ -38,7 +38,8 @@ pub fn nodes_stay()
     ensures { (config : Config) (s : Fabric) (event : FabricEvent) → length (moved_by config s event).fabric.nodes ≡ length s.nodes }
 {}
 
-/// Where they hold, each block has one writer at most, and one holder at each settled checkpoint, which its home names.
+/// Where they hold, each block has one writer at most, and one holder at each checkpoint where its home has nothing open, which
+/// its home names.
 pub fn what_is_kept_is_coherent()
     ensures { (s : Fabric) → Keeps s → (b : ℕ) → b < block_count → IsCoherent s b }
 {}
@@ -69,8 +70,8 @@ pub fn what_is_served_can_be_used()
 /// coherent after it.
 pub fn every_run_is_coherent()
     ensures kept { (image : ImageData) (config : Config) (nodes : ℕ) (events : List FabricEvent) → 1 ≤ nodes → nodes ≤ 16
-        → IsRun config (first_fabric image nodes) events → Keeps (fabric_after config (first_fabric image nodes) events) }
+        → IsFabricRun config (first_fabric image nodes) events → Keeps (fabric_after config (first_fabric image nodes) events) }
     ensures coherent { (image : ImageData) (config : Config) (nodes : ℕ) (events : List FabricEvent) → 1 ≤ nodes → nodes ≤ 16
-        → IsRun config (first_fabric image nodes) events → (b : ℕ) → b < block_count →
+        → IsFabricRun config (first_fabric image nodes) events → (b : ℕ) → b < block_count →
         IsCoherent (fabric_after config (first_fabric image nodes) events) b }
 {}

@@ -6,7 +6,7 @@
 //! sentences hold of every block. In the fabric's own words: each block has one writer at most, and one holder at each
 //! checkpoint below which its home has nothing open. The same holds with the records of all accesses beside the fabric: then
 //! each copy is what the accesses left, each access is legal, and the holder at a checkpoint has what the accesses below it
-//! leave. No code depends on this crate; its functions have empty bodies, and their contracts are the theorems.
+//! leave. No code calls this crate; its functions have empty bodies, and their contracts are the theorems.
 //!
 //! Source: the projection argument of directory protocols (Sorin, Hill, Wood, "A Primer on Memory Consistency and Cache
 //! Coherence": coherence is a matter of one block at a time), and SafetyNet (ISCA 2002).

@@ -1,10 +1,11 @@
 //! A command that is broken off has put the pieces before the one that failed, each its own, and nothing after it.
 mod commands;
+mod refusals;
 
+use calls_in_memory::{Faults, Given, Left, call};
 use commands::COMMANDS;
-use safetynet_main::{Status, safetynet};
+use safetynet_main::Status;
 use sn_base::Memory;
-use sn_io::{MemSink, MemStore, OpenGate};
 use std::alloc::Global;
 use std::process::Abort;
 use std::sync::Wait;
@@ -22,8 +23,8 @@ enum Outside {
 /// What a command puts in one call of a sink, and of which.
 type Piece = (Outside, &'static str);
 
-/// A line of words, the files a and b that they may name, how many of them are fetched, the status where nothing fails, the pieces in
-/// their order, and how many of them the console and the report get.
+/// A line of words, the files a.hex and a.script that they may name, how many of them are fetched, the status where nothing fails, the
+/// pieces in their order, and how many of them the console and the report get.
 #[derive(Clone, Copy)]
 struct Command {
     words: &'static str,
@@ -51,65 +52,12 @@ fn number_of(failing: &Failing, outside: Outside) -> u64 {
     }
 }
 
-/// What a call left that had the memory that it wants.
-#[derive(Drop)]
-struct Left {
-    status: Status,
-    console: MemSink,
-    report: MemSink,
-}
-
-fn words_in(alloc: Global, line: &str) -> Result<Vec<String>, Fail> {
-    let mut words = Vec::new(alloc);
-    for word in line.split(' ') {
-        words.push(String::from_str(alloc, word)?)?;
+fn faults_of(failing: &Failing) -> Faults {
+    Faults {
+        store: number_of(failing, Outside::Store),
+        console: number_of(failing, Outside::Console),
+        report: number_of(failing, Outside::Report),
     }
-    Ok(words)
-}
-
-fn store_of(alloc: Global, command: &Command, failing: &Failing) -> Result<MemStore, Fail> {
-    let mut store = MemStore::new(alloc);
-    store.add("a", command.program.as_bytes())?;
-    store.add("b", command.script.as_bytes())?;
-    store.fail_call(number_of(failing, Outside::Store))?;
-    Ok(store)
-}
-
-fn sink_of(alloc: Global, failing: &Failing, outside: Outside) -> Result<MemSink, Fail> {
-    let mut sink = MemSink::with_room(alloc, 2000)?;
-    sink.fail_call(number_of(failing, outside))?;
-    Ok(sink)
-}
-
-fn call(
-    rt: &(impl Threads + Wait + Sync),
-    alloc: Global,
-    command: &Command,
-    failing: &Failing,
-) -> Result<Left, Fail> {
-    let words = words_in(alloc, command.words)?;
-    let mut store = store_of(alloc, command, failing)?;
-    let mut console = sink_of(alloc, failing, Outside::Console)?;
-    let mut report = sink_of(alloc, failing, Outside::Report)?;
-    let gate = OpenGate::new();
-    let status = safetynet(
-        rt,
-        alloc,
-        words.as_slice(),
-        &mut store,
-        &mut console,
-        &mut report,
-        Vec::new(alloc),
-        &gate,
-    );
-    if status == Status::Memory {
-        return Err(Fail::from(Memory));
-    }
-    Ok(Left {
-        status,
-        console,
-        report,
-    })
 }
 
 /// Whether the sinks have the pieces before the call that fails, and no more.
@@ -149,16 +97,34 @@ fn due(command: &Command, failing: &Failing) -> (Status, &'static [Piece]) {
     }
 }
 
-/// Whether a command ends so.
+/// Whether a call ends so, and has put these pieces as far as none fails.
 fn ends_so(
+    rt: &(impl Threads + Wait + Sync),
+    alloc: Global,
+    given: &Given<'_>,
+    status: &Status,
+    pieces: &[Piece],
+    failing: &Failing,
+) -> Result<bool, Memory> {
+    let left = call(rt, alloc, given)?;
+    Ok(left.status == *status && have_pieces(&left, pieces, failing))
+}
+
+/// Whether a command ends so.
+fn is_broken_off(
     rt: &(impl Threads + Wait + Sync),
     alloc: Global,
     command: &Command,
     failing: &Failing,
-) -> Result<bool, Fail> {
-    let left = call(rt, alloc, command, failing)?;
+) -> Result<bool, Memory> {
+    let given = Given {
+        words: command.words,
+        program: command.program.as_bytes(),
+        script: command.script.as_bytes(),
+        faults: faults_of(failing),
+    };
     let (status, pieces) = due(command, failing);
-    Ok(left.status == status && have_pieces(&left, pieces, failing))
+    ends_so(rt, alloc, &given, &status, pieces, failing)
 }
 
 /// First none fails, and then each of so many in turn.
@@ -170,7 +136,7 @@ fn each_call_fails(
     calls: u64,
 ) -> Result<(), Fail> {
     for number in 0..calls.saturating_add(1) {
-        let is_so = ends_so(rt, alloc, command, &Failing { of, number })?;
+        let is_so = is_broken_off(rt, alloc, command, &Failing { of, number })?;
         assert!(rt; is_so, "{}, call {number} failing", command.words);
     }
     Ok(())

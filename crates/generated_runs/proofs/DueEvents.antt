@@ -8,7 +8,7 @@ use Rattle.sn_base.specs.declared.event.Event.TheVariants.{Kill}
 use Rattle.sn_base.specs.declared.rules.Rules.{Rules}
 use Rattle.sn_model.specs.Caches.{block_count}
 use Rattle.sn_model.specs.Machine.{State}
-use Rattle.consistent_cuts.specs.Runs.{Fits}
+use Rattle.consistent_cuts.specs.Runs.{EventFits}
 use Rattle.due_events.specs.Numbers.{Numbers}
 use Rattle.due_events.specs.Due.{due_of}
 use Rattle.due_events.proofs.EachDue.{HoldsOfEach, due_of-holds}
@@ -16,7 +16,7 @@ use Rattle.generated_runs.proofs.DeadStays.{is_kill}
 
 pub record IsGood (nodes : ℕ) (event : Event) : Type 0 where
   pub spares : is_kill event ≡ false
-  pub fits : Fits nodes event
+  pub fits : EventFits nodes event
 
 each_good : (rules : Rules) (nodes : ℕ) → rules.kill ≡ None → HoldsOfEach rules nodes (IsGood nodes)
 each_good rules nodes none = record {

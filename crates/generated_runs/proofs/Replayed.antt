@@ -12,9 +12,10 @@ use Rattle.sn_driver.specs.Driver.{DriverData}
 use Rattle.counting_program.specs.Program.{counting_image}
 use Rattle.script_replay.specs.declared.job.Showing.{Showing}
 use Rattle.script_replay.specs.declared.job.Replay.{Replay}
-use Rattle.script_replay.specs.Played.{MayBegin, IsWatchable, IsReady}
+use Rattle.script_replay.specs.Played.{MayBegin, IsWatchable, IsAtStart}
 use Rattle.script_replay.specs.Scheduled.{replay_of}
-use Rattle.generated_runs.specs.Generated.{GeneratedData, generated_config, generated_events, generated_replay, generator_of, still_due, IsFresh}
+use Rattle.generated_runs.specs.Generated.{GeneratedData, generated_config, generated_events, generated_replay, generator_of}
+use Rattle.generated_runs.specs.Generated.{still_due, IsFresh}
 use Rattle.generated_runs.proofs.Running.{all_whole}
 
 abbrev pub with_parts : ℕ → Numbers → Lcg → GeneratedData
@@ -56,7 +57,7 @@ module _ (size : ℕ) (g : GeneratedData) (m : MachineData) (new : g ≡ first_d
         watched = watched;
       })
 
-  pub is_ready : size ≤ m.spare → IsReady m m.image m.config (length (left_of g m))
+  pub is_ready : size ≤ m.spare → IsAtStart m m.image m.config (length (left_of g m))
   is_ready room = record {
     program = refl;
     sizes = refl;

@@ -17,7 +17,7 @@ use Rattle.sn_model.specs.Fabric.{no_switches}
 use Rattle.sn_model.specs.PointEvents.{living_switches}
 use Rattle.sn_model.specs.Machine.{State, start_of}
 use Rattle.sn_model.specs.Step.{step_of}
-use Rattle.consistent_cuts.specs.Runs.{Fits, AllFit}
+use Rattle.consistent_cuts.specs.Runs.{EventFits, AllFit}
 use Rattle.consistent_cuts.proofs.NodesStay.{step_count}
 use Rattle.sn_machine.specs.Looks.{have_ended}
 use Rattle.due_events.specs.Numbers.{Numbers, first_numbers, counted, with_retired, with_edge, with_report, with_answer, numbers_after}
@@ -103,7 +103,7 @@ pub record AreWhole (size : ℕ) (events : List Event) : Type 0 where
   pub count : length events ≡ size
   pub fit : AllFit 4 events
 
-more : (size : ℕ) (o : Option Event) (e : Event) (others : Event → List Event) → o ≡ Some e → Fits 4 e → AreWhole size (others e) →
+more : (size : ℕ) (o : Option Event) (e : Event) (others : Event → List Event) → o ≡ Some e → EventFits 4 e → AreWhole size (others e) →
     AreWhole (suc size) (then_others o others)
 more size o e others is fits rest =
     subst (λ (t : Option Event). AreWhole (suc size) (then_others t others)) (sym is)

@@ -31,7 +31,8 @@ impl Model for Generated {
 
     ghost view = { λ g. record { numbers = g.driver.numbers; turn = g.turn; left = g.left; generator = g.generator } };
 
-    ghost invariant = { λ g. (g.driver.rules ≡ generated_rules) × (g.driver.nodes ≡ 4) × (g.turn + g.left ≤ 1000000) × (g.driver.numbers.done + g.left ≤ 1000000) };
+    ghost invariant = { λ g. (g.driver.rules ≡ generated_rules) × (g.driver.nodes ≡ 4) × (g.turn + g.left ≤ 1000000) ×
+        (g.driver.numbers.done + g.left ≤ 1000000) };
 }
 
 impl Generated {

@@ -5,3 +5,4 @@ pub mod Agrees
 pub mod Restored
 pub mod PutBack
 pub mod Listing
+pub mod LeastBegun

@@ -21,9 +21,9 @@ use Rattle.sn_model.specs.NetEvents.{Outcome, Busy, AtCache, AtHome, Noted, get_
 use Rattle.home_directory.specs.declared.step.HomeStep.{HomeStep}
 use Rattle.sn_model.specs.declared.look.Look.{Look}
 use Rattle.sn_model.specs.declared.look.Look.TheVariants.{Sends}
-use Rattle.home_directory.specs.Receipt.{Verdict, Does, Waits, LacksRoom, kept, HasRow, noted_by_read, noted_by_write, noted_by_unblock}
+use Rattle.home_directory.specs.Receipt.{Verdict, Does, IsBusy, LacksRoom, kept, HasRow, noted_by_read, noted_by_write, noted_by_unblock}
 use Rattle.home_directory.specs.Receipt.{unless_open, noting, outcome_at, judged, within, look_of, left_by, Tells}
-use Rattle.home_directory.specs.Serving.{HasRoom, lacks_room, waits, count_sends, Did, DidOutcome}
+use Rattle.home_directory.specs.Serving.{HasLogRoom, lacks_room, waits, count_sends, IsRowDone, DidOutcome}
 
 -- a log with a note has more than its limit just where it lacks the room
 grew : (t : Bool) (es : List LogEntry) (e : LogEntry) (limit : ℕ) → length es ≤ limit →
@@ -36,10 +36,10 @@ stays n limit h = grind (arith, nat_tests)
 
 -- the row of an outcome
 abbrev pub does : Outcome → Verdict
-does Busy = Waits
+does Busy = IsBusy
 does (AtHome reply) = Does reply
-does (AtCache reply) = Waits
-does (Noted fabric told) = Waits
+does (AtCache reply) = IsBusy
+does (Noted fabric told) = IsBusy
 
 shared_step : (b : Bool) (log : LogData) (block now : ℕ) (x y : HomeReply) → length log.entries ≤ log.limit →
     nat_lt log.limit (length x.after.log) ≡ lacks_room log (Some now) block → nat_lt log.limit (length y.after.log) ≡ false →
@@ -123,12 +123,12 @@ judged_is log entry now m GetM r h w =
 judged_is log entry now m PutReq r h w = put_is log m.block entry.transaction _ w (put_size log entry now m.from h)
 judged_is log entry now m _ r h w = absurd r
 
-wait_is : (limit : ℕ) (t : Option Transaction) (reply : HomeReply) → is_some t ≡ true → judged limit (unless_busy t reply) ≡ Waits
+wait_is : (limit : ℕ) (t : Option Transaction) (reply : HomeReply) → is_some t ≡ true → judged limit (unless_busy t reply) ≡ IsBusy
 wait_is limit None reply w = cc
 wait_is limit (Some t) reply w = refl
 
 pub judged_waits : (limit : ℕ) (at : LoggedEntry) (now : ℕ) (m : Message) (body : Body) → waits at.entry body ≡ true →
-    judged limit (outcome_at at now m body) ≡ Waits
+    judged limit (outcome_at at now m body) ≡ IsBusy
 judged_waits limit at now m GetS w = wait_is limit at.entry.transaction _ w
 judged_waits limit at now m GetM w = wait_is limit at.entry.transaction _ w
 judged_waits limit at now m PutReq w = wait_is limit at.entry.transaction _ w
@@ -213,39 +213,39 @@ names_no_owner (Cache node) content holder r p q = rw (← p) (grind (arith, nat
 
 pub did_alone : (at : LoggedEntry) (block now r : ℕ) (holder : Holder) (content : List ℕ) (after : LoggedEntry) (step : HomeStep) →
     holder ≡ Itself content → count_others at.entry.sharers r ≡ 0 →
-    Did after step (grant_exclusive at block now r content) → Did after step (get_shared at block now r holder)
+    IsRowDone after step (grant_exclusive at block now r content) → IsRowDone after step (get_shared at block now r holder)
 did_alone at block now r holder content after step p q d = rw (p, q) d
 
 pub did_copy : (at : LoggedEntry) (block now r : ℕ) (holder : Holder) (content : List ℕ) (after : LoggedEntry) (step : HomeStep) →
     holder ≡ Itself content → nat_eq (count_others at.entry.sharers r) 0 ≡ false →
-    Did after step (read_at_home at now r content) → Did after step (get_shared at block now r holder)
+    IsRowDone after step (read_at_home at now r content) → IsRowDone after step (get_shared at block now r holder)
 did_copy at block now r holder content after step p q d = rw (p, q) d
 
 pub did_forward : (at : LoggedEntry) (block now r : ℕ) (holder : Holder) (owner : ℕ) (after : LoggedEntry) (step : HomeStep) →
     holder ≡ OfCache owner →
-    Did after step (read_at_owner at now r owner) → Did after step (get_shared at block now r holder)
+    IsRowDone after step (read_at_owner at now r owner) → IsRowDone after step (get_shared at block now r holder)
 did_forward at block now r holder owner after step p d = rw p d
 
 pub did_upgrade : (at : LoggedEntry) (block now r : ℕ) (holder : Holder) (owner : ℕ) (after : LoggedEntry) (step : HomeStep) →
     holder ≡ OfCache owner → nat_eq owner r ≡ true →
-    Did after step (upgrade at now r) → Did after step (get_modified at block now r holder)
+    IsRowDone after step (upgrade at now r) → IsRowDone after step (get_modified at block now r holder)
 did_upgrade at block now r holder owner after step p q d = rw (p, q) d
 
 pub did_move : (at : LoggedEntry) (block now r : ℕ) (holder : Holder) (owner : ℕ) (after : LoggedEntry) (step : HomeStep) →
     holder ≡ OfCache owner → nat_eq owner r ≡ false →
-    Did after step (move_ownership at now r owner) → Did after step (get_modified at block now r holder)
+    IsRowDone after step (move_ownership at now r owner) → IsRowDone after step (get_modified at block now r holder)
 did_move at block now r holder owner after step p q d = rw (p, q) d
 
 pub did_put : (at : LoggedEntry) (now r : ℕ) (after : LoggedEntry) (step : HomeStep) → is_owner at.entry.holder r ≡ true →
-    Did after step (put_begins at now r) → Did after step (put_request at now r)
+    IsRowDone after step (put_begins at now r) → IsRowDone after step (put_request at now r)
 did_put at now r after step q d = rw q d
 
 pub did_stale : (at : LoggedEntry) (now r : ℕ) (after : LoggedEntry) (step : HomeStep) → is_owner at.entry.holder r ≡ false →
-    Did after step (put_is_stale at r) → Did after step (put_request at now r)
+    IsRowDone after step (put_is_stale at r) → IsRowDone after step (put_request at now r)
 did_stale at now r after step q d = rw q d
 
 -- the note of a row that is done has room
 pub room_for : (log : LogData) (interval : Option ℕ) (block : ℕ) → lacks_room log interval block ≡ false →
-    IfSome interval (λ i. HasRoom log i block)
+    IfSome interval (λ i. HasLogRoom log i block)
 room_for log None block h = tt
 room_for log (Some i) block h = λ e. grind (arith, nat_tests)

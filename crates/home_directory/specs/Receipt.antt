@@ -92,7 +92,7 @@ outcome_at at now m _ = Busy
 -- a row that is done; a request that waits; a row for whose note the log has no room
 pub data Verdict : Type 0 where
   Does : (reply : HomeReply) → Verdict
-  Waits : Verdict
+  IsBusy : Verdict
   LacksRoom : Verdict
 
 abbrev pub within : ℕ → HomeReply → Verdict
@@ -100,7 +100,7 @@ within limit reply = if nat_lt limit (length reply.after.log) then LacksRoom els
 
 abbrev pub judged : ℕ → Outcome → Verdict
 judged limit (AtHome reply) = within limit reply
-judged limit _ = Waits
+judged limit _ = IsBusy
 
 -- the verdict on a message at an entry, with a log of this limit
 abbrev pub verdict_of : ℕ → LoggedEntry → ℕ → Message → Verdict
@@ -124,13 +124,13 @@ Sent _ sends = ⊥
 -- a step that says what the verdict is
 abbrev pub Tells : HomeStep → Verdict → Type 0
 Tells step (Does reply) = Sent step reply.sends
-Tells step Waits = step ≡ HomeBusy
+Tells step IsBusy = step ≡ HomeBusy
 Tells step LacksRoom = step ≡ LogFull
 
 -- what a look says of it
 abbrev pub look_of : Verdict → Look
 look_of (Does reply) = Sends (length reply.sends)
-look_of Waits = LooksBusy
+look_of IsBusy = LooksBusy
 look_of LacksRoom = LooksFull
 
 -- at a home

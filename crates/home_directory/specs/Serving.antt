@@ -20,8 +20,8 @@ abbrev pub waits : HomeEntry → Body → Bool
 waits entry body = is_request body && is_some entry.transaction
 
 -- the log has room for a note of the home's side, if it is a new one
-abbrev pub HasRoom : LogData → ℕ → ℕ → Type 0
-HasRoom log interval block = has_entry log.entries interval true block ≡ false → length log.entries < log.limit
+abbrev pub HasLogRoom : LogData → ℕ → ℕ → Type 0
+HasLogRoom log interval block = has_entry log.entries interval true block ≡ false → length log.entries < log.limit
 
 -- whether the log lacks the room for a note of the home's side
 abbrev pub lacks_room : LogData → Option ℕ → ℕ → Bool
@@ -36,11 +36,11 @@ count_sends entry r PutReq = 1
 count_sends entry r _ = 0
 
 -- a row that was done: what is left, and what the step sends
-pub record Did (after : LoggedEntry) (step : HomeStep) (reply : HomeReply) : Type 0 where
+pub record IsRowDone (after : LoggedEntry) (step : HomeStep) (reply : HomeReply) : Type 0 where
   pub left : after ≡ reply.after
   pub sent : Sent step reply.sends
 
 -- the same of what a message comes to
 abbrev pub DidOutcome : LoggedEntry → HomeStep → Outcome → Type 0
-DidOutcome after step (AtHome reply) = Did after step reply
+DidOutcome after step (AtHome reply) = IsRowDone after step reply
 DidOutcome after step _ = ⊥

@@ -28,14 +28,14 @@ impl Model for Transaction {
 /// What the home keeps of a block. `memory` is the block's content while the home owns it, and counts for nothing while a
 /// cache does.
 #[derive(Drop)]
-pub struct Entry {
+pub struct DirectoryEntry {
     pub owner: Owner,
     pub memory: Block,
     pub sharers: NodeSet,
     pub transaction: Option<Transaction>,
 }
 
-impl Model for Entry {
+impl Model for DirectoryEntry {
     ghost use Rattle.sn_model.specs.Homes.{HomeEntry};
     ghost use Rattle.home_directory.specs.Home.{holder_of};
 
@@ -44,7 +44,7 @@ impl Model for Entry {
     ghost view = { λ e. record { holder = holder_of e.owner e.memory; sharers = e.sharers; transaction = e.transaction } };
 }
 
-impl Entry {
+impl DirectoryEntry {
     /// The node whose cache owns the block. None where the home owns it.
     pub fn owner_cache(&self) -> Option<NodeId>
         ensures { result ≡ cache_of self.now.holder }

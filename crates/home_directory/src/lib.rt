@@ -27,9 +27,9 @@ mod step;
 mod tests;
 mod touched;
 
-use entry::Entry;
+use entry::DirectoryEntry;
 pub use entry::Transaction;
-pub use laws::{outcome_is_the_machines, restore_is_the_machines};
+pub use laws::{least_open_is_the_machines, outcome_is_the_machines, restore_is_the_machines};
 use log_buffer::LogBuffer;
 use open::Open;
 use sn_base::{Block, BlockNo, Image, Interval, Memory, NodeId, NodeSet};
@@ -46,7 +46,7 @@ use touched::Touched;
 pub struct Home {
     node: NodeId,
     nodes: u8,
-    entries: Vec<Entry>,
+    entries: Vec<DirectoryEntry>,
     opens: Vec<Open>,
     touched: Touched,
 }

@@ -6,9 +6,9 @@ ghost use Rattle.sn_model.specs.HomeRows.{count_others};
 ghost use Rattle.sn_model.specs.NetEvents.{get_shared, get_modified, put_request};
 ghost use Rattle.home_directory.specs.Receipt.{kept, HasRow, IsNotOlder, noted_by_read, noted_by_write, noted_by_unblock, unless_open};
 ghost use Rattle.home_directory.specs.Receipt.{noting, outcome_at, verdict_of, left_by, Tells, look_of};
-ghost use Rattle.home_directory.specs.Serving.{Did, DidOutcome, HasRoom, lacks_room, waits, count_sends};
+ghost use Rattle.home_directory.specs.Serving.{IsRowDone, DidOutcome, HasLogRoom, lacks_room, waits, count_sends};
 
-use crate::entry::Entry;
+use crate::entry::DirectoryEntry;
 use crate::rows;
 use crate::step::HomeStep;
 use log_buffer::LogBuffer;
@@ -17,7 +17,7 @@ use sn_model::{Kind, Look, Owner};
 use sn_msg::{Body, Message};
 
 /// Whether a request has to wait for the open transaction.
-fn waits(entry: &Entry, body: &Body) -> bool
+fn waits(entry: &DirectoryEntry, body: &Body) -> bool
     ensures { result ≡ waits entry.now body.now }
 {
     match body {
@@ -26,7 +26,7 @@ fn waits(entry: &Entry, body: &Body) -> bool
     }
 }
 
-fn noted_by_read(entry: &Entry, r: NodeId, now: Interval) -> Option<Interval>
+fn noted_by_read(entry: &DirectoryEntry, r: NodeId, now: Interval) -> Option<Interval>
     ensures { result ≡ unless_open entry.now.transaction (noted_by_read entry.now.holder (count_others entry.now.sharers r) now) }
 {
     match (entry.transaction, entry.owner) {
@@ -35,7 +35,7 @@ fn noted_by_read(entry: &Entry, r: NodeId, now: Interval) -> Option<Interval>
     }
 }
 
-fn noted_by_write(entry: &Entry, now: Interval) -> Option<Interval>
+fn noted_by_write(entry: &DirectoryEntry, now: Interval) -> Option<Interval>
     ensures { result ≡ unless_open entry.now.transaction (noted_by_write entry.now.holder now) }
 {
     match (entry.transaction, entry.owner) {
@@ -44,7 +44,7 @@ fn noted_by_write(entry: &Entry, now: Interval) -> Option<Interval>
     }
 }
 
-fn noted_by_unblock(entry: &Entry, fixed: Interval) -> Option<Interval>
+fn noted_by_unblock(entry: &DirectoryEntry, fixed: Interval) -> Option<Interval>
     ensures { result ≡ noted_by_unblock entry.now.transaction entry.now.holder fixed }
 {
     match (entry.transaction.map(|open| open.kind), entry.owner) {
@@ -54,7 +54,7 @@ fn noted_by_unblock(entry: &Entry, fixed: Interval) -> Option<Interval>
 }
 
 /// The interval under which the message's row notes what stood, where it notes.
-fn noting(entry: &Entry, message: &Message, now: Interval) -> Option<Interval>
+fn noting(entry: &DirectoryEntry, message: &Message, now: Interval) -> Option<Interval>
     ensures { result ≡ noting entry.now now message.now message.now.body }
 {
     match message.body {
@@ -79,7 +79,7 @@ fn lacks_room(log: &LogBuffer, interval: Option<Interval>, block: BlockNo) -> bo
 }
 
 /// How many messages the row sends: only a write's row sends an `Inv`, to each other sharer.
-fn count_sends(entry: &Entry, message: &Message) -> u8
+fn count_sends(entry: &DirectoryEntry, message: &Message) -> u8
     ensures { result ≡ count_sends entry.now message.now.from message.now.body }
 {
     match message.body {
@@ -90,7 +90,7 @@ fn count_sends(entry: &Entry, message: &Message) -> u8
 }
 
 /// What `receive` would do.
-pub fn look(entry: &Entry, message: &Message, now: Interval, log: &LogBuffer) -> Look
+pub fn look(entry: &DirectoryEntry, message: &Message, now: Interval, log: &LogBuffer) -> Look
     requires { HasRow entry.now message.now.from message.now.body }
     ensures { result ≡ look_of (verdict_of log.now.limit (kept entry.now log.now.entries) now message.now) }
 {
@@ -103,12 +103,17 @@ pub fn look(entry: &Entry, message: &Message, now: Interval, log: &LogBuffer) ->
     Look::Sends(count_sends(entry, message))
 }
 
-fn get_shared(entry: &mut Entry, message: &Message, now: Interval, log: &mut LogBuffer) -> HomeStep
+fn get_shared(
+    entry: &mut DirectoryEntry,
+    message: &Message,
+    now: Interval,
+    log: &mut LogBuffer,
+) -> HomeStep
     requires room { IfSome (noted_by_read entry.old.holder (count_others entry.old.sharers message.now.from) now)
-        (λ i. HasRoom log.old i message.now.block) }
+        (λ i. HasLogRoom log.old i message.now.block) }
     requires latest { IsNotOlder log.old.entries
         (noted_by_read entry.old.holder (count_others entry.old.sharers message.now.from) now) message.now.block }
-    ensures did { Did (kept entry.new log.new.entries) result
+    ensures did { IsRowDone (kept entry.new log.new.entries) result
         (get_shared (kept entry.old log.old.entries) message.now.block now message.now.from entry.old.holder) }
     ensures limit { log.new.limit ≡ log.old.limit }
 {
@@ -124,14 +129,14 @@ fn get_shared(entry: &mut Entry, message: &Message, now: Interval, log: &mut Log
 }
 
 fn get_modified(
-    entry: &mut Entry,
+    entry: &mut DirectoryEntry,
     message: &Message,
     now: Interval,
     log: &mut LogBuffer,
 ) -> HomeStep
-    requires room { IfSome (noted_by_write entry.old.holder now) (λ i. HasRoom log.old i message.now.block) }
+    requires room { IfSome (noted_by_write entry.old.holder now) (λ i. HasLogRoom log.old i message.now.block) }
     requires latest { IsNotOlder log.old.entries (noted_by_write entry.old.holder now) message.now.block }
-    ensures did { Did (kept entry.new log.new.entries) result
+    ensures did { IsRowDone (kept entry.new log.new.entries) result
         (get_modified (kept entry.old log.old.entries) message.now.block now message.now.from entry.old.holder) }
     ensures limit { log.new.limit ≡ log.old.limit }
 {
@@ -148,8 +153,8 @@ fn get_modified(
     }
 }
 
-fn put_request(entry: &mut Entry, now: Interval, r: NodeId) -> HomeStep
-    ensures { (log : List LogEntry) → Did (kept entry.new log) result (put_request (kept entry.old log) now r) }
+fn put_request(entry: &mut DirectoryEntry, now: Interval, r: NodeId) -> HomeStep
+    ensures { (log : List LogEntry) → IsRowDone (kept entry.new log) result (put_request (kept entry.old log) now r) }
 {
     if entry.is_owner(r) {
         rows::put_begins(entry, now, r)
@@ -159,10 +164,15 @@ fn put_request(entry: &mut Entry, now: Interval, r: NodeId) -> HomeStep
 }
 
 /// Does the message's row.
-fn serve(entry: &mut Entry, message: &Message, now: Interval, log: &mut LogBuffer) -> HomeStep
+fn serve(
+    entry: &mut DirectoryEntry,
+    message: &Message,
+    now: Interval,
+    log: &mut LogBuffer,
+) -> HomeStep
     requires row { HasRow entry.old message.now.from message.now.body }
     requires idle { waits entry.old message.now.body ≡ false }
-    requires room { IfSome (noting entry.old now message.now message.now.body) (λ i. HasRoom log.old i message.now.block) }
+    requires room { IfSome (noting entry.old now message.now message.now.body) (λ i. HasLogRoom log.old i message.now.block) }
     requires latest { IsNotOlder log.old.entries (noting entry.old now message.now message.now.body) message.now.block }
     ensures did { DidOutcome (kept entry.new log.new.entries) result
         (outcome_at (kept entry.old log.old.entries) now message.now message.now.body) }
@@ -180,7 +190,12 @@ fn serve(entry: &mut Entry, message: &Message, now: Interval, log: &mut LogBuffe
 }
 
 /// Does the message's row, or refuses it.
-pub fn receive(entry: &mut Entry, message: &Message, now: Interval, log: &mut LogBuffer) -> HomeStep
+pub fn receive(
+    entry: &mut DirectoryEntry,
+    message: &Message,
+    now: Interval,
+    log: &mut LogBuffer,
+) -> HomeStep
     requires row { HasRow entry.old message.now.from message.now.body }
     requires latest { IsNotOlder log.old.entries (noting entry.old now message.now message.now.body) message.now.block }
     ensures left { kept entry.new log.new.entries

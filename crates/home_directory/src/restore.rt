@@ -6,14 +6,14 @@ ghost use Rattle.home_directory.specs.Touched.{AreCleared};
 ghost use Rattle.home_directory.specs.Restored.{stays-same, stays-along, can-part, can-way};
 
 use crate::Home;
-use crate::entry::Entry;
+use crate::entry::DirectoryEntry;
 use crate::touched::Touched;
 use rollback::Restore;
 use sn_base::{Block, BlockNo, NodeId, NodeSet, Old};
 use sn_model::Owner;
 
 /// Nobody shares a block, and nothing is open: so it is but for the touched places already.
-fn clear_entries(entries: &mut Vec<Entry>, touched: &Touched)
+fn clear_entries(entries: &mut Vec<DirectoryEntry>, touched: &Touched)
     requires { AreCleared touched.now entries.old.items }
     ensures { entries.new.items ≡ map cleared entries.old.items }
 {

@@ -6,9 +6,9 @@ ghost use Rattle.sn_model.specs.Homes.{HomeEntry, OfCache};
 ghost use Rattle.sn_model.specs.HomeRows.{taken_from_home, noted_owner, read_at_home, read_at_owner, take, move_ownership, upgrade};
 ghost use Rattle.sn_model.specs.HomeRows.{unblock, put_begins, put_is_stale, put_data, grant_exclusive};
 ghost use Rattle.home_directory.specs.Receipt.{kept, noted_by_end, noted_by_unblock, IsNotOlder};
-ghost use Rattle.home_directory.specs.Serving.{Did, HasRoom};
+ghost use Rattle.home_directory.specs.Serving.{IsRowDone, HasLogRoom};
 
-use crate::entry::{Entry, Transaction};
+use crate::entry::{DirectoryEntry, Transaction};
 use crate::step::HomeStep;
 use log_buffer::LogBuffer;
 use sn_base::{Block, BlockNo, Interval, NodeId, NodeSet, Old};
@@ -34,14 +34,14 @@ fn begun(kind: Kind, requester: NodeId, now: Interval) -> Option<Transaction>
 
 /// The block goes from the home to r: its content is noted under `now`, and r owns it.
 fn give_to(
-    entry: &mut Entry,
+    entry: &mut DirectoryEntry,
     log: &mut LogBuffer,
     block: BlockNo,
     now: Interval,
     r: NodeId,
     content: Block,
 )
-    requires room { HasRoom log.old now block }
+    requires room { HasLogRoom log.old now block }
     requires latest { logged_to log.old.entries true block ≤ now + 1 }
     ensures gone { kept entry.new log.new.entries ≡ taken_from_home (kept entry.old log.old.entries) block now r content }
     ensures limit { log.new.limit ≡ log.old.limit }
@@ -53,8 +53,13 @@ fn give_to(
 }
 
 /// GetS, and the home owns the block, which others share: r joins the sharers, and gets a copy.
-pub fn read_at_home(entry: &mut Entry, now: Interval, r: NodeId, content: Block) -> HomeStep
-    ensures { (log : List LogEntry) → Did (kept entry.new log) result (read_at_home (kept entry.old log) now r content) }
+pub fn read_at_home(
+    entry: &mut DirectoryEntry,
+    now: Interval,
+    r: NodeId,
+    content: Block,
+) -> HomeStep
+    ensures { (log : List LogEntry) → IsRowDone (kept entry.new log) result (read_at_home (kept entry.old log) now r content) }
 {
     entry.sharers = entry.sharers.with(r);
     entry.transaction = begun(Kind::Read, r, now);
@@ -62,8 +67,13 @@ pub fn read_at_home(entry: &mut Entry, now: Interval, r: NodeId, content: Block)
 }
 
 /// GetS, and a cache owns the block: r joins the sharers, and the owner sends the copy.
-pub fn read_at_owner(entry: &mut Entry, now: Interval, r: NodeId, owner: NodeId) -> HomeStep
-    ensures { (log : List LogEntry) → Did (kept entry.new log) result (read_at_owner (kept entry.old log) now r owner) }
+pub fn read_at_owner(
+    entry: &mut DirectoryEntry,
+    now: Interval,
+    r: NodeId,
+    owner: NodeId,
+) -> HomeStep
+    ensures { (log : List LogEntry) → IsRowDone (kept entry.new log) result (read_at_owner (kept entry.old log) now r owner) }
 {
     entry.sharers = entry.sharers.with(r);
     entry.transaction = begun(Kind::Read, r, now);
@@ -72,16 +82,16 @@ pub fn read_at_owner(entry: &mut Entry, now: Interval, r: NodeId, owner: NodeId)
 
 /// GetM, and the home owns the block: r owns it and gets the content, and the other sharers get an `Inv`.
 pub fn take(
-    entry: &mut Entry,
+    entry: &mut DirectoryEntry,
     log: &mut LogBuffer,
     block: BlockNo,
     now: Interval,
     r: NodeId,
     content: Block,
 ) -> HomeStep
-    requires room { HasRoom log.old now block }
+    requires room { HasLogRoom log.old now block }
     requires latest { logged_to log.old.entries true block ≤ now + 1 }
-    ensures did { Did (kept entry.new log.new.entries) result (take (kept entry.old log.old.entries) block now r content) }
+    ensures did { IsRowDone (kept entry.new log.new.entries) result (take (kept entry.old log.old.entries) block now r content) }
     ensures limit { log.new.limit ≡ log.old.limit }
 {
     let others = entry.sharers.without(r);
@@ -91,8 +101,13 @@ pub fn take(
 
 /// GetM, and another cache owns the block: it sends the content with the ownership, and the other sharers get an `Inv`. The
 /// home names the old owner until the `Unblock`.
-pub fn move_ownership(entry: &mut Entry, now: Interval, r: NodeId, owner: NodeId) -> HomeStep
-    ensures { (log : List LogEntry) → Did (kept entry.new log) result (move_ownership (kept entry.old log) now r owner) }
+pub fn move_ownership(
+    entry: &mut DirectoryEntry,
+    now: Interval,
+    r: NodeId,
+    owner: NodeId,
+) -> HomeStep
+    ensures { (log : List LogEntry) → IsRowDone (kept entry.new log) result (move_ownership (kept entry.old log) now r owner) }
 {
     let others = entry.sharers.without(r);
     entry.sharers = NodeSet::empty();
@@ -101,8 +116,8 @@ pub fn move_ownership(entry: &mut Entry, now: Interval, r: NodeId, owner: NodeId
 }
 
 /// GetM, and r owns the block: it may write once the other sharers, which get an `Inv`, have acknowledged.
-pub fn upgrade(entry: &mut Entry, now: Interval, r: NodeId) -> HomeStep
-    ensures { (log : List LogEntry) → Did (kept entry.new log) result (upgrade (kept entry.old log) now r) }
+pub fn upgrade(entry: &mut DirectoryEntry, now: Interval, r: NodeId) -> HomeStep
+    ensures { (log : List LogEntry) → IsRowDone (kept entry.new log) result (upgrade (kept entry.old log) now r) }
 {
     let others = entry.sharers.without(r);
     entry.sharers = NodeSet::empty();
@@ -112,13 +127,13 @@ pub fn upgrade(entry: &mut Entry, now: Interval, r: NodeId) -> HomeStep
 
 /// The old owner is noted under the interval of atomicity, and the requester owns from then on.
 fn end_move(
-    entry: &mut Entry,
+    entry: &mut DirectoryEntry,
     log: &mut LogBuffer,
     block: BlockNo,
     fixed: Interval,
     requester: NodeId,
 )
-    requires room { IfSome (noted_by_end Kind.Move entry.old.holder fixed) (λ i. HasRoom log.old i block) }
+    requires room { IfSome (noted_by_end Kind.Move entry.old.holder fixed) (λ i. HasLogRoom log.old i block) }
     requires latest { IsNotOlder log.old.entries (noted_by_end Kind.Move entry.old.holder fixed) block }
     ensures gone { kept entry.new log.new.entries
         ≡ record {
@@ -137,15 +152,16 @@ fn end_move(
 /// Unblock with its interval of atomicity: of a Move, the old owner is noted under that interval, and the requester is the
 /// owner from then on. The transaction is closed.
 pub fn unblock(
-    entry: &mut Entry,
+    entry: &mut DirectoryEntry,
     log: &mut LogBuffer,
     block: BlockNo,
     fixed: Interval,
     r: NodeId,
 ) -> HomeStep
-    requires room { IfSome (noted_by_unblock entry.old.transaction entry.old.holder fixed) (λ i. HasRoom log.old i block) }
+    requires room { IfSome (noted_by_unblock entry.old.transaction entry.old.holder fixed) (λ i. HasLogRoom log.old i block) }
     requires latest { IsNotOlder log.old.entries (noted_by_unblock entry.old.transaction entry.old.holder fixed) block }
-    ensures did { Did (kept entry.new log.new.entries) result (unblock (kept entry.old log.old.entries) block fixed entry.old.transaction) }
+    ensures did { IsRowDone (kept entry.new log.new.entries) result
+        (unblock (kept entry.old log.old.entries) block fixed entry.old.transaction) }
     ensures limit { log.new.limit ≡ log.old.limit }
 {
     let transaction = entry.transaction;
@@ -160,8 +176,8 @@ pub fn unblock(
 }
 
 /// PutReq of the owner: it may give the block back.
-pub fn put_begins(entry: &mut Entry, now: Interval, r: NodeId) -> HomeStep
-    ensures { (log : List LogEntry) → Did (kept entry.new log) result (put_begins (kept entry.old log) now r) }
+pub fn put_begins(entry: &mut DirectoryEntry, now: Interval, r: NodeId) -> HomeStep
+    ensures { (log : List LogEntry) → IsRowDone (kept entry.new log) result (put_begins (kept entry.old log) now r) }
 {
     entry.transaction = begun(Kind::Put, r, now);
     took(r, Body::PutGo, NodeSet::empty(), r)
@@ -169,23 +185,23 @@ pub fn put_begins(entry: &mut Entry, now: Interval, r: NodeId) -> HomeStep
 
 /// PutReq of a node that doesn't own the block any more: there is nothing to give back.
 pub fn put_is_stale(r: NodeId) -> HomeStep
-    ensures { (entry : HomeEntry) (log : List LogEntry) → Did (kept entry log) result (put_is_stale (kept entry log) r) }
+    ensures { (entry : HomeEntry) (log : List LogEntry) → IsRowDone (kept entry log) result (put_is_stale (kept entry log) r) }
 {
     took(r, Body::PutDone, NodeSet::empty(), r)
 }
 
 /// PutData: that r owned the block is noted under the message's tag, and the home owns it. The transaction is closed.
 pub fn put_data(
-    entry: &mut Entry,
+    entry: &mut DirectoryEntry,
     log: &mut LogBuffer,
     block: BlockNo,
     tag: Interval,
     r: NodeId,
     content: Block,
 ) -> HomeStep
-    requires room { HasRoom log.old tag block }
+    requires room { HasLogRoom log.old tag block }
     requires latest { logged_to log.old.entries true block ≤ tag + 1 }
-    ensures did { Did (kept entry.new log.new.entries) result (put_data (kept entry.old log.old.entries) block tag r content) }
+    ensures did { IsRowDone (kept entry.new log.new.entries) result (put_data (kept entry.old log.old.entries) block tag r content) }
     ensures limit { log.new.limit ≡ log.old.limit }
 {
     log.note(tag, block, Old::WasCache(r));
@@ -197,16 +213,16 @@ pub fn put_data(
 
 /// GetS, and the home owns the block, which nobody else shares: r gets the block alone.
 pub fn grant_exclusive(
-    entry: &mut Entry,
+    entry: &mut DirectoryEntry,
     log: &mut LogBuffer,
     block: BlockNo,
     now: Interval,
     r: NodeId,
     content: Block,
 ) -> HomeStep
-    requires room { HasRoom log.old now block }
+    requires room { HasLogRoom log.old now block }
     requires latest { logged_to log.old.entries true block ≤ now + 1 }
-    ensures did { Did (kept entry.new log.new.entries) result (grant_exclusive (kept entry.old log.old.entries) block now r content) }
+    ensures did { IsRowDone (kept entry.new log.new.entries) result (grant_exclusive (kept entry.old log.old.entries) block now r content) }
     ensures limit { log.new.limit ≡ log.old.limit }
 {
     give_to(entry, log, block, now, r, content);

@@ -3,15 +3,15 @@ ghost use Rattle.std.specs.Prelude.{◌≡◌, ◌+◌, ◌*◌, ◌<◌, ◌≤
 ghost use Rattle.sn_model.specs.Fabric.{first_home};
 ghost use Rattle.home_directory.specs.Home.{places_of, entries_below};
 
-use crate::entry::Entry;
+use crate::entry::DirectoryEntry;
 use sn_base::{BlockNo, Image, Memory, NodeId, NodeSet};
 use sn_model::Owner;
 use std::alloc::Global;
 
-fn first_entry(image: &Image, block: BlockNo) -> Entry
+fn first_entry(image: &Image, block: BlockNo) -> DirectoryEntry
     ensures { result ≡ first_home image.now block }
 {
-    Entry {
+    DirectoryEntry {
         owner: Owner::Home,
         memory: image.block(block),
         sharers: NodeSet::empty(),
@@ -29,7 +29,7 @@ fn count_places(node: NodeId, nodes: u8) -> u32
 }
 
 /// The block of a place.
-fn block_of(node: NodeId, nodes: u8, place: u32) -> BlockNo
+fn block_at_place(node: NodeId, nodes: u8, place: u32) -> BlockNo
     requires inside { node < nodes }
     requires few { nodes ≤ 16 }
     requires here { place < places_of node nodes }
@@ -44,7 +44,7 @@ pub fn first_entries(
     node: NodeId,
     nodes: u8,
     image: &Image,
-) -> Result<Vec<Entry>, Memory>
+) -> Result<Vec<DirectoryEntry>, Memory>
     requires inside { node < nodes }
     requires few { nodes ≤ 16 }
     ensures { IfOk result (λ entries. entries.items ≡ entries_below (places_of node nodes) image.now node nodes) }
@@ -52,7 +52,7 @@ pub fn first_entries(
     let places = count_places(node, nodes);
     let mut entries = Vec::with_capacity(alloc, places as usize)?;
     'places: for place in 0..places {
-        let entry = first_entry(image, block_of(node, nodes, place));
+        let entry = first_entry(image, block_at_place(node, nodes, place));
         entries.push(entry)?;
     }
     Ok(entries)

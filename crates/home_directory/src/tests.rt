@@ -8,7 +8,7 @@ mod rows;
 ghost use Rattle.std.specs.Prelude.{◌≡◌, true};
 ghost use Rattle.home_directory.specs.Receipt.{HasRow};
 
-use crate::entry::Entry;
+use crate::entry::DirectoryEntry;
 use crate::{HomeStep, Look, Out, Owner};
 use sn_base::{Block, Interval, NodeId, NodeSet, Width};
 use sn_model::Kind;
@@ -39,7 +39,7 @@ enum Says {
 #[derive(Clone, Copy)]
 enum Does {
     Nothing,
-    Waits,
+    IsBusy,
     LogFull,
     Silent,
     Sends(u8, u8, Says, &'static [u8]),
@@ -96,7 +96,7 @@ fn body_of(rt: &impl Abort, says: &Says) -> Body {
 fn answer_of(rt: &impl Abort, does: &Does, from: NodeId) -> Option<Answer> {
     match does {
         Does::Nothing => None,
-        Does::Waits => Some((Look::HomeBusy, HomeStep::HomeBusy)),
+        Does::IsBusy => Some((Look::HomeBusy, HomeStep::HomeBusy)),
         Does::LogFull => Some((Look::LogFull, HomeStep::LogFull)),
         Does::Silent => Some((Look::Sends(0), HomeStep::Took(None, NodeSet::empty(), from))),
         Does::Sends(count, to, says, invalidated) => {
@@ -111,7 +111,7 @@ fn answer_of(rt: &impl Abort, does: &Does, from: NodeId) -> Option<Answer> {
 }
 
 /// Whether the message has a row, by the table's conditions.
-fn has_row(entry: &Entry, message: &Message) -> bool
+fn has_row(entry: &DirectoryEntry, message: &Message) -> bool
     ensures { result ≡ true → HasRow entry.now message.now.from message.now.body }
 {
     match message.body {

@@ -6,7 +6,7 @@ use Rattle.std.specs.List.{All, filter}
 use Rattle.std.proofs.lemmas.List.{append-nil}
 use Rattle.std.proofs.lemmas.List.Elements.{All-head, All-tail}
 use Rattle.std.proofs.lemmas.Bool.Decides.{nat_tests}
-use Rattle.interval_list.specs.Waits.{Waiting, entries_in, entries_below, waiting_from, waiting_below}
+use Rattle.interval_list.specs.WaitingList.{Waiting, entries_in, entries_below, waiting_from, waiting_below}
 
 fits_step : (t : Bool) (a b n : ℕ) → a ≡ cond t 1 0 + b → b ≤ n → a ≤ n + 1
 fits_step true a b n e l = omega arith

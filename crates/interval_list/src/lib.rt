@@ -9,7 +9,7 @@
 #![tactic(auto)]
 
 ghost use Rattle.std.specs.Prelude.{◌≡◌, ◌+◌, ◌-◌, ◌<◌, ◌≤◌, max, [], ◌∷◌, ◌++◌, OnOk, OnErr};
-ghost use Rattle.interval_list.specs.Waits.{Waits, entries_below, waiting_from, waiting_below};
+ghost use Rattle.interval_list.specs.WaitingList.{WaitingList, entries_below, waiting_from, waiting_below};
 
 mod laws;
 mod order;
@@ -37,11 +37,11 @@ pub struct IntervalList<T> {
 
 impl<T> Model for IntervalList<T> {
     ghost use Rattle.std.specs.Prelude.{◌+◌, ◌≤◌, vec_len, vec_capacity};
-    ghost use Rattle.interval_list.specs.Waits.{Waits, waits_code};
+    ghost use Rattle.interval_list.specs.WaitingList.{WaitingList, waiting_list_code};
 
-    ghost Value = { Waits T };
+    ghost Value = { WaitingList T };
 
-    ghost coded = { waits_code T.code };
+    ghost coded = { waiting_list_code T.code };
 
     ghost view = { λ l. record { waiting = l.waiting.items; committed = l.committed.items; room = l.room } };
 

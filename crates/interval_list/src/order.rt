@@ -1,7 +1,7 @@
 //! Committing entries in order of their intervals.
 ghost use Rattle.std.specs.Prelude.{◌≡◌, ◌+◌, ◌<◌, ◌≤◌, [], ◌∷◌, ◌++◌, length, vec_len, vec_capacity};
 ghost use Rattle.std.specs.List.{All};
-ghost use Rattle.interval_list.specs.Waits.{entries_in, entries_below};
+ghost use Rattle.interval_list.specs.WaitingList.{entries_in, entries_below};
 
 use crate::Waiting;
 use sn_base::Interval;

@@ -15,7 +15,8 @@ ghost use Rattle.log_buffer.specs.Log.{LogData, IsLog, is_home_side, old_at, has
 mod places;
 mod renewal;
 
-use places::{Newest, Stored, is_home_side};
+pub use places::is_home_side;
+use places::{Newest, Stored};
 use renewal::{close_up, forget};
 use sn_base::{BlockNo, Entries, Interval, LogEntry, Memory, Old};
 use std::alloc::Global;
@@ -43,10 +44,10 @@ impl Model for LogBuffer {
 
 impl LogBuffer {
     /// An empty log for so many entries.
-    pub fn new(alloc: Global, room: u16) -> Result<LogBuffer, Memory>
-        ensures { IfOk result (λ b. b ≡ record { entries = []; limit = room }) }
+    pub fn new(alloc: Global, limit: u16) -> Result<LogBuffer, Memory>
+        ensures { IfOk result (λ b. b ≡ record { entries = []; limit = limit }) }
     {
-        let limit = usize::from(room);
+        let limit = usize::from(limit);
         let stored = Vec::with_capacity(alloc, limit)?;
         let newest = Newest::new(alloc)?;
         Ok(LogBuffer {

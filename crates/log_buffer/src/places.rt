@@ -22,6 +22,7 @@ pub struct Newest {
     ghost cache_blocks: { length cache.items ≡ 65536 },
 }
 
+/// Whether an entry with this old content is of the home's side, and not of the cache's.
 pub fn is_home_side(old: &Old) -> bool
     ensures { result ≡ is_home_side old.now }
 {

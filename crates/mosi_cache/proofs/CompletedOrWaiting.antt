@@ -10,7 +10,7 @@ use Rattle.sn_model.specs.CacheRows.{AwaitsAnswer, MayCount}
 use Rattle.mosi_cache.specs.declared.step.CacheStep.{CacheStep}
 use Rattle.mosi_cache.specs.Frames.{LinesData}
 use Rattle.mosi_cache.specs.Controller.{CacheData, cache_of, miss_of, logged}
-use Rattle.mosi_cache.specs.Rows.{IsDone}
+use Rattle.mosi_cache.specs.Rows.{IsRowDone}
 use Rattle.mosi_cache.proofs.Fits.{miss-answered, miss-counted}
 
 -- a controller by its parts
@@ -38,12 +38,12 @@ waits-or-done d ls log home m x e =
 -- a row that moves a line and the miss, and then completes or waits
 pub moved-done : (d mid after : CacheData) (step : CacheStep) (log : List LogEntry) (ls : List Line) (m : Option Miss) (x : Miss)
     (block : ℕ) → mid ≡ moved d ls m → m ≡ Some x →
-    IsDone mid after step (completed_or_waiting (logged mid log) (block % mid.nodes) mid.cache.miss) →
-    IsDone d after step (completed_or_waiting (with_lines d ls log) (block % d.nodes) m)
+    IsRowDone mid after step (completed_or_waiting (logged mid log) (block % mid.nodes) mid.cache.miss) →
+    IsRowDone d after step (completed_or_waiting (with_lines d ls log) (block % d.nodes) m)
 moved-done d mid after step log ls m x block e i h =
-    let k : IsDone (moved d ls m) after step (completed_or_waiting (logged (moved d ls m) log) (block % d.nodes) m) = subst
-    (λ (c : CacheData). IsDone c after step (completed_or_waiting (logged c log) (block % c.nodes) c.cache.miss)) e h in
-    subst (λ (r : CacheReply). IsDone d after step r) (waits-or-done d ls log (block % d.nodes) m x i)
+    let k : IsRowDone (moved d ls m) after step (completed_or_waiting (logged (moved d ls m) log) (block % d.nodes) m) = subst
+    (λ (c : CacheData). IsRowDone c after step (completed_or_waiting (logged c log) (block % c.nodes) c.cache.miss)) e h in
+    subst (λ (r : CacheReply). IsRowDone d after step r) (waits-or-done d ls log (block % d.nodes) m x i)
     (record { cache = k.cache; answer = k.answer })
 
 -- what the parts have become

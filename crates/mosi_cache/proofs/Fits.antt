@@ -13,7 +13,7 @@ use Rattle.sn_model.specs.Caches.{block_count, frames_taken, frames_below}
 use Rattle.sn_model.specs.declared.cache.LineState.{LineState}
 use Rattle.sn_model.specs.declared.cache.LineState.TheVariants.{Absent, Shared, Owned, Modified, Exclusive}
 use Rattle.sn_model.specs.CacheRows.{fixed_at, acknowledged, AwaitsAnswer}
-use Rattle.mosi_cache.specs.Frames.{LinesData, HasRoom, closed, line_at}
+use Rattle.mosi_cache.specs.Frames.{LinesData, HasFrame, closed, line_at}
 use Rattle.mosi_cache.proofs.Counts.{none-taken}
 use Rattle.mosi_cache.specs.Controller.{miss_of, cache_of, FitsSets}
 use Rattle.mosi_cache.proofs.Taken.{TakesFewer, taken-fewer, taken-more, taken-same, taken-strictly, fewer-set}
@@ -110,7 +110,7 @@ none_taken : (p : Bool) → p ≡ false → (p || false) ≡ false
 none_taken p h = grind arith
 
 pub room-for-miss : (need : Need) (a : LinesData) (o : Open) (x : ℕ) → misses_on (miss_of need o.miss) x ≡ true →
-    FitsSets (cache_of need a o) a.sets a.ways → HasRoom a x
+    FitsSets (cache_of need a o) a.sets a.ways → HasFrame a x
 room-for-miss need a o x m f n p =
     let s = taken-strictly (closed a.lines) (cache_of need a o) a.sets x (closed_fewer a.lines (cache_of need a o) refl)
     (right (is_present (line_at a.lines x).state) (misses_on (miss_of need o.miss) x) m)

@@ -25,8 +25,8 @@ abbrev pub closed : List Line → Cache
 closed lines = record { lines = lines; miss = None; put = None }
 
 -- a block of memory has a line, or its set has a frame for one
-abbrev pub HasRoom : LinesData → ℕ → Type 0
-HasRoom d block =
+abbrev pub HasFrame : LinesData → ℕ → Type 0
+HasFrame d block =
     block < block_count → is_present (line_at d.lines block).state ≡ false → frames_taken (closed d.lines) d.sets block < d.ways
 
 -- a line when the miss on its block is complete

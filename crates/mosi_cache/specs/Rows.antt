@@ -23,11 +23,11 @@ no_row at = record { after = at; sends = []; lost = None }
 -- the row of a body, for a block of this home, in the node's interval, with the message's tag
 abbrev pub row_by : Logged → ℕ → ℕ → ℕ → ℕ → Body → CacheReply
 row_by at home block now tag (FwdGetS r) = forward_read at block r
-row_by at home block now tag (FwdGetM r a) = forward_write at block now r a
+row_by at home block now tag (FwdGetM r due) = forward_write at block now r due
 row_by at home block now tag (Inv r) = invalidate at block r
 row_by at home block now tag (DataS content) = data_shared at home block tag content
-row_by at home block now tag (DataM content a) = data_modified at home block tag content a
-row_by at home block now tag (UpgOk a) = upgrade_granted at home tag a
+row_by at home block now tag (DataM content due) = data_modified at home block tag content due
+row_by at home block now tag (UpgOk due) = upgrade_granted at home tag due
 row_by at home block now tag InvAck = acknowledge at home
 row_by at home block now tag PutGo = put_go at home block now
 row_by at home block now tag PutDone = put_done at
@@ -47,11 +47,11 @@ row_of c log now m = row_by (logged c log.entries) (m.block % c.nodes) m.block n
 -- the condition of the row
 abbrev pub MeetsRow : Logged → ℕ → Body → Type 0
 MeetsRow at block (FwdGetS r) = MayForward at block
-MeetsRow at block (FwdGetM r a) = MayForward at block
+MeetsRow at block (FwdGetM r due) = MayForward at block
 MeetsRow at block (Inv r) = Unit {0}
 MeetsRow at block (DataS content) = MayTakeCopy at block
-MeetsRow at block (DataM content a) = MayTakeOwnership at block
-MeetsRow at block (UpgOk a) = MayUpgrade at block
+MeetsRow at block (DataM content due) = MayTakeOwnership at block
+MeetsRow at block (UpgOk due) = MayUpgrade at block
 MeetsRow at block InvAck = MayCount at.cache.miss block
 MeetsRow at block PutGo = MayGiveBack at block
 MeetsRow at block PutDone = MayClosePut at block
@@ -66,9 +66,9 @@ MeetsRow at block (Advance k) = ⊥
 
 -- the interval in which a row notes, where it does
 abbrev pub noted_in : ℕ → ℕ → Body → Option ℕ
-noted_in now tag (FwdGetM r a) = Some now
+noted_in now tag (FwdGetM r due) = Some now
 noted_in now tag PutGo = Some now
-noted_in now tag (DataM content a) = Some tag
+noted_in now tag (DataM content due) = Some tag
 noted_in now tag (DataE content) = Some tag
 noted_in now tag _ = None
 
@@ -102,6 +102,6 @@ abbrev pub log_by : LogData → CacheReply → LogData
 log_by log reply = if is_over log reply then log else record log { entries = reply.after.log }
 
 -- a row was done: this is the controller after it, and this the answer
-pub record IsDone (before after : CacheData) (step : CacheStep) (reply : CacheReply) : Type 0 where
+pub record IsRowDone (before after : CacheData) (step : CacheStep) (reply : CacheReply) : Type 0 where
   pub cache : after ≡ record before { cache = reply.after.cache }
   pub answer : step ≡ Took (first_of reply.sends) reply.lost

@@ -7,7 +7,8 @@ ghost use Rattle.sn_base.specs.declared.log.LogEntry.{LogEntry};
 ghost use Rattle.sn_model.specs.Caches.{empty_cache};
 ghost use Rattle.sn_model.specs.CacheRows.{Logged, fixed_at, acknowledged, completed_or_waiting};
 ghost use Rattle.mosi_cache.specs.Controller.{CacheData, logged};
-ghost use Rattle.mosi_cache.specs.Rows.{row_by, row_of, MeetsRow, NotesLast, noted_in, is_over, step_by, look_by, cache_by, log_by, IsDone};
+ghost use Rattle.mosi_cache.specs.Rows.{row_by, row_of, MeetsRow, NotesLast, noted_in, is_over, step_by, look_by, cache_by, log_by};
+ghost use Rattle.mosi_cache.specs.Rows.{IsRowDone};
 
 mod access;
 mod looks;
@@ -121,7 +122,7 @@ impl Cache {
         requires row { MeetsRow (logged self.old log.old.entries) message.now.block message.now.body }
         requires last { NotesLast log.old.entries message.now.block (noted_in now message.now.tag message.now.body) }
         requires room { is_over log.old (row_of self.old log.old now message.now) ≡ false }
-        ensures done { IsDone self.old self.new result (row_of self.old log.old now message.now) }
+        ensures done { IsRowDone self.old self.new result (row_of self.old log.old now message.now) }
         ensures log { log.new ≡ record log.old { entries = (row_of self.old log.old now message.now).after.log } }
     {
         let block = message.block;

@@ -6,7 +6,7 @@
 ghost use Rattle.std.specs.Prelude.{◌≡◌, ℕ, ◌*◌, ◌+◌, ◌<◌, ◌≤◌, ◌%◌, ◌&&◌, true, false, nat_le, length, slice_set, IfOk, IfSome, IsNone};
 ghost use Rattle.std.specs.Prelude.{not, Some};
 ghost use Rattle.sn_model.specs.Caches.{no_line, empty_lines, is_present, block_count, frames_taken};
-ghost use Rattle.mosi_cache.specs.Frames.{LinesData, HasRoom, closed, line_at, line_kept, completed, is_spared, may_leave, leaves};
+ghost use Rattle.mosi_cache.specs.Frames.{LinesData, HasFrame, closed, line_at, line_kept, completed, is_spared, may_leave, leaves};
 ghost use Rattle.mosi_cache.specs.Frames.{lesser_of, leaving_at, IsLeastLeaving};
 
 mod restore;
@@ -163,7 +163,7 @@ impl Lines {
     /// The block's line is this one now, whether it had one or not.
     pub fn put(&mut self, block: BlockNo, state: LineState, content: Block)
         requires line { is_present state ≡ true }
-        requires room { HasRoom self.old block }
+        requires room { HasFrame self.old block }
         ensures lines { self.new
             ≡ record self.old { lines = slice_set self.old.lines block (record { state = state; content = content }) } }
         ensures read { line_at self.new.lines block ≡ record { state = state; content = content } }

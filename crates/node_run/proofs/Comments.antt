@@ -19,7 +19,8 @@ use Rattle.sn_model.specs.Machine.{State}
 use Rattle.text_lines.specs.Lines.{without_return, lines_from}
 use Rattle.sn_text.specs.Items.{is_skipped, items_from}
 use Rattle.sn_text.specs.Script.{event_of}
-use Rattle.sn_text.specs.Text.{named_number, word_text, cause_text, end_text, register_text, registers_text, core_line, count_line}
+use Rattle.text_lines.specs.Hex.{hex_word}
+use Rattle.sn_text.specs.Text.{named_number, cause_text, end_text, register_text, registers_text, core_line, count_line}
 use Rattle.sn_text.specs.Text.{watch_line, probe_line}
 use Rattle.sn_text.proofs.Printed.{From, is_from, from-tested, from-append, from-lower, from-word}
 use Rattle.sink_pieces.specs.Pieces.{report_text}
@@ -51,8 +52,8 @@ from-named : (name : List ℕ) (n : ℕ) → From 32 name → From 32 (named_num
 from-named name n h =
     from-append 32 (name ++ codes " ") (decimal n) (from-append 32 name (codes " ") h (from-tested 32 (codes " ") refl)) (from-number n)
 
-from-hex : (word : ℕ) → From 32 (word_text word)
-from-hex word = from-lower 32 48 (word_text word) (omega arith) (from-word word)
+from-hex : (word : ℕ) → From 32 (hex_word word)
+from-hex word = from-lower 32 48 (hex_word word) (omega arith) (from-word word)
 
 from-cause : (cause : Cause) → From 32 (cause_text cause)
 from-cause Illegal = from-tested 32 (codes "illegal") refl
@@ -70,7 +71,7 @@ from-end (Trapped cause) = from-append 32 (codes "trapped ") (cause_text cause) 
 
 from-register : (number value : ℕ) → From 32 (register_text number value)
 from-register number value =
-    from-append 32 ((codes " x" ++ decimal number) ++ codes "=") (word_text value)
+    from-append 32 ((codes " x" ++ decimal number) ++ codes "=") (hex_word value)
     (from-append 32 (codes " x" ++ decimal number) (codes "=")
     (from-append 32 (codes " x") (decimal number) (from-tested 32 (codes " x") refl) (from-number number))
     (from-tested 32 (codes "=") refl))
@@ -147,9 +148,9 @@ module _ (nodes : ℕ) where
   unfolding core_line
   skips-core node core =
       let name : List ℕ = named_number (codes "core") node in
-      let head : List ℕ = (name ++ codes " ") ++ word_text core.pc in
+      let head : List ℕ = (name ++ codes " ") ++ hex_word core.pc in
       let blank : From 32 (codes " ") = from-tested 32 (codes " ") refl in
-      let head_from : From 32 head = from-append 32 (name ++ codes " ") (word_text core.pc)
+      let head_from : From 32 head = from-append 32 (name ++ codes " ") (hex_word core.pc)
       (from-append 32 name (codes " ") (from-named (codes "core") node (from-tested 32 (codes "core") refl)) blank)
       (from-hex core.pc) in
       let more_from : From 32 ((head ++ codes " ") ++ end_text core.end) = from-append 32 (head ++ codes " ") (end_text core.end)
@@ -169,11 +170,11 @@ module _ (nodes : ℕ) where
   unfolding watch_line
   skips-watch flat None = skips-none
   skips-watch flat (Some address) =
-      let head : List ℕ = (codes "watch " ++ word_text address) ++ codes " " in
-      skips-marked (head ++ word_text (word_at flat.memory address))
-      (from-append 32 head (word_text (word_at flat.memory address))
-      (from-append 32 (codes "watch " ++ word_text address) (codes " ")
-      (from-append 32 (codes "watch ") (word_text address) (from-tested 32 (codes "watch ") refl) (from-hex address))
+      let head : List ℕ = (codes "watch " ++ hex_word address) ++ codes " " in
+      skips-marked (head ++ hex_word (word_at flat.memory address))
+      (from-append 32 head (hex_word (word_at flat.memory address))
+      (from-append 32 (codes "watch " ++ hex_word address) (codes " ")
+      (from-append 32 (codes "watch ") (hex_word address) (from-tested 32 (codes "watch ") refl) (from-hex address))
       (from-tested 32 (codes " ") refl))
       (from-hex (word_at flat.memory address)))
 

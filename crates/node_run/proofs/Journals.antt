@@ -11,7 +11,7 @@ use Rattle.sink_pieces.proofs.PieceLaws.{after-append, after-nil, Breaks-more, B
 use Rattle.sink_pieces.proofs.SoFar.{SoFar, SoFar-more, SoFar-breaks, SoFar-whole}
 use Rattle.script_replay.specs.declared.job.ReportKind.TheVariants as replayed
 use Rattle.script_replay.specs.Played.{summed_up, end_now}
-use Rattle.run_journals.specs.declared.entry.Entry.{Entry}
+use Rattle.run_journals.specs.declared.entry.JournalEntry.{JournalEntry}
 use Rattle.node_run.specs.Pieces.{entry_lines, journal_pieces}
 use Rattle.node_run.specs.declared.job.RunReport.{RunReport}
 use Rattle.node_run.specs.declared.job.RunReport.TheVariants.{Summary, Trace, Journal}
@@ -19,17 +19,17 @@ use Rattle.node_run.specs.declared.job.RunShowing.{RunShowing}
 use Rattle.node_run.specs.Reported.{script_now, report_by_kind, report_now, HaveNumbers}
 
 -- the turns, one after another
-journal_pieces-drop : (journal : List Entry) (i : ℕ) (entry : Entry) → i < length journal → entry ≡ get_or journal i entry →
+journal_pieces-drop : (journal : List JournalEntry) (i : ℕ) (entry : JournalEntry) → i < length journal → entry ≡ get_or journal i entry →
     journal_pieces (drop i journal) ≡ Report (entry_lines entry) ∷ journal_pieces (drop (i + 1) journal)
 unfolding journal_pieces
 journal_pieces-drop journal i entry below is =
     ap journal_pieces (drop_more journal i entry below) ∙ ap (λ e. Report (entry_lines e) ∷ journal_pieces (drop (i + 1) journal)) (sym is)
 
-journal_pieces-end : (journal : List Entry) (i : ℕ) → length journal ≡ i → journal_pieces (drop i journal) ≡ []
+journal_pieces-end : (journal : List JournalEntry) (i : ℕ) → length journal ≡ i → journal_pieces (drop i journal) ≡ []
 unfolding journal_pieces
 journal_pieces-end journal i e = rw (drop_all i journal (omega arith))
 
-pub turn-next : (journal : List Entry) (i : ℕ) (entry : Entry) (line bytes : List ℕ) (a b d : Ends) → i < length journal →
+pub turn-next : (journal : List JournalEntry) (i : ℕ) (entry : JournalEntry) (line bytes : List ℕ) (a b d : Ends) → i < length journal →
     entry ≡ get_or journal i entry → line ≡ entry_lines entry → bytes ≡ line →
     SoFar (journal_pieces journal) (journal_pieces (drop i journal)) a b → d ≡ after b (Report bytes ∷ []) →
     SoFar (journal_pieces journal) (journal_pieces (drop (i + 1) journal)) a d
@@ -38,7 +38,7 @@ turn-next journal i entry line bytes a b d below is put same h more =
     (subst (λ (t : List Piece). SoFar (journal_pieces journal) t a b) (journal_pieces-drop journal i entry below is) h)
     (more ∙ ap (λ t. after b (Report t ∷ [])) (same ∙ put))
 
-pub turn-breaks : (journal : List Entry) (i : ℕ) (entry : Entry) (line bytes : List ℕ) (a b d : Ends) → i < length journal →
+pub turn-breaks : (journal : List JournalEntry) (i : ℕ) (entry : JournalEntry) (line bytes : List ℕ) (a b d : Ends) → i < length journal →
     entry ≡ get_or journal i entry → line ≡ entry_lines entry → bytes ≡ line →
     SoFar (journal_pieces journal) (journal_pieces (drop i journal)) a b → Breaks (Report bytes ∷ []) b d →
     Breaks (journal_pieces journal) a d
@@ -47,28 +47,28 @@ turn-breaks journal i entry line bytes a b d below is put same h broken =
     (subst (λ (t : List Piece). SoFar (journal_pieces journal) t a b) (journal_pieces-drop journal i entry below is) h)
     (subst (λ (t : List ℕ). Breaks (Report t ∷ []) b d) (same ∙ put) broken)
 
-pub turns-whole : (journal : List Entry) (i : ℕ) (a b : Ends) → length journal ≡ i →
+pub turns-whole : (journal : List JournalEntry) (i : ℕ) (a b : Ends) → length journal ≡ i →
     SoFar (journal_pieces journal) (journal_pieces (drop i journal)) a b → b ≡ after a (journal_pieces journal)
 turns-whole journal i a b e h =
     SoFar-whole (journal_pieces journal) [] a b b
     (subst (λ (t : List Piece). SoFar (journal_pieces journal) t a b) (journal_pieces-end journal i e) h) (sym (after-nil b))
 
 -- their numbers
-pub numbers-none : (journal : List Entry) → HaveNumbers (take 0 journal)
-numbers-none journal = All-nil (λ (e : Entry). HasNumbers e.event)
+pub numbers-none : (journal : List JournalEntry) → HaveNumbers (take 0 journal)
+numbers-none journal = All-nil (λ (e : JournalEntry). HasNumbers e.event)
 
-pub numbers-next : (journal : List Entry) (i : ℕ) (entry : Entry) → i < length journal → entry ≡ get_or journal i entry →
+pub numbers-next : (journal : List JournalEntry) (i : ℕ) (entry : JournalEntry) → i < length journal → entry ≡ get_or journal i entry →
     HasNumbers entry.event → HaveNumbers (take i journal) → HaveNumbers (take (i + 1) journal)
 numbers-next journal i entry below is here before =
-    subst (λ (l : List Entry). HaveNumbers l) (sym (take_more journal i entry below))
-    (All-push (λ (e : Entry). HasNumbers e.event) (take i journal) (get_or journal i entry) before
-    (subst (λ (e : Entry). HasNumbers e.event) is here))
+    subst (λ (l : List JournalEntry). HaveNumbers l) (sym (take_more journal i entry below))
+    (All-push (λ (e : JournalEntry). HasNumbers e.event) (take i journal) (get_or journal i entry) before
+    (subst (λ (e : JournalEntry). HasNumbers e.event) is here))
 
-pub numbers-all : (journal : List Entry) (i : ℕ) → length journal ≡ i → HaveNumbers (take i journal) → HaveNumbers journal
-numbers-all journal i e h = subst (λ (l : List Entry). HaveNumbers l) (take_all i journal (omega (arith, e))) h
+pub numbers-all : (journal : List JournalEntry) (i : ℕ) → length journal ≡ i → HaveNumbers (take i journal) → HaveNumbers journal
+numbers-all journal i e h = subst (λ (l : List JournalEntry). HaveNumbers l) (take_all i journal (omega (arith, e))) h
 
 -- and then the summary
-module _ (m : MachineData) (journal : List Entry) (watch : Option ℕ) (tallies : List (List ℕ)) where
+module _ (m : MachineData) (journal : List JournalEntry) (watch : Option ℕ) (tallies : List (List ℕ)) where
   pub script-all : (a b d : Ends) → b ≡ after a (journal_pieces journal) → d ≡ after b (summed_up (codes "# ") m watch tallies) →
       d ≡ after a (script_now m journal watch tallies)
   script-all a b d first second =
@@ -85,7 +85,7 @@ module _ (m : MachineData) (journal : List Entry) (watch : Option ℕ) (tallies 
       (subst (λ (e : Ends). Breaks (summed_up (codes "# ") m watch tallies) e d) first broken)
 
 -- a report that broke, of the kind that was asked for
-module _ (m : MachineData) (journal : List Entry) (showing : RunShowing) (tallies : List (List ℕ)) (r : Result (Unit {0}) Failed) (before behind : Option (List ℕ)) where
+module _ (m : MachineData) (journal : List JournalEntry) (showing : RunShowing) (tallies : List (List ℕ)) (r : Result (Unit {0}) Failed) (before behind : Option (List ℕ)) where
   abbrev BreaksIn : List Piece → Type 0
   BreaksIn pieces = OnErr r ((c : Option (List ℕ)) → Breaks pieces (ends c before) (ends c behind))
 
@@ -120,7 +120,7 @@ no-summary e = cc
 no-trace : Trace ≡ Journal → ⊥
 no-trace e = cc
 
-module _ (journal : List Entry) (showing : RunShowing) (r : Result (Unit {0}) Failed) where
+module _ (journal : List JournalEntry) (showing : RunShowing) (r : Result (Unit {0}) Failed) where
   abbrev IfAsked : Type 0
   IfAsked = showing.report ≡ Journal → HaveNumbers journal
 

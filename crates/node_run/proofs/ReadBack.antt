@@ -12,7 +12,7 @@ use Rattle.sn_text.specs.Text.{count_line, event_text, script_line}
 use Rattle.sn_text.specs.Written.{HasNumbers}
 use Rattle.sn_text.proofs.Lines.{IsLine, line-first}
 use Rattle.sn_text.proofs.Written.{event-back, event-line}
-use Rattle.run_journals.specs.declared.entry.Entry.{Entry}
+use Rattle.run_journals.specs.declared.entry.JournalEntry.{JournalEntry}
 use Rattle.run_journals.specs.Journal.{events_of}
 use Rattle.node_run.specs.Pieces.{entry_lines, journal_text}
 use Rattle.node_run.specs.Reported.{HaveNumbers}
@@ -47,7 +47,7 @@ module _ (nodes : ℕ) (small : nodes ≤ 16) where
       ∙ read-one line count (event_text event) (lines_from [] rest) event events (says (event_text event) is_line)
       (event-back nodes event small fits numbers) few (h (line + 1))
 
-  read-entry : (count : ℕ) (entry : Entry) (rest : List ℕ) (events : List Event) → event_fits nodes entry.event ≡ true →
+  read-entry : (count : ℕ) (entry : JournalEntry) (rest : List ℕ) (events : List Event) → event_fits nodes entry.event ≡ true →
       HasNumbers entry.event → count < most_items →
       Reads nodes (count + 1) rest events → Reads nodes count (entry_lines entry ++ rest) (entry.event ∷ events)
   unfolding entry_lines
@@ -57,7 +57,7 @@ module _ (nodes : ℕ) (small : nodes ≤ 16) where
       (skips-count nodes (codes "worker") entry.worker refl count (script_line entry.event ++ rest) (entry.event ∷ events)
       (read-event count entry.event rest events fits numbers few h))
 
-  read-journal : (count : ℕ) (journal : List Entry) (summary : List ℕ) → All (λ e. event_fits nodes e.event ≡ true) journal →
+  read-journal : (count : ℕ) (journal : List JournalEntry) (summary : List ℕ) → All (λ e. event_fits nodes e.event ≡ true) journal →
       HaveNumbers journal → count + length journal ≤ most_items →
       Skips nodes summary → Reads nodes count (journal_text journal ++ summary) (events_of journal)
   read-journal count [] summary fits numbers few h =
@@ -71,7 +71,7 @@ module _ (nodes : ℕ) (small : nodes ≤ 16) where
       (numbers 0 entry (omega arith)) (omega (arith, few))
       (read-journal (count + 1) entries summary more_fit more_numbers (omega (arith, few)) h))
 
-  pub journal-read : (journal : List Entry) (summary : List ℕ) → All (λ e. event_fits nodes e.event ≡ true) journal → HaveNumbers journal →
+  pub journal-read : (journal : List JournalEntry) (summary : List ℕ) → All (λ e. event_fits nodes e.event ≡ true) journal → HaveNumbers journal →
       length journal ≤ most_items →
       Skips nodes summary → script_of nodes (journal_text journal ++ summary) ≡ Ok (events_of journal)
   journal-read journal summary fits numbers few h = read-journal 0 journal summary fits numbers (omega (arith, few)) h 1

@@ -18,7 +18,7 @@ use Rattle.script_replay.specs.Pieces.{summary_pieces, end_pieces, turn_pieces, 
 use Rattle.script_replay.specs.Pieces.{pieces_from, pieces_of}
 use Rattle.script_replay.specs.Probed.{answered, told_all as told_by_replay}
 use Rattle.script_replay.proofs.Shown.{console_text-turn, console_text-turns}
-use Rattle.run_journals.specs.declared.entry.Entry.{Entry}
+use Rattle.run_journals.specs.declared.entry.JournalEntry.{JournalEntry}
 use Rattle.run_journals.specs.Journal.{events_of, state_of, answers_of}
 use Rattle.run_journals.proofs.Released.{released-grows}
 use Rattle.node_threads.specs.Told.{told_in, told_all}
@@ -27,14 +27,14 @@ use Rattle.node_run.specs.Pieces.{begins, replay_of, tallies_by}
 use Rattle.node_run.specs.Shown.{IsReplayedSo, output_by}
 
 -- what its probes are told
-told-answered : (image : ImageData) (config : Config) (s : State) (journal : List Entry) →
+told-answered : (image : ImageData) (config : Config) (s : State) (journal : List JournalEntry) →
     told_in journal (map (λ step. step.answer) (run_of image config s (events_of journal))) ≡ answered image config s (events_of journal)
 told-answered image config s [] = refl
 told-answered image config s (e ∷ journal) =
     ap (λ t. record { event = e.event; answer = (step_of image config s e.event).answer } ∷ t)
     (told-answered image config (step_of image config s e.event).state journal)
 
-pub told-replayed : (r : Run) (journal : List Entry) (answers : List Answer) (probes : List Meter) →
+pub told-replayed : (r : Run) (journal : List JournalEntry) (answers : List Answer) (probes : List Meter) →
     answers ≡ answers_of (begins r) journal → told_all journal answers probes ≡ told_by_replay (replay_of r journal) probes
 unfolding answers_of
 told-replayed r journal answers probes are =
@@ -110,12 +110,12 @@ module _ (image : ImageData) (config : Config) (watch : Option ℕ) (tallies : L
       ∙ ap (λ n. report_text (summary_pieces [] image config watch tallies n
       (state_after image config (start_of image config.nodes) events))) same
 
-pub replayed-so : (r : Run) (probes : List Meter) (journal : List Entry) → (state_of (begins r) journal).released ≡ output_by r journal →
+pub replayed-so : (r : Run) (probes : List Meter) (journal : List JournalEntry) → (state_of (begins r) journal).released ≡ output_by r journal →
     IsReplayedSo r probes journal
 unfolding state_of
 replayed-so r probes journal output = record {
   console = console-replayed r.program r.config (replay_of r journal).showing (tallies_by r probes journal) (events_of journal) ∙ output;
   report =
       report-replayed r.program r.config r.showing.watch (tallies_by r probes journal) (events_of journal) (length journal)
-      (length-map journal (λ (e : Entry). e.event));
+      (length-map journal (λ (e : JournalEntry). e.event));
 }

@@ -6,18 +6,18 @@ use Rattle.sn_base.specs.declared.config.Config.{Config}
 use Rattle.sn_base.specs.declared.event.Answer.{Answer}
 use Rattle.sn_io.specs.Outside.{followed_by, Rose}
 use Rattle.sn_model.specs.Machine.{State}
-use Rattle.sn_model.specs.Trace.{Entry as Retirement}
+use Rattle.sn_model.specs.Trace.{TraceEntry}
 use Rattle.consistent_cuts.specs.Headline.{IsConsistent}
 use Rattle.sn_machine.specs.Machine.{MachineData, IsConsistentNow, flat_of}
 use Rattle.sn_probe.specs.Probes.{Meter, tallies_of}
-use Rattle.sn_console.specs.Handed.{IsWritten, IsBegun}
+use Rattle.sn_console.specs.Handed.{IsHandedOn, IsBegun}
 use Rattle.sink_pieces.specs.Pieces.{Piece, Ends, ends, after, Breaks, console_piece, report_text}
 use Rattle.sink_pieces.proofs.PieceLaws.{report_text-append, after-append, after-console_piece, Breaks-after}
 use Rattle.sink_pieces.proofs.Begun.{report-after, report-begun}
 use Rattle.script_replay.specs.Pieces.{trace_pieces, summary_pieces, end_pieces}
 use Rattle.script_replay.specs.Played.{summed_up}
 use Rattle.script_replay.proofs.Shown.{report_text-trace}
-use Rattle.run_journals.specs.declared.entry.Entry.{Entry}
+use Rattle.run_journals.specs.declared.entry.JournalEntry.{JournalEntry}
 use Rattle.run_journals.specs.Journal.{Began, state_of}
 use Rattle.shared_machine.specs.declared.finish.Finish.{Finish}
 use Rattle.shared_machine.specs.declared.finish.Finish.TheVariants as finish
@@ -36,7 +36,7 @@ use Rattle.node_run.proofs.Comments.{skips-summary}
 use Rattle.node_run.proofs.ReadBack.{journal-read}
 use Rattle.node_run.proofs.Replays.{told-replayed, replayed-so}
 
-report_text-journal : (journal : List Entry) → report_text (journal_pieces journal) ≡ journal_text journal
+report_text-journal : (journal : List JournalEntry) → report_text (journal_pieces journal) ≡ journal_text journal
 unfolding journal_pieces
 report_text-journal [] = refl
 report_text-journal (entry ∷ entries) = ap (λ t. entry_lines entry ++ t) (report_text-journal entries)
@@ -52,10 +52,10 @@ stopped-by nodes m (finish.CutOff a b) e = cc
 stopped-by nodes m finish.Budget e = cc
 stopped-by nodes m finish.Stopped e = refl
 
-abbrev IsEnded : Began → List Entry → Finish → List ℕ → Option (List ℕ) → Option (List ℕ) → Type 0
-IsEnded began journal found released before after_ = IsWritten [] released before after_ × (finish_by began journal ≡ Some found)
+abbrev IsEnded : Began → List JournalEntry → Finish → List ℕ → Option (List ℕ) → Option (List ℕ) → Type 0
+IsEnded began journal found released before after_ = IsHandedOn [] released before after_ × (finish_by began journal ≡ Some found)
 
-ended-by : (nodes : ℕ) (m : MachineData) (began : Began) (journal : List Entry) (found : Finish) (ending : Ending) (released : List ℕ)
+ended-by : (nodes : ℕ) (m : MachineData) (began : Began) (journal : List JournalEntry) (found : Finish) (ending : Ending) (released : List ℕ)
     (before after_ : Option (List ℕ)) (was is : ℕ) → ending_by nodes (flat_of m) found ≡ Some ending →
     EndsSo began journal found released before after_ was is → IsEnded began journal found released before after_
 ended-by nodes m began journal finish.Over ending released before after_ was is e h = h
@@ -63,7 +63,7 @@ ended-by nodes m began journal (finish.CutOff a b) ending released before after_
 ended-by nodes m began journal finish.Budget ending released before after_ was is e h = h
 ended-by nodes m began journal finish.Stopped ending released before after_ was is e h = absurd cc
 
-module _ (r : Run) (began : Began) (m : MachineData) (journal : List Entry) (answers : List Answer) (same : began ≡ begins r) (left : IsRunOf began m journal answers) (consistent : IsConsistentNow m) (may : MayBegin r) where
+module _ (r : Run) (began : Began) (m : MachineData) (journal : List JournalEntry) (answers : List Answer) (same : began ≡ begins r) (left : IsRunOf began m journal answers) (consistent : IsConsistentNow m) (may : MayBegin r) where
   by_run : IsRunOf (begins r) m journal answers
   by_run = subst (λ (b : Began). IsRunOf b m journal answers) same left
 
@@ -72,7 +72,7 @@ module _ (r : Run) (began : Began) (m : MachineData) (journal : List Entry) (ans
 
   lawful : IsLawful r journal
   lawful =
-      let trace : List Retirement = consistent.0 in (
+      let trace : List TraceEntry = consistent.0 in (
         trace,
         subst (λ (s : State). IsConsistent r.program r.config.nodes s trace) by_run.state
             (subst (λ (c : Config). IsConsistent r.program c.nodes m.state trace) by_run.config
@@ -167,12 +167,12 @@ module _ (r : Run) (began : Began) (m : MachineData) (journal : List Entry) (ans
         after-console_piece console written report (state_of (begins r) journal).released
         (all-released ∙ ap (λ (s : State). followed_by console s.released) by_run.state)
 
-    pub run-done : (listed : List Entry) → listed ≡ journal → (r.showing.report ≡ Journal → HaveNumbers listed) →
+    pub run-done : (listed : List JournalEntry) → listed ≡ journal → (r.showing.report ≡ Journal → HaveNumbers listed) →
         ((c : Option (List ℕ)) → ends c shown ≡ after (ends c report) (report_now m listed r.showing (tallies_of told))) →
         IsDone r probes ending (ends console report) (ends written shown) told
     run-done listed all numbers put =
         let whole : ends written shown ≡ after (ends written report) (report_by r.showing.report r probes journal) = put written
-        ∙ ap (λ (l : List Entry). after (ends written report) (report_now m l r.showing (tallies_of told))) all
+        ∙ ap (λ (l : List JournalEntry). after (ends written report) (report_now m l r.showing (tallies_of told))) all
         ∙ ap (after (ends written report)) (report-is probes told are) in
         let text : shown ≡ followed_by report (report_text (report_by r.showing.report r probes journal)) = report-after
         (ends written report) (ends written shown) (report_by r.showing.report r probes journal) whole in (
@@ -187,20 +187,20 @@ module _ (r : Run) (began : Began) (m : MachineData) (journal : List Entry) (ans
               lawful = lawful;
               output = output-is;
               traced = λ kind. is-trace probes report shown kind text;
-              journaled = λ kind. is-script probes report shown (subst (λ (l : List Entry). HaveNumbers l) all (numbers kind)) kind text;
+              journaled = λ kind. is-script probes report shown (subst (λ (l : List JournalEntry). HaveNumbers l) all (numbers kind)) kind text;
               replayed = replayed-so r probes journal lawful.1.output;
             };
           },
           knows-all probes told are,
         )
 
-    pub run-cut_short : (listed : List Entry) → listed ≡ journal →
+    pub run-cut_short : (listed : List JournalEntry) → listed ≡ journal →
         ((c : Option (List ℕ)) → Breaks (report_now m listed r.showing (tallies_of told)) (ends c report) (ends c shown)) →
         IsBrokenOff r probes (ends console report) (ends written shown) told
     run-cut_short listed all put =
         let part : Breaks (report_by r.showing.report r probes journal) (ends written report) (ends written shown) =
         subst (λ (t : List Piece). Breaks t (ends written report) (ends written shown))
-        (ap (λ (l : List Entry). report_now m l r.showing (tallies_of told)) all ∙ report-is probes told are) (put written) in (
+        (ap (λ (l : List JournalEntry). report_now m l r.showing (tallies_of told)) all ∙ report-is probes told are) (put written) in (
           journal,
           knows-all probes told are,
           inr (

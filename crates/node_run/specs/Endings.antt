@@ -6,7 +6,7 @@ use Rattle.rv_core.specs.declared.state.End.{End}
 use Rattle.rv_core.specs.declared.state.End.TheVariants as core
 use Rattle.rv_core.specs.Flat.{FlatState, core_at}
 use Rattle.rv_core.specs.Execution.{end_of}
-use Rattle.run_journals.specs.declared.entry.Entry.{Entry}
+use Rattle.run_journals.specs.declared.entry.JournalEntry.{JournalEntry}
 use Rattle.run_journals.specs.Journal.{Began, state_of}
 use Rattle.shared_machine.specs.declared.finish.Finish.{Finish}
 use Rattle.shared_machine.specs.declared.finish.Finish.TheVariants as finish
@@ -37,9 +37,9 @@ ending_by nodes flat finish.Budget = Some ending.Spent
 ending_by nodes flat finish.Stopped = None
 
 -- the flat machine after the committed trace of a journal
-abbrev pub flat_after : Began → List Entry → FlatState
+abbrev pub flat_after : Began → List JournalEntry → FlatState
 flat_after began journal = end_of began.image began.config.nodes (state_of began journal).committed
 
 -- the end of a run that has this journal; none where a further turn is had
-abbrev pub ending_of : Began → List Entry → Option Ending
+abbrev pub ending_of : Began → List JournalEntry → Option Ending
 ending_of began journal = option_and_then (ending_by began.config.nodes (flat_after began journal)) (finish_by began journal)

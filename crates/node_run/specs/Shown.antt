@@ -5,7 +5,7 @@ use Rattle.rv_core.specs.Execution.{IsExecution, out_of}
 use Rattle.sn_base.specs.Config.{config_fits}
 use Rattle.sn_base.specs.Events.{event_fits}
 use Rattle.sn_base.specs.Rules.{AreRules}
-use Rattle.sn_model.specs.Trace.{Entry as Retirement}
+use Rattle.sn_model.specs.Trace.{TraceEntry}
 use Rattle.consistent_cuts.specs.Headline.{IsConsistent}
 use Rattle.sn_io.specs.Outside.{followed_by}
 use Rattle.sn_text.specs.Script.{script_of}
@@ -15,7 +15,7 @@ use Rattle.sink_pieces.specs.Pieces.{Ends, after, Breaks, console_text, report_t
 use Rattle.script_replay.specs.Played.{IsWatchable}
 use Rattle.script_replay.specs.Probed.{told_all}
 use Rattle.script_replay.specs.Shown.{pieces_due}
-use Rattle.run_journals.specs.declared.entry.Entry.{Entry}
+use Rattle.run_journals.specs.declared.entry.JournalEntry.{JournalEntry}
 use Rattle.run_journals.specs.Journal.{IsDue, events_of, state_of}
 use Rattle.node_run.specs.declared.ending.Ending.{Ending}
 use Rattle.node_run.specs.declared.job.Run.{Run}
@@ -32,41 +32,41 @@ pub record MayBegin (r : Run) : Type 0 where
   pub watched : IsWatchable r.showing.watch
 
 -- the journal of a run: each of its events was due and fits the machine, and there are no more than the budget
-pub record IsJournal (r : Run) (journal : List Entry) : Type 0 where
+pub record IsJournal (r : Run) (journal : List JournalEntry) : Type 0 where
   pub due : IsDue (begins r) journal
   pub fit : All (λ e. event_fits r.config.nodes e.event ≡ true) journal
   pub few : length journal ≤ r.budget
 
 -- the bytes that its committed trace puts out
-abbrev pub output_by : Run → List Entry → List ℕ
+abbrev pub output_by : Run → List JournalEntry → List ℕ
 output_by r journal = out_of r.program r.config.nodes (state_of (begins r) journal).committed
 
 -- the report is a trace: the records of an execution of the program, and then the summary, marked as comments
-pub record IsTrace (r : Run) (probes : List Meter) (journal : List Entry) (before behind : Option (List ℕ)) : Type 0 where
+pub record IsTrace (r : Run) (probes : List Meter) (journal : List JournalEntry) (before behind : Option (List ℕ)) : Type 0 where
   pub execution : IsExecution r.program r.config.nodes (state_of (begins r) journal).committed
   pub written : behind ≡ followed_by before
       (trace_text (state_of (begins r) journal).committed ++ report_text (summary_by (codes "# ") r probes journal))
 
 -- a journal, and then the summary, marked as comments
-abbrev pub written_script : Run → List Meter → List Entry → List ℕ
+abbrev pub written_script : Run → List Meter → List JournalEntry → List ℕ
 written_script r probes journal = journal_text journal ++ report_text (summary_by (codes "# ") r probes journal)
 
 -- the report is this script, which is read as the journal's events
-pub record IsScript (r : Run) (probes : List Meter) (journal : List Entry) (before behind : Option (List ℕ)) : Type 0 where
+pub record IsScript (r : Run) (probes : List Meter) (journal : List JournalEntry) (before behind : Option (List ℕ)) : Type 0 where
   pub written : behind ≡ followed_by before (written_script r probes journal)
   pub read : script_of r.config.nodes (written_script r probes journal) ≡ Ok (events_of journal)
 
 -- a replay of the journal's events puts the same bytes to the console, and the same summary to the report
-pub record IsReplayedSo (r : Run) (probes : List Meter) (journal : List Entry) : Type 0 where
+pub record IsReplayedSo (r : Run) (probes : List Meter) (journal : List JournalEntry) : Type 0 where
   pub console : console_text (pieces_due (replay_of r journal) probes) ≡ output_by r journal
   pub report : report_text (pieces_due (replay_of r journal) probes) ≡ report_text (summary_by [] r probes journal)
 
 -- at the recovery point the committed trace is an execution without faults, and the point a cut of it
-abbrev pub IsLawful : Run → List Entry → Type 0
-IsLawful r journal = (trace : List Retirement) × IsConsistent r.program r.config.nodes (state_of (begins r) journal) trace
+abbrev pub IsLawful : Run → List JournalEntry → Type 0
+IsLawful r journal = (trace : List TraceEntry) × IsConsistent r.program r.config.nodes (state_of (begins r) journal) trace
 
 -- all is written: the console has the output of the committed trace
-pub record IsShown (r : Run) (probes : List Meter) (journal : List Entry) (before behind : Ends) : Type 0 where
+pub record IsShown (r : Run) (probes : List Meter) (journal : List JournalEntry) (before behind : Ends) : Type 0 where
   pub lawful : IsLawful r journal
   pub output : behind.console ≡ followed_by before.console (output_by r journal)
   pub traced : r.showing.report ≡ Trace → IsTrace r probes journal before.report behind.report
@@ -74,42 +74,42 @@ pub record IsShown (r : Run) (probes : List Meter) (journal : List Entry) (befor
   pub replayed : IsReplayedSo r probes journal
 
 -- the report broke: it has the beginning of its text, and the console has the output
-pub record IsShownInPart (r : Run) (probes : List Meter) (journal : List Entry) (before behind : Ends) : Type 0 where
+pub record IsShownInPart (r : Run) (probes : List Meter) (journal : List JournalEntry) (before behind : Ends) : Type 0 where
   pub lawful : IsLawful r journal
   pub output : behind.console ≡ followed_by before.console (output_by r journal)
   pub report : HasBeginning (report_text (report_by r.showing.report r probes journal)) before.report behind.report
   pub replayed : IsReplayedSo r probes journal
 
 -- the console broke, and so the workers were stopped: it has the beginning of the output, and the report has nothing
-pub record IsStopped (r : Run) (journal : List Entry) (before behind : Ends) : Type 0 where
+pub record IsStopped (r : Run) (journal : List JournalEntry) (before behind : Ends) : Type 0 where
   pub journal_is : IsJournal r journal
   pub lawful : IsLawful r journal
   pub output : HasBeginning (output_by r journal) before.console behind.console
   pub report : behind.report ≡ before.report
 
 -- a run came to its end with this journal, and all is put
-pub record IsRun (r : Run) (probes : List Meter) (ending : Ending) (journal : List Entry) (before behind : Ends) : Type 0 where
+pub record IsRunToEnd (r : Run) (probes : List Meter) (ending : Ending) (journal : List JournalEntry) (before behind : Ends) : Type 0 where
   pub journal_is : IsJournal r journal
   pub ended : ending_of (begins r) journal ≡ Some ending
   pub put : behind ≡ after before (run_pieces r probes journal)
   pub shown : IsShown r probes journal before behind
 
 -- a run came to its end with this journal, and then the report broke
-pub record IsCutShort (r : Run) (probes : List Meter) (ending : Ending) (journal : List Entry) (before behind : Ends) : Type 0 where
+pub record IsCutShort (r : Run) (probes : List Meter) (ending : Ending) (journal : List JournalEntry) (before behind : Ends) : Type 0 where
   pub journal_is : IsJournal r journal
   pub ended : ending_of (begins r) journal ≡ Some ending
   pub broken : Breaks (run_pieces r probes journal) before behind
   pub shown : IsShownInPart r probes journal before behind
 
 -- the probes were told the journal's events
-abbrev pub KnowAll : Run → List Entry → List Meter → List Meter → Type 0
+abbrev pub KnowAll : Run → List JournalEntry → List Meter → List Meter → Type 0
 KnowAll r journal probes told = told ≡ told_all (replay_of r journal) probes
 
 -- what a run comes to that puts all, and one that a sink broke
 abbrev pub IsDone : Run → List Meter → Ending → Ends → Ends → List Meter → Type 0
 IsDone r probes ending before behind told =
-    (journal : List Entry) × IsRun r probes ending journal before behind × KnowAll r journal probes told
+    (journal : List JournalEntry) × IsRunToEnd r probes ending journal before behind × KnowAll r journal probes told
 
 abbrev pub IsBrokenOff : Run → List Meter → Ends → Ends → List Meter → Type 0
-IsBrokenOff r probes before behind told = (journal : List Entry) × KnowAll r journal probes told × (
+IsBrokenOff r probes before behind told = (journal : List JournalEntry) × KnowAll r journal probes told × (
     IsStopped r journal before behind ⊎ ((ending : Ending) × IsCutShort r probes ending journal before behind))

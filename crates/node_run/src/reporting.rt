@@ -9,7 +9,7 @@ ghost use Rattle.node_run.specs.Pieces.{entry_lines, journal_pieces};
 ghost use Rattle.node_run.specs.Reported.{script_now, report_now, HaveNumbers};
 
 use crate::job::{RunReport, RunShowing};
-use node_threads::Entry;
+use node_threads::JournalEntry;
 use script_replay::{ReportKind, Showing, put_end, put_summary};
 use sink_pieces::put_report;
 use sn_io::{Failed, Sink};
@@ -19,7 +19,7 @@ use sn_text::Line;
 
 // A turn of a journal: a comment that names its worker, and its event as a line of a script.
 #[tactic(auto, unfolding(crate::specs::Pieces::entry_lines))]
-fn write_entry(line: &mut Line, entry: &Entry)
+fn write_entry(line: &mut Line, entry: &JournalEntry)
     ensures text { line.new ≡ entry_lines entry.now }
     ensures numbers { HasNumbers entry.now.event }
 {
@@ -29,7 +29,11 @@ fn write_entry(line: &mut Line, entry: &Entry)
 }
 
 // Puts the turns of a journal.
-fn put_journal<R: Sink>(line: &mut Line, journal: &[Entry], report: &mut R) -> Result<(), Failed>
+fn put_journal<R: Sink>(
+    line: &mut Line,
+    journal: &[JournalEntry],
+    report: &mut R,
+) -> Result<(), Failed>
     ensures ok { OnOk result ((c : Option (List ℕ)) →
         ends c (R.written report.new) ≡ after (ends c (R.written report.old)) (journal_pieces journal.now)) }
     ensures err { OnErr result ((c : Option (List ℕ)) →
@@ -49,7 +53,7 @@ fn put_journal<R: Sink>(line: &mut Line, journal: &[Entry], report: &mut R) -> R
 fn put_script<R: Sink>(
     line: &mut Line,
     machine: &Machine,
-    journal: &[Entry],
+    journal: &[JournalEntry],
     watch: Option<u32>,
     probes: &ProbeSet,
     report: &mut R,
@@ -73,7 +77,7 @@ fn put_script<R: Sink>(
 pub(crate) fn put_run<R: Sink>(
     line: &mut Line,
     machine: &Machine,
-    journal: &[Entry],
+    journal: &[JournalEntry],
     showing: &RunShowing,
     probes: &ProbeSet,
     report: &mut R,

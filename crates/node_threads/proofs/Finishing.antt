@@ -7,21 +7,21 @@ use Rattle.sn_io.specs.declared.outside.Failed.{Failed}
 use Rattle.sn_machine.specs.Machine.{MachineData}
 use Rattle.due_events.specs.Numbers.{Numbers}
 use Rattle.due_events.specs.Due.{is_over}
-use Rattle.run_journals.specs.declared.entry.Entry.{Entry}
+use Rattle.run_journals.specs.declared.entry.JournalEntry.{JournalEntry}
 use Rattle.run_journals.specs.Journal.{Began, state_of, numbers_of}
 use Rattle.shared_machine.specs.declared.finish.Finish.{Finish}
 use Rattle.shared_machine.specs.declared.finish.Finish.TheVariants.{Over, CutOff, Budget, Stopped}
 use Rattle.shared_machine.specs.Shared.{LockedData, began_with, refusal_of, cut_off_or_spent}
-use Rattle.shared_machine.specs.Kept.{IsKept}
+use Rattle.shared_machine.specs.Kept.{FollowsJournal}
 use Rattle.node_threads.specs.Finishes.{finish_by, IsRunOf, Put, Ends}
 
-pub run-of : (s : LockedData) (began : Began) (m : MachineData) (journal : List Entry) (answers : List Answer) → IsKept s →
+pub run-of : (s : LockedData) (began : Began) (m : MachineData) (journal : List JournalEntry) (answers : List Answer) → FollowsJournal s →
     began_with s ≡ began →
     m ≡ s.machine → journal ≡ s.journal → answers ≡ s.answers → IsRunOf began m journal answers
 run-of s began m journal answers kept same machine_is journal_is answers_is =
     subst (λ (b : Began). IsRunOf b m journal answers) same
     (subst (λ (x : MachineData). IsRunOf (began_with s) x journal answers) (sym machine_is)
-    (subst (λ (l : List Entry). IsRunOf (began_with s) s.machine l answers) (sym journal_is)
+    (subst (λ (l : List JournalEntry). IsRunOf (began_with s) s.machine l answers) (sym journal_is)
     (subst (λ (l : List Answer). IsRunOf (began_with s) s.machine s.journal l) (sym answers_is)
     (record {
       image = refl;
@@ -34,7 +34,7 @@ run-of s began m journal answers kept same machine_is journal_is answers_is =
       fit = kept.fit;
     }))))
 
-by_kept : (s : LockedData) → IsKept s →
+by_kept : (s : LockedData) → FollowsJournal s →
     finish_by (began_with s) s.journal ≡ refusal_of s.driver s.machine (nat_le s.budget (length s.journal))
 by_kept s kept =
     let spent = nat_le s.budget (length s.journal) in
@@ -43,11 +43,11 @@ by_kept s kept =
     ∙ ap (λ (x : Numbers). if is_over s.machine.image s.machine.config s.machine.state then Some Over else cut_off_or_spent x.cut_off spent)
     (sym kept.numbers)
 
-pub finish-kept : (s : LockedData) (began : Began) (journal : List Entry) (closed : Finish) → IsKept s → began_with s ≡ began →
+pub finish-kept : (s : LockedData) (began : Began) (journal : List JournalEntry) (closed : Finish) → FollowsJournal s → began_with s ≡ began →
     journal ≡ s.journal →
     refusal_of s.driver s.machine (nat_le s.budget (length s.journal)) ≡ Some closed → finish_by began journal ≡ Some closed
 finish-kept s began journal closed kept same journal_is refused =
-    ap (λ (b : Began). finish_by b journal) (sym same) ∙ ap (λ (l : List Entry). finish_by (began_with s) l) journal_is ∙ by_kept s kept
+    ap (λ (b : Began). finish_by b journal) (sym same) ∙ ap (λ (l : List JournalEntry). finish_by (began_with s) l) journal_is ∙ by_kept s kept
     ∙ refused
 
 -- no journal says that a run was stopped
@@ -64,7 +64,7 @@ unstopped : (over : Bool) (cut : Option (ℕ × ℕ)) (spent : Bool) → (if ove
 unstopped true cut spent e = cc
 unstopped false cut spent e = cut-unstopped cut spent e
 
-module _ (began : Began) (journal : List Entry) (released : List ℕ) (before after : Option (List ℕ)) (was is : ℕ) where
+module _ (began : Began) (journal : List JournalEntry) (released : List ℕ) (before after : Option (List ℕ)) (was is : ℕ) where
   whole : (closed : Finish) → finish_by began journal ≡ Some closed → Put (Ok tt) released before after was is →
       Ends began journal closed released before after was is
   whole Over by put = (put.0, by)

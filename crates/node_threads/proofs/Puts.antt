@@ -3,7 +3,7 @@ use Rattle.std.proofs.Common.{◌≡◌, ℕ, ◌+◌, ◌≤◌, ◌^◌, ◌-�
 use Rattle.std.proofs.Common.{is_err, OnOk, OnErr, refl, sym, ap, ◌∙◌, arith, append_assoc, append-nil}
 use Rattle.sn_io.specs.declared.outside.Failed.{Failed}
 use Rattle.sn_io.specs.Outside.{followed_by, Rose}
-use Rattle.sn_console.specs.Handed.{IsFirstOf, IsWritten, IsBegun}
+use Rattle.sn_console.specs.Handed.{IsFirstOf, IsHandedOn, IsBegun}
 use Rattle.sn_console.proofs.FirstOf.{IsFirstOf-trans}
 use Rattle.node_threads.specs.Finishes.{Put}
 
@@ -15,17 +15,17 @@ followed-nil : (w : Option (List ℕ)) → w ≡ followed_by w []
 followed-nil None = refl
 followed-nil (Some w) = ap (λ t. Some t) (sym (append-nil w))
 
-pub written-none : (text : List ℕ) (w : Option (List ℕ)) → IsWritten text text w w
+pub written-none : (text : List ℕ) (w : Option (List ℕ)) → IsHandedOn text text w w
 written-none text w = record { more = []; grown = append-nil text; put = followed-nil w }
 
-pub written-then : (a b d : List ℕ) (u v w : Option (List ℕ)) → IsWritten a b u v → IsWritten b d v w → IsWritten a d u w
+pub written-then : (a b d : List ℕ) (u v w : Option (List ℕ)) → IsHandedOn a b u v → IsHandedOn b d v w → IsHandedOn a d u w
 written-then a b d u v w h k = record {
   more = h.more ++ k.more;
   grown = sym (append_assoc a h.more k.more) ∙ ap (λ t. t ++ k.more) h.grown ∙ k.grown;
   put = k.put ∙ ap (λ t. followed_by t k.more) h.put ∙ followed-append u h.more k.more;
 }
 
-pub written-begun : (a b d : List ℕ) (u v w : Option (List ℕ)) → IsWritten a b u v → IsBegun b d v w → IsBegun a d u w
+pub written-begun : (a b d : List ℕ) (u v w : Option (List ℕ)) → IsHandedOn a b u v → IsBegun b d v w → IsBegun a d u w
 written-begun a b d u v w h k = record {
   more = h.more ++ k.more;
   begun = record {
@@ -54,7 +54,7 @@ put-first (Err e) taken text before after was is failed first put = (begun-first
 -- and one writing after another that was whole
 pub put-then : (d r : Result (Unit {0}) Failed) (taken text : List ℕ) (before between after : Option (List ℕ)) (was mid is : ℕ) →
     is_err d ≡ false →
-    OnOk r (IsWritten taken text between after) → OnErr r (IsBegun taken text between after) → mid ≤ is → OnErr r (Rose mid is) →
+    OnOk r (IsHandedOn taken text between after) → OnErr r (IsBegun taken text between after) → mid ≤ is → OnErr r (Rose mid is) →
     Put d taken before between was mid → Put r text before after was is
 put-then (Err e) r taken text before between after was mid is sound whole part later cause put = absurd cc
 put-then (Ok done) (Ok more) taken text before between after was mid is sound whole part later cause put =

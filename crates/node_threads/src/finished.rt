@@ -1,5 +1,5 @@
 //! What a run leaves.
-use shared_machine::{Entry, Finish};
+use shared_machine::{Finish, JournalEntry};
 use sn_base::Answer;
 use sn_machine::Machine;
 
@@ -7,7 +7,7 @@ use sn_machine::Machine;
 #[derive(Drop)]
 pub struct Finished {
     pub machine: Machine,
-    pub journal: Vec<Entry>,
+    pub journal: Vec<JournalEntry>,
     pub answers: Vec<Answer>,
     pub finish: Finish,
 }

@@ -16,4 +16,4 @@ mod telling;
 
 pub use finished::Finished;
 pub use run::run_nodes;
-pub use shared_machine::{Entry, Finish, SharedMachine};
+pub use shared_machine::{Finish, JournalEntry, SharedMachine};

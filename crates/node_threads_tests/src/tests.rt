@@ -1,9 +1,9 @@
 //! What runs leave in every schedule, workers and console side by side, and probes.
-ghost use Rattle.std.specs.Prelude.{◌≡◌, ◌*◌, ◌<◌, ◌≤◌, [], IfSome};
+ghost use Rattle.std.specs.Prelude.{◌*◌, ◌<◌, [], IfSome};
 
 use elf_load::load;
 use node_threads::{Finish, SharedMachine, run_nodes};
-use sn_base::{Answer, Config, Event, Memory, NodeId, Rules, SwitchId};
+use sn_base::{Answer, Config, Event, NodeId, Rules, SwitchId};
 use sn_driver::Driver;
 use sn_io::{Failed, Gate, MemSink, OpenGate, Sink, SureSink};
 use sn_machine::Machine;
@@ -29,30 +29,98 @@ const LOOPS: &str = "0000006f\n";
 /// No instruction.
 const TRAPS: &str = "00000000\n";
 
-/// A run of at most so many events.
-fn shared(
-    rt: &impl Abort,
-    alloc: Global,
-    program: &str,
+/// A run: its program, its nodes and its rules, by which the first switch dies at once or none does; and its budget.
+#[derive(Clone, Copy)]
+struct Run {
+    program: &'static str,
     nodes: u8,
-    rules: Rules,
+    interval: u32,
+    wait: u32,
+    lose_every: u32,
+    kills: bool,
     budget: u32,
-) -> Result<SharedMachine, Fail>
-    requires interval { 1 ≤ rules.interval }
-    requires wait { 1 ≤ rules.wait }
-    requires kill { IfSome rules.kill (λ rule. rule.0 < 2 * nodes) }
+}
+
+const TRAPPED: Run = Run {
+    program: TRAPS,
+    nodes: 1,
+    interval: 100,
+    wait: 20_000,
+    lose_every: 0,
+    kills: false,
+    budget: 100,
+};
+
+const SPENT: Run = Run {
+    program: LOOPS,
+    budget: 50,
+    ..TRAPPED
+};
+
+const CUT_OFF: Run = Run {
+    program: ADDS,
+    nodes: 2,
+    kills: true,
+    budget: 1000,
+    ..TRAPPED
+};
+
+/// Every second event is a recovery.
+const RECOVERING: Run = Run {
+    program: ADDS,
+    nodes: 4,
+    wait: 1,
+    budget: 1000,
+    ..TRAPPED
+};
+
+const LOSING: Run = Run {
+    program: ADDS,
+    nodes: 4,
+    lose_every: 60,
+    budget: 1_000_000,
+    ..TRAPPED
+};
+
+/// After 300 of the 400 events 38 bytes are released.
+const COUNTING: Run = Run {
+    program: COUNTS,
+    interval: 20,
+    budget: 400,
+    ..TRAPPED
+};
+
+/// The switch that dies, which is one of the machine's, and when.
+fn kill_of(rt: &impl Abort, run: &Run) -> Option<(SwitchId, u32)>
+    ensures { IfSome result (λ rule. rule.0 < 2 * run.now.nodes) }
 {
+    if !run.kills {
+        return None;
+    }
+    assert!(rt; run.nodes > 0);
+    Some((SwitchId::a(NodeId::numbered(0)), 0))
+}
+
+/// The machine of a run, with its driver.
+fn shared(rt: &impl Abort, alloc: Global, run: &Run) -> Result<SharedMachine, Fail> {
     let config = Config {
-        nodes,
+        nodes: run.nodes,
         sets: 16,
         ways: 4,
         log: 256,
     };
     assert!(rt; config.fits());
-    assert!(rt; budget <= 1_000_000);
-    let image = load(alloc, program.as_bytes())?;
+    assert!(rt; run.interval > 0 && run.wait > 0 && run.budget <= 1_000_000);
+    let rules = Rules {
+        interval: run.interval,
+        wait: run.wait,
+        lose_every: run.lose_every,
+        kill: kill_of(rt, run),
+    };
+    let image = load(alloc, run.program.as_bytes())?;
     let machine = Machine::new(alloc, image, config)?;
-    Ok(SharedMachine::new(alloc, machine, Driver::new(rules, nodes), budget, 7)?)
+    let driver = Driver::new(rules, run.nodes);
+    Ok(SharedMachine::new(alloc, machine, driver, run.budget, 7)?)
 }
 
 /// What a run left: why it ended, how many events it had, the recovery point, how many records are committed and how many bytes
@@ -67,15 +135,16 @@ struct Left {
     word: u32,
 }
 
-fn run_by<T: Threads + Wait + Sync, C: Sink + Send, G: Gate + Sync>(
+fn run_by<T: Threads + Wait + Sync + Abort, C: Sink + Send, G: Gate + Sync>(
     rt: &T,
     alloc: Global,
-    run: SharedMachine,
+    run: &Run,
     gate: &G,
     console: &mut C,
     probes: &mut ProbeSet,
-) -> Result<Left, Memory> {
-    let end = run_nodes(rt, alloc, run, gate, console, probes)?;
+) -> Result<Left, Fail> {
+    let shared = shared(rt, alloc, run)?;
+    let end = run_nodes(rt, alloc, shared, gate, console, probes)?;
     let view = end.machine.recovered();
     Ok(Left {
         finish: end.finish,
@@ -87,78 +156,50 @@ fn run_by<T: Threads + Wait + Sync, C: Sink + Send, G: Gate + Sync>(
     })
 }
 
-/// The same of a run that no gate holds and whose console takes all.
-fn run_probed<T: Threads + Wait + Sync>(
+/// The same where no probe is attached.
+fn run_alone<T: Threads + Wait + Sync + Abort, C: Sink + Send, G: Gate + Sync>(
     rt: &T,
     alloc: Global,
-    run: SharedMachine,
-    probes: &mut ProbeSet,
-) -> Result<Left, Memory> {
-    run_by(
-        rt,
-        alloc,
-        run,
-        &OpenGate::new(),
-        &mut SureSink::new(),
-        probes,
-    )
-}
-
-/// The same of a run to which no probe is attached.
-fn run_alone<T: Threads + Wait + Sync, C: Sink + Send, G: Gate + Sync>(
-    rt: &T,
-    alloc: Global,
-    run: SharedMachine,
+    run: &Run,
     gate: &G,
     console: &mut C,
-) -> Result<Left, Memory> {
+) -> Result<Left, Fail> {
     let mut probes = ProbeSet::new(Vec::new(alloc));
     run_by(rt, alloc, run, gate, console, &mut probes)
 }
 
-/// What a run of one core leaves.
-fn run_one<T: Threads + Wait + Sync + Abort>(
+/// The same where no gate holds the workers and the console takes all.
+fn run_freely<T: Threads + Wait + Sync + Abort>(
     rt: &T,
     alloc: Global,
-    program: &str,
-    budget: u32,
+    run: &Run,
 ) -> Result<Left, Fail> {
-    let rules = Rules {
-        interval: 100,
-        wait: 20_000,
-        lose_every: 0,
-        kill: None,
-    };
-    let run = shared(rt, alloc, program, 1, rules, budget)?;
-    Ok(run_alone(rt, alloc, run, &OpenGate::new(), &mut SureSink::new())?)
+    run_alone(rt, alloc, run, &OpenGate::new(), &mut SureSink::new())
+}
+
+/// The same with probes.
+fn run_probed<T: Threads + Wait + Sync + Abort>(
+    rt: &T,
+    alloc: Global,
+    run: &Run,
+    probes: &mut ProbeSet,
+) -> Result<Left, Fail> {
+    let gate = OpenGate::new();
+    run_by(rt, alloc, run, &gate, &mut SureSink::new(), probes)
 }
 
 #[test]
 fn a_run_ends_where_its_core_traps(rt: HostRuntime) -> Result<(), Fail> {
-    let end = run_one(&rt, rt.alloc(), TRAPS, 100)?;
+    let end = run_freely(&rt, rt.alloc(), &TRAPPED)?;
     assert!(rt; end.finish == Finish::Over && end.committed == 1);
     Ok(())
 }
 
 #[test]
 fn a_run_ends_where_its_budget_is_spent(rt: HostRuntime) -> Result<(), Fail> {
-    let end = run_one(&rt, rt.alloc(), LOOPS, 50)?;
+    let end = run_freely(&rt, rt.alloc(), &SPENT)?;
     assert!(rt; end.finish == Finish::Budget && end.events == 50);
     Ok(())
-}
-
-/// What a run of two cores leaves, where the first switch dies at once.
-fn run_cut_off<T: Threads + Wait + Sync + Abort>(rt: &T, alloc: Global) -> Result<Left, Fail> {
-    let first = NodeId::new(0).expect(rt, "there is a node 0");
-    assert!(rt; first.number() < 2);
-    let rules = Rules {
-        interval: 100,
-        wait: 20_000,
-        lose_every: 0,
-        kill: Some((SwitchId::a(first), 0)),
-    };
-    let run = shared(rt, alloc, ADDS, 2, rules, 1000)?;
-    Ok(run_alone(rt, alloc, run, &OpenGate::new(), &mut SureSink::new())?)
 }
 
 /// Whether a run ended since no path joins the nodes 0 and 1.
@@ -171,7 +212,7 @@ fn is_cut_off(finish: Finish) -> bool {
 
 #[test]
 fn a_run_ends_where_a_dead_switch_cuts_its_nodes_off(rt: HostRuntime) -> Result<(), Fail> {
-    let end = run_cut_off(&rt, rt.alloc())?;
+    let end = run_freely(&rt, rt.alloc(), &CUT_OFF)?;
     assert!(rt; is_cut_off(end.finish) && end.events == 9 && end.committed == 0);
     Ok(())
 }
@@ -185,25 +226,13 @@ fn tallies(alloc: Global, count: u64) -> Result<ProbeSet, Fail> {
     Ok(ProbeSet::new(boxes))
 }
 
-/// A run in which every second event is a recovery.
-fn recovering(rt: &impl Abort, alloc: Global) -> Result<SharedMachine, Fail> {
-    let rules = Rules {
-        interval: 100,
-        wait: 1,
-        lose_every: 0,
-        kill: None,
-    };
-    shared(rt, alloc, ADDS, 4, rules, 1000)
-}
-
-/// What that leaves, and how many recoveries a probe counts.
+/// What a run leaves in which every second event is a recovery, and how many of them a probe counts.
 fn run_tallied<T: Threads + Wait + Sync + Abort>(
     rt: &T,
     alloc: Global,
 ) -> Result<(Left, Option<u64>), Fail> {
     let mut probes = tallies(alloc, 1)?;
-    let run = recovering(rt, alloc)?;
-    let end = run_probed(rt, alloc, run, &mut probes)?;
+    let end = run_probed(rt, alloc, &RECOVERING, &mut probes)?;
     assert!(rt; probes.count() > 0);
     Ok((end, probes.line(0, 9)))
 }
@@ -216,7 +245,18 @@ fn a_probe_is_told_all_events(rt: HostRuntime) -> Result<(), Fail> {
     Ok(())
 }
 
-/// Holds each worker's first turn until all four have begun theirs, for at most 50,000,000 looks.
+/// Waits until a count is at least so much, for at most 50,000,000 looks. What was in vain is counted.
+fn wait_for(count: &AtomicU64, least: u64, missed: &AtomicU64) {
+    for _ in 0..50_000_000u32 {
+        if count.load(Ordering::SeqCst) >= least {
+            return;
+        }
+        thread::yield_now();
+    }
+    missed.fetch_add(1, Ordering::SeqCst);
+}
+
+/// Holds each worker's first turn until all four have begun theirs.
 #[derive(Drop)]
 struct Meeting {
     begun: AtomicU64,
@@ -225,44 +265,25 @@ struct Meeting {
 
 impl Gate for Meeting {
     fn before(&self, _worker: u32, turn: u64) {
-        if turn > 1 {
-            return;
+        if turn == 1 {
+            self.begun.fetch_add(1, Ordering::SeqCst);
+            wait_for(&self.begun, 4, &self.missed);
         }
-        self.begun.fetch_add(1, Ordering::SeqCst);
-        for _ in 0..50_000_000u32 {
-            if self.begun.load(Ordering::SeqCst) >= 4 {
-                return;
-            }
-            thread::yield_now();
-        }
-        self.missed.fetch_add(1, Ordering::SeqCst);
     }
 }
 
-/// A run of four workers with losses.
-fn losing(rt: &impl Abort, alloc: Global) -> Result<SharedMachine, Fail> {
-    let rules = Rules {
-        interval: 100,
-        wait: 20_000,
-        lose_every: 60,
-        kill: None,
-    };
-    shared(rt, alloc, ADDS, 4, rules, 1_000_000)
-}
-
-/// What that leaves with so many probes, and how many of its workers waited in vain for the others to begin.
+/// What a run of four workers with losses leaves, with so many probes, and how many of its workers waited in vain for the others to begin.
 fn run_met<T: Threads + Wait + Sync + Abort>(
     rt: &T,
     alloc: Global,
     count: u64,
 ) -> Result<(Left, u64), Fail> {
     let mut probes = tallies(alloc, count)?;
-    let run = losing(rt, alloc)?;
     let gate = Meeting {
         begun: AtomicU64::new(0),
         missed: AtomicU64::new(0),
     };
-    let end = run_by(rt, alloc, run, &gate, &mut SureSink::new(), &mut probes)?;
+    let end = run_by(rt, alloc, &LOSING, &gate, &mut SureSink::new(), &mut probes)?;
     Ok((end, gate.missed.load(Ordering::SeqCst)))
 }
 
@@ -296,7 +317,7 @@ impl Sink for Watched<'_> {
     }
 }
 
-/// Holds the 300th turn until the console has had a byte, for at most 50,000,000 looks.
+/// Holds the 300th turn until the console has had a byte.
 #[derive(Drop)]
 struct Late<'a> {
     bytes: &'a AtomicU64,
@@ -305,28 +326,10 @@ struct Late<'a> {
 
 impl Gate for Late<'_> {
     fn before(&self, _worker: u32, turn: u64) {
-        if turn != 300 {
-            return;
+        if turn == 300 {
+            wait_for(self.bytes, 1, &self.missed);
         }
-        for _ in 0..50_000_000u32 {
-            if self.bytes.load(Ordering::SeqCst) > 0 {
-                return;
-            }
-            thread::yield_now();
-        }
-        self.missed.fetch_add(1, Ordering::SeqCst);
     }
-}
-
-/// 400 events of one core that counts. After 300 of them 38 bytes are released.
-fn counting(rt: &impl Abort, alloc: Global) -> Result<SharedMachine, Fail> {
-    let rules = Rules {
-        interval: 20,
-        wait: 20_000,
-        lose_every: 0,
-        kill: None,
-    };
-    shared(rt, alloc, &COUNTS, 1, rules, 400)
 }
 
 /// What a run leaves that is held late for its console, how many bytes that has had, and whether it was held in vain.
@@ -334,13 +337,12 @@ fn run_late<T: Threads + Wait + Sync + Abort>(
     rt: &T,
     alloc: Global,
 ) -> Result<(Left, u64, u64), Fail> {
-    let run = counting(rt, alloc)?;
     let bytes = AtomicU64::new(0);
     let gate = Late {
         bytes: &bytes,
         missed: AtomicU64::new(0),
     };
-    let end = run_alone(rt, alloc, run, &gate, &mut Watched { bytes: &bytes })?;
+    let end = run_alone(rt, alloc, &COUNTING, &gate, &mut Watched { bytes: &bytes })?;
     let put = bytes.load(Ordering::SeqCst);
     Ok((end, put, gate.missed.load(Ordering::SeqCst)))
 }
@@ -359,10 +361,9 @@ fn run_failing<T: Threads + Wait + Sync + Abort>(
     rt: &T,
     alloc: Global,
 ) -> Result<(Finish, usize), Fail> {
-    let run = counting(rt, alloc)?;
     let mut console = MemSink::with_room(alloc, 64)?;
     console.fail_call(1)?;
-    let end = run_alone(rt, alloc, run, &OpenGate::new(), &mut console)?;
+    let end = run_alone(rt, alloc, &COUNTING, &OpenGate::new(), &mut console)?;
     Ok((end.finish, console.bytes().len()))
 }
 
@@ -420,6 +421,19 @@ fn witnesses(
     Ok(ProbeSet::new(boxes))
 }
 
+/// How many of so many probes were dropped before their set was, which are told the events of a run.
+fn run_told<T: Threads + Wait + Sync + Abort>(
+    rt: &T,
+    alloc: Global,
+    count: u64,
+    told: &Arc<AtomicU64, Global>,
+    drops: &Arc<AtomicU64, Global>,
+) -> Result<u64, Fail> {
+    let mut probes = witnesses(alloc, count, told, drops)?;
+    run_probed(rt, alloc, &COUNTING, &mut probes)?;
+    Ok(drops.load(Ordering::SeqCst))
+}
+
 /// How often so many probes were told something in a run, and how many were dropped before and after their set was.
 fn run_witnessed<T: Threads + Wait + Sync + Abort>(
     rt: &T,
@@ -428,11 +442,7 @@ fn run_witnessed<T: Threads + Wait + Sync + Abort>(
 ) -> Result<(u64, u64, u64), Fail> {
     let told = Arc::new(alloc, AtomicU64::new(0))?;
     let drops = Arc::new(alloc, AtomicU64::new(0))?;
-    let mut probes = witnesses(alloc, count, &told, &drops)?;
-    let run = counting(rt, alloc)?;
-    run_probed(rt, alloc, run, &mut probes)?;
-    let before = drops.load(Ordering::SeqCst);
-    drop(probes);
+    let before = run_told(rt, alloc, count, &told, &drops)?;
     let after = drops.load(Ordering::SeqCst);
     Ok((told.load(Ordering::SeqCst), before, after))
 }

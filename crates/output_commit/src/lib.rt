@@ -8,7 +8,7 @@
 #![tactic(auto)]
 
 ghost use Rattle.std.specs.Prelude.{◌≡◌, ◌-◌, ◌<◌, max, [], ◌∷◌, ◌++◌, OnOk, OnErr};
-ghost use Rattle.interval_list.specs.Waits.{entries_below, waiting_from, waiting_below};
+ghost use Rattle.interval_list.specs.WaitingList.{entries_below, waiting_from, waiting_below};
 ghost use Rattle.output_commit.specs.Output.{Output};
 
 use interval_list::IntervalList;

@@ -17,6 +17,7 @@ ghost use Rattle.rollback.specs.Unwound.{LogEntry, Old, unwound, left, all_forgo
 #[cfg(test)]
 mod tests;
 
+use log_buffer::is_home_side;
 use sn_base::{BlockNo, Entries, Interval, LogEntry, Old};
 
 /// What a log is unwound into: a cache, or a home.
@@ -62,7 +63,8 @@ pub trait Restore {
     ghost part: { (s : Self) (part whole : ℕ → Old) → fits s whole → IsPart part whole → fits s part };
 
     // on the way from a map that fits to one that fits, every map fits
-    ghost way: { (s : Self) (before after between : ℕ → Old) → fits s before → fits s after → IsBetween home_side before after between → fits s between };
+    ghost way: { (s : Self) (before after between : ℕ → Old) → fits s before → fits s after →
+        IsBetween home_side before after between → fits s between };
 }
 
 /// Unwinds a log to checkpoint k: forgets every entry whose interval is at least k, and then puts back the oldest of
@@ -128,15 +130,6 @@ fn is_oldest<E: Entries>(log: &E, k: Interval, place: usize, entry: &LogEntry) -
         }
     }
     true
-}
-
-fn is_home_side(old: &Old) -> bool
-    ensures { result ≡ is_home_side old.now }
-{
-    match old {
-        Old::NotOwned | Old::Owned(_) => false,
-        Old::WasHome(_) | Old::WasCache(_) => true,
-    }
 }
 
 fn is_about(entry: &LogEntry, home_side: bool, block: BlockNo) -> bool

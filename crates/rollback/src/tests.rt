@@ -4,8 +4,8 @@ ghost use Rattle.std.proofs.Common.{◌∙◌, inl, inr};
 ghost use Rattle.rollback.specs.Unwound.{Old};
 ghost use Rattle.sn_base.specs.declared.log.Old.TheVariants.{NotOwned};
 
-use crate::{Restore, is_home_side, unwind};
-use log_buffer::LogBuffer;
+use crate::{Restore, unwind};
+use log_buffer::{LogBuffer, is_home_side};
 use sn_base::{Block, BlockNo, Old};
 use std::test::Fail;
 

@@ -7,13 +7,13 @@ use Rattle.route_plan.specs.Distances.{Switches, is_dead, is_living}
 use Rattle.route_plan.specs.Tables.{grown, is_next}
 
 -- the table after a switch was looked at
-pub record Kept (m : Switches) (links i : ℕ) (before table : List ℕ) (grew : Bool) : Type 0 where
+pub record Grown (m : Switches) (links i : ℕ) (before table : List ℕ) (grew : Bool) : Type 0 where
   pub done : (s : ℕ) → s < i → get_or table s 0 ≡ grown m links before s
   pub left : (s : ℕ) → i ≤ s → get_or table s 0 ≡ get_or before s 0
   pub still : grew ≡ false → (s : ℕ) → s < i → get_or table s 0 ≡ get_or before s 0
 
-pub joined : (m : Switches) (links i : ℕ) (before table : List ℕ) (grew : Bool) → i < length table → Kept m links i before table grew →
-    is_next m links before i ≡ true → Kept m links (i + 1) before (set table i (links + 1)) true
+pub joined : (m : Switches) (links i : ℕ) (before table : List ℕ) (grew : Bool) → i < length table → Grown m links i before table grew →
+    is_next m links before i ≡ true → Grown m links (i + 1) before (set table i (links + 1)) true
 unfolding grown
 joined m links i before table grew l k e = record {
   done = λ s n. grind (arith, common_steps, k.done s);
@@ -21,8 +21,8 @@ joined m links i before table grew l k e = record {
   still = λ f s n. grind (arith);
 }
 
-pub passed : (m : Switches) (links i : ℕ) (before table : List ℕ) (grew : Bool) → Kept m links i before table grew →
-    is_next m links before i ≡ false → Kept m links (i + 1) before table grew
+pub passed : (m : Switches) (links i : ℕ) (before table : List ℕ) (grew : Bool) → Grown m links i before table grew →
+    is_next m links before i ≡ false → Grown m links (i + 1) before table grew
 unfolding grown
 passed m links i before table grew k e = record {
   done = λ s n. grind (arith, common_steps, k.done s, k.left s);

@@ -3,7 +3,7 @@ use Rattle.std.proofs.Common.{◌≡◌, ℕ, zero, suc, ◌+◌, ◌*◌, ◌<�
 use Rattle.std.proofs.Common.{refl, sym, ap, ◌∙◌, arith}
 use Rattle.std.proofs.lemmas.Bool.{false≢true, cases_Bool, cases_eq, cases_lt, and_parts, and_right, not-true}
 use Rattle.route_plan.specs.Distances.{Switches, is_living, some_below, comes, distance}
-use Rattle.route_plan.specs.Paths.{Leads}
+use Rattle.route_plan.specs.Paths.{IsPathTo}
 use Rattle.route_plan.specs.Tables.{IsSized}
 use Rattle.route_plan.proofs.Grids.{after-there, before-there, partner-there}
 use Rattle.route_plan.proofs.Least.{some_below-found, some_below-false}
@@ -143,7 +143,7 @@ reach m to n s z l e = elim (cases_Bool (comes m to 31 s)) [ inl h ↦ h | inr h
     either (inr h) = inl h
 
 -- a switch that any path leads from has a distance
-pub leads-distance : (m : Switches) (to s : ℕ) (others : List ℕ) → IsSized m → s < 2 * m.nodes → Leads m to s others → distance m to s < 32
+pub leads-distance : (m : Switches) (to s : ℕ) (others : List ℕ) → IsSized m → s < 2 * m.nodes → IsPathTo m to s others → distance m to s < 32
 leads-distance m to s others z l p =
     let h : distance m to s ≤ 31 = distance-le m to s 31 (reach m to (length others) s z l (path-comes m to s others p.path p.ends)) in
     omega arith

@@ -6,7 +6,7 @@ use Rattle.std.proofs.lemmas.Bool.{le-ltb, and_right, ne_eqb}
 use Rattle.route_plan.specs.Grid.{is_linked, node_of}
 use Rattle.route_plan.specs.Distances.{Switches, is_living, least_below, comes, distance}
 use Rattle.route_plan.specs.Routes.{next_of}
-use Rattle.route_plan.specs.Paths.{IsPath, last_of, Leads, IsWalk, IsShortestWalk, IsStep}
+use Rattle.route_plan.specs.Paths.{IsPath, last_of, IsPathTo, IsWalk, IsShortestWalk, IsStep}
 use Rattle.route_plan.proofs.Least.{least_below-at, least_below-is, least_below-passes, some_below-true, some_below-found}
 use Rattle.route_plan.proofs.Levels.{distance-le, distance-comes}
 
@@ -19,8 +19,8 @@ path-first m s [] p = p
 path-first m s (t ∷ others) p = p.0
 
 -- a path from a switch, by a link in front of another
-pub leads-on : (m : Switches) (to s t : ℕ) (others : List ℕ) → is_living m s ≡ true → is_linked m.nodes s t ≡ true → Leads m to t others →
-    Leads m to s (t ∷ others)
+pub leads-on : (m : Switches) (to s t : ℕ) (others : List ℕ) → is_living m s ≡ true → is_linked m.nodes s t ≡ true → IsPathTo m to t others →
+    IsPathTo m to s (t ∷ others)
 leads-on m to s t others e f p = record { path = (e, f, p.path); ends = p.ends }
 
 or_second : (b c : Bool) → c ≡ true → (b || c) ≡ true
@@ -45,7 +45,7 @@ path-comes m to s (t ∷ others) p e =
     comes-on m to (length others) s t p.0 p.1 (living-there m t (path-first m t others p.2)) (path-comes m to t others p.2 e)
 
 -- no path is shorter than the distance
-pub distance-shortest : (m : Switches) (to s : ℕ) (others : List ℕ) → Leads m to s others → distance m to s ≤ length others
+pub distance-shortest : (m : Switches) (to s : ℕ) (others : List ℕ) → IsPathTo m to s others → distance m to s ≤ length others
 distance-shortest m to s others p = distance-le m to s (length others) (path-comes m to s others p.path p.ends)
 
 here_parts : (m : Switches) (to s : ℕ) → comes m to 0 s ≡ true → (is_living m s ≡ true) × (node_of s ≡ to)
@@ -210,7 +210,7 @@ next-step m to s t l e =
 pub none-arrived : (m : Switches) (to s : ℕ) → distance m to s < 32 → next_of m to s ≡ None → node_of s ≡ to
 none-arrived m to s l e = let w = walk-from m to (distance m to s) s refl l in ended w.others w.walk w.leads
   where
-    ended : (others : List ℕ) → IsWalk m to s others → Leads m to s others → node_of s ≡ to
+    ended : (others : List ℕ) → IsWalk m to s others → IsPathTo m to s others → node_of s ≡ to
     ended [] w p = p.ends
     ended (t ∷ others) w p = no_more t (sym w.0 ∙ e)
       where

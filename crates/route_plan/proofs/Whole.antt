@@ -7,7 +7,7 @@ use Rattle.std.proofs.lemmas.Nat.{mul-add-lt, mod_below, div_below, div-add-mod'
 use Rattle.route_plan.specs.Grid.{after, before, along, partner, row_count}
 use Rattle.route_plan.specs.Sizes.{IsGrid}
 use Rattle.route_plan.specs.Distances.{Switches, is_living}
-use Rattle.route_plan.specs.Paths.{Leads, AreJoined}
+use Rattle.route_plan.specs.Paths.{IsPathTo, AreJoined}
 use Rattle.route_plan.specs.Routes.{first_cut_off}
 use Rattle.route_plan.specs.Tables.{IsSized}
 use Rattle.route_plan.proofs.Grids.{partner-b, grid_of}
@@ -45,7 +45,7 @@ record AllLive (m : Switches) : Type 0 where
 -- some path leads from a switch to the node
 record Reaches (m : Switches) (to s : ℕ) : Type 0 where
   others : List ℕ
-  leads : Leads m to s others
+  leads : IsPathTo m to s others
 
 reaches-on : (m : Switches) (to s t : ℕ) → AllLive m → s < 2 * m.nodes → s ≢ t →
     (t ≡ along after m.nodes s) ⊎ ((t ≡ along before m.nodes s) ⊎ (t ≡ partner s)) →

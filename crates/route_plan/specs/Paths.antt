@@ -15,7 +15,7 @@ last_of s [] = s
 last_of s (t ∷ others) = last_of t others
 
 -- a path from a switch to one of the node's
-pub record Leads (m : Switches) (to s : ℕ) (others : List ℕ) : Type 0 where
+pub record IsPathTo (m : Switches) (to s : ℕ) (others : List ℕ) : Type 0 where
   pub path : IsPath m s others
   pub ends : node_of (last_of s others) ≡ to
 
@@ -24,7 +24,7 @@ pub record AreJoined (m : Switches) (a b : ℕ) : Type 0 where
   pub first : ℕ
   pub others : List ℕ
   pub begins : node_of first ≡ a
-  pub leads : Leads m b first others
+  pub leads : IsPathTo m b first others
 
 -- the walk that `next` gives from a switch, up to where it gives none
 abbrev pub IsWalk : Switches → ℕ → ℕ → List ℕ → Type 0
@@ -35,9 +35,9 @@ IsWalk m to s (t ∷ others) = (next_of m to s ≡ Some t) × IsWalk m to t othe
 pub record IsShortestWalk (m : Switches) (to s : ℕ) : Type 0 where
   pub others : List ℕ
   pub walk : IsWalk m to s others
-  pub leads : Leads m to s others
+  pub leads : IsPathTo m to s others
   pub links : length others ≡ distance m to s
-  pub shortest : (path : List ℕ) → Leads m to s path → length others ≤ length path
+  pub shortest : (path : List ℕ) → IsPathTo m to s path → length others ≤ length path
 
 -- what `next` names: a living neighbour that is one link nearer, and no other such neighbour has a lesser number
 pub record IsStep (m : Switches) (to s next : ℕ) : Type 0 where
@@ -50,7 +50,7 @@ pub record IsStep (m : Switches) (to s next : ℕ) : Type 0 where
 -- stands back only where the walk from B is shorter
 pub record IsShortestEntry (m : Switches) (from to s : ℕ) : Type 0 where
   pub walk : IsShortestWalk m to s
-  pub shortest : (t : ℕ) (path : List ℕ) → node_of t ≡ from → Leads m to t path → distance m to s ≤ length path
+  pub shortest : (t : ℕ) (path : List ℕ) → node_of t ≡ from → IsPathTo m to t path → distance m to s ≤ length path
   pub second : s ≡ 2 * from + 1 → distance m to s < distance m to (2 * from)
 
 -- a and b are cut off, and no earlier pair is

@@ -13,20 +13,12 @@ use std::marker::Model;
 /// The distance of a switch that no path joins with the node; a path has fewer links.
 pub const APART: u8 = 32;
 
-/// The node of a number.
-fn node_of(number: u8) -> NodeId
-    requires { number < 16 }
-    ensures { result ≡ number }
-{
-    NodeId::new(number).unwrap()
-}
-
 /// The switch of a number.
 fn switch_of(number: u8) -> SwitchId
     requires { number < 32 }
     ensures { result ≡ number }
 {
-    let node = NodeId::new(number / 2).unwrap();
+    let node = NodeId::numbered(number / 2);
     if number % 2 == 0 {
         SwitchId::a(node)
     } else {
@@ -115,7 +107,7 @@ fn all_distances(grid: &Grid, dead: Dead) -> [[u8; 32]; 16]
 {
     let mut tables = [[APART; 32]; 16];
     'nodes: for to in 0..grid.nodes() {
-        tables[usize::from(to)] = distances_to(grid, dead, node_of(to));
+        tables[usize::from(to)] = distances_to(grid, dead, NodeId::numbered(to));
     }
     tables
 }
@@ -185,7 +177,7 @@ impl Distances {
         ensures there { IfSome result (λ b. b < self.now.nodes) }
     {
         'nodes: for number in a.number()..self.nodes() {
-            let b = node_of(number);
+            let b = NodeId::numbered(number);
             if self.is_cut_off(a, b) {
                 return Some(b);
             }
@@ -198,7 +190,7 @@ impl Distances {
         ensures { result ≡ first_cut_off self.now }
     {
         'nodes: for number in 0..self.nodes() {
-            let a = node_of(number);
+            let a = NodeId::numbered(number);
             if let Some(b) = self.cut_off_from(a) {
                 return Some((a, b));
             }

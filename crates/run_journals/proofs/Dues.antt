@@ -10,7 +10,7 @@ use Rattle.sn_model.specs.Step.{step_of, state_after}
 use Rattle.due_events.specs.Numbers.{Numbers, first_numbers, numbers_after}
 use Rattle.due_events.specs.Due.{due_of}
 use Rattle.due_events.specs.Runs.{Draw, numbers_along, then_others, events_due}
-use Rattle.run_journals.specs.declared.entry.Entry.{Entry}
+use Rattle.run_journals.specs.declared.entry.JournalEntry.{JournalEntry}
 use Rattle.run_journals.specs.Journal.{Began, start, IsDue, entry_of, draws_of, next_pick, next_draw, state_of, numbers_of}
 use Rattle.run_journals.proofs.Draws.{draws_of-snoc, length-draws_of}
 use Rattle.run_journals.proofs.Folds.{events_of-snoc}
@@ -41,7 +41,7 @@ events_due-snoc rules image config draw event s x (d ∷ draws) full due =
     (numbers_after x e (step_of image config s e).answer) draws here at)
     full due
 
-pub IsDue-snoc : (began : Began) (journal : List Entry) (worker : ℕ) (event : Event) → IsDue began journal →
+pub IsDue-snoc : (began : Began) (journal : List JournalEntry) (worker : ℕ) (event : Event) → IsDue began journal →
     due_of began.rules began.image began.config (state_of began journal) (numbers_of began journal) worker
     (next_pick began.seed journal worker) ≡ Some event →
     IsDue began (journal ++ entry_of worker event ∷ [])
@@ -53,7 +53,7 @@ IsDue-snoc began journal worker event due next =
     ap E (draws_of-snoc began.seed journal (entry_of worker event))
     ∙ events_due-snoc began.rules began.image began.config (next_draw began.seed journal worker) event (start began) first_numbers
     (draws_of began.seed journal)
-    (ap (λ (l : List Event). length l) due ∙ length-map journal (λ (e : Entry). e.event) ∙ sym (length-draws_of began.seed journal))
+    (ap (λ (l : List Event). length l) due ∙ length-map journal (λ (e : JournalEntry). e.event) ∙ sym (length-draws_of began.seed journal))
     (subst N (sym due) next)
     ∙ ap (λ (l : List Event). l ++ event ∷ []) due
     ∙ sym (events_of-snoc journal (entry_of worker event))

@@ -9,11 +9,11 @@ use Rattle.sn_model.specs.Instructions.{Stepped}
 use Rattle.sn_model.specs.Step.{step_of, state_after, run_of}
 use Rattle.due_events.specs.Numbers.{Numbers, first_numbers, numbers_after}
 use Rattle.due_events.specs.Runs.{numbers_along}
-use Rattle.run_journals.specs.declared.entry.Entry.{Entry}
+use Rattle.run_journals.specs.declared.entry.JournalEntry.{JournalEntry}
 use Rattle.run_journals.specs.Journal.{Began, start, entry_of, events_of, state_of, answers_of, numbers_of}
 
-pub events_of-snoc : (journal : List Entry) (e : Entry) → events_of (journal ++ e ∷ []) ≡ events_of journal ++ e.event ∷ []
-events_of-snoc journal e = map-append (λ (e : Entry). e.event) journal (e ∷ [])
+pub events_of-snoc : (journal : List JournalEntry) (e : JournalEntry) → events_of (journal ++ e ∷ []) ≡ events_of journal ++ e.event ∷ []
+events_of-snoc journal e = map-append (λ (e : JournalEntry). e.event) journal (e ∷ [])
 
 state_after-snoc : (image : ImageData) (config : Config) (s : State) (events : List Event) (event : Event) →
     state_after image config s (events ++ event ∷ []) ≡ (step_of image config (state_after image config s events) event).state
@@ -35,8 +35,8 @@ numbers_along-snoc image config s x (first ∷ events) event =
     numbers_along-snoc image config (step_of image config s first).state
     (numbers_after x first (step_of image config s first).answer) events event
 
-module _ (began : Began) (journal : List Entry) (worker : ℕ) (event : Event) where
-  abbrev entries : List Entry
+module _ (began : Began) (journal : List JournalEntry) (worker : ℕ) (event : Event) where
+  abbrev entries : List JournalEntry
   entries = journal ++ entry_of worker event ∷ []
 
   pub state_of-snoc : state_of began (journal ++ entry_of worker event ∷ [])
@@ -71,8 +71,8 @@ length-run_of : (image : ImageData) (config : Config) (s : State) (events : List
 length-run_of image config s [] = refl
 length-run_of image config s (first ∷ events) = ap (λ n. suc n) (length-run_of image config (step_of image config s first).state events)
 
-pub length-answers_of : (began : Began) (journal : List Entry) → length (answers_of began journal) ≡ length journal
+pub length-answers_of : (began : Began) (journal : List JournalEntry) → length (answers_of began journal) ≡ length journal
 unfolding answers_of
 length-answers_of began journal =
     length-map (run_of began.image began.config (start began) (events_of journal)) (λ (t : Stepped). t.answer)
-    ∙ length-run_of began.image began.config (start began) (events_of journal) ∙ length-map journal (λ (e : Entry). e.event)
+    ∙ length-run_of began.image began.config (start began) (events_of journal) ∙ length-map journal (λ (e : JournalEntry). e.event)

@@ -10,7 +10,7 @@ ghost use Rattle.sn_model.specs.Step.{step_of};
 ghost use Rattle.due_events.specs.Numbers.{numbers_after};
 ghost use Rattle.due_events.specs.Due.{due_of};
 ghost use Rattle.sn_consistency.specs.Committed.{Begins};
-ghost use Rattle.run_journals.specs.declared.entry.Entry.{Entry};
+ghost use Rattle.run_journals.specs.declared.entry.JournalEntry.{JournalEntry};
 ghost use Rattle.run_journals.specs.Picks.{generator_at, pick_of};
 ghost use Rattle.run_journals.specs.Journal.{Began, IsDue, entry_of, next_pick, turns_of, state_of, answers_of, numbers_of};
 
@@ -24,19 +24,19 @@ pub fn picks_are_drawn()
 /// A due event with its worker's next pick goes on with a due journal, and the machine, the answers, the driver's numbers and
 /// the worker's turns go on by it.
 pub fn a_due_turn_goes_on()
-    ensures due { (began : Began) (journal : List Entry) (worker : ℕ) (event : Event) → IsDue began journal
+    ensures due { (began : Began) (journal : List JournalEntry) (worker : ℕ) (event : Event) → IsDue began journal
         → due_of began.rules began.image began.config (state_of began journal) (numbers_of began journal) worker
         (next_pick began.seed journal worker) ≡ Some event
         → IsDue began (journal ++ entry_of worker event ∷ []) }
-    ensures state { (began : Began) (journal : List Entry) (worker : ℕ) (event : Event) →
+    ensures state { (began : Began) (journal : List JournalEntry) (worker : ℕ) (event : Event) →
         state_of began (journal ++ entry_of worker event ∷ []) ≡ (step_of began.image began.config (state_of began journal) event).state }
-    ensures answers { (began : Began) (journal : List Entry) (worker : ℕ) (event : Event) →
+    ensures answers { (began : Began) (journal : List JournalEntry) (worker : ℕ) (event : Event) →
         answers_of began (journal ++ entry_of worker event ∷ []) ≡ answers_of began journal
         ++ (step_of began.image began.config (state_of began journal) event).answer ∷ [] }
-    ensures numbers { (began : Began) (journal : List Entry) (worker : ℕ) (event : Event) →
+    ensures numbers { (began : Began) (journal : List JournalEntry) (worker : ℕ) (event : Event) →
         numbers_of began (journal ++ entry_of worker event ∷ [])
         ≡ numbers_after (numbers_of began journal) event (step_of began.image began.config (state_of began journal) event).answer }
-    ensures turns { (journal : List Entry) (worker other : ℕ) (event : Event) →
+    ensures turns { (journal : List JournalEntry) (worker other : ℕ) (event : Event) →
         turns_of other (journal ++ entry_of worker event ∷ []) ≡ turns_of other journal + cond (nat_eq worker other) 1 0 }
 {}
 

@@ -10,5 +10,5 @@
 mod entry;
 mod laws;
 
-pub use entry::Entry;
+pub use entry::JournalEntry;
 pub use laws::{a_due_turn_goes_on, picks_are_drawn, released_only_grows};

@@ -1,6 +1,7 @@
 -- The text of words: one line a word, with registers as xN, numbers in decimal and targets as offsets.
 use Rattle.std.specs.Prelude.{ℕ, ◌+◌, ◌/◌, ◌%◌, nat_eq, nat_lt, if◌then◌else◌, ℤ, Option, Some, None, List, [], ◌∷◌, ◌++◌, codes, decimal}
 use Rattle.std.specs.Fmt.{signed_decimal}
+use Rattle.text_lines.specs.Hex.{hex_word}
 use Rattle.rv_decode.specs.declared.instr.Instr.{Instr}
 use Rattle.rv_decode.specs.declared.instr.Instr.TheVariants.{Lui, Auipc, Jal, Jalr, Branch, Load, Store, OpImm, Op, Fence, Ecall, Ebreak}
 use Rattle.rv_decode.specs.declared.instr.Instr.TheVariants.{Lr, Sc, Amo}
@@ -46,15 +47,6 @@ operands_text (Amo o rd rs1 rs2) = codes " " ++ listed (register_text rd) (liste
 unfoldable pub instr_text : Instr → List ℕ
 instr_text instr = mnemonic instr ++ operands_text instr
 
-abbrev pub hex_digit : ℕ → ℕ
-hex_digit digit = if nat_lt digit 10 then 48 + digit else 87 + digit
-
--- eight lower-case hexadecimal digits, from the highest
-unfoldable pub digits_text : ℕ → List ℕ
-digits_text word =
-    hex_digit (word / 268435456 % 16) ∷ hex_digit (word / 16777216 % 16) ∷ hex_digit (word / 1048576 % 16) ∷ hex_digit (word / 65536 % 16)
-    ∷ hex_digit (word / 4096 % 16) ∷ hex_digit (word / 256 % 16) ∷ hex_digit (word / 16 % 16) ∷ hex_digit (word % 16) ∷ []
-
 -- an instruction whose own word this is, and nothing where the word is another of its words
 abbrev pub if_written : ℕ → Option Instr → Option Instr
 if_written word None = None
@@ -65,7 +57,7 @@ unfoldable pub written : ℕ → Option Instr
 written word = if_written word (decoded word)
 
 abbrev pub line_of : ℕ → Option Instr → List ℕ
-line_of word None = codes ".word 0x" ++ digits_text word
+line_of word None = codes ".word 0x" ++ hex_word word
 line_of word (Some instr) = instr_text instr
 
 -- a word's line, without its end

@@ -1,7 +1,8 @@
 //! From words to text.
 ghost use Rattle.std.specs.Prelude.{◌≡◌, ◌+◌, ◌<◌, ◌/◌, ◌++◌, codes, decimal, IfOk, OnOk};
 ghost use Rattle.std.specs.Fmt.{signed_decimal};
-ghost use Rattle.rv_asm.specs.Text.{register_text, listed, address_text, place_text, operands_text, instr_text, hex_digit, digits_text};
+ghost use Rattle.text_lines.specs.Hex.{hex_word};
+ghost use Rattle.rv_asm.specs.Text.{register_text, listed, address_text, place_text, operands_text, instr_text};
 ghost use Rattle.rv_asm.specs.Text.{word_text, written, dis_of};
 
 use itoa::Buffer;
@@ -9,6 +10,7 @@ use rv_decode::{Instr, decode, encode};
 use rv_statement::mnemonic;
 use sn_base::Memory;
 use std::alloc::Global;
+use text_lines::hex_word;
 
 /// The lines of words, one a word: an instruction where the word is the one that is written for it, and else `.word`.
 pub fn disassemble(alloc: Global, words: &[u32]) -> Result<Vec<u8>, Memory>
@@ -104,7 +106,8 @@ fn add_jump(text: &mut Vec<u8>, rd: u8, offset: i32) -> Result<(), Memory>
 }
 
 fn add_numbered(text: &mut Vec<u8>, one: u8, other: u8, number: i32) -> Result<(), Memory>
-    ensures { OnOk result (text.new.items ≡ text.old.items ++ (codes " " ++ listed (register_text one) (listed (register_text other) (signed_decimal number)))) }
+    ensures { OnOk result (text.new.items ≡
+        text.old.items ++ (codes " " ++ listed (register_text one) (listed (register_text other) (signed_decimal number)))) }
 {
     add_register(text, " ", one)?;
     add_register(text, ", ", other)?;
@@ -113,7 +116,8 @@ fn add_numbered(text: &mut Vec<u8>, one: u8, other: u8, number: i32) -> Result<(
 }
 
 fn add_registers(text: &mut Vec<u8>, rd: u8, rs1: u8, rs2: u8) -> Result<(), Memory>
-    ensures { OnOk result (text.new.items ≡ text.old.items ++ (codes " " ++ listed (register_text rd) (listed (register_text rs1) (register_text rs2)))) }
+    ensures { OnOk result (text.new.items ≡
+        text.old.items ++ (codes " " ++ listed (register_text rd) (listed (register_text rs1) (register_text rs2)))) }
 {
     add_register(text, " ", rd)?;
     add_register(text, ", ", rs1)?;
@@ -138,7 +142,8 @@ fn add_reserved(text: &mut Vec<u8>, rd: u8, base: u8) -> Result<(), Memory>
 }
 
 fn add_atomic(text: &mut Vec<u8>, rd: u8, rs2: u8, base: u8) -> Result<(), Memory>
-    ensures { OnOk result (text.new.items ≡ text.old.items ++ (codes " " ++ listed (register_text rd) (listed (register_text rs2) (address_text base)))) }
+    ensures { OnOk result (text.new.items ≡
+        text.old.items ++ (codes " " ++ listed (register_text rd) (listed (register_text rs2) (address_text base)))) }
 {
     add_register(text, " ", rd)?;
     add_register(text, ", ", rs2)?;
@@ -170,33 +175,11 @@ fn add_number(text: &mut Vec<u8>, number: i32) -> Result<(), Memory>
     add(text, buffer.format(number))
 }
 
-fn hex_digit(digit: u32) -> u8
-    requires { digit < 16 }
-    ensures { result ≡ hex_digit digit }
-{
-    if digit < 10 {
-        b'0' + digit as u8
-    } else {
-        b'a' - 10 + digit as u8
-    }
-}
-
 /// Appends a number as eight hexadecimal digits in lower case.
-#[tactic(auto, unfolding(crate::specs::Text::digits_text))]
 pub fn add_digits(text: &mut Vec<u8>, word: u32) -> Result<(), Memory>
-    ensures { OnOk result (text.new.items ≡ text.old.items ++ digits_text word) }
+    ensures { OnOk result (text.new.items ≡ text.old.items ++ hex_word word) }
 {
-    let digits = [
-        hex_digit(word / 0x1000_0000 % 16),
-        hex_digit(word / 0x100_0000 % 16),
-        hex_digit(word / 0x10_0000 % 16),
-        hex_digit(word / 0x1_0000 % 16),
-        hex_digit(word / 0x1000 % 16),
-        hex_digit(word / 0x100 % 16),
-        hex_digit(word / 0x10 % 16),
-        hex_digit(word % 16),
-    ];
-    Ok(text.extend_from_slice(&digits)?)
+    Ok(text.extend_from_slice(&hex_word(word))?)
 }
 
 fn add(text: &mut Vec<u8>, piece: &str) -> Result<(), Memory>

@@ -43,7 +43,7 @@ mod tests {
         let core = CoreState::start(NodeId::new(3).ok_or("node")?, 0x8000_0040);
         assert_eq!(rt; core.pc, 0x8000_0040);
         assert_eq!(rt; core.x[10], 3);
-        assert!(rt; core.end == End::Running && core.reservation.is_none());
+        assert!(rt; core.is_running() && core.reservation.is_none());
         Ok(())
     }
 

@@ -1,6 +1,6 @@
 //! The state of a core.
 ghost use Rattle.std.specs.Prelude.{◌≡◌};
-ghost use Rattle.rv_core.specs.Core.{start_of};
+ghost use Rattle.rv_core.specs.Core.{start_of, is_running};
 
 use sn_base::{BlockNo, NodeId};
 
@@ -54,6 +54,16 @@ impl CoreState {
             x,
             reservation: None,
             end: End::Running,
+        }
+    }
+
+    /// Whether the core runs on.
+    pub fn is_running(&self) -> bool
+        ensures { result ≡ is_running self.now.end }
+    {
+        match self.end {
+            End::Running => true,
+            End::Exited(_) | End::Trapped(_) => false,
         }
     }
 }

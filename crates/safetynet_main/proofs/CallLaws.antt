@@ -9,7 +9,7 @@ use Rattle.sn_io.specs.Outside.{Found, Rose}
 use Rattle.command_words.specs.Request.{Request}
 use Rattle.sn_probe.specs.Probes.{Meter, meters_in}
 use Rattle.sink_pieces.specs.Pieces.{Ends, Report, after, Breaks}
-use Rattle.run_journals.specs.declared.entry.Entry.{Entry}
+use Rattle.run_journals.specs.declared.entry.JournalEntry.{JournalEntry}
 use Rattle.node_run.specs.declared.ending.Ending.{Ending}
 use Rattle.node_run.specs.declared.ending.Ending.TheVariants as ending
 use Rattle.node_run.specs.declared.job.Run.{Run}

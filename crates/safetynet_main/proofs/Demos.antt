@@ -2,7 +2,7 @@
 use Rattle.std.proofs.Common.{◌≡◌, ℕ, List, refl, sym, ap, subst, ◌∙◌, inl, inr}
 use Rattle.std.specs.Prelude.{Option, Some, None, Result, Ok}
 use Rattle.text_lines.specs.Lines.{lines_from}
-use Rattle.rv_asm.specs.Text.{digits_text}
+use Rattle.text_lines.specs.Hex.{hex_word}
 use Rattle.asm_texts.specs.Texts.{words_text}
 use Rattle.sn_base.specs.Image.{ImageData}
 use Rattle.elf_load.specs.Hexadecimal.{code_from}
@@ -26,7 +26,7 @@ use Rattle.safetynet_main.specs.declared.status.Status.{Status}
 use Rattle.safetynet_main.specs.declared.status.Status.TheVariants.{Done, SinkFault}
 
 program-is : program_of (words_text counting_words) ≡ Ok counting_image
-unfolding image_of code_from lines_from digits_text
+unfolding image_of code_from lines_from hex_word
 program-is = refl
 
 abbrev summary_alone : Showing

@@ -19,7 +19,7 @@ use Rattle.script_replay.specs.declared.job.ReportKind.TheVariants.{Events, Trac
 use Rattle.script_replay.specs.Played.{MayBegin}
 use Rattle.script_replay.specs.Probed.{tallies_due}
 use Rattle.script_replay.specs.Shown.{pieces_due, IsShown, IsShownInPart}
-use Rattle.run_journals.specs.declared.entry.Entry.{Entry}
+use Rattle.run_journals.specs.declared.entry.JournalEntry.{JournalEntry}
 use Rattle.node_run.specs.declared.job.Run.{Run}
 use Rattle.node_run.specs.declared.job.RunReport.{RunReport}
 use Rattle.node_run.specs.declared.job.RunReport.TheVariants as shown
@@ -214,7 +214,7 @@ ShowsInPart probes (Text text) outcome old new = ⊤
 
 -- a job that came to no outcome: a run whose console failed, of a due journal of whose output the console has the beginning
 abbrev pub BrokeOff : Job → Ends → Ends → Type 0
-BrokeOff (RunJob r) old new = (journal : List Entry) × IsStopped r journal old new
+BrokeOff (RunJob r) old new = (journal : List JournalEntry) × IsStopped r journal old new
 BrokeOff _ old new = ⊥
 
 -- the job came to this, and all pieces are put, or a sink broke

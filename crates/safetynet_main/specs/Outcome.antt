@@ -4,7 +4,7 @@ use Rattle.rv_core.specs.Flat.{flat_start}
 use Rattle.rv_core.specs.Execution.{IsExecution}
 use Rattle.sn_consistency.specs.Projections.{FirstWithoutStep}
 use Rattle.sn_text.specs.Text.{count_line}
-use Rattle.run_journals.specs.declared.entry.Entry.{Entry}
+use Rattle.run_journals.specs.declared.entry.JournalEntry.{JournalEntry}
 use Rattle.node_run.specs.declared.ending.Ending.{Ending}
 use Rattle.node_run.specs.declared.ending.Ending.TheVariants.{Exited, Trapped, CutOff, Spent}
 use Rattle.safetynet_main.specs.declared.job.Check.{Check}
@@ -20,7 +20,7 @@ pub data Outcome : Type 0 where
   -- a trace was judged
   Judged : (verdict : Verdict) → Outcome
   -- workers ran up to this end of their run, and this is its journal
-  Ran : (journal : List Entry) → (ending : Ending) → Outcome
+  Ran : (journal : List JournalEntry) → (ending : Ending) → Outcome
 
 -- a trace is an execution of its program without faults, or its record at a place, counted from 1, is the first that the
 -- flat machine doesn't do after those before it

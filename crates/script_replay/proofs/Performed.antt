@@ -12,14 +12,14 @@ use Rattle.script_replay.specs.declared.job.Showing.{Showing}
 use Rattle.script_replay.specs.declared.job.Replay.{Replay}
 use Rattle.script_replay.specs.Pieces.{turns_from, turns_of, pieces_from, pieces_of}
 use Rattle.script_replay.specs.Probed.{answered, told_of_run, told_all, tallies_due}
-use Rattle.script_replay.specs.Played.{pieces_left, told_left, turns_left, StopsAt, StopsAtEnd, Stops, IsReady}
+use Rattle.script_replay.specs.Played.{pieces_left, told_left, turns_left, StopsAt, StopsAtEnd, Stops, IsAtStart}
 use Rattle.script_replay.specs.Scheduled.{replay_of}
 use Rattle.script_replay.specs.Shown.{pieces_due, IsReplayed, IsBrokenOff, BreaksAt, BreaksAtEnd, KnowApplied}
 use Rattle.script_replay.proofs.Shown.{shown-all, shown-part}
 
 -- what the probes are told from the start on
 ready-told : (m : MachineData) (image : ImageData) (config : Config) (events : List Event) (probes : List Meter) (room : ℕ) →
-    IsReady m image config room → told_left m events probes ≡ told_of_run image config events probes
+    IsAtStart m image config room → told_left m events probes ≡ told_of_run image config events probes
 ready-told m image config events probes room ready =
     ap (λ n. map (told_from (n + 1) (answered m.image m.config m.state events)) probes) ready.new
     ∙ ap (λ (t : State). map (told_from 1 (answered m.image m.config t events)) probes) ready.start
@@ -27,7 +27,7 @@ ready-told m image config events probes room ready =
     ∙ ap (λ (t : ImageData). map (told_from 1 (answered t config (start_of image config.nodes) events)) probes) ready.program
 
 ready-turns : (m : MachineData) (image : ImageData) (config : Config) (showing : Showing) (events : List Event) (room : ℕ) →
-    IsReady m image config room → turns_left m showing events ≡ turns_of image config showing events
+    IsAtStart m image config room → turns_left m showing events ≡ turns_of image config showing events
 unfolding turns_of
 ready-turns m image config showing events room ready =
     ap (λ t. turns_from m.image m.config showing m.applied t events) ready.start
@@ -36,7 +36,7 @@ ready-turns m image config showing events room ready =
     ∙ ap (λ t. turns_from t config showing 0 (start_of image config.nodes) events) ready.program
 
 ready-pieces : (m : MachineData) (image : ImageData) (config : Config) (showing : Showing) (tallies : List (List ℕ))
-    (events script : List Event) (room : ℕ) → IsReady m image config room → events ≡ script →
+    (events script : List Event) (room : ℕ) → IsAtStart m image config room → events ≡ script →
     pieces_left m showing tallies events ≡ pieces_of image config showing tallies script
 unfolding pieces_of
 ready-pieces m image config showing tallies events script room ready same =
@@ -50,15 +50,15 @@ abbrev with_parts : Showing → ImageData → Config → List Event → Replay
 with_parts showing program config script = record { program = program; config = config; showing = showing; script = script }
 
 -- the replay of these events on it is the one that it is ready for
-pub ready-replay : (m : MachineData) (r : Replay) (events : List Event) (room : ℕ) → IsReady m r.program r.config room →
+pub ready-replay : (m : MachineData) (r : Replay) (events : List Event) (room : ℕ) → IsAtStart m r.program r.config room →
     events ≡ r.script → replay_of m r.showing events ≡ r
 ready-replay m r events room ready same =
     ap (λ (t : ImageData). with_parts r.showing t m.config events) ready.program
     ∙ ap (λ (t : Config). with_parts r.showing r.program t events) ready.sizes ∙ ap (with_parts r.showing r.program r.config) same
 
 -- it is as ready for that one
-pub ready-on : (m : MachineData) (r : Replay) (events : List Event) (room : ℕ) → IsReady m r.program r.config room →
-    length events ≤ room → IsReady m m.image m.config (length events)
+pub ready-on : (m : MachineData) (r : Replay) (events : List Event) (room : ℕ) → IsAtStart m r.program r.config room →
+    length events ≤ room → IsAtStart m m.image m.config (length events)
 ready-on m r events room ready few = record {
   program = refl;
   sizes = refl;
@@ -69,7 +69,7 @@ ready-on m r events room ready few = record {
   room = omega (arith, few, ready.room);
 }
 
-module _ (m : MachineData) (r : Replay) (events : List Event) (room : ℕ) (probes : List Meter) (ready : IsReady m r.program r.config room) (same : events ≡ r.script) where
+module _ (m : MachineData) (r : Replay) (events : List Event) (room : ℕ) (probes : List Meter) (ready : IsAtStart m r.program r.config room) (same : events ≡ r.script) where
   all-told : told_left m events probes ≡ told_all r probes
   all-told = ap (λ t. told_left m t probes) same ∙ ready-told m r.program r.config r.script probes room ready
 
@@ -81,7 +81,7 @@ module _ (m : MachineData) (r : Replay) (events : List Event) (room : ℕ) (prob
   pub performed-told : (now_ : List Meter) → now_ ≡ told_left m events probes → now_ ≡ told_all r probes
   performed-told now_ told = told ∙ all-told
 
-module _ (m : MachineData) (r : Replay) (events : List Event) (room : ℕ) (probes : List Meter) (before behind : Ends) (ready : IsReady m r.program r.config room) (same : events ≡ r.script) (run : IsRun r.config r.script) where
+module _ (m : MachineData) (r : Replay) (events : List Event) (room : ℕ) (probes : List Meter) (before behind : Ends) (ready : IsAtStart m r.program r.config room) (same : events ≡ r.script) (run : IsRun r.config r.script) where
   pub performed-all : behind ≡ after before (pieces_left m r.showing (tallies_of (told_left m events probes)) events) →
       IsReplayed r probes before behind
   performed-all put =
@@ -96,7 +96,7 @@ module _ (m : MachineData) (r : Replay) (events : List Event) (room : ℕ) (prob
       record { broken = part; shown = shown-part r.program r.config r.showing (tallies_due r probes) r.script before behind run part }
 
 -- where a sink broke
-module _ (m : MachineData) (r : Replay) (events : List Event) (room : ℕ) (probes : List Meter) (before behind : Ends) (told : List Meter) (ready : IsReady m r.program r.config room) (same : events ≡ r.script) where
+module _ (m : MachineData) (r : Replay) (events : List Event) (room : ℕ) (probes : List Meter) (before behind : Ends) (told : List Meter) (ready : IsAtStart m r.program r.config room) (same : events ≡ r.script) where
   turns-are : (first : List Event) → turns_left m r.showing first ≡ turns_of r.program r.config r.showing first
   turns-are first = ready-turns m r.program r.config r.showing first room ready
 

@@ -10,7 +10,7 @@ use Rattle.sn_base.specs.declared.event.Event.{Event}
 use Rattle.rv_core.specs.declared.step.Record.{Record}
 use Rattle.sn_model.specs.Machine.{State, start_of}
 use Rattle.sn_model.specs.Step.{step_of, state_after}
-use Rattle.sn_model.specs.Trace.{Entry, traced}
+use Rattle.sn_model.specs.Trace.{TraceEntry, traced}
 use Rattle.sn_io.specs.Outside.{followed_by}
 use Rattle.sn_text.specs.Text.{trace_line}
 use Rattle.sn_text.specs.Written.{trace_text}
@@ -78,7 +78,7 @@ released-turn image config showing place s event says =
     ∙ drop_at s.released more.0 (length s.released) refl))
 
 -- and so do events one after another, from a state of a run
-released-turns : (image : ImageData) (config : Config) (showing : Showing) (done : ℕ) (s : State) (trace : List Entry)
+released-turns : (image : ImageData) (config : Config) (showing : Showing) (done : ℕ) (s : State) (trace : List TraceEntry)
     (events : List Event) → AllFit config.nodes events → Holds image config.nodes s trace →
     (state_after image config s events).released ≡ s.released ++ console_text (turns_from image config showing done s events)
 unfolding turns_from

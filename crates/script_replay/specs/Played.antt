@@ -100,7 +100,7 @@ pub record MayBegin (r : Replay) : Type 0 where
   pub watched : IsWatchable r.showing.watch
 
 -- a machine of these sizes at the start of a program, with room for so many events
-pub record IsReady (m : MachineData) (image : ImageData) (config : Config) (events : ℕ) : Type 0 where
+pub record IsAtStart (m : MachineData) (image : ImageData) (config : Config) (events : ℕ) : Type 0 where
   pub program : m.image ≡ image
   pub sizes : m.config ≡ config
   pub start : m.state ≡ start_of image config.nodes

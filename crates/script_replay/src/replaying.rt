@@ -4,7 +4,7 @@ ghost use Rattle.sn_base.specs.Config.{config_fits};
 ghost use Rattle.sn_io.specs.Outside.{Rose};
 ghost use Rattle.sink_pieces.specs.Pieces.{ends};
 ghost use Rattle.sn_probe.specs.Probes.{meters_in};
-ghost use Rattle.script_replay.specs.Played.{MayBegin, IsReady};
+ghost use Rattle.script_replay.specs.Played.{MayBegin, IsAtStart};
 ghost use Rattle.script_replay.specs.Probed.{told_all};
 ghost use Rattle.script_replay.specs.Scheduled.{left_on, replay_of};
 ghost use Rattle.script_replay.specs.Shown.{IsReplayed, IsBrokenOff, KnowApplied};
@@ -32,7 +32,7 @@ pub enum ReplayFault {
 fn machine_for(alloc: Global, program: Image, config: Config, events: u32) -> Option<Machine>
     requires sizes { config_fits config ≡ true }
     requires few { events ≤ 1000000 }
-    ensures { IfSome result (λ m. IsReady m program config events) }
+    ensures { IfSome result (λ m. IsAtStart m program config events) }
 {
     let Ok(mut machine) = Machine::new(alloc, program, config) else {
         return None;
@@ -54,7 +54,7 @@ pub fn replay_on<S: Schedule, C: Sink, R: Sink>(
     console: &mut C,
     report: &mut R,
 ) -> Result<(), ReplayFault>
-    requires ready { IsReady machine machine.image machine.config (length (left_on (S.left schedule) machine)) }
+    requires ready { IsAtStart machine machine.image machine.config (length (left_on (S.left schedule) machine)) }
     requires serves { S.serves schedule machine.config.nodes }
     requires begin { MayBegin (replay_of machine showing (left_on (S.left schedule) machine)) }
     ensures ok { OnOk result (IsReplayed (replay_of machine showing (left_on (S.left schedule) machine))

@@ -3,13 +3,13 @@ use Rattle.std.proofs.Common.{◌≡◌, ℕ, ◌+◌, ◌<◌, Bool, true, fals
 use Rattle.std.proofs.Common.{refl, sym, ap, ◌∙◌, arith, get_or-set_same, get_or-set_other, length-set}
 use Rattle.std.proofs.lemmas.Bool.Decides.{nat_tests}
 use Rattle.sn_base.specs.declared.event.Event.{Event}
-use Rattle.run_journals.specs.declared.entry.Entry.{Entry}
+use Rattle.run_journals.specs.declared.entry.JournalEntry.{JournalEntry}
 use Rattle.run_journals.specs.Journal.{entry_of, turns_of}
 use Rattle.run_journals.proofs.Draws.{turns_of-snoc}
 use Rattle.shared_machine.specs.declared.drawing.Drawing.{Drawing}
 use Rattle.shared_machine.specs.Drawn.{drawing_at, AreDrawn}
 
-module _ (seed worker : ℕ) (event : Event) (journal : List Entry) (drawings : List Drawing) (d : Drawing) (drawn : AreDrawn seed journal drawings) (there : worker < length drawings) (next : d ≡ drawing_at seed worker (turns_of worker journal + 1)) where
+module _ (seed worker : ℕ) (event : Event) (journal : List JournalEntry) (drawings : List Drawing) (d : Drawing) (drawn : AreDrawn seed journal drawings) (there : worker < length drawings) (next : d ≡ drawing_at seed worker (turns_of worker journal + 1)) where
   abbrev turns : ℕ → ℕ
   turns w = turns_of w (journal ++ entry_of worker event ∷ [])
 

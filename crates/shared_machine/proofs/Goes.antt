@@ -14,13 +14,13 @@ use Rattle.sn_driver.specs.Driver.{DriverData}
 use Rattle.sn_driver.specs.Turns.{due_at}
 use Rattle.sn_console.specs.Handed.{IsFirstOf}
 use Rattle.sn_console.proofs.FirstOf.{IsFirstOf-trans}
-use Rattle.run_journals.specs.declared.entry.Entry.{Entry}
+use Rattle.run_journals.specs.declared.entry.JournalEntry.{JournalEntry}
 use Rattle.run_journals.specs.Journal.{Began, entry_of, next_pick, state_of, answers_of, numbers_of}
 use Rattle.run_journals.proofs.Folds.{state_of-snoc, answers_of-snoc, numbers_of-snoc}
 use Rattle.run_journals.proofs.Dues.{IsDue-snoc}
 use Rattle.run_journals.proofs.Released.{released-grows}
 use Rattle.shared_machine.specs.Shared.{LockedData, began_with, Did}
-use Rattle.shared_machine.specs.Kept.{IsKept, HasRoom}
+use Rattle.shared_machine.specs.Kept.{FollowsJournal, HasRoomForRest}
 use Rattle.shared_machine.proofs.Fits.{due-fits}
 
 -- the locked value after a turn that left this machine and this driver
@@ -51,10 +51,10 @@ module _ (s : LockedData) (worker : ℕ) (event : Event) (answer : Answer) (pass
   abbrev step_at : State → Answer
   step_at x = (step_of b.image b.config x event).answer
 
-  keeps : IsKept s → worker < s.machine.config.nodes → due_at s.driver s.machine worker (next_pick s.seed s.journal worker) ≡ Some event →
+  keeps : FollowsJournal s → worker < s.machine.config.nodes → due_at s.driver s.machine worker (next_pick s.seed s.journal worker) ≡ Some event →
       answer ≡ (next_of s.machine event).answer →
       IsFirstOf passes machine_next.state.released → length s.journal < s.budget →
-      IsKept (after_turn s worker event answer machine_next driver_next passes)
+      FollowsJournal (after_turn s worker event answer machine_next driver_next passes)
   keeps kept there due said first left =
       let grown = length-append s.journal (entry_of worker event ∷ []) in
       let answered : answer ≡ step_at (state_of b s.journal) = said ∙ ap step_at kept.state in record {
@@ -72,7 +72,7 @@ module _ (s : LockedData) (worker : ℕ) (event : Event) (answer : Answer) (pass
             (sym kept.numbers)
             ∙ due);
         fit =
-            λ ruled. All-push (λ (e : Entry). event_fits s.machine.config.nodes e.event ≡ true) s.journal (entry_of worker event)
+            λ ruled. All-push (λ (e : JournalEntry). event_fits s.machine.config.nodes e.event ≡ true) s.journal (entry_of worker event)
             (kept.fit ruled)
             (due-fits s.driver.rules s.machine.image s.machine.config s.machine.state s.driver.numbers worker
             (next_pick s.seed s.journal worker) event ruled there due);
@@ -81,19 +81,19 @@ module _ (s : LockedData) (worker : ℕ) (event : Event) (answer : Answer) (pass
         passed = first;
       }
 
-  pub kept-next : (machine : MachineData) (driver : DriverData) (spent : Bool) → IsKept s → worker < s.machine.config.nodes →
+  pub kept-next : (machine : MachineData) (driver : DriverData) (spent : Bool) → FollowsJournal s → worker < s.machine.config.nodes →
       Did s.driver s.machine worker (next_pick s.seed s.journal worker) spent event answer driver machine →
       IsFirstOf passes machine.state.released →
-      length s.journal < s.budget → IsKept (after_turn s worker event answer machine driver passes)
+      length s.journal < s.budget → FollowsJournal (after_turn s worker event answer machine driver passes)
   kept-next machine driver spent kept there did first left =
       let here = keeps kept there did.due did.applied.answer
       (subst (λ (m : MachineData). IsFirstOf passes m.state.released) did.applied.left first) left in
-      subst (λ (m : MachineData). IsKept (after_turn s worker event answer m driver passes)) (sym did.applied.left)
-      (subst (λ (d : DriverData). IsKept (after_turn s worker event answer machine_next d passes)) (sym did.counted) here)
+      subst (λ (m : MachineData). FollowsJournal (after_turn s worker event answer m driver passes)) (sym did.applied.left)
+      (subst (λ (d : DriverData). FollowsJournal (after_turn s worker event answer machine_next d passes)) (sym did.counted) here)
 
-  pub room-next : (machine : MachineData) (driver : DriverData) (spent : Bool) → HasRoom s → length s.journal < s.budget →
+  pub room-next : (machine : MachineData) (driver : DriverData) (spent : Bool) → HasRoomForRest s → length s.journal < s.budget →
       Did s.driver s.machine worker (next_pick s.seed s.journal worker) spent event answer driver machine →
-      HasRoom (after_turn s worker event answer machine driver passes)
+      HasRoomForRest (after_turn s worker event answer machine driver passes)
   room-next machine driver spent room more did =
       let grown = length-append s.journal (entry_of worker event ∷ []) in
       let spare : machine.spare ≡ s.machine.spare - 1 = ap (λ (m : MachineData). m.spare) did.applied.left in
@@ -115,7 +115,7 @@ passed-next m after event answer passes applied first =
 
 -- the same, where the new lists are known by what they are
 module _ (s : LockedData) (worker : ℕ) (event : Event) (answer : Answer) (machine : MachineData) (driver : DriverData) (pick : ℕ)
-    (spent : Bool) (passes : List ℕ) (journal : List Entry) (answers : List Answer)
+    (spent : Bool) (passes : List ℕ) (journal : List JournalEntry) (answers : List Answer)
     (longer : journal ≡ s.journal ++ entry_of worker event ∷ []) (more : answers ≡ s.answers ++ answer ∷ [])
     (picked : pick ≡ next_pick s.seed s.journal worker) (did : Did s.driver s.machine worker pick spent event answer driver machine) where
   abbrev turned : LockedData
@@ -124,27 +124,27 @@ module _ (s : LockedData) (worker : ℕ) (event : Event) (answer : Answer) (mach
   by_pick : Did s.driver s.machine worker (next_pick s.seed s.journal worker) spent event answer driver machine
   by_pick = subst (λ (p : ℕ). Did s.driver s.machine worker p spent event answer driver machine) picked did
 
-  pub turn-keeps : IsKept s → worker < s.machine.config.nodes → IsFirstOf passes machine.state.released → length s.journal < s.budget →
-      IsKept turned
+  pub turn-keeps : FollowsJournal s → worker < s.machine.config.nodes → IsFirstOf passes machine.state.released → length s.journal < s.budget →
+      FollowsJournal turned
   turn-keeps kept there first left =
-      subst (λ (l : List Entry). IsKept (record turned { journal = l })) (sym longer)
-      (subst (λ (l : List Answer). IsKept (record turned { journal = s.journal ++ entry_of worker event ∷ []; answers = l })) (sym more)
+      subst (λ (l : List JournalEntry). FollowsJournal (record turned { journal = l })) (sym longer)
+      (subst (λ (l : List Answer). FollowsJournal (record turned { journal = s.journal ++ entry_of worker event ∷ []; answers = l })) (sym more)
       (kept-next s worker event answer passes machine driver spent kept there by_pick first left))
 
-  pub turn-room : HasRoom s → length s.journal < s.budget → HasRoom turned
+  pub turn-room : HasRoomForRest s → length s.journal < s.budget → HasRoomForRest turned
   turn-room room left =
-      subst (λ (l : List Entry). HasRoom (record turned { journal = l })) (sym longer)
-      (subst (λ (l : List Answer). HasRoom (record turned { journal = s.journal ++ entry_of worker event ∷ []; answers = l })) (sym more)
+      subst (λ (l : List JournalEntry). HasRoomForRest (record turned { journal = l })) (sym longer)
+      (subst (λ (l : List Answer). HasRoomForRest (record turned { journal = s.journal ++ entry_of worker event ∷ []; answers = l })) (sym more)
       (room-next s worker event answer passes machine driver spent room left by_pick))
 
   pub turn-lengths : length s.answers ≡ length s.journal → length answers ≡ length journal
   turn-lengths same =
       ap (λ (l : List Answer). length l) more ∙ length-append s.answers (answer ∷ []) ∙ ap (λ (n : ℕ). n + 1) same
-      ∙ sym (length-append s.journal (entry_of worker event ∷ [])) ∙ sym (ap (λ (l : List Entry). length l) longer)
+      ∙ sym (length-append s.journal (entry_of worker event ∷ [])) ∙ sym (ap (λ (l : List JournalEntry). length l) longer)
 
   pub turn-count : (total grown : ℕ) → length s.journal ≡ total → grown ≡ total + 1 → length journal ≡ grown
   turn-count total grown was is =
-      ap (λ (l : List Entry). length l) longer ∙ length-append s.journal (entry_of worker event ∷ []) ∙ ap (λ (n : ℕ). n + 1) was ∙ sym is
+      ap (λ (l : List JournalEntry). length l) longer ∙ length-append s.journal (entry_of worker event ∷ []) ∙ ap (λ (n : ℕ). n + 1) was ∙ sym is
 
   pub turn-sizes : machine.config ≡ s.machine.config
   turn-sizes = did.later.config

@@ -5,42 +5,42 @@ use Rattle.std.specs.Prelude.{true}
 use Rattle.sn_base.specs.Events.{event_fits}
 use Rattle.sn_base.specs.declared.event.Answer.{Answer}
 use Rattle.due_events.specs.Numbers.{Numbers}
-use Rattle.run_journals.specs.declared.entry.Entry.{Entry}
+use Rattle.run_journals.specs.declared.entry.JournalEntry.{JournalEntry}
 use Rattle.run_journals.specs.Journal.{IsDue, state_of, answers_of, numbers_of, draws_of}
 use Rattle.shared_machine.specs.declared.drawing.Drawing.{Drawing}
 use Rattle.shared_machine.specs.Shared.{SharedData, LockedData, locked}
-use Rattle.shared_machine.specs.Kept.{IsKept, HasRoom, IsReady}
+use Rattle.shared_machine.specs.Kept.{FollowsJournal, HasRoomForRest, CanBegin}
 
-module _ (s : SharedData) (drawings : List Drawing) (ready : IsReady s drawings) where
-  pub kept-first : IsKept (locked s)
+module _ (s : SharedData) (drawings : List Drawing) (ready : CanBegin s drawings) where
+  pub kept-first : FollowsJournal (locked s)
   unfolding IsDue state_of answers_of numbers_of draws_of
   kept-first = record {
     state = ready.state;
     answers = refl;
     numbers = ready.numbers;
     due = refl;
-    fit = λ ruled. All-nil (λ (e : Entry). event_fits s.machine.config.nodes e.event ≡ true);
+    fit = λ ruled. All-nil (λ (e : JournalEntry). event_fits s.machine.config.nodes e.event ≡ true);
     applied = ready.applied;
     few = omega arith;
     passed = record { rest = s.machine.state.released; whole = refl };
   }
 
-  pub room-first : HasRoom (locked s)
+  pub room-first : HasRoomForRest (locked s)
   room-first =
       let done : s.driver.numbers.done ≡ 0 = ap (λ (x : Numbers). x.done) ready.numbers in
       record { nodes = ready.nodes; budget = ready.budget; spare = omega (arith, ready.spare); done = omega (arith, done) }
 
   -- the same, where the lists are known to be empty
-  module _ (journal : List Entry) (answers : List Answer) (passes : List ℕ) where
+  module _ (journal : List JournalEntry) (answers : List Answer) (passes : List ℕ) where
     abbrev begun : LockedData
     begun = record (locked s) { journal = journal; answers = answers; passed = passes }
 
-    pub kept-start : journal ≡ [] → answers ≡ [] → passes ≡ [] → IsKept begun
+    pub kept-start : journal ≡ [] → answers ≡ [] → passes ≡ [] → FollowsJournal begun
     kept-start no_entry no_answer no_byte = rw (no_entry, no_answer, no_byte) kept-first
 
-    pub room-start : journal ≡ [] → HasRoom begun
+    pub room-start : journal ≡ [] → HasRoomForRest begun
     room-start no_entry =
-        let none : length journal ≡ 0 = ap (λ (l : List Entry). length l) no_entry in let first = room-first in
+        let none : length journal ≡ 0 = ap (λ (l : List JournalEntry). length l) no_entry in let first = room-first in
         record {
           nodes = first.nodes;
           budget = first.budget;

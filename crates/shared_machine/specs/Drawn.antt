@@ -1,6 +1,6 @@
 -- What a worker draws next, and its generator after that.
 use Rattle.std.specs.Prelude.{◌≡◌, ℕ, ◌+◌, ◌<◌, List, length, slice_index_or}
-use Rattle.run_journals.specs.declared.entry.Entry.{Entry}
+use Rattle.run_journals.specs.declared.entry.JournalEntry.{JournalEntry}
 use Rattle.run_journals.specs.Picks.{generator_at, pick_of}
 use Rattle.run_journals.specs.Journal.{turns_of}
 use Rattle.shared_machine.specs.declared.drawing.Drawing.{Drawing}
@@ -10,5 +10,5 @@ abbrev pub drawing_at : ℕ → ℕ → ℕ → Drawing
 drawing_at seed worker picks = record { generator = generator_at seed worker (picks + 1); pick = pick_of seed worker picks }
 
 -- each worker has drawn as often as it had turns
-pub record AreDrawn (seed : ℕ) (journal : List Entry) (drawings : List Drawing) : Type 0 where
+pub record AreDrawn (seed : ℕ) (journal : List JournalEntry) (drawings : List Drawing) : Type 0 where
   pub each : (w : ℕ) (d : Drawing) → w < length drawings → slice_index_or drawings w d ≡ drawing_at seed w (turns_of w journal)

@@ -14,7 +14,7 @@ use Rattle.shared_machine.specs.Shared.{SharedData, LockedData, began_with}
 -- the journal, folded from the run's start, gives the machine, the answers and the driver's numbers; each of its events was due
 -- for its worker with that worker's next pick, and fits the machine, where the rules are ones for its nodes; no other event
 -- was applied, and there are no more than the budget; what was passed on to the console is the first of what is released
-pub record IsKept (s : LockedData) : Type 0 where
+pub record FollowsJournal (s : LockedData) : Type 0 where
   pub state : s.machine.state ≡ state_of (began_with s) s.journal
   pub answers : s.answers ≡ answers_of (began_with s) s.journal
   pub numbers : s.driver.numbers ≡ numbers_of (began_with s) s.journal
@@ -25,14 +25,14 @@ pub record IsKept (s : LockedData) : Type 0 where
   pub passed : IsFirstOf s.passed s.machine.state.released
 
 -- and there is room for the rest of the budget, and for one event more
-pub record HasRoom (s : LockedData) : Type 0 where
+pub record HasRoomForRest (s : LockedData) : Type 0 where
   pub nodes : s.driver.nodes ≡ s.machine.config.nodes
   pub budget : s.budget ≤ 1000000
   pub spare : s.budget + 1 ≤ length s.journal + s.machine.spare
   pub done : s.driver.numbers.done ≤ length s.journal
 
 -- a run that can begin, with its workers' generators
-pub record IsReady (s : SharedData) (drawings : List Drawing) : Type 0 where
+pub record CanBegin (s : SharedData) (drawings : List Drawing) : Type 0 where
   pub state : s.machine.state ≡ start_of s.machine.image s.machine.config.nodes
   pub applied : s.machine.applied ≡ 0
   pub numbers : s.driver.numbers ≡ first_numbers

@@ -9,7 +9,7 @@ use Rattle.due_events.specs.Due.{is_over}
 use Rattle.sn_driver.specs.Driver.{DriverData}
 use Rattle.sn_driver.specs.Turns.{due_at, IsLater}
 use Rattle.sn_console.specs.Handed.{IsFirstOf}
-use Rattle.run_journals.specs.declared.entry.Entry.{Entry}
+use Rattle.run_journals.specs.declared.entry.JournalEntry.{JournalEntry}
 use Rattle.run_journals.specs.Journal.{Began, entry_of, next_pick}
 use Rattle.shared_machine.specs.declared.finish.Finish.{Finish}
 use Rattle.shared_machine.specs.declared.finish.Finish.TheVariants.{Over, CutOff, Budget, Stopped}
@@ -31,7 +31,7 @@ pub record LockedData : Type 0 where
   pub driver : DriverData
   pub seed : ℕ
   pub budget : ℕ
-  pub journal : List Entry
+  pub journal : List JournalEntry
   pub answers : List Answer
   pub passed : List ℕ
   pub stopped : Bool

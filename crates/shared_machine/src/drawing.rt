@@ -1,7 +1,7 @@
 //! A worker's generator.
 ghost use Rattle.std.specs.Prelude.{◌≡◌, ℕ, ◌+◌, ◌<◌, ◌≤◌, List, [], ◌∷◌, ◌++◌, length};
 ghost use Rattle.sn_base.specs.declared.event.Event.{Event};
-ghost use Rattle.run_journals.specs.declared.entry.Entry.{Entry};
+ghost use Rattle.run_journals.specs.declared.entry.JournalEntry.{JournalEntry};
 ghost use Rattle.run_journals.specs.Journal.{entry_of, next_pick};
 ghost use Rattle.shared_machine.specs.Drawn.{drawing_at, AreDrawn};
 
@@ -43,7 +43,7 @@ impl Drawing {
 /// What a worker draws next.
 pub(crate) fn pick_of(drawings: &Vec<Drawing>, worker: u32) -> u32
     requires { worker < length drawings.now.items }
-    ensures { (seed : ℕ) (journal : List Entry) → AreDrawn seed journal drawings.now.items → result ≡ next_pick seed journal worker }
+    ensures { (seed : ℕ) (journal : List JournalEntry) → AreDrawn seed journal drawings.now.items → result ≡ next_pick seed journal worker }
 {
     drawings[worker as usize].pick()
 }
@@ -51,7 +51,7 @@ pub(crate) fn pick_of(drawings: &Vec<Drawing>, worker: u32) -> u32
 /// A worker draws in its turn.
 pub(crate) fn draw(drawings: &mut Vec<Drawing>, worker: u32)
     requires { worker < length drawings.old.items }
-    ensures drawn { (seed : ℕ) (journal : List Entry) (event : Event) → AreDrawn seed journal drawings.old.items
+    ensures drawn { (seed : ℕ) (journal : List JournalEntry) (event : Event) → AreDrawn seed journal drawings.old.items
         → AreDrawn seed (journal ++ entry_of worker event ∷ []) drawings.new.items }
     ensures count { length drawings.new.items ≡ length drawings.old.items }
 {

@@ -16,6 +16,6 @@ mod tests;
 
 pub use finish::Finish;
 pub use locked::{Ended, Locked};
-pub use run_journals::Entry;
+pub use run_journals::JournalEntry;
 pub use run_name::RunName;
 pub use shared::SharedMachine;

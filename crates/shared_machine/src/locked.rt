@@ -5,12 +5,12 @@ ghost use Rattle.sn_console.specs.Ends.{passed, SameOutbox};
 ghost use Rattle.sn_console.specs.Handed.{IsFirstOf};
 ghost use Rattle.run_journals.specs.Journal.{entry_of};
 ghost use Rattle.shared_machine.specs.Shared.{began_with, finish_of, IsTurn, Passes, refusal_of, Did};
-ghost use Rattle.shared_machine.specs.Kept.{IsKept};
+ghost use Rattle.shared_machine.specs.Kept.{FollowsJournal};
 
 use crate::drawing::{Drawing, draw, pick_of};
 use crate::finish::Finish;
 use crate::run_name::RunName;
-use run_journals::Entry;
+use run_journals::JournalEntry;
 use sn_base::{Answer, Event};
 use sn_console::Outbox;
 use sn_driver::{Driver, Turn};
@@ -25,7 +25,7 @@ pub struct Locked<L: RunName> {
     pub(crate) machine: Machine,
     pub(crate) driver: Driver,
     pub(crate) drawings: Vec<Drawing>,
-    pub(crate) journal: Vec<Entry>,
+    pub(crate) journal: Vec<JournalEntry>,
     pub(crate) answers: Vec<Answer>,
     pub(crate) seed: u64,
     pub(crate) budget: u32,
@@ -38,7 +38,7 @@ impl<L: RunName> Model for Locked<L> {
     ghost use Rattle.std.specs.Prelude.{◌≡◌, ◌≤◌, length, vec_capacity};
     ghost use Rattle.sn_console.specs.Ends.{passed};
     ghost use Rattle.shared_machine.specs.Shared.{LockedData, began_with};
-    ghost use Rattle.shared_machine.specs.Kept.{IsKept, HasRoom};
+    ghost use Rattle.shared_machine.specs.Kept.{FollowsJournal, HasRoomForRest};
     ghost use Rattle.shared_machine.specs.Drawn.{AreDrawn};
 
     ghost Value = { LockedData };
@@ -65,7 +65,7 @@ impl<L: RunName> Model for Locked<L> {
           passed = passed l.outbox;
           stopped = l.stopped;
         } in
-        IsKept s × HasRoom s × (l.budget ≤ vec_capacity l.journal) × (l.budget ≤ vec_capacity l.answers)
+        FollowsJournal s × HasRoomForRest s × (l.budget ≤ vec_capacity l.journal) × (l.budget ≤ vec_capacity l.answers)
         × (length l.answers.items ≡ length l.journal.items)
         × AreDrawn l.seed l.journal.items l.drawings.items × (length l.drawings.items ≡ l.machine.config.nodes)
         × (began_with s ≡ L.began) × (length l.journal.items ≡ l.book.total) × L.of_ring l.outbox };
@@ -75,13 +75,13 @@ impl<L: RunName> Model for Locked<L> {
 #[derive(Drop)]
 pub struct Ended {
     pub machine: Machine,
-    pub journal: Vec<Entry>,
+    pub journal: Vec<JournalEntry>,
     pub answers: Vec<Answer>,
     pub outbox: Outbox,
 }
 
 /// Whether the run has done as many events as it does at most.
-fn is_spent(journal: &Vec<Entry>, budget: u32) -> bool
+fn is_spent(journal: &Vec<JournalEntry>, budget: u32) -> bool
     ensures { result ≡ nat_le budget (length journal.now.items) }
 {
     journal.len() >= budget as usize
@@ -115,7 +115,7 @@ fn drive(
 
 /// Adds an event to the journal, and its answer to the answers.
 fn note(
-    journal: &mut Vec<Entry>,
+    journal: &mut Vec<JournalEntry>,
     answers: &mut Vec<Answer>,
     worker: u32,
     event: &Event,
@@ -127,7 +127,7 @@ fn note(
     ensures answer { answers.new.items ≡ answers.old.items ++ answer.now ∷ [] }
     ensures room { (vec_capacity journal.old ≤ vec_capacity journal.new) × (vec_capacity answers.old ≤ vec_capacity answers.new) }
 {
-    let entry = Entry {
+    let entry = JournalEntry {
         worker,
         event: *event,
     };
@@ -198,9 +198,9 @@ impl<L: RunName> Locked<L> {
     }
 
     /// The journal so far. What the lock keeps is known here.
-    pub fn journal(&self) -> &[Entry]
+    pub fn journal(&self) -> &[JournalEntry]
         ensures same { result.now ≡ self.now.journal }
-        ensures kept { IsKept self.now }
+        ensures kept { FollowsJournal self.now }
         ensures began { began_with self.now ≡ L.began }
     {
         self.journal.as_slice()
@@ -221,7 +221,7 @@ impl<L: RunName> Locked<L> {
     pub fn end(self) -> Ended
         ensures same { (result.machine ≡ self.machine) × (result.journal.items ≡ self.journal) × (result.answers.items ≡ self.answers)
             × (passed result.outbox ≡ self.passed) }
-        ensures kept { IsKept self }
+        ensures kept { FollowsJournal self }
         ensures began { began_with self ≡ L.began }
         ensures ring { L.of_ring result.outbox }
     {

@@ -9,7 +9,7 @@ ghost use Rattle.shared_machine.specs.Shared.{begins_with, locked};
 use crate::drawing::Drawing;
 use crate::locked::Locked;
 use crate::run_name::RunName;
-use run_journals::Entry;
+use run_journals::JournalEntry;
 use sn_base::{Answer, Memory};
 use sn_console::Outbox;
 use sn_driver::Driver;
@@ -25,7 +25,7 @@ pub struct SharedMachine {
     machine: Machine,
     driver: Driver,
     drawings: Vec<Drawing>,
-    journal: Vec<Entry>,
+    journal: Vec<JournalEntry>,
     answers: Vec<Answer>,
     seed: u64,
     budget: u32,
@@ -34,14 +34,14 @@ pub struct SharedMachine {
 impl Model for SharedMachine {
     ghost use Rattle.std.specs.Prelude.{◌≡◌, ◌≤◌, [], vec_capacity};
     ghost use Rattle.shared_machine.specs.Shared.{SharedData};
-    ghost use Rattle.shared_machine.specs.Kept.{IsReady};
+    ghost use Rattle.shared_machine.specs.Kept.{CanBegin};
 
     ghost Value = { SharedData };
 
     ghost view = { λ s. record { machine = s.machine; driver = s.driver; seed = s.seed; budget = s.budget } };
 
     ghost invariant = { λ s.
-        IsReady (record { machine = s.machine; driver = s.driver; seed = s.seed; budget = s.budget }) s.drawings.items
+        CanBegin (record { machine = s.machine; driver = s.driver; seed = s.seed; budget = s.budget }) s.drawings.items
         × (s.journal.items ≡ []) × (s.answers.items ≡ []) × (s.budget ≤ vec_capacity s.journal) × (s.budget ≤ vec_capacity s.answers) };
 }
 

@@ -32,6 +32,14 @@ impl NodeId {
         Some(NodeId { number })
     }
 
+    /// The node of a number.
+    pub fn numbered(number: u8) -> NodeId
+        requires { number < 16 }
+        ensures { result ≡ number }
+    {
+        NodeId { number }
+    }
+
     pub fn number(self) -> u8
         ensures same { result ≡ self }
         ensures small { result < 16 }

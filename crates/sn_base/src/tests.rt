@@ -6,6 +6,7 @@ use std::alloc::{AllocError, Global};
 fn numbers_of_nodes_switches_and_blocks(rt: HostRuntime) {
     let node = NodeId::new(3).unwrap();
     assert_eq!(rt; (node.number(), NodeId::new(16)), (3, None));
+    assert_eq!(rt; NodeId::numbered(3), node);
     assert_eq!(rt;
         (SwitchId::a(node).number(), SwitchId::b(node).number()),
         (6, 7)

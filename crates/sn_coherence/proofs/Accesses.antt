@@ -3,7 +3,7 @@ use Rattle.std.proofs.Common.{◌≡◌, ◌≢◌, ℕ, ◌+◌, ◌<◌, true,
 use Rattle.std.proofs.lemmas.Bool.Decides.{nat_tests}
 use Rattle.sn_coherence.specs.Block.{Block, Content, NoLine, Shared, Nothing, Elsewhere, NoPut, PutElsewhere, Idle, Move, GetS, GetM}
 use Rattle.sn_coherence.specs.Block.{FwdGetS, FwdGetM, Inv, DataS, DataM, DataE, UpgOk, InvAck, Unblock, PutReq, PutData, PutGo, PutDone}
-use Rattle.sn_coherence.specs.Block.{Ready, Advance, is_owned, is_writable, is_here, comes_to_cache}
+use Rattle.sn_coherence.specs.Block.{Ready, Advance, is_owned, is_writable, is_here, brings_to_cache}
 use Rattle.sn_coherence.specs.CacheRows.{forward_read, forward_write, invalidate, data_shared, data_modified_open, data_modified_complete}
 use Rattle.sn_coherence.specs.CacheRows.{upgrade_granted_open, upgrade_granted_complete, acknowledge_open, acknowledge_complete, put_go}
 use Rattle.sn_coherence.specs.CacheRows.{put_done, data_exclusive}
@@ -22,7 +22,7 @@ use Rattle.sn_coherence.proofs.Acknowledged.{last_waited}
 
 -- a node with a line that it doesn't own is listed or waited for, or it is r of a Take or Move
 excused : (b : Block) → Sharing b → (n : ℕ) → b.line n ≢ NoLine → is_owned (b.line n) ≡ false →
-    (b.sharers n ≡ true) ⊎ (b.waited n ≡ true) ⊎ ((comes_to_cache b.kind ≡ true) × (b.requester ≡ n))
+    (b.sharers n ≡ true) ⊎ (b.waited n ≡ true) ⊎ ((brings_to_cache b.kind ≡ true) × (b.requester ≡ n))
 excused b h n e1 e2 = grind (arith, h.listed n)
 
 -- an owner is the only one

@@ -215,10 +215,10 @@ leaves_cache Put = true
 leaves_cache _ = false
 
 -- transactions that bring the block to a cache
-abbrev pub comes_to_cache : Kind → Bool
-comes_to_cache Take = true
-comes_to_cache Move = true
-comes_to_cache _ = false
+abbrev pub brings_to_cache : Kind → Bool
+brings_to_cache Take = true
+brings_to_cache Move = true
+brings_to_cache _ = false
 
 -- the requester has not been reached
 abbrev pub is_early : Stage → Bool

@@ -4,7 +4,7 @@ use Rattle.std.specs.Prelude.{◌≡◌, ◌≢◌, ◌⊎◌, ℕ, zero, suc, �
 use Rattle.sn_coherence.specs.Block.{Block, NoLine, Shared, Owned, Modified, Nothing, Reads, Writes, NoPut, Here, Kind, Idle, Read, Take}
 use Rattle.sn_coherence.specs.Block.{Move, Upgrade, Put, Stage, Asked, Given, Inside, Done, Gone, GetS, GetM, FwdGetS, FwdGetM, Inv, DataS}
 use Rattle.sn_coherence.specs.Block.{DataM, DataE, UpgOk, InvAck, Unblock, PutData, PutGo, Ready, Advance, is_owned, is_writable, is_here}
-use Rattle.sn_coherence.specs.Block.{takes, gets, hands_over, leaves_cache, comes_to_cache, is_early, is_late, is_token, is_get, has_due}
+use Rattle.sn_coherence.specs.Block.{takes, gets, hands_over, leaves_cache, brings_to_cache, is_early, is_late, is_token, is_get, has_due}
 use Rattle.sn_coherence.specs.Block.{is_to_home, is_from_home, is_invalidation, sharer_of, is_put_request, putter_of}
 
 -- how many nodes below n pass
@@ -78,7 +78,7 @@ pub record Stages (b : Block) : Type 0 where
       (b.kind ≡ Read) × (b.stage ≡ Given) × ((b.net i).to ≡ b.requester) × ((b.net i).tag ≡ b.at)
   -- a DataM is for r of a Take or Move that is given, with that tag; r wants to write
   pub data_m : (i : ℕ) → (b.net i).body ≡ DataM →
-      (comes_to_cache b.kind ≡ true) × (b.stage ≡ Given) × ((b.net i).to ≡ b.requester) × ((b.net i).tag ≡ b.at)
+      (brings_to_cache b.kind ≡ true) × (b.stage ≡ Given) × ((b.net i).to ≡ b.requester) × ((b.net i).tag ≡ b.at)
       × ((b.miss b.requester).want ≡ Writes)
   -- a DataE is for r of a Take that is given, with that tag; r wants to read
   pub data_e : (i : ℕ) → (b.net i).body ≡ DataE →
@@ -110,7 +110,7 @@ pub record Stages (b : Block) : Type 0 where
       × (b.at ≤ b.now b.requester)
   -- its line is Owned in an Upgrade and else Modified
   pub inside_upgrade : b.kind ≡ Upgrade → b.stage ≡ Inside → b.line b.requester ≡ Owned
-  pub inside_other : comes_to_cache b.kind ≡ true → b.stage ≡ Inside → b.line b.requester ≡ Modified
+  pub inside_other : brings_to_cache b.kind ≡ true → b.stage ≡ Inside → b.line b.requester ≡ Modified
   -- no other miss is fixed
   pub fixed : (n : ℕ) → (b.miss n).is_fixed ≡ true → (takes b.kind ≡ true) × (b.stage ≡ Inside) × (b.requester ≡ n)
   -- r of a Take, Move or Upgrade that is done may write, and its miss is closed
@@ -152,10 +152,10 @@ pub record Owners (b : Block) : Type 0 where
   -- an owner is the cache that the home names, or r of a Take or Move that has come to it;
   pub owns : (n : ℕ) → is_owned (b.line n) ≡ true →
       ((b.at_home ≡ false) × (b.owner ≡ n) × (owner_has b.kind b.stage ≡ true))
-      ⊎ ((comes_to_cache b.kind ≡ true) × (is_late b.stage ≡ true) × (b.requester ≡ n))
+      ⊎ ((brings_to_cache b.kind ≡ true) × (is_late b.stage ≡ true) × (b.requester ≡ n))
   -- and these own it
   pub owner_owns : b.at_home ≡ false → owner_has b.kind b.stage ≡ true → is_owned (b.line b.owner) ≡ true
-  pub requester_owns : comes_to_cache b.kind ≡ true → is_late b.stage ≡ true → is_owned (b.line b.requester) ≡ true
+  pub requester_owns : brings_to_cache b.kind ≡ true → is_late b.stage ≡ true → is_owned (b.line b.requester) ≡ true
   -- the home names r in a Take, Upgrade and Put, and another cache in a Move; itself only with no transaction or in a Read
   pub take_owner : b.kind ≡ Take → (b.owner ≡ b.requester) × (b.at_home ≡ false)
   pub upgrade_owner : b.kind ≡ Upgrade → (b.owner ≡ b.requester) × (b.at_home ≡ false)
@@ -188,7 +188,7 @@ pub record Acknowledgements (N : ℕ) (b : Block) : Type 0 where
 pub record Sharing (b : Block) : Type 0 where
   -- a Shared line is listed, or waited for, or it is of r of a Take or Move
   pub listed : (n : ℕ) → b.line n ≡ Shared →
-      (b.sharers n ≡ true) ⊎ (b.waited n ≡ true) ⊎ ((comes_to_cache b.kind ≡ true) × (b.requester ≡ n))
+      (b.sharers n ≡ true) ⊎ (b.waited n ≡ true) ⊎ ((brings_to_cache b.kind ≡ true) × (b.requester ≡ n))
   -- r of a Read is listed
   pub reader : b.kind ≡ Read → b.sharers b.requester ≡ true
   -- nobody is listed in a Take, Move or Upgrade

@@ -1,7 +1,7 @@
 -- What every event keeps of the records of accesses, beside what it keeps of the block.
 use Rattle.std.specs.Prelude.{◌≡◌, ◌≢◌, ◌⊎◌, ℕ, ◌+◌, ◌<◌, ◌≤◌, true, false}
 use Rattle.sn_coherence.specs.Block.{Block, NoLine, Reads, Read, Take, Given, InvAck, Ready, is_owned, is_writable, is_here, hands_over}
-use Rattle.sn_coherence.specs.Block.{comes_to_cache, is_get, has_content}
+use Rattle.sn_coherence.specs.Block.{brings_to_cache, is_get, has_content}
 use Rattle.sn_coherence.specs.Events.{IsReady}
 use Rattle.sn_coherence.specs.Records.{Records}
 
@@ -43,11 +43,11 @@ pub record Accesses (b : Block) (r : Records) : Type 0 where
   -- an access above the now of the owner, a cache or the home, or above the interval of atomicity where the block is on
   -- its way, is by a node that is listed or waited for, or it lies at or below the now of the requester of a Take or Move
   pub owner : (n x : ℕ) → is_owned (b.line n) ≡ true → b.now n + 1 < r.last_access x →
-      (b.sharers x ≡ true) ⊎ (b.waited x ≡ true) ⊎ ((comes_to_cache b.kind ≡ true) × (r.last_access x ≤ b.now b.requester + 1))
+      (b.sharers x ≡ true) ⊎ (b.waited x ≡ true) ⊎ ((brings_to_cache b.kind ≡ true) × (r.last_access x ≤ b.now b.requester + 1))
   pub home : (x : ℕ) → b.at_home ≡ true → b.now b.home + 1 < r.last_access x →
-      (b.sharers x ≡ true) ⊎ (b.waited x ≡ true) ⊎ ((comes_to_cache b.kind ≡ true) × (r.last_access x ≤ b.now b.requester + 1))
+      (b.sharers x ≡ true) ⊎ (b.waited x ≡ true) ⊎ ((brings_to_cache b.kind ≡ true) × (r.last_access x ≤ b.now b.requester + 1))
   pub given : (x : ℕ) → hands_over b.kind ≡ true → b.stage ≡ Given → b.at + 1 < r.last_access x →
-      (b.sharers x ≡ true) ⊎ (b.waited x ≡ true) ⊎ ((comes_to_cache b.kind ≡ true) × (r.last_access x ≤ b.now b.requester + 1))
+      (b.sharers x ≡ true) ⊎ (b.waited x ≡ true) ⊎ ((brings_to_cache b.kind ≡ true) × (r.last_access x ≤ b.now b.requester + 1))
   -- no access of the sender of a request or an InvAck lies above its tag
   pub request : (i : ℕ) → is_get (b.net i).body ≡ true → r.last_access (b.net i).from ≤ (b.net i).tag + 1
   pub inv_ack : (i : ℕ) → (b.net i).body ≡ InvAck → r.last_access (b.net i).from ≤ (b.net i).tag + 1

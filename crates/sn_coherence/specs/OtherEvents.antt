@@ -1,6 +1,8 @@
 -- The events of one block that are no delivery of a coherence message.
 use Rattle.std.specs.Prelude.{ℕ, ◌+◌, true, false, ◌==◌, nat_lt, max, cond}
-use Rattle.sn_coherence.specs.Block.{Block, Content, nothing, NoLine, Modified, Reads, Writes, Elsewhere, NoPut, Here, PutElsewhere, Idle, Asked, GetS, GetM, PutReq, Ready, has_frame, set, set_row, above, freed, newest_freed, no_miss, new_miss, gone, plain, with_number, taken, tells_all}
+use Rattle.sn_coherence.specs.Block.{Block, Content, nothing, NoLine, Modified, Reads, Writes, Elsewhere, NoPut, Here, PutElsewhere}
+use Rattle.sn_coherence.specs.Block.{Idle, Asked, GetS, GetM, PutReq, Ready, has_frame, set, set_row, above, freed, newest_freed}
+use Rattle.sn_coherence.specs.Block.{no_miss, new_miss, gone, plain, with_number, taken, tells_all}
 
 -- Node n misses for a read: GetS to the home.
 abbrev pub begin_read_miss : Block → ℕ → Block

@@ -8,7 +8,7 @@ pub record IsFirstOf (first text : List ℕ) : Type 0 where
   pub whole : first ++ rest ≡ text
 
 -- the bytes that a list has more than before were written, and nothing else
-pub record IsWritten (before after : List ℕ) (written writes : Option (List ℕ)) : Type 0 where
+pub record IsHandedOn (before after : List ℕ) (written writes : Option (List ℕ)) : Type 0 where
   pub more : List ℕ
   pub grown : before ++ more ≡ after
   pub put : writes ≡ followed_by written more

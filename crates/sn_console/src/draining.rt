@@ -2,7 +2,7 @@
 ghost use Rattle.std.specs.Prelude.{◌≡◌, ◌+◌, ◌≤◌, ◌++◌, length, IfOk, OnOk, OnErr};
 ghost use Rattle.sn_io.specs.Outside.{Rose};
 ghost use Rattle.sn_console.specs.Ends.{passed, taken, waiting, room_of, AreEnds, SameOutbox, SameInbox};
-ghost use Rattle.sn_console.specs.Handed.{IsWritten, IsBegun};
+ghost use Rattle.sn_console.specs.Handed.{IsHandedOn, IsBegun};
 
 use crate::ends::{Inbox, Outbox};
 use sn_io::{Failed, Sink};
@@ -11,7 +11,7 @@ impl Inbox {
     /// Writes what came, and tells how many bytes that is. Where the console fails, what it didn't write is lost.
     pub fn drain<C: Sink>(&mut self, console: &mut C) -> Result<u64, Failed>
         ensures end { SameInbox self.old self.new }
-        ensures ok { OnOk result (IsWritten (taken self.old) (taken self.new) (C.written console.old) (C.written console.new)) }
+        ensures ok { OnOk result (IsHandedOn (taken self.old) (taken self.new) (C.written console.old) (C.written console.new)) }
         ensures err { OnErr result (IsBegun (taken self.old) (taken self.new) (C.written console.old) (C.written console.new)) }
         ensures count { IfOk result (λ count. length (taken self.new) ≡ length (taken self.old) + count) }
         ensures least { length (taken self.old) + length (waiting self.old) ≤ length (taken self.new) }

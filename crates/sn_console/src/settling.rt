@@ -2,7 +2,7 @@
 ghost use Rattle.std.specs.Prelude.{◌≤◌, OnOk, OnErr};
 ghost use Rattle.sn_io.specs.Outside.{Rose};
 ghost use Rattle.sn_console.specs.Ends.{passed, taken, AreEnds};
-ghost use Rattle.sn_console.specs.Handed.{IsFirstOf, IsWritten, IsBegun};
+ghost use Rattle.sn_console.specs.Handed.{IsFirstOf, IsHandedOn, IsBegun};
 
 use crate::ends::{Inbox, Outbox};
 use sn_io::{Failed, Sink};
@@ -16,7 +16,7 @@ pub fn settle<C: Sink>(
 ) -> Result<(), Failed>
     requires ends { AreEnds outbox inbox }
     requires passed { IsFirstOf (passed outbox) released.now }
-    ensures ok { OnOk result (IsWritten (taken inbox) released.now (C.written console.old) (C.written console.new)) }
+    ensures ok { OnOk result (IsHandedOn (taken inbox) released.now (C.written console.old) (C.written console.new)) }
     ensures err { OnErr result (IsBegun (taken inbox) released.now (C.written console.old) (C.written console.new)) }
     ensures later { C.faults console.old ≤ C.faults console.new }
     ensures cause { OnErr result (Rose (C.faults console.old) (C.faults console.new)) }

@@ -6,7 +6,6 @@ ghost use Rattle.due_events.specs.Due.{killing, or_loss, first_picked, listed, n
 ghost use Rattle.sn_machine.specs.Machine.{IsApplied};
 ghost use Rattle.sn_driver.specs.Turns.{due_at, Took, IsLater};
 
-use crate::moves::node_of;
 use crate::turn::Turn;
 use sn_base::{Answer, Event, Interval, NodeId, Rules};
 use sn_machine::Machine;
@@ -38,7 +37,8 @@ impl Model for Driver {
       numbers = record { done = d.done; since = d.since; moves = d.moves; retired = d.retired; told = d.told; cut_off = d.cut_off };
     } };
 
-    ghost invariant = { λ d. AreRules d.rules d.nodes × AreNumbers (record { done = d.done; since = d.since; moves = d.moves; retired = d.retired; told = d.told; cut_off = d.cut_off }) };
+    ghost invariant = { λ d. AreRules d.rules d.nodes ×
+        AreNumbers (record { done = d.done; since = d.since; moves = d.moves; retired = d.retired; told = d.told; cut_off = d.cut_off }) };
 }
 
 impl Driver {
@@ -161,13 +161,14 @@ impl Driver {
     /// The picked event of the first node, from the worker's on round all nodes, whose list isn't empty.
     fn first_picked(&self, machine: &Machine, worker: u32, pick: u32) -> Option<Event>
         requires { worker < machine.now.config.nodes }
-        ensures same { result ≡ first_picked self.now.rules machine.now.image machine.now.config machine.now.state self.now.numbers pick machine.now.config.nodes worker }
+        ensures same { result ≡
+            first_picked self.now.rules machine.now.image machine.now.config machine.now.state self.now.numbers pick machine.now.config.nodes worker }
         ensures fits { IfSome result (λ event. event_fits machine.now.config.nodes event ≡ true) }
     {
         let nodes = machine.config().nodes;
         let mut number = worker as u8;
         'turns: for _turn in 0..nodes {
-            let picked = self.picked(machine, node_of(number), pick);
+            let picked = self.picked(machine, NodeId::numbered(number), pick);
             if picked.is_some() {
                 return picked;
             }

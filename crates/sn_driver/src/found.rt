@@ -28,7 +28,8 @@ impl Found {
     pub fn add(&mut self, event: Event)
         requires room { self.old.count < 65536 }
         ensures count { self.new.count ≡ self.old.count + 1 }
-        ensures found { (nodes : ℕ) (events : List Event) → event_fits nodes event ≡ true → HasFound nodes events self.old → HasFound nodes (events ++ event ∷ []) self.new }
+        ensures found { (nodes : ℕ) (events : List Event) → event_fits nodes event ≡ true → HasFound nodes events self.old →
+            HasFound nodes (events ++ event ∷ []) self.new }
     {
         if self.count < 16 {
             self.first[self.count] = Some(event);

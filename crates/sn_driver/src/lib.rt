@@ -12,8 +12,6 @@ mod found;
 mod moves;
 mod numbers;
 mod places;
-#[cfg(test)]
-mod tests;
 mod turn;
 
 pub use driver::Driver;

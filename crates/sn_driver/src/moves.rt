@@ -2,18 +2,17 @@
 ghost use Rattle.std.specs.Prelude.{◌≡◌, ◌<◌, true, length, slice_get, IfSome};
 ghost use Rattle.sn_base.specs.Events.{event_fits};
 ghost use Rattle.sn_base.specs.declared.event.Event.TheVariants.{Step};
-ghost use Rattle.rv_core.specs.Core.{is_running};
 ghost use Rattle.due_events.specs.Lists.{foreseen, delivery, hop, eviction, validation, step, is_behind};
 
 use crate::answers::{goes_on, is_delivered, is_validated, needs_evict};
-use rv_core::{CoreState, End};
 use sn_base::{Answer, Event, NodeId};
 use sn_machine::Machine;
 
 /// The delivery of the message at a place of the network's list, where the node would take it now.
 pub fn delivery(machine: &Machine, node: NodeId, place: usize) -> Option<Event>
     requires { place < length machine.now.state.fabric.net.flights }
-    ensures same { IfSome (slice_get machine.now.state.fabric.net.flights place) (λ f. result ≡ delivery machine.now.image machine.now.config machine.now.state node f) }
+    ensures same { IfSome (slice_get machine.now.state.fabric.net.flights place) (λ f. result ≡
+        delivery machine.now.image machine.now.config machine.now.state node f) }
     ensures fits { IfSome result (λ event. event_fits machine.now.config.nodes event ≡ true) }
 {
     let (message, _switch) = machine.net().message(place);
@@ -82,16 +81,6 @@ pub fn step(machine: &Machine, node: NodeId, answer: &Answer) -> Option<Event>
     }
 }
 
-/// Whether a core runs on.
-pub fn is_running(core: &CoreState) -> bool
-    ensures { result ≡ is_running core.now.end }
-{
-    match core.end {
-        End::Running => true,
-        End::Exited(_) | End::Trapped(_) => false,
-    }
-}
-
 /// Whether another node is ahead of the node.
 pub fn is_behind(machine: &Machine, node: NodeId) -> bool
     requires { node < machine.now.config.nodes }
@@ -101,17 +90,9 @@ pub fn is_behind(machine: &Machine, node: NodeId) -> bool
     let _view = machine.recovered();
     let now = machine.now(node);
     'nodes: for number in 0..machine.config().nodes {
-        if now < machine.now(node_of(number)) {
+        if now < machine.now(NodeId::numbered(number)) {
             return true;
         }
     }
     false
-}
-
-/// The node of a number.
-pub fn node_of(number: u8) -> NodeId
-    requires { number < 16 }
-    ensures { result ≡ number }
-{
-    NodeId::new(number).unwrap()
 }

@@ -11,7 +11,7 @@ ghost use Rattle.sn_driver.specs.Found.{HasFound};
 use crate::answers::{is_edged, is_reported};
 use crate::driver::Driver;
 use crate::found::Found;
-use crate::moves::{delivery, eviction, hop, is_behind, is_running, step, validation};
+use crate::moves::{delivery, eviction, hop, is_behind, step, validation};
 use sn_base::{Answer, Event, NodeId};
 use sn_machine::Machine;
 
@@ -56,7 +56,7 @@ impl Driver {
         ensures fits { IfSome result (λ event. event_fits machine.now.config.nodes event ≡ true) }
     {
         let has_retired = self.retired[usize::from(node.number())] >= self.rules.interval;
-        if !has_retired && is_running(machine.core(node)) && !is_behind(machine, node) {
+        if !has_retired && machine.core(node).is_running() && !is_behind(machine, node) {
             return None;
         }
         if is_edged(&machine.foresee(Event::Edge(node))) {
@@ -91,7 +91,8 @@ impl Driver {
         requires here { node < machine.now.config.nodes }
         requires foreseen { answer.now ≡ foreseen machine.now.image machine.now.config machine.now.state (Step node) }
         requires there { place < 5 }
-        ensures same { result ≡ slice_index_or (own_places self.now.rules machine.now.image machine.now.config machine.now.state self.now.numbers node) place None }
+        ensures same { result ≡
+            slice_index_or (own_places self.now.rules machine.now.image machine.now.config machine.now.state self.now.numbers node) place None }
         ensures fits { IfSome result (λ event. event_fits machine.now.config.nodes event ≡ true) }
     {
         if place == 0 {
@@ -119,7 +120,8 @@ impl Driver {
         requires here { node < machine.now.config.nodes }
         requires there { place < length (places_of self.now.rules machine.now.image machine.now.config machine.now.state self.now.numbers node) }
         requires foreseen { answer.now ≡ foreseen machine.now.image machine.now.config machine.now.state (Step node) }
-        ensures same { result ≡ slice_index_or (places_of self.now.rules machine.now.image machine.now.config machine.now.state self.now.numbers node) place None }
+        ensures same { result ≡
+            slice_index_or (places_of self.now.rules machine.now.image machine.now.config machine.now.state self.now.numbers node) place None }
         ensures fits { IfSome result (λ event. event_fits machine.now.config.nodes event ≡ true) }
     {
         let flights = machine.net().count();
@@ -134,7 +136,8 @@ impl Driver {
 
     /// How many places the node's list has.
     fn places(&self, machine: &Machine, node: NodeId) -> usize
-        ensures same { result ≡ length (places_of self.now.rules machine.now.image machine.now.config machine.now.state self.now.numbers node) }
+        ensures same { result ≡
+            length (places_of self.now.rules machine.now.image machine.now.config machine.now.state self.now.numbers node) }
         ensures few { result ≤ 2053 }
     {
         let flights = machine.net().count();
@@ -162,7 +165,8 @@ impl Driver {
     #[tactic(auto, using(crate::proofs::Lists::from_place))]
     fn nth(&self, machine: &Machine, node: NodeId, before: usize) -> Option<Event>
         requires { node < machine.now.config.nodes }
-        ensures same { result ≡ slice_get (list_of self.now.rules machine.now.image machine.now.config machine.now.state self.now.numbers node) before }
+        ensures same { result ≡
+            slice_get (list_of self.now.rules machine.now.image machine.now.config machine.now.state self.now.numbers node) before }
         ensures fits { IfSome result (λ event. event_fits machine.now.config.nodes event ≡ true) }
     {
         let answer = machine.foresee(Event::Step(node));
@@ -182,7 +186,8 @@ impl Driver {
     #[tactic(auto, using(crate::proofs::Lists::nothing_of_none))]
     pub fn picked(&self, machine: &Machine, node: NodeId, pick: u32) -> Option<Event>
         requires { node < machine.now.config.nodes }
-        ensures same { result ≡ picked pick (list_of self.now.rules machine.now.image machine.now.config machine.now.state self.now.numbers node) }
+        ensures same { result ≡
+            picked pick (list_of self.now.rules machine.now.image machine.now.config machine.now.state self.now.numbers node) }
         ensures fits { IfSome result (λ event. event_fits machine.now.config.nodes event ≡ true) }
     {
         let found = self.found(machine, node);

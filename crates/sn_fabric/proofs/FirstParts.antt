@@ -1,10 +1,9 @@
 -- What the parts at the start stand for.
-use Rattle.std.proofs.Common.{◌≡◌, ℕ, zero, suc, ◌+◌, ◌-◌, ◌*◌, ◌/◌, ◌%◌, ◌<◌, ◌≤◌, true, false, List, [], ◌∷◌, ◌++◌, length, get_or}
+use Rattle.std.proofs.Common.{◌≡◌, ℕ, zero, suc, ◌+◌, ◌*◌, ◌/◌, ◌%◌, ◌<◌, ◌≤◌, true, false, List, [], ◌∷◌, ◌++◌, length, get_or}
 use Rattle.std.proofs.Common.{replicate, refl, sym, ap, ◌∙◌, subst, arith, ⊎_elim}
 use Rattle.std.specs.Prelude.{map}
 use Rattle.std.specs.List.{range_with_len}
-use Rattle.std.proofs.Math.Nat.{mod-lt, div-add-mod, mul_comm}
-use Rattle.std.proofs.lemmas.Nat.{le-div}
+use Rattle.std.proofs.Math.Nat.{mod-lt, div-add-mod}
 use Rattle.std.proofs.lemmas.Bool.Decides.{nat_tests}
 use Rattle.std.proofs.lemmas.Grind.{common_steps}
 use Rattle.std.proofs.lemmas.List.{length_push, get_or_append_left, get_or_push, map-append}
@@ -15,6 +14,7 @@ use Rattle.sn_base.specs.Image.{ImageData}
 use Rattle.sn_base.specs.declared.config.Config.{Config}
 use Rattle.switch_net.specs.Net.{NetData}
 use Rattle.home_directory.specs.Home.{HomeData, places_of, entries_below, first_of}
+use Rattle.home_directory.proofs.LeastBegun.{place_inside}
 use Rattle.sn_model.specs.Caches.{block_count}
 use Rattle.sn_model.specs.Homes.{HomeEntry}
 use Rattle.sn_model.specs.Fabric as model
@@ -99,15 +99,6 @@ count-homes n image = ap (λ (xs : List HomeData). length xs) (homes-upto n imag
 count-entries : (n : ℕ) (image : ImageData) (node nodes : ℕ) → length (entries_below n image node nodes) ≡ n
 count-entries n image node nodes =
     ap (λ (xs : List HomeEntry). length xs) (entries-upto n image node nodes) ∙ length-upto (λ k. first_home image (node + nodes * k)) n
-
--- a block's place is one of its home's
-pub place_inside : (b n : ℕ) → 0 < n → b < block_count → b / n < places_of (b % n) n
-place_inside b n l h =
-    let e : n * (b / n) + b % n ≡ b = div-add-mod b n in
-    let c : n * (b / n) ≡ b / n * n = mul_comm n (b / n) in
-    let k : b / n * n ≤ 65535 - b % n = omega arith in
-    let d : b / n ≤ (65535 - b % n) / n = le-div (b / n) (65535 - b % n) n l k in
-    omega arith
 
 entry-start : (n b : ℕ) (image : ImageData) → 0 < n → b < block_count → first_home image b ≡ entry_at (homes_below n image n) b
 entry-start n b image l h =

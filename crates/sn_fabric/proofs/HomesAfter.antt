@@ -3,19 +3,16 @@ use Rattle.std.proofs.Common.{◌≡◌, ◌≢◌, ℕ, ◌+◌, ◌*◌, ◌/�
 use Rattle.std.proofs.Math.Nat.{mod-lt, div-add-mod}
 use Rattle.std.proofs.lemmas.Bool.{cases_eq}
 use Rattle.std.proofs.lemmas.List.{get_or-set_same, get_or-set_other}
-use Rattle.std.proofs.lemmas.List.FromFn.{length-map-range_with_len, fill_by_all}
+use Rattle.std.proofs.lemmas.List.FromFn.{fill_by_all}
 use Rattle.sn_base.specs.declared.config.Config.{Config}
 use Rattle.home_directory.specs.Home.{HomeData, places_of, entry_of, with_entry}
+use Rattle.home_directory.proofs.LeastBegun.{place_inside}
 use Rattle.sn_model.specs.Caches.{block_count}
 use Rattle.sn_model.specs.Homes.{HomeEntry}
 use Rattle.sn_model.specs.Fabric.{no_entry}
 use Rattle.sn_fabric.specs.Parts.{Parts, home_at, no_home, homes_as, entry_at, IsHomeOf, AreWhole}
-use Rattle.sn_fabric.proofs.FirstParts.{place_inside, few-nodes}
-use Rattle.sn_fabric.proofs.Entries.{entry-as}
-
-length-homes : (homes : List HomeData) → length (homes_as homes) ≡ block_count
-unfolding homes_as
-length-homes homes = length-map-range_with_len (entry_at homes) 0 block_count
+use Rattle.sn_fabric.proofs.FirstParts.{few-nodes}
+use Rattle.sn_fabric.proofs.Entries.{entry-as, length-homes}
 
 -- two blocks of one home have two places
 other_place : (b c n : ℕ) → b ≢ c → b % n ≡ c % n → b / n ≢ c / n

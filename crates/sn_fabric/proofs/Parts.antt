@@ -14,7 +14,7 @@ use Rattle.sn_model.specs.Fabric.{Fabric, Node, Moved, first_node, node_at, with
 use Rattle.sn_model.specs.Net.{routes_of}
 use Rattle.sn_model.specs.FabricEvents.{FabricEvent, moved_by}
 use Rattle.fabric_coherence.specs.Events.{MayBe}
-use Rattle.fabric_bounds.specs.Bounds.{HasRoom, KeepsBounds}
+use Rattle.fabric_bounds.specs.Bounds.{HasLogRoom, KeepsBounds}
 use Rattle.fabric_bounds.proofs.Runs.{each_keeps_bounds}
 use Rattle.sn_fabric.specs.declared.node.Seat.{Seat}
 use Rattle.sn_fabric.specs.Fabric.{FabricData, IsAfter}
@@ -79,7 +79,7 @@ pub record Comes (config : Config) (p q : Parts) (sends : List Sent) (said : Ans
 
 -- whole parts that stand for what an event comes to are parts as they may be
 pub comes : (config : Config) (p q : Parts) (sends : List Sent) (said : Answer) (event : FabricEvent) (moved : Moved) → AreParts config p →
-    MayBe (fabric_as p) event → HasRoom config (fabric_as p) event →
+    MayBe (fabric_as p) event → HasLogRoom config (fabric_as p) event →
     moved_by config (fabric_as p) event ≡ moved → AreWhole config q → fabric_as q ≡ moved.fabric → sends ≡ moved.sent →
     said ≡ moved.answer → Comes config p q sends said moved
 comes config p q sends said event moved k m r e w f s a = record {
@@ -106,7 +106,7 @@ after-comes config p q before sends said moved c = record {
 
 -- the same where what the event comes to is known whole
 pub comes-as : (config : Config) (p q : Parts) (sends : List Sent) (said : Answer) (told : Option Told) (event : FabricEvent)
-    (moved : Moved) → AreParts config p → MayBe (fabric_as p) event → HasRoom config (fabric_as p) event →
+    (moved : Moved) → AreParts config p → MayBe (fabric_as p) event → HasLogRoom config (fabric_as p) event →
     moved_by config (fabric_as p) event ≡ moved → AreWhole config q →
     moved ≡ record { fabric = fabric_as q; answer = said; sent = sends; told = told } → Comes config p q sends said moved
 comes-as config p q sends said told event moved k m r e w h =
@@ -138,7 +138,7 @@ after-whole config p q before sends said f d v c =
 
 -- a node that changes but for its place
 pub seat-comes : (config : Config) (p : Parts) (n : ℕ) (y : Seat) (said : Answer) (told : Option Told) (event : FabricEvent)
-    (moved : Moved) → AreParts config p → MayBe (fabric_as p) event → HasRoom config (fabric_as p) event →
+    (moved : Moved) → AreParts config p → MayBe (fabric_as p) event → HasLogRoom config (fabric_as p) event →
     moved_by config (fabric_as p) event ≡ moved → n < length p.seats → IsSeat config n y →
     moved ≡ record { fabric = with_node (fabric_as p) n (node_as y); answer = said; sent = []; told = told } →
     Comes config p (record p { seats = set p.seats n y }) [] said moved

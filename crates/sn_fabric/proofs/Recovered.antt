@@ -28,7 +28,7 @@ use Rattle.mosi_cache.specs.Controller.{FitsSets}
 use Rattle.home_directory.specs.Home.{HomeData, entry_of, places_of}
 use Rattle.home_directory.specs.Restored.{begun_restore, had, is_here, Stays}
 use Rattle.home_directory.proofs.Restored.{length-cleared, restored-is}
-use Rattle.fabric_bounds.specs.Bounds.{Fits, cache_at}
+use Rattle.fabric_bounds.specs.Bounds.{CacheFits, cache_at}
 use Rattle.fabric_bounds.proofs.Cuts.{cut_fits}
 use Rattle.sn_fabric.specs.declared.node.Seat.{Seat}
 use Rattle.sn_fabric.specs.Nets.{net_as}
@@ -227,10 +227,10 @@ can-restore config p k a point n l =
     let seat = a.whole.seats n h in
     let home = a.whole.homes n h in
     let nodes : length (fabric_as p).nodes ≡ config.nodes = count-nodes p ∙ a.whole.count in
-    let fits : Fits config (cache_at (node_at (fabric_as p) n) k) = cut_fits config (fabric_as p) a.keeps.0 a.keeps.1 a.keeps.2 n k m
+    let fits : CacheFits config (cache_at (node_at (fabric_as p) n) k) = cut_fits config (fabric_as p) a.keeps.0 a.keeps.1 a.keeps.2 n k m
     (subst (λ (j : ℕ). (fabric_as p).point ≤ j) (sym point) (omega arith)) in
     let there : FitsSets (cache_at (node_as (seat_at p.seats n)) k) config.sets config.ways = subst
-    (λ (x : Node). Fits config (cache_at x k)) e fits in
+    (λ (x : Node). CacheFits config (cache_at x k)) e fits in
     record {
       frames = subst (λ (j : ℕ). FitsSets (cache_at (node_as (seat_at p.seats n)) k) j (seat_at p.seats n).cache.ways) (sym seat.sets)
           (subst (λ (j : ℕ). FitsSets (cache_at (node_as (seat_at p.seats n)) k) config.sets j) (sym seat.ways) there);

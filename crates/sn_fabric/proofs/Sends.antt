@@ -21,7 +21,7 @@ use Rattle.sn_model.specs.FabricEvents.{FabricEvent, moved_by, Access}
 use Rattle.sn_model.specs.Net.{posted, sent_by, sending}
 use Rattle.sn_model.specs.Access.{accessed, missed, missing, request_for}
 use Rattle.fabric_coherence.specs.Events.{MayBe}
-use Rattle.fabric_bounds.specs.Bounds.{HasRoom}
+use Rattle.fabric_bounds.specs.Bounds.{HasLogRoom}
 use Rattle.sn_fabric.specs.declared.node.Seat.{Seat}
 use Rattle.sn_fabric.specs.Fabric.{FabricData, IsAfter}
 use Rattle.sn_fabric.specs.Nets.{net_as}
@@ -53,7 +53,7 @@ sending-is config p n block outs said w l =
 -- an event by which a node changes and then sends
 pub sends-come : (config : Config) (p q : Parts) (net : NetData) (n block now : ℕ) (outs : List Out) (said : Answer) (sends : List Sent)
     (told : Option Told) (event : FabricEvent) (moved : Moved) →
-    AreParts config p → MayBe (fabric_as p) event → HasRoom config (fabric_as p) event → moved_by config (fabric_as p) event ≡ moved →
+    AreParts config p → MayBe (fabric_as p) event → HasLogRoom config (fabric_as p) event → moved_by config (fabric_as p) event ≡ moved →
     moved ≡ record (sending (fabric_as q) n block outs said) { told = told } →
     AreWhole config q → n < length q.seats → now ≡ (seat_at q.seats n).clock.interval → net.routes ≡ q.net.routes →
     net_as net ≡ posted q.net.routes (net_as q.net) n now block outs → sends ≡ sent_by q.net.routes (net_as q.net) n now block outs →

@@ -3,9 +3,9 @@
 //! Each call is one event of the fabric of the machine's definitions, with that event's answer; what a call sends can be
 //! read until the next. The layer above knows no part of it: it sees the fabric of the definitions, the sizes and what was
 //! sent last. In the type are all sentences of the coherence theorem, so whatever is done in whatever order, each block has
-//! one writer, each delivered message has its row, and at each settled checkpoint each block has one holder. So are the
-//! bounds of logs, network and caches: a line that arrives finds its frame, and a recovery finds the frames that it puts
-//! back. No call but `new` fails for want of memory.
+//! one writer, each delivered message has its row, and at each checkpoint where its home has nothing open a block has one
+//! holder. So are the bounds of logs, network and caches: a line that arrives finds its frame, and a recovery finds the
+//! frames that it puts back. No call but `new` fails for want of memory.
 //!
 //! Source: SafetyNet (Sorin, Martin, Hill, Wood, ISCA 2002), over a MOSI directory protocol.
 #![tactic(auto)]

@@ -9,8 +9,8 @@ ghost use Rattle.sn_fabric.specs.Nets.{net_as};
 ghost use Rattle.sn_fabric.specs.Points.{tellings};
 
 use crate::Fabric;
-use crate::sending::{lacks_room, node_of, post};
-use sn_base::{Answer, BlockNo, Interval};
+use crate::sending::{lacks_room, post};
+use sn_base::{Answer, BlockNo, Interval, NodeId};
 use sn_model::{Out, Sent};
 use sn_msg::Body;
 use switch_net::Net;
@@ -28,11 +28,11 @@ fn tell_all(net: &mut Net, sent: &mut Vec<Sent>, nodes: u8, tag: Interval, k: In
     ensures sent { sent.new.items ≡ sent.old.items ++ sent_by net.old.routes (net_as net.old) 0 tag 0 (tellings k nodes) }
     ensures capacity { vec_capacity sent.old ≤ vec_capacity sent.new }
 {
-    let from = node_of(0);
+    let from = NodeId::numbered(0);
     let block = BlockNo::new(0);
     'nodes: for number in 0..nodes {
         let out = Out {
-            to: node_of(number),
+            to: NodeId::numbered(number),
             body: Body::Advance(k),
         };
         post(net, sent, from, tag, block, &out);

@@ -5,7 +5,7 @@ ghost use Rattle.sn_model.specs.Net.{posted, sent_by};
 ghost use Rattle.sn_fabric.specs.Deliveries.{out_of, lost_by, outs_of, invalidation, invalidations_of, home_outs, GoTo};
 ghost use Rattle.sn_fabric.specs.Nets.{net_as};
 
-use crate::sending::{node_of, post};
+use crate::sending::post;
 use home_directory::HomeStep;
 use mosi_cache::CacheStep;
 use sn_base::{BlockNo, Interval, NodeId, NodeSet};
@@ -106,7 +106,7 @@ fn post_invalidations(
     ensures capacity { vec_capacity sent.old ≤ vec_capacity sent.new }
 {
     'nodes: for number in 0..16 {
-        let out = invalidation(set, r, node_of(number));
+        let out = invalidation(set, r, NodeId::numbered(number));
         post_one(net, sent, from, tag, block, out);
     }
 }

@@ -25,7 +25,7 @@ fn at_most(now: Interval, begun: Option<Interval>) -> Interval
 fn controller() -> NodeId
     ensures { result ≡ 0 }
 {
-    NodeId::new(0).unwrap()
+    NodeId::numbered(0)
 }
 
 impl Fabric {

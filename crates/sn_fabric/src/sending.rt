@@ -9,14 +9,6 @@ use sn_model::{Out, Sent};
 use sn_msg::Message;
 use switch_net::Net;
 
-/// The node of a number below 16.
-pub fn node_of(number: u8) -> NodeId
-    requires { number < 16 }
-    ensures { result ≡ number }
-{
-    NodeId::new(number).unwrap()
-}
-
 /// Whether so many more messages would be too many.
 pub fn lacks_room(net: &Net, more: usize) -> bool
     requires { more ≤ 17 }

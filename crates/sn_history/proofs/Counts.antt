@@ -6,7 +6,7 @@ use Rattle.std.specs.List.{filter}
 use Rattle.std.proofs.lemmas.List.Sums.{sum_by-append}
 use Rattle.std.proofs.lemmas.Bool.Decides.{nat_tests}
 use Rattle.interval_list.specs.declared.Waiting.{Waiting}
-use Rattle.interval_list.specs.Waits.{entries_in, entries_below, waiting_from}
+use Rattle.interval_list.specs.WaitingList.{entries_in, entries_below, waiting_from}
 use Rattle.sn_history.specs.History.{Record, pending_records, reads_of}
 
 pub reads-append : (n : ℕ) (xs ys : List Record) → reads_of n (xs ++ ys) ≡ reads_of n xs + reads_of n ys

@@ -7,7 +7,7 @@
 #![tactic(auto)]
 
 ghost use Rattle.std.specs.Prelude.{◌≡◌, ℕ, ◌+◌, ◌-◌, ◌<◌, ◌≤◌, ◌^◌, max, [], ◌∷◌, ◌++◌, length, slice_index, OnOk, OnErr};
-ghost use Rattle.interval_list.specs.Waits.{entries_below, waiting_from};
+ghost use Rattle.interval_list.specs.WaitingList.{entries_below, waiting_from};
 ghost use Rattle.sn_history.specs.History.{HistoryData, taken_by};
 
 mod reads;

@@ -15,7 +15,7 @@ use Rattle.sn_model.specs.Machine.{State, Retirement, HeldByte}
 use Rattle.sn_model.specs.Instructions.{held_in}
 use Rattle.sn_model.specs.Refusals.{is_refusal}
 use Rattle.sn_model.specs.Step.{step_of}
-use Rattle.sn_model.specs.Trace.{Entry as Retired, traced}
+use Rattle.sn_model.specs.Trace.{TraceEntry, traced}
 use Rattle.sn_model.proofs.Refusals.{refusal-changes_nothing}
 use Rattle.sn_coherence.specs.Kept.{Clocks}
 use Rattle.sn_coherence.specs.Records.{Records}
@@ -30,7 +30,7 @@ use Rattle.consistent_cuts.specs.Headline.{IsStepOfRun}
 use Rattle.consistent_cuts.specs.Joined.{IsJoined, Holds}
 use Rattle.consistent_cuts.specs.Lists.{retirement_of, held_of, not_validated}
 use Rattle.consistent_cuts.specs.OfFabric.{GoesBy}
-use Rattle.consistent_cuts.specs.Runs.{Fits}
+use Rattle.consistent_cuts.specs.Runs.{EventFits}
 use Rattle.consistent_cuts.proofs.FabricRuns.{event_goes, goes_then, served_run}
 use Rattle.consistent_cuts.proofs.Run.{step_holds, start_holds, holds_consistent, holds_next}
 use Rattle.sn_machine.specs.declared.hardware.Hardware.{Hardware}
@@ -43,14 +43,14 @@ use Rattle.sn_machine.proofs.Sends.{ready_advances, event_few}
 
 -- what waits is of no interval below the point
 
-late_cons : (point : ℕ) (e : Retired) (es : List Retired) → All (λ (x : Retired). point ≤ x.interval) es → (b : Bool) →
-    nat_le point e.interval ≡ b → All (λ (x : Retired). point ≤ x.interval) (cond b (e ∷ es) es)
+late_cons : (point : ℕ) (e : TraceEntry) (es : List TraceEntry) → All (λ (x : TraceEntry). point ≤ x.interval) es → (b : Bool) →
+    nat_le point e.interval ≡ b → All (λ (x : TraceEntry). point ≤ x.interval) (cond b (e ∷ es) es)
 late_cons point e es h true is =
-    let l : point ≤ e.interval = grind (arith, nat_tests, is) in All-cons (λ (x : Retired). point ≤ x.interval) e es l h
+    let l : point ≤ e.interval = grind (arith, nat_tests, is) in All-cons (λ (x : TraceEntry). point ≤ x.interval) e es l h
 late_cons point e es h false is = h
 
-late : (point : ℕ) (trace : List Retired) → All (λ (x : Retired). point ≤ x.interval) (not_validated point trace)
-late point [] = All-nil (λ (x : Retired). point ≤ x.interval)
+late : (point : ℕ) (trace : List TraceEntry) → All (λ (x : TraceEntry). point ≤ x.interval) (not_validated point trace)
+late point [] = All-nil (λ (x : TraceEntry). point ≤ x.interval)
 late point (e ∷ trace) = late_cons point e (not_validated point trace) (late point trace) (nat_le point e.interval) refl
 
 held_one : (point interval : ℕ) (out : Option ℕ) (rest : List HeldByte) → point ≤ interval →
@@ -59,7 +59,7 @@ held_one point interval None rest l h = h
 held_one point interval (Some byte) rest l h =
     All-cons (λ (b : HeldByte). point ≤ b.interval) (record { interval = interval; byte = byte }) rest l h
 
-held_late : (point : ℕ) (es : List Retired) → All (λ (x : Retired). point ≤ x.interval) es →
+held_late : (point : ℕ) (es : List TraceEntry) → All (λ (x : TraceEntry). point ≤ x.interval) es →
     All (λ (b : HeldByte). point ≤ b.interval) (flat_map held_of es)
 held_late point [] h = All-nil (λ (b : HeldByte). point ≤ b.interval)
 held_late point (e ∷ es) h =
@@ -96,7 +96,7 @@ in_time s t k n l =
     let clocks : Clocks (length s.nodes) (block_seen s t 0) = (k.blocks 0 (omega arith)).clocks in
     record { known = clocks.known_point n l; reached = clocks.point_now n l; few = clocks.now_known n l }
 
-joined_sound : (image : ImageData) (config : Config) (s : State) (r : ℕ → Records) (list : ℕ → List Entry) (trace : List Retired)
+joined_sound : (image : ImageData) (config : Config) (s : State) (r : ℕ → Records) (list : ℕ → List Entry) (trace : List TraceEntry)
     (j : IsJoined image s r list trace) (applied : ℕ) → CountsTo applied s.fabric → applied ≤ 4000000000 → IsSound s
 joined_sound image config s r list trace j applied c few = record {
   numbers = far s.fabric.net.next_id (far_from_the_end s.fabric applied c few);
@@ -176,12 +176,12 @@ keeps_room image config h g applied spare m roomier = record {
 
 module _ (image : ImageData) (config : Config) (h g : Hardware) (applied spare : ℕ) (event : Event) (said : Answer)
     (m : IsMachine image config h applied spare) (some : 1 ≤ spare)
-    (fits : Fits config.nodes event) (does : Does h g said (step_of image config (state_of h) event)) where
+    (fits : EventFits config.nodes event) (does : Does h g said (step_of image config (state_of h) event)) where
   few : length (step_of image config (state_of h) event).sent ≤ 17
   few = go m.holds
     where
       go : Holds image config.nodes (state_of h) m.trace → length (step_of image config (state_of h) event).sent ≤ 17
-      go (count, (r, list, j)) = event_few image config (state_of h) r list m.trace j event (subst (λ n. Fits n event) (sym count) fits)
+      go (count, (r, list, j)) = event_few image config (state_of h) r list m.trace j event (subst (λ n. EventFits n event) (sym count) fits)
 
   goes : GoesBy config (first_fabric image config.nodes) (step_of image config (state_of h) event).state.fabric (applied + 1)
   goes = go m.holds
@@ -191,7 +191,7 @@ module _ (image : ImageData) (config : Config) (h g : Hardware) (applied spare :
       go (count, (r, list, j)) =
           goes_then config (first_fabric image config.nodes) h.fabric.fabric
           (step_of image config (state_of h) event).state.fabric applied 1 (applied + 1) m.goes
-          (event_goes image config (state_of h) r list m.trace j event (subst (λ n. Fits n event) (sym count) fits)) (omega arith)
+          (event_goes image config (state_of h) r list m.trace j event (subst (λ n. EventFits n event) (sym count) fits)) (omega arith)
 
   pub applies : IsMachine image config g (applied + 1) (spare - 1)
   applies = record {
@@ -222,7 +222,7 @@ module _ (image : ImageData) (config : Config) (h g : Hardware) (applied spare :
   refused-same is = does.state ∙ (refusal-changes_nothing image config (state_of h) event).unchanged (ap is_refusal (sym does.says) ∙ is)
 
 pub step-of-run : (image : ImageData) (config : Config) (h : Hardware) (applied spare : ℕ) (event : Event) →
-    IsMachine image config h applied spare → Fits config.nodes event →
+    IsMachine image config h applied spare → EventFits config.nodes event →
     IsStepOfRun image config (state_of h) event (step_of image config (state_of h) event)
 step-of-run image config h applied spare event m fits = holds_next image config (state_of h) m.trace event m.holds fits
 

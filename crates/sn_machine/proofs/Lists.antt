@@ -7,7 +7,7 @@ use Rattle.std.proofs.lemmas.List.Elements.{All-head, All-tail, All-nil, All-con
 use Rattle.rv_core.specs.declared.step.Record.{Record}
 use Rattle.rv_core.specs.Execution.{in_of}
 use Rattle.interval_list.specs.declared.Waiting.{Waiting}
-use Rattle.interval_list.specs.Waits.{entries_in, entries_below, waiting_from, waiting_below}
+use Rattle.interval_list.specs.WaitingList.{entries_in, entries_below, waiting_from, waiting_below}
 use Rattle.interval_list.proofs.Intervals.{below-next, from-next, below-none}
 use Rattle.sn_history.specs.History.{HistoryData, reads_of, pending_records}
 use Rattle.sn_history.specs.History as history

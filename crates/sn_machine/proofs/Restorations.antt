@@ -9,7 +9,7 @@ use Rattle.sn_base.specs.declared.event.Answer.TheVariants.{Recovered, CutOff}
 use Rattle.sn_base.specs.declared.event.Undo.{Undo}
 use Rattle.rv_core.specs.declared.state.CoreState.{CoreState}
 use Rattle.reg_ckpt.specs.Kept.{Checkpoints, HasCheckpoint, core_at, freed_below, dropped_above}
-use Rattle.interval_list.specs.Waits.{waiting_below}
+use Rattle.interval_list.specs.WaitingList.{waiting_below}
 use Rattle.route_plan.specs.Routes.{first_cut_off}
 use Rattle.fabric_coherence.proofs.Recovery.{each_node}
 use Rattle.sn_model.specs.Fabric.{Fabric, node_at, refused}

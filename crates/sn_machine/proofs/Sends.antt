@@ -12,18 +12,18 @@ use Rattle.sn_model.specs.Instructions.{Stepped, stepped}
 use Rattle.sn_model.specs.Machine.{State}
 use Rattle.sn_model.specs.MachineEvents.{validates, unready_node}
 use Rattle.sn_model.specs.Step.{step_of}
-use Rattle.sn_model.specs.Trace.{Entry as Retired}
+use Rattle.sn_model.specs.Trace.{TraceEntry}
 use Rattle.sn_coherence.specs.Records.{Records}
 use Rattle.sn_consistency.specs.Entries.{Entry}
 use Rattle.fabric_coherence.specs.Events.{MayBe}
 use Rattle.fabric_bounds.proofs.Numbers.{event_sends}
 use Rattle.consistent_cuts.specs.Joined.{IsJoined}
-use Rattle.consistent_cuts.specs.Runs.{Fits}
+use Rattle.consistent_cuts.specs.Runs.{EventFits}
 use Rattle.consistent_cuts.proofs.EachEvent.{all_reported}
 use Rattle.consistent_cuts.proofs.Half.{half}
 use Rattle.consistent_cuts.proofs.SteppedCases.{stepped_cases}
 
-module _ (image : ImageData) (config : Config) (s : State) (r : ℕ → Records) (list : ℕ → List Entry) (trace : List Retired) (j : IsJoined image s r list trace) where
+module _ (image : ImageData) (config : Config) (s : State) (r : ℕ → Records) (list : ℕ → List Entry) (trace : List TraceEntry) (j : IsJoined image s r list trace) where
   abbrev N : ℕ
   N = length s.fabric.nodes
 
@@ -54,7 +54,7 @@ module _ (image : ImageData) (config : Config) (s : State) (r : ℕ → Records)
   validating (Some n) e = none
   validating None e = few (fabric.Advance (s.fabric.point + 1)) (ready_advances e)
 
-  pub event_few : (e : Event) → Fits N e → Few (step_of image config s e)
+  pub event_few : (e : Event) → EventFits N e → Few (step_of image config s e)
   unfolding step_of moved_by
   event_few (event.Step n) fits = stepped_few n (is_node n fits.numbers)
   event_few (event.Evict n block) fits =

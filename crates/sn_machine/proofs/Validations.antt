@@ -6,7 +6,7 @@ use Rattle.sn_base.specs.declared.event.Answer.{Answer}
 use Rattle.sn_base.specs.declared.event.Answer.TheVariants.{Validated, NetFull}
 use Rattle.validation.specs.declared.NotReady.{NotReady as Behind}
 use Rattle.validation.specs.Ready.{Reports, least_behind, next_or_behind, checked}
-use Rattle.interval_list.specs.Waits.{entries_below, waiting_from}
+use Rattle.interval_list.specs.WaitingList.{entries_below, waiting_from}
 use Rattle.sn_model.specs.Fabric.{Fabric, refused}
 use Rattle.sn_model.specs.MachineEvents.{commits, validated, unready_node}
 use Rattle.sn_model.specs.Net.{sending, is_full}

@@ -4,7 +4,7 @@ use Rattle.sn_base.specs.Config.{config_fits}
 use Rattle.sn_base.specs.Image.{ImageData}
 use Rattle.sn_base.specs.declared.config.Config.{Config}
 use Rattle.sn_model.specs.Fabric.{first_fabric}
-use Rattle.sn_model.specs.Trace.{Entry}
+use Rattle.sn_model.specs.Trace.{TraceEntry}
 use Rattle.consistent_cuts.specs.Joined.{Holds}
 use Rattle.consistent_cuts.specs.OfFabric.{GoesBy}
 use Rattle.sn_machine.specs.declared.hardware.Hardware.{Hardware}
@@ -19,6 +19,6 @@ pub record IsMachine (image : ImageData) (config : Config) (h : Hardware) (appli
   pub room : HasRoom spare h
   pub life : applied + spare ≤ 4000000000
   pub sent : length (sent_of h) ≤ 17
-  pub trace : List Entry
+  pub trace : List TraceEntry
   pub holds : Holds image config.nodes (state_of h) trace
   pub goes : GoesBy config (first_fabric image config.nodes) h.fabric.fabric applied

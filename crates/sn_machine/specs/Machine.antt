@@ -10,7 +10,7 @@ use Rattle.sn_model.specs.declared.net.Sent.{Sent}
 use Rattle.sn_model.specs.Instructions.{Stepped}
 use Rattle.sn_model.specs.Machine.{State}
 use Rattle.sn_model.specs.Step.{step_of}
-use Rattle.sn_model.specs.Trace.{Entry}
+use Rattle.sn_model.specs.Trace.{TraceEntry}
 use Rattle.consistent_cuts.specs.Headline.{IsConsistent}
 
 -- a machine and the life that it has: its program and sizes, its state, what the last event sent, how many events were
@@ -43,4 +43,4 @@ flat_of m = end_of m.image m.config.nodes m.state.committed
 
 -- the recovery point is a consistent cut, for the retirements along some run
 abbrev pub IsConsistentNow : MachineData → Type 0
-IsConsistentNow m = (trace : List Entry) × IsConsistent m.image m.config.nodes m.state trace
+IsConsistentNow m = (trace : List TraceEntry) × IsConsistent m.image m.config.nodes m.state trace

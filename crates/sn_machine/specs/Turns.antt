@@ -13,7 +13,7 @@ use Rattle.sn_model.specs.Fabric.{Fabric, node_at}
 use Rattle.sn_model.specs.Fabric as fabric
 use Rattle.sn_model.specs.Access.{accessed, lacks_room}
 use Rattle.sn_model.specs.Machine.{State, processor_at}
-use Rattle.sn_model.specs.Instructions.{Found, Stepped, nothing_found, next_byte, is_retired, refused, carried, retired, record_with}
+use Rattle.sn_model.specs.Instructions.{FoundOutside, Stepped, nothing_found, next_byte, is_retired, refused, carried, retired, record_with}
 use Rattle.sn_model.specs.Instructions.{found_at, held_in}
 use Rattle.fabric_coherence.specs.Events.{CanWrite}
 use Rattle.consistent_cuts.specs.Accesses.{CanRetire}
@@ -29,7 +29,7 @@ ComesTo image config s n x (Misses block need) =
 ComesTo image config s n x (Refused answer) = x ≡ refused s answer
 
 -- the same of an access of a block that an instruction wants, with what it finds
-abbrev pub IsAccess : Config → Fabric → ℕ → ℕ → Need → Found → NodeStep → Type 0
+abbrev pub IsAccess : Config → Fabric → ℕ → ℕ → Need → FoundOutside → NodeStep → Type 0
 IsAccess config s n block need found (Retires did) = ((accessed config s n block need).answer ≡ WasRetired) × (did ≡ record_with n found)
 IsAccess config s n block need found (Misses b k) = (b ≡ block) × (k ≡ need) × ((accessed config s n block need).answer ≡ Missed)
 IsAccess config s n block need found (Refused answer) =

@@ -1,6 +1,5 @@
 //! What else can be asked of a machine, between two events.
 ghost use Rattle.std.specs.Prelude.{◌≡◌, ℕ, ◌*◌, ◌<◌, ◌≤◌, true, false, length, map, IfSome, IsNone};
-ghost use Rattle.rv_core.specs.Core.{is_running};
 ghost use Rattle.route_plan.specs.Distances.{is_dead};
 ghost use Rattle.home_directory.specs.Home.{owner_of};
 ghost use Rattle.sn_model.specs.Caches.{block_count, line_of, no_line, is_present};
@@ -13,7 +12,6 @@ ghost use Rattle.sn_machine.specs.Machine.{MachineData, next_of, flat_of};
 ghost use Rattle.sn_machine.specs.Looks.{wanted_block, can_go_from, have_ended};
 
 use crate::machine::Machine;
-use crate::processor::is_running;
 use crate::steps::block_at;
 use interval_list::Waiting;
 use log_buffer::LogBuffer;
@@ -26,7 +24,7 @@ use switch_net::Net;
 fn wanted_block(core: &CoreState, image: &Image) -> Option<BlockNo>
     ensures { result ≡ wanted_block image.now core.now }
 {
-    if !is_running(core) {
+    if !core.is_running() {
         return None;
     }
     match core.want(image) {
@@ -164,17 +162,10 @@ impl Machine {
     {
         let view = self.recovered();
         'nodes: for number in 0..self.config.nodes {
-            if is_running(view.core(node_of(number))) {
+            if view.core(NodeId::numbered(number)).is_running() {
                 return false;
             }
         }
         true
     }
-}
-
-fn node_of(number: u8) -> NodeId
-    requires { number < 16 }
-    ensures { result ≡ number }
-{
-    NodeId::new(number).unwrap()
 }

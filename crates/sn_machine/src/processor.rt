@@ -1,11 +1,11 @@
 //! A node's processor: its core, the core's copies at the checkpoints, and its input.
 ghost use Rattle.std.specs.Prelude.{◌≡◌};
-ghost use Rattle.rv_core.specs.Core.{is_running, is_reserved};
+ghost use Rattle.rv_core.specs.Core.{is_reserved};
 ghost use Rattle.sn_model.specs.MachineEvents.{unreserved};
 
 use crate::input::Input;
 use reg_ckpt::RegCheckpoints;
-use rv_core::{CoreState, End};
+use rv_core::CoreState;
 use sn_base::BlockNo;
 
 #[derive(Drop)]
@@ -13,15 +13,6 @@ pub struct Processor {
     pub core: CoreState,
     pub checkpoints: RegCheckpoints,
     pub input: Input,
-}
-
-pub fn is_running(core: &CoreState) -> bool
-    ensures { result ≡ is_running core.now.end }
-{
-    match core.end {
-        End::Running => true,
-        End::Exited(_) | End::Trapped(_) => false,
-    }
 }
 
 /// Whether the core has reserved this block.

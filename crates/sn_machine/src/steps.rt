@@ -1,7 +1,7 @@
 //! A node's step: its core's next instruction.
 ghost use Rattle.std.specs.Prelude.{◌≡◌, ◌<◌, ◌≤◌, ◌+◌, length, true, false, None};
 ghost use Rattle.sn_base.specs.Blocks.{ram_start, ram_size};
-ghost use Rattle.rv_core.specs.Core.{block_of, is_running};
+ghost use Rattle.rv_core.specs.Core.{block_of};
 ghost use Rattle.rv_core.specs.Step.{want_of};
 ghost use Rattle.sn_model.specs.Access.{accessed, loaded};
 ghost use Rattle.sn_model.specs.Fabric.{node_at};
@@ -13,7 +13,7 @@ ghost use Rattle.sn_machine.specs.Sound.{IsSound};
 ghost use Rattle.sn_machine.specs.Turns.{ComesTo, IsAccess, IsConditional, IsInput, CanWriteAny, PutsOut};
 
 use crate::hardware::Hardware;
-use crate::processor::{is_reserved, is_running};
+use crate::processor::is_reserved;
 use output_commit::OutBuffer;
 use rv_core::{Record, Want};
 use sn_base::{Answer, BlockNo, Image, Interval, NodeId, Write};
@@ -111,7 +111,7 @@ impl Hardware {
             (stepped image.now self.now.fabric.config (state_of self.now) node) result }
     {
         let core = &self.processors[usize::from(node.number())].core;
-        if !is_running(core) {
+        if !core.is_running() {
             return NodeStep::Refused(Answer::Ended);
         }
         if self.fabric.miss_open(node) {

@@ -12,7 +12,8 @@ use Rattle.sn_model.specs.declared.cache.Need.TheVariants.{Read, Write as ToWrit
 use Rattle.sn_model.specs.Access.{has_miss, accessed}
 use Rattle.sn_model.specs.Fabric.{node_at}
 use Rattle.sn_model.specs.Machine.{State, processor_at}
-use Rattle.sn_model.specs.Instructions.{Stepped, refused, carried, retired, is_retired, accessing, takes_input, next_byte, step_wanting, stepped}
+use Rattle.sn_model.specs.Instructions.{Stepped, refused, carried, retired, is_retired, accessing, takes_input, next_byte}
+use Rattle.sn_model.specs.Instructions.{step_wanting, stepped}
 
 module _ (image : ImageData) (config : Config) (s : State) (n : ℕ) (P : Stepped → Type 0) (done : P (retired image s n))
     (carries : (block : ℕ) (need : Need) → P (carried s (accessed config s.fabric n block need)))

@@ -9,7 +9,7 @@ use Rattle.sn_base.specs.declared.event.Answer.{Answer}
 use Rattle.sn_msg.specs.declared.Message.{Message}
 use Rattle.sn_model.specs.declared.net.Sent.{Sent}
 use Rattle.sn_model.specs.declared.net.Told.{Told}
-use Rattle.sn_model.specs.Caches.{Cache, empty_cache, block_count}
+use Rattle.sn_model.specs.Caches.{Cache, Line, line_of, empty_cache, block_count}
 use Rattle.sn_model.specs.Homes.{HomeEntry, Itself, no_sharers}
 
 -- a node: its interval, the recovery point that it knows, its cache, and its log of both sides
@@ -73,6 +73,10 @@ first_fabric image nodes = record {
 
 abbrev pub node_at : Fabric → ℕ → Node
 node_at s n = slice_index_or s.nodes n first_node
+
+-- the line of a block in a node's cache
+abbrev pub line_of_node : Fabric → ℕ → ℕ → Line
+line_of_node s n b = line_of (node_at s n).cache b
 
 abbrev pub with_node : Fabric → ℕ → Node → Fabric
 with_node s n node = record s { nodes = slice_set s.nodes n node }

@@ -38,12 +38,12 @@ abbrev pub carried : State → Moved → Stepped
 carried s moved = record { state = record s { fabric = moved.fabric }; answer = moved.answer; sent = moved.sent }
 
 -- what an instruction finds from outside its core: the word, the permission of a store-conditional, the byte
-pub record Found : Type 0 where
+pub record FoundOutside : Type 0 where
   pub seen : ℕ
   pub sc_done : Bool
   pub read : Option ℕ
 
-abbrev pub nothing_found : Found
+abbrev pub nothing_found : FoundOutside
 nothing_found = record { seen = 0; sc_done = false; read = None }
 
 abbrev pub records_of : List Retirement → List Record
@@ -58,7 +58,7 @@ abbrev pub next_byte : State → ℕ → Option ℕ
 next_byte s n =
     if nat_lt (taken_by s n) (length (processor_at s n).given) then Some (slice_index (processor_at s n).given (taken_by s n)) else None
 
-abbrev pub found_by : State → ℕ → Want → Found
+abbrev pub found_by : State → ℕ → Want → FoundOutside
 found_by s n Nothing = nothing_found
 found_by s n (Load address) = record nothing_found { seen = loaded s.fabric n address }
 found_by s n (Store address) = nothing_found
@@ -67,13 +67,13 @@ found_by s n (Lr address) = record nothing_found { seen = loaded s.fabric n addr
 found_by s n (Sc address) = record nothing_found { sc_done = is_reserved (processor_at s n).core.reservation (block_of address) }
 found_by s n Input = record nothing_found { read = next_byte s n }
 
-abbrev pub found_at : ImageData → State → ℕ → Found
+abbrev pub found_at : ImageData → State → ℕ → FoundOutside
 found_at image s n = found_by s n (want_of image (processor_at s n).core)
 
-abbrev pub next_with : ImageData → Processor → Found → Next
+abbrev pub next_with : ImageData → Processor → FoundOutside → Next
 next_with image processor found = next_of image processor.core found.seen found.sc_done found.read
 
-abbrev pub record_with : ℕ → Found → Record
+abbrev pub record_with : ℕ → FoundOutside → Record
 record_with n found = record { core = n; seen = found.seen; sc_done = found.sc_done; read = found.read }
 
 -- how an instruction retires
@@ -88,7 +88,7 @@ abbrev pub held_in : ℕ → Option ℕ → List HeldByte
 held_in interval out = map (λ (b : ℕ). record { interval = interval; byte = b }) (option_to_list out)
 
 -- the instruction is done; its record and its byte wait for the validation of its interval
-abbrev pub retired_with : State → ℕ → Found → Next → Stepped
+abbrev pub retired_with : State → ℕ → FoundOutside → Next → Stepped
 retired_with s n found next = answered (record s {
   fabric = written_by s.fabric n next.effect.write;
   processors = slice_set s.processors n (record (processor_at s n) { core = next.core });

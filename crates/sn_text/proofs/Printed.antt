@@ -8,7 +8,7 @@ use Rattle.std.specs.List.{position_or_len}
 use Rattle.std.specs.Prelude.{⊤, Bool, true, false, nat_eq, nat_lt, nat_le, ◌&&◌, if◌then◌else◌, decimal, Some, None}
 use Rattle.sn_text.specs.Digits.{is_digit, number_of, number_from, if_below}
 use Rattle.sn_text.specs.Script.{hex_value, byte_of, parted}
-use Rattle.sn_text.specs.Text.{hex_digit, byte_text, word_text}
+use Rattle.text_lines.specs.Hex.{hex_digit, hex_byte, hex_word}
 use Rattle.sn_text.specs.Trace.{word_of}
 use Rattle.sn_text.proofs.Digits.{number_of-plain, number-ends}
 
@@ -96,17 +96,17 @@ byte_of-digits : (high low : ℕ) → high < 16 → low < 16 → byte_of (hex_di
 byte_of-digits high low h l = rw (hex_value-digit high h, hex_value-digit low l) refl
 
 -- a byte that is written is read back
-pub byte_of-text : (byte : ℕ) → byte < 256 → byte_of (byte_text byte) ≡ Some byte
-unfolding byte_text
+pub byte_of-text : (byte : ℕ) → byte < 256 → byte_of (hex_byte byte) ≡ Some byte
+unfolding hex_byte
 byte_of-text byte l = byte_of-digits (byte / 16 % 16) (byte % 16) (omega arith) (omega arith) ∙ ap (λ t. Some t) (omega arith)
 
-pub from-byte : (byte : ℕ) → From 48 (byte_text byte)
-unfolding byte_text
+pub from-byte : (byte : ℕ) → From 48 (hex_byte byte)
+unfolding hex_byte
 from-byte byte = (from-hex_digit (byte / 16 % 16), (from-hex_digit (byte % 16), tt))
 
 -- a word that is written is read back
-pub word_of-text : (word : ℕ) → word < 2 ^ 32 → word_of (word_text word) ≡ Some word
-unfolding word_text word_of
+pub word_of-text : (word : ℕ) → word < 2 ^ 32 → word_of (hex_word word) ≡ Some word
+unfolding hex_word word_of
 word_of-text word l =
     rw (
       byte_of-digits (word / 268435456 % 16) (word / 16777216 % 16) (omega arith) (omega arith),
@@ -115,8 +115,8 @@ word_of-text word l =
       byte_of-digits (word / 16 % 16) (word % 16) (omega arith) (omega arith),
     ) (ap (λ t. Some t) (omega arith))
 
-pub from-word : (word : ℕ) → From 48 (word_text word)
-unfolding word_text
+pub from-word : (word : ℕ) → From 48 (hex_word word)
+unfolding hex_word
 from-word word = (
   from-hex_digit _,
   (

@@ -12,7 +12,8 @@ use Rattle.rv_core.specs.declared.step.Record.{Record}
 use Rattle.sn_model.specs.Caches.{block_count}
 use Rattle.sn_text.specs.Script.{node_in, message_in, switch_in, said, parted, eviction_in, input_in, event_of, script_of}
 use Rattle.sn_text.specs.Items.{most_items}
-use Rattle.sn_text.specs.Text.{event_text, switch_text, byte_text, word_text, flag_text, read_text, record_text, script_line, trace_line}
+use Rattle.text_lines.specs.Hex.{hex_byte, hex_word}
+use Rattle.sn_text.specs.Text.{event_text, switch_text, flag_text, read_text, record_text, script_line, trace_line}
 use Rattle.sn_text.specs.Trace.{record_by, with_last, record_of, trace_of}
 use Rattle.sn_text.specs.Written.{HasNumbers, IsEventOf, IsRecordOf, script_text, trace_text}
 use Rattle.sn_text.proofs.Lines.{IsLine, text-read_back}
@@ -56,10 +57,10 @@ eviction-back nodes n block few fits l =
     ) refl
 
 input-back : (nodes n byte : ℕ) → nodes ≤ 16 → nat_lt n nodes ≡ true → byte < 256 →
-    input_in nodes (decimal n ++ 32 ∷ byte_text byte) ≡ Ok (Input n byte)
+    input_in nodes (decimal n ++ 32 ∷ hex_byte byte) ≡ Ok (Input n byte)
 input-back nodes n byte few fits l =
     rw (
-      parted-words (decimal n) (byte_text byte) (node-word nodes n few fits),
+      parted-words (decimal n) (hex_byte byte) (node-word nodes n few fits),
       number_of-decimal n (small nodes n few fits),
       byte_of-text byte l,
       fits,
@@ -81,7 +82,7 @@ event-back nodes (Report n) few fits numbers = ap (said Report) (node-back nodes
 event-back nodes Validate few fits numbers = refl
 event-back nodes Recover few fits numbers = refl
 event-back nodes (Input n byte) few fits numbers =
-    ap (input_in nodes) (append_assoc (decimal n) (32 ∷ []) (byte_text byte)) ∙ input-back nodes n byte few fits numbers
+    ap (input_in nodes) (append_assoc (decimal n) (32 ∷ []) (hex_byte byte)) ∙ input-back nodes n byte few fits numbers
 
 -- a name begins it
 begun_by : (x : ℕ) (xs rest : List ℕ) → nat_le 48 x ≡ true → is_from 32 xs ≡ true → From 32 rest → IsLine ((x ∷ xs) ++ rest)
@@ -98,11 +99,11 @@ plain-number n l = from-lower 32 48 (decimal n) (omega arith) (from-decimal n l)
 plain-node : (nodes n : ℕ) → nodes ≤ 16 → nat_lt n nodes ≡ true → From 32 (decimal n)
 plain-node nodes n few fits = plain-number n (small nodes n few fits)
 
-plain-byte : (byte : ℕ) → From 32 (byte_text byte)
-plain-byte byte = from-lower 32 48 (byte_text byte) (omega arith) (from-byte byte)
+plain-byte : (byte : ℕ) → From 32 (hex_byte byte)
+plain-byte byte = from-lower 32 48 (hex_byte byte) (omega arith) (from-byte byte)
 
-plain-word : (word : ℕ) → From 32 (word_text word)
-plain-word word = from-lower 32 48 (word_text word) (omega arith) (from-word word)
+plain-word : (word : ℕ) → From 32 (hex_word word)
+plain-word word = from-lower 32 48 (hex_word word) (omega arith) (from-word word)
 
 plain-pair : (xs ys : List ℕ) → From 32 xs → From 32 ys → From 32 ((xs ++ 32 ∷ []) ++ ys)
 plain-pair xs ys a b = from-append 32 (xs ++ 32 ∷ []) ys (from-append 32 xs (32 ∷ []) a (omega arith, tt)) b
@@ -127,7 +128,7 @@ event-line nodes (Report n) few fits numbers = begun_by 114 (codes "eport ") (de
 event-line nodes Validate few fits numbers = begun_by 118 (codes "alidate") [] refl refl tt
 event-line nodes Recover few fits numbers = begun_by 114 (codes "ecover") [] refl refl tt
 event-line nodes (Input n byte) few fits numbers =
-    begun_by 105 (codes "nput ") ((decimal n ++ 32 ∷ []) ++ byte_text byte) refl refl (plain-pair (decimal n) (byte_text byte) (plain-node nodes n few fits) (plain-byte byte))
+    begun_by 105 (codes "nput ") ((decimal n ++ 32 ∷ []) ++ hex_byte byte) refl refl (plain-pair (decimal n) (hex_byte byte) (plain-node nodes n few fits) (plain-byte byte))
 
 -- the words of a record's line
 joined : (a b c d s : List ℕ) → ((((a ++ s) ++ b) ++ s) ++ c) ++ d ≡ a ++ (s ++ (b ++ (s ++ (c ++ d))))
@@ -139,18 +140,18 @@ abbrev last_words : Bool → Option ℕ → List ℕ
 last_words sc_done read = flag_text sc_done ++ read_text read
 
 abbrev record_words : ℕ → ℕ → Bool → Option ℕ → List ℕ
-record_words core seen sc_done read = decimal core ++ (32 ∷ (word_text seen ++ (32 ∷ last_words sc_done read)))
+record_words core seen sc_done read = decimal core ++ (32 ∷ (hex_word seen ++ (32 ∷ last_words sc_done read)))
 
 text-is : (taken : Record) → record_text taken ≡ record_words taken.core taken.seen taken.sc_done taken.read
-text-is taken = joined (decimal taken.core) (word_text taken.seen) (flag_text taken.sc_done) (read_text taken.read) (32 ∷ [])
+text-is taken = joined (decimal taken.core) (hex_word taken.seen) (flag_text taken.sc_done) (read_text taken.read) (32 ∷ [])
 
 last-back : (nodes : ℕ) (core seen : Option ℕ) (sc_done : Bool) (read : Option ℕ) → IfSome read (λ byte. byte < 256) →
     with_last nodes core seen (last_words sc_done read) (parted (last_words sc_done read))
     ≡ record_by nodes core seen (Some sc_done) (Some read)
 last-back nodes core seen true None l = refl
 last-back nodes core seen false None l = refl
-last-back nodes core seen true (Some byte) l = rw (parted-words (49 ∷ []) (byte_text byte) (omega arith, tt), byte_of-text byte l) refl
-last-back nodes core seen false (Some byte) l = rw (parted-words (48 ∷ []) (byte_text byte) (omega arith, tt), byte_of-text byte l) refl
+last-back nodes core seen true (Some byte) l = rw (parted-words (49 ∷ []) (hex_byte byte) (omega arith, tt), byte_of-text byte l) refl
+last-back nodes core seen false (Some byte) l = rw (parted-words (48 ∷ []) (hex_byte byte) (omega arith, tt), byte_of-text byte l) refl
 
 words-back : (nodes core seen : ℕ) (sc_done : Bool) (read : Option ℕ) → nodes ≤ 16 → core < nodes → seen < 2 ^ 32 →
     IfSome read (λ byte. byte < 256) →
@@ -160,10 +161,10 @@ words-back nodes core seen sc_done read few there word byte =
     let wide : core < 2 ^ 64 = omega arith in
     let fits : nat_lt core nodes ≡ true = grind (arith, nat_tests) in
     rw (
-      parted-words (decimal core) (word_text seen ++ (32 ∷ last_words sc_done read))
+      parted-words (decimal core) (hex_word seen ++ (32 ∷ last_words sc_done read))
           (from-lower 33 48 (decimal core) (omega arith) (from-decimal core wide)),
       number_of-decimal core wide,
-      parted-words (word_text seen) (last_words sc_done read) (from-lower 33 48 (word_text seen) (omega arith) (from-word seen)),
+      parted-words (hex_word seen) (last_words sc_done read) (from-lower 33 48 (hex_word seen) (omega arith) (from-word seen)),
       word_of-text seen word,
       last-back nodes (Some core) (Some seen) sc_done read byte,
       fits,
@@ -186,7 +187,7 @@ record-line nodes taken few is =
     let wide : taken.core < 2 ^ 64 = omega (arith, is.core) in
     subst IsLine (sym (text-is taken))
     (begun_by_number (decimal taken.core) _ (decimal_nonempty taken.core wide) (from-decimal taken.core wide)
-    (omega arith, from-append 32 (word_text taken.seen) _ (plain-word taken.seen) (omega arith, plain-last taken.sc_done taken.read)))
+    (omega arith, from-append 32 (hex_word taken.seen) _ (plain-word taken.seen) (omega arith, plain-last taken.sc_done taken.read)))
 
 -- whole texts
 pub script-back : (nodes : ℕ) (events : List Event) → nodes ≤ 16 → All (IsEventOf nodes) events → length events ≤ most_items →

@@ -1,6 +1,7 @@
 -- The texts that are written. Numbers are decimal; words and addresses have eight lower-case hexadecimal digits.
 use Rattle.std.specs.Prelude.{ℕ, ◌+◌, ◌/◌, ◌%◌, Bool, nat_eq, nat_lt, if◌then◌else◌, List, [], ◌∷◌, ◌++◌, drop, codes, decimal, Option}
 use Rattle.std.specs.Prelude.{Some, None}
+use Rattle.text_lines.specs.Hex.{hex_byte, hex_word}
 use Rattle.sn_base.specs.declared.event.Event.{Event}
 use Rattle.sn_base.specs.declared.event.Event.TheVariants.{Step, Evict, Edge, Hop, Deliver, Lose, Kill, Report, Validate, Recover, Input}
 use Rattle.sn_base.specs.declared.event.Answer.{Answer}
@@ -20,19 +21,6 @@ use Rattle.sn_msg.specs.declared.Body.{Body}
 use Rattle.sn_msg.specs.declared.Body.TheVariants.{GetS, GetM, FwdGetS, FwdGetM, Inv, DataS, DataM, DataE, UpgOk, InvAck, Unblock, PutReq}
 use Rattle.sn_msg.specs.declared.Body.TheVariants.{PutGo, PutData, PutDone, Ready, Advance}
 use Rattle.sn_model.specs.declared.net.Sent.{Sent}
-
-abbrev pub hex_digit : ℕ → ℕ
-hex_digit digit = if nat_lt digit 10 then 48 + digit else 87 + digit
-
--- two hexadecimal digits
-unfoldable pub byte_text : ℕ → List ℕ
-byte_text byte = hex_digit (byte / 16 % 16) ∷ hex_digit (byte % 16) ∷ []
-
--- eight hexadecimal digits, from the highest
-unfoldable pub word_text : ℕ → List ℕ
-word_text word =
-    hex_digit (word / 268435456 % 16) ∷ hex_digit (word / 16777216 % 16) ∷ hex_digit (word / 1048576 % 16) ∷ hex_digit (word / 65536 % 16)
-    ∷ hex_digit (word / 4096 % 16) ∷ hex_digit (word / 256 % 16) ∷ hex_digit (word / 16 % 16) ∷ hex_digit (word % 16) ∷ []
 
 -- a name and a number after a blank
 abbrev pub named_number : List ℕ → ℕ → List ℕ
@@ -54,7 +42,7 @@ event_text (Kill switch) = codes "kill " ++ switch_text switch
 event_text (Report node) = named_number (codes "report") node
 event_text Validate = codes "validate"
 event_text Recover = codes "recover"
-event_text (Input node byte) = named_number (codes "input") node ++ codes " " ++ byte_text byte
+event_text (Input node byte) = named_number (codes "input") node ++ codes " " ++ hex_byte byte
 
 -- an event as a line of a script
 unfoldable pub script_line : Event → List ℕ
@@ -169,7 +157,7 @@ end_text (Trapped cause) = codes "trapped " ++ cause_text cause
 
 -- ` xR=WORD`
 abbrev pub register_text : ℕ → ℕ → List ℕ
-register_text number value = codes " x" ++ decimal number ++ codes "=" ++ word_text value
+register_text number value = codes " x" ++ decimal number ++ codes "=" ++ hex_word value
 
 -- the registers from this number on that aren't 0
 abbrev pub registers_text : ℕ → List ℕ → List ℕ
@@ -178,7 +166,7 @@ registers_text number (value ∷ values) = (if nat_eq value 0 then [] else regis
 
 -- `core N PC`
 abbrev pub core_head : List ℕ → ℕ → ℕ → List ℕ
-core_head before node pc = before ++ named_number (codes "core") node ++ codes " " ++ word_text pc
+core_head before node pc = before ++ named_number (codes "core") node ++ codes " " ++ hex_word pc
 
 -- `core N PC END` and the registers that aren't 0, after x0, which reads 0
 unfoldable pub core_line : List ℕ → ℕ → CoreState → List ℕ
@@ -191,7 +179,7 @@ count_line before name number = before ++ named_number name number ++ codes "\n"
 
 -- `watch ADDRESS WORD`
 unfoldable pub watch_line : List ℕ → ℕ → ℕ → List ℕ
-watch_line before address word = before ++ codes "watch " ++ word_text address ++ codes " " ++ word_text word ++ codes "\n"
+watch_line before address word = before ++ codes "watch " ++ hex_word address ++ codes " " ++ hex_word word ++ codes "\n"
 
 -- `probe P PLACE VALUE`
 unfoldable pub probe_line : List ℕ → ℕ → ℕ → ℕ → List ℕ
@@ -205,11 +193,11 @@ flag_text sc_done = if sc_done then codes "1" else codes "0"
 -- ` BB` where a byte was read
 abbrev pub read_text : Option ℕ → List ℕ
 read_text None = []
-read_text (Some byte) = codes " " ++ byte_text byte
+read_text (Some byte) = codes " " ++ hex_byte byte
 
 -- `CORE SEEN F` or `CORE SEEN F BB`
 abbrev pub record_text : Record → List ℕ
-record_text taken = decimal taken.core ++ codes " " ++ word_text taken.seen ++ codes " " ++ flag_text taken.sc_done ++ read_text taken.read
+record_text taken = decimal taken.core ++ codes " " ++ hex_word taken.seen ++ codes " " ++ flag_text taken.sc_done ++ read_text taken.read
 
 -- a record as a line of a trace
 unfoldable pub trace_line : Record → List ℕ

@@ -1,11 +1,13 @@
 //! The buffer that texts are written into, and their smallest parts.
 ghost use Rattle.std.specs.Prelude.{◌≡◌, ℕ, ◌+◌, ◌<◌, ◌≤◌, ◌^◌, ◌++◌, [], length, decimal, codes, IfOk};
-ghost use Rattle.sn_text.specs.Text.{word_text, byte_text, named_number, count_line, watch_line, probe_line, hex_digit};
+ghost use Rattle.text_lines.specs.Hex.{hex_byte, hex_word};
+ghost use Rattle.sn_text.specs.Text.{named_number, count_line, watch_line, probe_line};
 
 use itoa::Buffer;
 use sn_base::Memory;
 use std::alloc::Global;
 use std::marker::Model;
+use text_lines::{hex_byte, hex_word};
 
 /// The bytes that a line has room for: enough for the group of any one event, a recovery of 16 nodes among them.
 const ROOM: usize = 8192;
@@ -25,18 +27,6 @@ impl Model for Line {
     ghost view = { λ l. l.text.items };
 
     ghost invariant = { λ l. 8192 ≤ vec_capacity l.text };
-}
-
-/// A hexadecimal digit, in lower case.
-fn hex_digit(digit: u32) -> u8
-    requires { digit < 16 }
-    ensures { result ≡ hex_digit digit }
-{
-    if digit < 10 {
-        b'0' + digit as u8
-    } else {
-        b'a' - 10 + digit as u8
-    }
 }
 
 impl Line {
@@ -112,37 +102,25 @@ impl Line {
     }
 
     /// A byte as two hexadecimal digits.
-    #[tactic(auto, unfolding(crate::specs::Text::byte_text))]
+    #[tactic(auto, unfolding(text_lines::specs::Hex::hex_byte))]
     pub(crate) fn byte(&mut self, byte: u8)
         requires { length self.old + 2 ≤ 8192 }
-        ensures text { self.new ≡ self.old ++ byte_text byte }
+        ensures text { self.new ≡ self.old ++ hex_byte byte }
         ensures number { byte < 256 }
         ensures short { length self.new ≡ length self.old + 2 }
     {
-        let byte = u32::from(byte);
-        let digits = [hex_digit(byte / 16 % 16), hex_digit(byte % 16)];
-        self.text.extend_from_slice(&digits).unwrap();
+        self.text.extend_from_slice(&hex_byte(byte)).unwrap();
     }
 
     /// A word as eight hexadecimal digits.
-    #[tactic(auto, unfolding(crate::specs::Text::word_text))]
+    #[tactic(auto, unfolding(text_lines::specs::Hex::hex_word))]
     pub(crate) fn word(&mut self, word: u32)
         requires { length self.old + 8 ≤ 8192 }
-        ensures text { self.new ≡ self.old ++ word_text word }
+        ensures text { self.new ≡ self.old ++ hex_word word }
         ensures number { word < 2 ^ 32 }
         ensures short { length self.new ≡ length self.old + 8 }
     {
-        let digits = [
-            hex_digit(word / 0x1000_0000 % 16),
-            hex_digit(word / 0x100_0000 % 16),
-            hex_digit(word / 0x10_0000 % 16),
-            hex_digit(word / 0x1_0000 % 16),
-            hex_digit(word / 0x1000 % 16),
-            hex_digit(word / 0x100 % 16),
-            hex_digit(word / 0x10 % 16),
-            hex_digit(word % 16),
-        ];
-        self.text.extend_from_slice(&digits).unwrap();
+        self.text.extend_from_slice(&hex_word(word)).unwrap();
     }
 
     /// A line of a name and a number.

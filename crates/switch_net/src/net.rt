@@ -36,7 +36,8 @@ impl Model for Net {
 
     ghost view = { λ n. record { routes = n.routes; dead = n.dead; next = n.next; flights = n.messages } };
 
-    ghost invariant = { λ n. IsNet (record { routes = n.routes; dead = n.dead; next = n.next; flights = n.messages }) × (n.routes.nodes ≡ n.nodes) };
+    ghost invariant = { λ n. IsNet (record { routes = n.routes; dead = n.dead; next = n.next; flights = n.messages }) ×
+        (n.routes.nodes ≡ n.nodes) };
 }
 
 impl Net {

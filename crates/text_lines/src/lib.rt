@@ -1,4 +1,4 @@
-//! The lines of a text, one after another.
+//! The lines of a text, one after another, and numbers in hexadecimal digits.
 //!
 //! A line is ended by LF, or by CR and LF; the last may lack its end. So a text that ends with LF has an empty line after it,
 //! and an empty text has one empty line. A CR that no LF follows belongs to its line. The layer above sees the list of the
@@ -9,6 +9,9 @@ ghost use Rattle.std.specs.Prelude.{◌≡◌, ◌+◌, ◌≤◌, ◌∷◌, []
 ghost use Rattle.std.specs.List.{position};
 ghost use Rattle.text_lines.specs.Lines.{is_line_feed, without_return, lines_of};
 
+mod hex;
+
+pub use hex::{hex_byte, hex_word};
 use std::marker::Model;
 
 /// The lines of a text that are left. Contracts see the list of them, without their ends.

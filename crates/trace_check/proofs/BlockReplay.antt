@@ -1,5 +1,7 @@
 -- The accesses to the blocks of a part, one after the other.
-use Rattle.std.proofs.Common.{◌≡◌, ◌≢◌, ℕ, suc, ◌+◌, ◌-◌, ◌*◌, ◌/◌, ◌%◌, ◌<◌, ◌⊎◌, inl, inr, Bool, true, false, not, ◌&&◌, ◌||◌, cond, ◌==◌, is_some, Option, Some, None, List, [], take, drop, slice_get, get_or, refl, sym, ap, subst, ◌∙◌, arith}
+use Rattle.std.proofs.Common.{◌≡◌, ◌≢◌, ℕ, suc, ◌+◌, ◌-◌, ◌*◌, ◌/◌, ◌%◌, ◌<◌, ◌⊎◌, inl, inr, Bool, true, false, not, ◌&&◌, ◌||◌, cond}
+use Rattle.std.proofs.Common.{◌==◌, is_some, Option, Some, None, List, [], take, drop, slice_get, get_or, refl, sym, ap, subst, ◌∙◌}
+use Rattle.std.proofs.Common.{arith}
 use Rattle.std.specs.Prelude.{nat_eq, pred}
 use Rattle.std.proofs.lemmas.Bool.Decides.{nat_tests}
 use Rattle.std.proofs.lemmas.Bool.{cases_order}
@@ -17,7 +19,8 @@ use Rattle.rv_core.specs.Wanted.{wanted_address, writes_memory, IsInside, WriteF
 use Rattle.rv_core.specs.Flat.{flat_start, core_at}
 use Rattle.rv_core.proofs.CoreLaws.{want_bare, effect_bare, want_inside, write_fits}
 use Rattle.sn_consistency.specs.Words as words
-use Rattle.sn_consistency.specs.Words.{Content, kind, kind_of, address_of, block, place, block_word, reads, writes, content_after, write_block}
+use Rattle.sn_consistency.specs.Words.{Content, kind, kind_of, address_of, block, place, block_word, reads, writes, content_after}
+use Rattle.sn_consistency.specs.Words.{write_block}
 use Rattle.sn_consistency.specs.Entries.{Entry, wrote, writes_to}
 use Rattle.sn_consistency.specs.Projections.{BlockState, BlockLegal, block_step, block_of_state, entries, core_after}
 use Rattle.projection_places.specs.Passes.{Passes}

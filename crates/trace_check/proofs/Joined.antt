@@ -1,5 +1,6 @@
 -- From the cores' replays to what the records do.
-use Rattle.std.proofs.Common.{◌≡◌, ℕ, zero, suc, ◌<◌, ◌≤◌, ◌⊎◌, inl, inr, Bool, true, false, cond, ◌==◌, is_ok, Result, Ok, Err, List, [], ◌∷◌, take, length, get_or, slice_get, Some, refl, sym, ap, subst, ◌∙◌, arith}
+use Rattle.std.proofs.Common.{◌≡◌, ℕ, zero, suc, ◌<◌, ◌≤◌, ◌⊎◌, inl, inr, Bool, true, false, cond, ◌==◌, is_ok, Result, Ok, Err, List}
+use Rattle.std.proofs.Common.{[], ◌∷◌, take, length, get_or, slice_get, Some, refl, sym, ap, subst, ◌∙◌, arith}
 use Rattle.std.specs.Prelude.{IfOk}
 use Rattle.std.proofs.lemmas.Bool.Decides.{nat_tests}
 use Rattle.std.proofs.lemmas.Bool.{cases_order}
@@ -17,12 +18,12 @@ use Rattle.projection_places.specs.Passes.{Passes, CoresPass, BlocksPass}
 use Rattle.projection_places.proofs.Fronts.{core_fewer}
 use Rattle.projection_places.proofs.Least.{all_done, first_refused}
 use Rattle.sn_consistency.proofs.Start.{start_shows}
-use Rattle.trace_check.specs.Verdict.{IsDone}
+use Rattle.trace_check.specs.Verdict.{IsReplayedTo}
 use Rattle.trace_check.specs.declared.cores.Slot.{Slot}
 use Rattle.trace_check.specs.DeedData.{DeedData}
 use Rattle.trace_check.specs.Deeds.{deed_of, core_deeds}
 use Rattle.trace_check.specs.Tags.{AreKept, IsKeptAt, tag_by}
-use Rattle.trace_check.specs.Slots.{AreReplayed, AreInside, IsPassed, HasRoom, HasDeeds, HasTag, access_place, own_before}
+use Rattle.trace_check.specs.Slots.{AreReplayed, AreInside, IsPassed, HasSlots, HasDeeds, HasTag, access_place, own_before}
 use Rattle.trace_check.specs.Parts.{AreFitting, IsFitting}
 use Rattle.trace_check.proofs.CorePlaces.{core_of, inside_fewer, inside_from}
 use Rattle.trace_check.proofs.Tagged.{access_tag, kept_at, some_same}
@@ -107,7 +108,7 @@ module _
         let c = access_tag parts deed.want (subst (λ x. 0 < x) i g) in
         (c, a.access c)
 
-  pub has_room : HasRoom slots rs q
+  pub has_room : HasSlots slots rs q
   has_room = record {
     inside = λ k r l e. let h = inside k r l e in let c = replayed.count in omega (arith, h, c);
     room = λ k r d l e. slice_get_within (get_or slots r.core d).deeds.tags.items (own_before rs r.core k) _ (kept_there k r l e d).tag;
@@ -130,7 +131,7 @@ if_ok (Ok a) P Q f h = f a h
 if_ok (Err e) P Q f h = h
 
 pub is_done : (image : ImageData) (N : ℕ) (rs : List Record) (q p : ℕ) → Passes (CoresPass image N (flat_start image N) rs) (length rs) q →
-    Passes (BlocksPass image (flat_start image N) rs) q p → IsDone image N rs p
+    Passes (BlocksPass image (flat_start image N) rs) q p → IsReplayedTo image N rs p
 is_done image N rs q p cores blocks = record {
   within = let a = cores.within in let b = blocks.within in omega (arith, a, b);
   all = all_done image N (flat_start image N) (start_shows image N) rs q p cores blocks;

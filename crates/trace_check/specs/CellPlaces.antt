@@ -1,10 +1,11 @@
 -- Where the cells of blocks are kept.
-use Rattle.std.specs.Prelude.{◌≡◌, ◌≢◌, ℕ, suc, ◌+◌, ◌*◌, ◌↔◌, Bool, true, false, IsTrue, if◌then◌else◌, ◌==◌, [], length, get_or, replicate}
+use Rattle.std.specs.Prelude.{◌≡◌, ◌≢◌, ℕ, suc, ◌+◌, ◌*◌, ◌↔◌, Bool, true, false, IsTrue, if◌then◌else◌, ◌==◌, [], length, get_or}
+use Rattle.std.specs.Prelude.{replicate}
 use Rattle.sn_base.specs.Blocks.{ram_start}
 use Rattle.sn_base.specs.Image.{ImageData, bytes_from}
 use Rattle.rv_core.specs.declared.step.Record.{Record}
 use Rattle.trace_check.specs.declared.cell.Cell.{Cell}
-use Rattle.trace_check.specs.declared.cells.Kept.{Kept}
+use Rattle.trace_check.specs.declared.cells.BlockCell.{BlockCell}
 use Rattle.trace_check.specs.declared.cells.Cells.{Cells}
 use Rattle.trace_check.specs.Cells.{Finds, IsAfter}
 use Rattle.trace_check.specs.DeedData.{DeedData}
@@ -15,11 +16,11 @@ abbrev pub first_cell : ImageData → ℕ → Cell
 first_cell image block = record { content = bytes_from 64 image.segments (ram_start + 64 * block); intact = replicate 16 false }
 
 -- what is at a place that there is not: a cell of another block
-abbrev pub missing : ℕ → Kept
+abbrev pub missing : ℕ → BlockCell
 missing block = record { block = suc block; cell = record { content = []; intact = [] } }
 
 -- a block's cell by what is at its place
-abbrev pub cell_by : ImageData → ℕ → Kept → Cell
+abbrev pub cell_by : ImageData → ℕ → BlockCell → Cell
 cell_by image block kept = if kept.block == block then kept.cell else first_cell image block
 
 -- a block's cell: the one that is kept for it, or that at the start

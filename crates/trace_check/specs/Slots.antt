@@ -55,7 +55,7 @@ abbrev pub access_place : List Record → ℕ → Record → Slot → ℕ
 access_place rs k r slot = accesses_before slot.deeds (own_before rs r.core k)
 
 -- each record's core has a slot, with a tag for the record, and with what it does if it is an access
-pub record HasRoom (slots : List Slot) (rs : List Record) (count : ℕ) : Type 0 where
+pub record HasSlots (slots : List Slot) (rs : List Record) (count : ℕ) : Type 0 where
   pub inside : (k : ℕ) (r : Record) → k < count → slice_get rs k ≡ Some r → r.core < length slots
   pub room : (k : ℕ) (r : Record) (d : Slot) → k < count → slice_get rs k ≡ Some r →
       own_before rs r.core k < length (get_or slots r.core d).deeds.tags.items

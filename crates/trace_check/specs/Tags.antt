@@ -1,5 +1,6 @@
 -- How what a core does is kept: a tag for each of its records, and what the accesses among them do.
-use Rattle.std.specs.Prelude.{◌≡◌, ℕ, zero, suc, ◌%◌, Bool, true, false, if◌then◌else◌, List, [], map, filter, take, length, slice_get, Some}
+use Rattle.std.specs.Prelude.{◌≡◌, ℕ, zero, suc, ◌%◌, Bool, true, false, if◌then◌else◌, List, [], map, filter, take, length, slice_get}
+use Rattle.std.specs.Prelude.{Some}
 use Rattle.rv_core.specs.declared.step.Want.{Want}
 use Rattle.rv_core.specs.Core.{block_of, is_access}
 use Rattle.rv_core.specs.Wanted.{wanted_address}

@@ -15,7 +15,7 @@ IsDecided (Err (NotLegal place)) = ⊤
 IsDecided (Err Memory) = ⊥
 
 -- the flat machine does so many of the records: all, or those before the first that has no step
-pub record IsDone (image : ImageData) (N : ℕ) (rs : List Record) (done : ℕ) : Type 0 where
+pub record IsReplayedTo (image : ImageData) (N : ℕ) (rs : List Record) (done : ℕ) : Type 0 where
   pub within : done ≤ length rs
   pub all : done ≡ length rs → IsExecution image N rs
   pub some : done < length rs → FirstWithoutStep image (flat_start image N) rs done

@@ -3,7 +3,7 @@ ghost use Rattle.std.specs.Prelude.{◌≡◌, ◌<◌, ◌≤◌, true, [], len
 ghost use Rattle.rv_core.specs.Core.{is_access};
 ghost use Rattle.trace_check.specs.CellPlaces.{IsWide, IsReplay};
 ghost use Rattle.trace_check.specs.Parts.{IsFitting, AreFitting, HasPassed};
-ghost use Rattle.trace_check.specs.Slots.{HasRoom};
+ghost use Rattle.trace_check.specs.Slots.{HasSlots};
 
 use crate::cells::Cells;
 use crate::cores::Slot;
@@ -24,7 +24,7 @@ pub fn replay_part(
 ) -> Result<usize, Memory>
     requires some { 0 < part.count }
     requires within { count ≤ length records.now }
-    requires room { HasRoom slots.now records.now count }
+    requires room { HasSlots slots.now records.now count }
     requires fits { AreFitting records.now count slots.now }
     ensures { HasPassed image.now part.count part.number records.now count slots.now result }
 {
@@ -43,7 +43,7 @@ fn replay_deeds(
 ) -> Result<usize, Memory>
     requires some { 0 < part.count }
     requires within { count ≤ length records.now }
-    requires room { HasRoom slots.now records.now count }
+    requires room { HasSlots slots.now records.now count }
     requires fits { AreFitting records.now count slots.now }
     requires wide { IsWide cells.old }
     requires none { cells.old.kept.items ≡ [] }

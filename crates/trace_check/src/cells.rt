@@ -12,7 +12,7 @@ use std::alloc::Global;
 
 /// A cell, and the block that it is of.
 #[derive(Drop)]
-pub struct Kept {
+pub struct BlockCell {
     pub block: BlockNo,
     pub cell: Cell,
 }
@@ -25,7 +25,7 @@ pub struct Kept {
 #[derive(Drop)]
 pub struct Cells {
     pub places: Vec<u16>,
-    pub kept: Vec<Kept>,
+    pub kept: Vec<BlockCell>,
 }
 
 impl Cells {
@@ -52,7 +52,8 @@ impl Cells {
         requires fits { IsFitting deed.now taken.now }
         ensures wide { IsWide self.new }
         ensures finds { IfOk result (λ found. IsTrue found ↔ Finds (cell_at image.now self.old block) deed.now.want taken.now) }
-        ensures after { IfOk result (λ found. found ≡ true → IsAfter (cell_at image.now self.old block) deed.now taken.now (cell_at image.now self.new block)) }
+        ensures after { IfOk result (λ found. found ≡ true →
+            IsAfter (cell_at image.now self.old block) deed.now taken.now (cell_at image.now self.new block)) }
         ensures others { IfOk result (λ found. (b : ℕ) → b ≢ block → cell_at image.now self.new b ≡ cell_at image.now self.old b) }
     {
         let place = self.place_of(image, block)?;
@@ -89,7 +90,7 @@ impl Cells {
         let Ok(place) = u16::try_from(self.kept.len()) else {
             return Err(Memory);
         };
-        self.kept.push(Kept {
+        self.kept.push(BlockCell {
             block,
             cell: start(image, block),
         })?;

@@ -1,5 +1,6 @@
 //! One core's records, replayed by themselves, up to the first record of a core that isn't there.
-ghost use Rattle.std.specs.Prelude.{◌≡◌, ℕ, ◌<◌, ◌≤◌, ◌↔◌, ◌++◌, [], ◌∷◌, List, true, false, is_some, length, take, IfOk, IfSome, IsSome, IsTrue};
+ghost use Rattle.std.specs.Prelude.{◌≡◌, ℕ, ◌<◌, ◌≤◌, ◌↔◌, ◌++◌, [], ◌∷◌, List, true, false, is_some, length, take, IfOk, IfSome};
+ghost use Rattle.std.specs.Prelude.{IsSome, IsTrue};
 ghost use Rattle.sn_base.specs.Image.{fetched};
 ghost use Rattle.rv_decode.specs.Table.{instr_fits};
 ghost use Rattle.rv_core.specs.Core.{start_of, is_running, is_input, holds_reservation};
@@ -65,7 +66,8 @@ fn replay_record(
     requires inside { core < nodes }
     requires parts { 0 < parts }
     requires few { parts ≤ 16 }
-    ensures good { IfOk result (λ good. IsTrue good ↔ ((taken.now.core < nodes) × (core ≡ taken.now.core → Replays image.now nodes state.old taken.now))) }
+    ensures good { IfOk result (λ good. IsTrue good ↔ ((taken.now.core < nodes) × (core ≡ taken.now.core →
+        Replays image.now nodes state.old taken.now))) }
     ensures state { IfOk result (λ good. good ≡ true → state.new ≡ core_step image.now core state.old taken.now) }
     ensures deeds { IfOk result (λ good. good ≡ true → (did : List DeedData) → AreKept parts did deeds.old →
         AreKept parts (did ++ core_deeds image.now core state.old (taken.now ∷ [])) deeds.new) }

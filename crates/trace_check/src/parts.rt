@@ -4,7 +4,7 @@ ghost use Rattle.sn_base.specs.declared.memory.Memory.{Memory};
 ghost use Rattle.rv_core.specs.Flat.{flat_start};
 ghost use Rattle.projection_places.specs.Passes.{Passes, BlocksPass};
 ghost use Rattle.trace_check.specs.Parts.{AreFitting, HasPassed};
-ghost use Rattle.trace_check.specs.Slots.{HasRoom, HasDeeds};
+ghost use Rattle.trace_check.specs.Slots.{HasSlots, HasDeeds};
 
 use crate::blocks::replay_part;
 use crate::cores::Slot;
@@ -38,7 +38,7 @@ pub fn replay_blocks<T: Threads + Sync>(
     requires some { 0 < parts }
     requires few { parts ≤ 16 }
     requires within { count ≤ length records.now }
-    requires room { HasRoom slots.now records.now count }
+    requires room { HasSlots slots.now records.now count }
     requires fits { AreFitting records.now count slots.now }
     ensures { IfOk result (λ p. (nodes : ℕ) → HasDeeds image.now nodes parts records.now count slots.now →
         Passes (BlocksPass image.now (flat_start image.now nodes) records.now) count p) }
@@ -70,7 +70,7 @@ fn replay_parts<T: Threads + Sync>(
     requires some { 0 < length passed.old }
     requires few { length passed.old ≤ 16 }
     requires within { count ≤ length records.now }
-    requires room { HasRoom slots.now records.now count }
+    requires room { HasSlots slots.now records.now count }
     requires fits { AreFitting records.now count slots.now }
     ensures size { length passed.new ≡ length passed.old }
     ensures each { (part : ℕ) (d : Result ℕ Memory) → part < length passed.old →
@@ -81,7 +81,8 @@ fn replay_parts<T: Threads + Sync>(
         rt,
         passed,
         |number: usize, passed: &mut Result<usize, Memory>|
-            requires { (number < 16) × (0 < parts) × (count ≤ length records.now) × HasRoom slots.now records.now count × AreFitting records.now count slots.now }
+            requires { (number < 16) × (0 < parts) × (count ≤ length records.now) × HasSlots slots.now records.now count ×
+                AreFitting records.now count slots.now }
             ensures { HasPassed image.entry.now parts number records.entry.now count slots.entry.now passed.new }
         {
             let part = Part {

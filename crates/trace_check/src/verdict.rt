@@ -4,7 +4,7 @@ ghost use Rattle.rv_core.specs.Flat.{flat_start};
 ghost use Rattle.rv_core.specs.Execution.{IsExecution};
 ghost use Rattle.sn_consistency.specs.Projections.{FirstWithoutStep};
 ghost use Rattle.trace_check.specs.Slots.{AreFresh};
-ghost use Rattle.trace_check.specs.Verdict.{IsDecided, IsDone};
+ghost use Rattle.trace_check.specs.Verdict.{IsDecided, IsReplayedTo};
 ghost use Rattle.trace_check.specs.declared.verdict.CheckFault.TheVariants.{NotLegal};
 
 use crate::cores::{Slot, count_passed, fresh_slots, replay_cores};
@@ -60,7 +60,7 @@ fn count_done<T: Threads + Sync, G: Gate + Sync>(
 ) -> Result<usize, Memory>
     requires some { 1 ≤ nodes }
     requires few { nodes ≤ 16 }
-    ensures { IfOk result (λ done. IsDone image.now nodes records.now done) }
+    ensures { IfOk result (λ done. IsReplayedTo image.now nodes records.now done) }
 {
     // To count each core's records would be a walk over all of them in one thread. Room that isn't used takes no memory.
     let even = records.len() / usize::from(nodes);
@@ -80,7 +80,7 @@ fn count_in_slots<T: Threads + Sync, G: Gate + Sync>(
 ) -> Result<usize, Memory>
     requires some { 1 ≤ nodes }
     requires fresh { AreFresh nodes slots.old }
-    ensures { IfOk result (λ done. IsDone image.now nodes records.now done) }
+    ensures { IfOk result (λ done. IsReplayedTo image.now nodes records.now done) }
 {
     let parts = part_count(rt);
     replay_cores(rt, alloc, image, nodes, parts, records, gate, slots);

@@ -1,43 +1,17 @@
 //! The commands, each with all that it puts.
 use super::Command;
 use super::Outside::{Console, Report};
+use calls_in_memory::{
+    ADDED, COUNTER, COUNTS, ECHOES, LATE_BYTE, LOOPS, PUTS_A, UNSEEN, VALIDATED,
+};
 use safetynet_main::Status;
-
-/// Puts `A` and ends with code 65.
-const PUTS_A: &str = "04100513\n00100893\n00000073\n05d00893\n00000073\n";
-
-/// Each core adds 1 to the word at 0x80001000 and ends.
-const COUNTS: &str = "800012b7\n00100313\n0062a3af\n05d00893\n00000073\n";
-
-/// Takes a byte of input, puts it, and ends.
-const ECHOES: &str = "00200893\n00000073\n00100893\n00000073\n05d00893\n00000073\n";
-
-/// Jumps to itself.
-const LOOPS: &str = "0000006f\n";
-
-const VALIDATED: &str = "step 0\nstep 0\nstep 0\nedge 0\nreport 0\ndeliver 1\nvalidate\n";
 
 /// A recovery undoes a request that stands at its receiver.
 const RECOVERED: &str = "step 0\nstep 1\nstep 1\nstep 1\nhop 1\nrecover\nedge 0\n";
 
-/// The byte is given late, and a recovery makes the core read it twice.
-const GIVEN: &str = "\
-step 0\nstep 0\ninput 0 41\nstep 0\nstep 0\nstep 0\nrecover\n\
-step 0\nstep 0\nstep 0\nstep 0\nedge 0\nreport 0\ndeliver 1\nvalidate\n";
-
-/// Both cores have added, and the second has seen what the first added.
-const ADDED: &str =
-    "0 00000000 0\n0 00000000 0\n0 00000000 0\n1 00000000 0\n1 00000000 0\n1 00000001 0\n";
-
-/// The second core hasn't seen it.
-const UNSEEN: &str =
-    "0 00000000 0\n0 00000000 0\n0 00000000 0\n1 00000000 0\n1 00000000 0\n1 00000000 0\n";
-
-const COUNTER: &str = "loop:\naddi t0, t0, 1\njal zero, loop\n";
-
 pub const COMMANDS: [Command; 11] = [
     Command {
-        words: "safetynet replay --nodes 1 a b",
+        words: "safetynet replay --nodes 1 a.hex a.script",
         program: PUTS_A,
         script: VALIDATED,
         fetches: 2,
@@ -78,7 +52,7 @@ core 0 8000000c running x10=00000041 x17=00000001
         report: 8,
     },
     Command {
-        words: "safetynet replay a --nodes=2 --watch=80001000 b",
+        words: "safetynet replay a.hex --nodes=2 --watch=80001000 a.script",
         program: COUNTS,
         script: RECOVERED,
         fetches: 2,
@@ -122,9 +96,9 @@ watch 80001000 00000000
         report: 8,
     },
     Command {
-        words: "safetynet replay --nodes 1 --trace --log 4 --sets 1 --ways 1 a b",
+        words: "safetynet replay --nodes 1 --trace --log 4 --sets 1 --ways 1 a.hex a.script",
         program: ECHOES,
-        script: GIVEN,
+        script: LATE_BYTE,
         fetches: 2,
         status: Status::Done,
         pieces: &[
@@ -148,7 +122,7 @@ watch 80001000 00000000
         report: 5,
     },
     Command {
-        words: "safetynet check --nodes 2 a b",
+        words: "safetynet check --nodes 2 a.hex a.script",
         program: COUNTS,
         script: ADDED,
         fetches: 2,
@@ -158,7 +132,7 @@ watch 80001000 00000000
         report: 1,
     },
     Command {
-        words: "safetynet check a b --nodes=2",
+        words: "safetynet check a.hex a.script --nodes=2",
         program: COUNTS,
         script: UNSEEN,
         fetches: 2,
@@ -168,7 +142,7 @@ watch 80001000 00000000
         report: 1,
     },
     Command {
-        words: "safetynet asm a",
+        words: "safetynet asm a.hex",
         program: COUNTER,
         script: "",
         fetches: 1,
@@ -184,7 +158,7 @@ ffdff06f
         report: 0,
     },
     Command {
-        words: "safetynet dis a",
+        words: "safetynet dis a.hex",
         program: PUTS_A,
         script: "",
         fetches: 1,
@@ -226,7 +200,7 @@ core 3 80000000 running x10=00000003
         report: 1,
     },
     Command {
-        words: "safetynet run --nodes 1 a",
+        words: "safetynet run --nodes 1 a.hex",
         program: PUTS_A,
         script: "",
         fetches: 1,
@@ -248,7 +222,7 @@ core 0 80000010 exited 65 x10=00000041 x17=0000005d
         report: 1,
     },
     Command {
-        words: "safetynet run --nodes 1 --trace a",
+        words: "safetynet run --nodes 1 --trace a.hex",
         program: PUTS_A,
         script: "",
         fetches: 1,
@@ -275,7 +249,7 @@ core 0 80000010 exited 65 x10=00000041 x17=0000005d
         report: 6,
     },
     Command {
-        words: "safetynet run --nodes 1 --budget 3 --journal a",
+        words: "safetynet run --nodes 1 --budget 3 --journal a.hex",
         program: LOOPS,
         script: "",
         fetches: 1,

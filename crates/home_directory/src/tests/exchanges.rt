@@ -144,7 +144,7 @@ const LATE_PUT: Exchange = Exchange {
             TAKES_0,
             UNBLOCKS_0,
             MOVES_1,
-            Act::Takes((0, 64, 0, 0, Says::PutReq, Does::Waits)),
+            Act::Takes((0, 64, 0, 0, Says::PutReq, Does::IsBusy)),
             UNBLOCKS_1,
             Act::Takes((
                 0,

@@ -2,7 +2,7 @@
 ghost use Rattle.std.specs.Prelude.{◌≡◌, []};
 
 use super::{Answer, Does, Says, answer_of, body_of, content, has_row, node, owner_of, set_of};
-use crate::entry::{Entry, Transaction};
+use crate::entry::{DirectoryEntry, Transaction};
 use crate::receive;
 use log_buffer::LogBuffer;
 use sn_base::{BlockNo, Entries, Interval, Memory, NodeId, Old};
@@ -173,7 +173,7 @@ const GIVES_BACK: Case = Case {
 const READ_WAITS: Case = Case {
     before: (Some(2), &[], Some((Kind::Take, 2, 3))),
     says: Says::GetS,
-    does: Does::Waits,
+    does: Does::IsBusy,
     after: (Some(2), &[], Some((Kind::Take, 2, 3))),
     content: 7,
     noted: None,
@@ -237,7 +237,7 @@ fn open_of(rt: &impl Abort, open: Option<(Kind, u8, Interval)>) -> Option<Transa
 }
 
 /// What a look says and what is done in interval 5, with an empty log. None where the message has no row.
-fn deliver(entry: &mut Entry, message: &Message, log: &mut LogBuffer) -> Option<Answer>
+fn deliver(entry: &mut DirectoryEntry, message: &Message, log: &mut LogBuffer) -> Option<Answer>
     requires { log.old.entries ≡ [] }
 {
     if !has_row(entry, message) {
@@ -262,7 +262,7 @@ fn holds_just(rt: &impl Abort, log: &LogBuffer, noted: Option<(Interval, Noted)>
         && log.old_at(true, block, interval).copied() == Some(old)
 }
 
-fn is_left(rt: &impl Abort, entry: &Entry, case: &Case) -> bool {
+fn is_left(rt: &impl Abort, entry: &DirectoryEntry, case: &Case) -> bool {
     let after = &case.after;
     entry.owner == owner_of(rt, after.0)
         && entry.sharers == set_of(rt, after.1)
@@ -284,7 +284,7 @@ fn sent_by(from: NodeId, body: Body) -> Message {
 /// Does the message of a case with a log of this room, and says whether all is as the case has it.
 fn is_met(rt: &impl Abort, alloc: Global, room: u16, case: &Case) -> Result<bool, Memory> {
     let mut log = LogBuffer::new(alloc, room)?;
-    let mut entry = Entry {
+    let mut entry = DirectoryEntry {
         owner: owner_of(rt, case.before.0),
         memory: content(7),
         sharers: set_of(rt, case.before.1),

@@ -7,7 +7,7 @@ ghost use Rattle.sn_model.specs.CacheRows.{forward_read, forward_write, invalida
 ghost use Rattle.sn_model.specs.CacheRows.{acknowledge, put_go, put_done, data_exclusive, completed_or_waiting, MayForward, MayTakeCopy};
 ghost use Rattle.sn_model.specs.CacheRows.{MayTakeOwnership, MayUpgrade, MayCount, MayGiveBack, MayClosePut};
 ghost use Rattle.mosi_cache.specs.Controller.{logged};
-ghost use Rattle.mosi_cache.specs.Rows.{IsDone};
+ghost use Rattle.mosi_cache.specs.Rows.{IsRowDone};
 
 use super::Cache;
 use crate::step::CacheStep;
@@ -26,7 +26,7 @@ impl Cache {
     /// A request to read for requester r of a block that is owned here: the line becomes Owned, and the content goes to r.
     pub(super) fn forward_read(&mut self, block: BlockNo, requester: NodeId) -> CacheStep
         requires { MayForward (logged self.old []) block }
-        ensures { (entries : List LogEntry) → IsDone self.old self.new result (forward_read (logged self.old entries) block requester) }
+        ensures { (entries : List LogEntry) → IsRowDone self.old self.new result (forward_read (logged self.old entries) block requester) }
     {
         let content = self.lines.content(block);
         self.lines.put(block, LineState::Owned, content);
@@ -47,7 +47,7 @@ impl Cache {
         requires room { has_entry log.old.entries now false block ≡ false → length log.old.entries < log.old.limit }
         requires last { logged_to log.old.entries false block ≤ now + 1 }
         ensures done { (entries : List LogEntry) →
-            IsDone self.old self.new result (forward_write (logged self.old entries) block now requester due) }
+            IsRowDone self.old self.new result (forward_write (logged self.old entries) block now requester due) }
         ensures log { log.new ≡
             record log.old { entries = noted log.old.entries now block (Old.Owned (line_of self.old.cache block).content) } }
     {
@@ -59,7 +59,7 @@ impl Cache {
 
     /// An invalidation for requester r: the copy is lost, where there is one, and r gets the acknowledgement.
     pub(super) fn invalidate(&mut self, block: BlockNo, requester: NodeId) -> CacheStep
-        ensures { (entries : List LogEntry) → IsDone self.old self.new result (invalidate (logged self.old entries) block requester) }
+        ensures { (entries : List LogEntry) → IsRowDone self.old self.new result (invalidate (logged self.old entries) block requester) }
     {
         let had_copy = self.lines.find(block).is_some();
         self.lines.remove(block);
@@ -71,7 +71,7 @@ impl Cache {
     pub(super) fn data_shared(&mut self, block: BlockNo, tag: Interval, content: Block) -> CacheStep
         requires { MayTakeCopy (logged self.old []) block }
         ensures { (entries : List LogEntry) →
-            IsDone self.old self.new result (data_shared (logged self.old entries) (block % self.old.nodes) block tag content) }
+            IsRowDone self.old self.new result (data_shared (logged self.old entries) (block % self.old.nodes) block tag content) }
     {
         self.lines.put(block, LineState::Shared, content);
         let _ = self.transactions.answer(tag, 0);
@@ -92,7 +92,7 @@ impl Cache {
         requires room { has_entry log.old.entries tag false block ≡ false → length log.old.entries < log.old.limit }
         requires last { logged_to log.old.entries false block ≤ tag + 1 }
         ensures done { (entries : List LogEntry) →
-            IsDone self.old self.new result (data_modified (logged self.old entries) (block % self.old.nodes) block tag content due) }
+            IsRowDone self.old self.new result (data_modified (logged self.old entries) (block % self.old.nodes) block tag content due) }
         ensures log { log.new ≡ record log.old { entries = noted log.old.entries tag block Old.NotOwned } }
     {
         log.note(tag, block, Old::NotOwned);
@@ -106,7 +106,7 @@ impl Cache {
     pub(super) fn upgrade_granted(&mut self, block: BlockNo, tag: Interval, due: u8) -> CacheStep
         requires { MayUpgrade (logged self.old []) block }
         ensures { (entries : List LogEntry) →
-            IsDone self.old self.new result (upgrade_granted (logged self.old entries) (block % self.old.nodes) tag due) }
+            IsRowDone self.old self.new result (upgrade_granted (logged self.old entries) (block % self.old.nodes) tag due) }
     {
         let _ = self.transactions.answer(tag, due);
         self.complete_or_wait(block)
@@ -116,7 +116,7 @@ impl Cache {
     pub(super) fn acknowledge(&mut self, block: BlockNo) -> CacheStep
         requires { MayCount self.old.cache.miss block }
         ensures { (entries : List LogEntry) →
-            IsDone self.old self.new result (acknowledge (logged self.old entries) (block % self.old.nodes)) }
+            IsRowDone self.old self.new result (acknowledge (logged self.old entries) (block % self.old.nodes)) }
     {
         let _ = self.transactions.ack();
         self.complete_or_wait(block)
@@ -129,7 +129,7 @@ impl Cache {
         requires room { has_entry log.old.entries now false block ≡ false → length log.old.entries < log.old.limit }
         requires last { logged_to log.old.entries false block ≤ now + 1 }
         ensures done { (entries : List LogEntry) →
-            IsDone self.old self.new result (put_go (logged self.old entries) (block % self.old.nodes) block now) }
+            IsRowDone self.old self.new result (put_go (logged self.old entries) (block % self.old.nodes) block now) }
         ensures log { log.new ≡
             record log.old { entries = noted log.old.entries now block (Old.Owned (line_of self.old.cache block).content) } }
     {
@@ -143,7 +143,7 @@ impl Cache {
     /// The block isn't owned here any more, so that there is nothing to give up: the put is closed.
     pub(super) fn put_done(&mut self, block: BlockNo) -> CacheStep
         requires { MayClosePut (logged self.old []) block }
-        ensures { (entries : List LogEntry) → IsDone self.old self.new result (put_done (logged self.old entries)) }
+        ensures { (entries : List LogEntry) → IsRowDone self.old self.new result (put_done (logged self.old entries)) }
     {
         self.transactions.close_put();
         CacheStep::Took(None, None)
@@ -162,7 +162,7 @@ impl Cache {
         requires room { has_entry log.old.entries tag false block ≡ false → length log.old.entries < log.old.limit }
         requires last { logged_to log.old.entries false block ≤ tag + 1 }
         ensures done { (entries : List LogEntry) →
-            IsDone self.old self.new result (data_exclusive (logged self.old entries) (block % self.old.nodes) block tag content) }
+            IsRowDone self.old self.new result (data_exclusive (logged self.old entries) (block % self.old.nodes) block tag content) }
         ensures log { log.new ≡ record log.old { entries = noted log.old.entries tag block Old.NotOwned } }
     {
         log.note(tag, block, Old::NotOwned);
@@ -176,7 +176,8 @@ impl Cache {
     fn complete_or_wait(&mut self, block: BlockNo) -> CacheStep
         requires { IfSome self.old.cache.miss (λ m. m.block ≡ block) }
         ensures { (entries : List LogEntry) →
-            IsDone self.old self.new result (completed_or_waiting (logged self.old entries) (block % self.old.nodes) self.old.cache.miss) }
+            IsRowDone self.old self.new result
+            (completed_or_waiting (logged self.old entries) (block % self.old.nodes) self.old.cache.miss) }
     {
         let Some(miss) = self.transactions.miss() else {
             return CacheStep::Took(None, None);

@@ -1,16 +1,9 @@
 //! Traces that are judged.
-use super::{COUNTS, Case, ECHOES, Faults, NO_FAULT, each_is_left};
+use super::{Case, each_is_left};
+use calls_in_memory::{ADDED, COUNTS, ECHOES, Faults, NO_FAULT, UNSEEN};
 use safetynet_main::Status;
 use sn_text::ScriptCause;
 use std::test::Fail;
-
-/// Both cores have added, and the second has seen what the first added.
-const ADDED: &str = "\
-0 00000000 0\n0 00000000 0\n0 00000000 0\n1 00000000 0\n1 00000000 0\n1 00000001 0\n";
-
-/// The second core hasn't seen it.
-const UNSEEN: &str = "\
-0 00000000 0\n0 00000000 0\n0 00000000 0\n1 00000000 0\n1 00000000 0\n1 00000000 0\n";
 
 const UNREAD: &str = "0 00000000 0\n0 00000000 0\n0 00000000 0\n0 00000000 0\n";
 

@@ -1,12 +1,8 @@
 //! Replays: what they put, what their options show, and what is there where a sink fails.
-use super::{Case, ECHOES, Faults, NO_FAULT, PUTS_A, VALIDATED, WORDS, call, each_is_left};
+use super::{Case, each_is_left, leaves};
+use calls_in_memory::{ECHOES, Faults, Given, LATE_BYTE, NO_FAULT, PUTS_A, VALIDATED, WORDS};
 use safetynet_main::Status;
 use std::test::Fail;
-
-/// The byte is given late, and a recovery makes the core read it twice.
-const GIVEN: &str = "\
-step 0\nstep 0\ninput 0 41\nstep 0\nstep 0\nstep 0\nrecover\n\
-step 0\nstep 0\nstep 0\nstep 0\nedge 0\nreport 0\ndeliver 1\nvalidate\n";
 
 const RECOVERED: &str = "step 0\nstep 0\nstep 0\nedge 0\nreport 0\nrecover\n";
 
@@ -55,7 +51,7 @@ core 0 80000000 running
 watch 80000000 04100513
 ";
 
-const GIVEN_TRACE: &str = "\
+const LATE_TRACE: &str = "\
 0 00000000 0
 0 00000000 0 41
 0 00000000 0
@@ -67,16 +63,19 @@ const GIVEN_TRACE: &str = "\
 # core 0 80000010 running x10=00000041 x17=00000001
 ";
 
+/// A byte is put and released.
+const RELEASED: Case = Case {
+    words: WORDS,
+    program: PUTS_A,
+    script: VALIDATED,
+    faults: NO_FAULT,
+    status: Status::Done,
+    console: "A",
+    report: VALIDATED_REPORT,
+};
+
 const SHOWN: [Case; 3] = [
-    Case {
-        words: WORDS,
-        program: PUTS_A,
-        script: VALIDATED,
-        faults: NO_FAULT,
-        status: Status::Done,
-        console: "A",
-        report: VALIDATED_REPORT,
-    },
+    RELEASED,
     Case {
         words: "safetynet replay a.hex --watch=80000000 --nodes=1 a.script",
         program: PUTS_A,
@@ -89,11 +88,11 @@ const SHOWN: [Case; 3] = [
     Case {
         words: "safetynet replay --nodes 1 --trace --log 4 --sets 1 --ways 1 a.hex a.script",
         program: ECHOES,
-        script: GIVEN,
+        script: LATE_BYTE,
         faults: NO_FAULT,
         status: Status::Done,
         console: "A",
-        report: GIVEN_TRACE,
+        report: LATE_TRACE,
     },
 ];
 
@@ -115,64 +114,61 @@ const FILE: [u8; 104] = [
 
 #[test]
 fn an_elf_file_is_run_as_its_words_are(rt: HostRuntime) -> Result<(), Fail> {
-    let script = VALIDATED.as_bytes();
-    let left = call(&rt, rt.alloc(), WORDS, &FILE, script, NO_FAULT)?;
-    assert!(rt; left.report.bytes() == VALIDATED_REPORT.as_bytes());
-    Ok(())
+    let given = Given {
+        words: WORDS,
+        program: &FILE,
+        script: VALIDATED.as_bytes(),
+        faults: NO_FAULT,
+    };
+    leaves(
+        &rt,
+        rt.alloc(),
+        &given,
+        &Status::Done,
+        "A",
+        VALIDATED_REPORT,
+    )
 }
 
 const BROKEN_OFF: [Case; 4] = [
     Case {
-        words: WORDS,
-        program: PUTS_A,
-        script: VALIDATED,
         faults: Faults {
             store: 1,
-            console: 0,
-            report: 0,
+            ..NO_FAULT
         },
         status: Status::StoreFault,
         console: "",
         report: "",
+        ..RELEASED
     },
     Case {
-        words: WORDS,
-        program: PUTS_A,
-        script: VALIDATED,
         faults: Faults {
-            store: 0,
             console: 1,
-            report: 0,
+            ..NO_FAULT
         },
         status: Status::SinkFault,
         console: "",
         report: VALIDATED_EVENTS,
+        ..RELEASED
     },
     Case {
-        words: WORDS,
-        program: PUTS_A,
-        script: VALIDATED,
         faults: Faults {
-            store: 0,
-            console: 0,
             report: 2,
+            ..NO_FAULT
         },
         status: Status::SinkFault,
         console: "",
         report: "1 step 0: retired\n",
+        ..RELEASED
     },
     Case {
-        words: WORDS,
-        program: PUTS_A,
-        script: VALIDATED,
         faults: Faults {
-            store: 0,
-            console: 0,
             report: 7,
+            ..NO_FAULT
         },
         status: Status::SinkFault,
-        console: "A",
         report: VALIDATED_EVENTS,
+        ..RELEASED
     },
 ];
 

@@ -1,12 +1,10 @@
 //! Runs by workers, on one node, where each is the same.
-use super::{Case, Faults, NO_FAULT, PUTS_A, call, each_is_left};
+use super::{Case, each_is_left, leaves};
+use calls_in_memory::{Faults, Given, LOOPS, NO_FAULT, PUTS_A};
 use rv_core::Cause;
 use safetynet_main::Status;
 use sn_base::NodeId;
 use std::test::Fail;
-
-/// Jumps to itself.
-const LOOPS: &str = "0000006f\n";
 
 /// No instruction.
 const TRAPS: &str = "00000000\n";
@@ -51,24 +49,22 @@ core 0 80000000 trapped illegal
 
 const RUN: &str = "safetynet run --nodes 1 a.hex";
 
+const SPENT_RUN: Case = Case {
+    words: "safetynet run --nodes 1 --budget 3 a.hex",
+    program: LOOPS,
+    script: "",
+    faults: NO_FAULT,
+    status: Status::Budget,
+    console: "",
+    report: SPENT_REPORT,
+};
+
 const SPENT: [Case; 2] = [
-    Case {
-        words: "safetynet run --nodes 1 --budget 3 a.hex",
-        program: LOOPS,
-        script: "",
-        faults: NO_FAULT,
-        status: Status::Budget,
-        console: "",
-        report: SPENT_REPORT,
-    },
+    SPENT_RUN,
     Case {
         words: "safetynet run --journal --nodes 1 --budget 3 a.hex",
-        program: LOOPS,
-        script: "",
-        faults: NO_FAULT,
-        status: Status::Budget,
-        console: "",
         report: SPENT_JOURNAL,
+        ..SPENT_RUN
     },
 ];
 
@@ -77,7 +73,7 @@ fn a_run_ends_with_its_budget(rt: HostRuntime) -> Result<(), Fail> {
     each_is_left(&rt, rt.alloc(), &SPENT)
 }
 
-const ENDED: [Case; 1] = [Case {
+const ENDED: Case = Case {
     words: RUN,
     program: PUTS_A,
     script: "",
@@ -85,37 +81,38 @@ const ENDED: [Case; 1] = [Case {
     status: Status::Done,
     console: "A",
     report: ENDED_REPORT,
-}];
+};
 
 #[test]
 fn a_run_ends_with_all_exits(rt: HostRuntime) -> Result<(), Fail> {
-    each_is_left(&rt, rt.alloc(), &ENDED)
+    each_is_left(&rt, rt.alloc(), &[ENDED])
 }
 
 #[test]
 fn a_run_ends_with_its_least_trap(rt: HostRuntime) -> Result<(), Fail> {
-    let first = NodeId::new(0).expect(&rt, "there is a node 0");
-    let left = call(&rt, rt.alloc(), RUN, TRAPS.as_bytes(), b"", NO_FAULT)?;
-    assert!(rt; left.status == Status::Trapped(first, Cause::Illegal));
-    assert!(rt; left.report.bytes() == TRAPPED_REPORT.as_bytes());
-    Ok(())
+    let first = NodeId::numbered(0);
+    let given = Given {
+        words: RUN,
+        program: TRAPS.as_bytes(),
+        script: b"",
+        faults: NO_FAULT,
+    };
+    let status = Status::Trapped(first, Cause::Illegal);
+    leaves(&rt, rt.alloc(), &given, &status, "", TRAPPED_REPORT)
 }
 
-const BROKEN_OFF: [Case; 1] = [Case {
-    words: RUN,
-    program: PUTS_A,
-    script: "",
+const BROKEN_OFF: Case = Case {
     faults: Faults {
-        store: 0,
         console: 1,
-        report: 0,
+        ..NO_FAULT
     },
     status: Status::SinkFault,
     console: "",
     report: "",
-}];
+    ..ENDED
+};
 
 #[test]
 fn a_run_whose_console_fails_reports_nothing(rt: HostRuntime) -> Result<(), Fail> {
-    each_is_left(&rt, rt.alloc(), &BROKEN_OFF)
+    each_is_left(&rt, rt.alloc(), &[BROKEN_OFF])
 }

@@ -58,7 +58,7 @@ fn a_status_has_its_number_and_word(rt: HostRuntime) {
 
 #[test]
 fn a_status_with_nodes_or_a_place_has_its_number_and_word(rt: HostRuntime) {
-    let first = NodeId::new(0).expect(&rt, "there is a node 0");
+    let first = NodeId::numbered(0);
     is_shown(&rt, Status::CutOff(first, first), 8, "cutoff");
     is_shown(&rt, Status::Refused(6), 9, "refused");
     is_shown(&rt, Status::Trapped(first, Cause::Illegal), 10, "trapped");

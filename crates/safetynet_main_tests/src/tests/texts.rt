@@ -1,5 +1,6 @@
 //! Commands that need no script: words from a text, a text from words, and a generated run.
-use super::{Case, NO_FAULT, PUTS_A, each_is_left};
+use super::{Case, each_is_left};
+use calls_in_memory::{COUNTER, NO_FAULT, PUTS_A};
 use safetynet_main::Status;
 use std::test::Fail;
 
@@ -13,8 +14,6 @@ core 1 80000000 running x10=00000001
 core 2 80000000 running x10=00000002
 core 3 80000000 running x10=00000003
 ";
-
-const COUNTER: &str = "loop:\naddi t0, t0, 1\njal zero, loop\n";
 
 const COUNTER_WORDS: &str = "00128293\nffdff06f\n";
 

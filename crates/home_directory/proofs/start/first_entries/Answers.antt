@@ -11,5 +11,5 @@ places-preserved c =
     c.in_ok-push.ensures.items
     ∙ ap (λ (es : List HomeEntry). es ++ c.first_entry-entry.result ∷ []) c.places.invariant
     ∙ ap (λ (e : HomeEntry). entries_below c.places.place c.args.image.now c.args.node c.args.nodes ++ e ∷ [])
-    (c.first_entry-entry.ensures ∙ ap (first_home c.args.image.now) c.block_of.ensures)
+    (c.first_entry-entry.ensures ∙ ap (first_home c.args.image.now) c.block_at_place.ensures)
     ∙ sym (entries_more c.places.place c.args.image.now c.args.node c.args.nodes)

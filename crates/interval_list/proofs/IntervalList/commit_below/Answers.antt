@@ -1,6 +1,6 @@
 use Rattle.std.proofs.Common.{◌≡◌, ◌∙◌, ◌+◌, ◌++◌, ap, length, length-append, arith, rules}
 use Rattle.std.proofs.lemmas.Fn.{filter_same}
-use Rattle.interval_list.specs.Waits.{waiting_from, entries_below}
+use Rattle.interval_list.specs.WaitingList.{waiting_from, entries_below}
 use Rattle.interval_list.proofs.Intervals.{left_fits}
 use Rattle.interval_list.proofs.IntervalList.commit_below.Goals as goal
 

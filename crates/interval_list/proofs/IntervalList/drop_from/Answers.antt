@@ -1,6 +1,6 @@
 use Rattle.std.proofs.Common.{◌≡◌, rules}
 use Rattle.std.proofs.lemmas.Fn.{filter_same}
-use Rattle.interval_list.specs.Waits.{waiting_below}
+use Rattle.interval_list.specs.WaitingList.{waiting_below}
 use Rattle.interval_list.proofs.IntervalList.drop_from.Goals as goal
 
 pub returns : goal.returns

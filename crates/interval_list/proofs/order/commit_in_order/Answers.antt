@@ -1,5 +1,5 @@
 use Rattle.std.proofs.Common.{ap, length, length-append, arith}
-use Rattle.interval_list.specs.Waits.{entries_below}
+use Rattle.interval_list.specs.WaitingList.{entries_below}
 use Rattle.interval_list.proofs.Intervals.{first_below, next_below, next_fits}
 use Rattle.interval_list.proofs.order.commit_in_order.Goals as goal
 

@@ -1,5 +1,5 @@
 use Rattle.std.proofs.Common.{◌≡◌, ◌≤◌, ◌-◌, ◌++◌, vec_capacity}
-use Rattle.interval_list.specs.Waits.{entries_below}
+use Rattle.interval_list.specs.WaitingList.{entries_below}
 use Rattle.interval_list.proofs.order.commit_in_order.Given as goal
 
 -- the entries of the intervals below this one are committed

@@ -1,5 +1,5 @@
 use Rattle.std.proofs.Common.{◌∙◌, ap, sym, arith}
-use Rattle.interval_list.specs.Waits.{Waiting}
+use Rattle.interval_list.specs.WaitingList.{Waiting}
 use Rattle.interval_list.proofs.Intervals.{one_fits}
 use Rattle.interval_list.proofs.order.commit_interval.Goals as goal
 

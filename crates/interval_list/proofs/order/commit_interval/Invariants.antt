@@ -1,5 +1,5 @@
 use Rattle.std.proofs.Common.{◌≡◌, ◌≤◌, ◌++◌, drop, vec_capacity}
-use Rattle.interval_list.specs.Waits.{entries_in}
+use Rattle.interval_list.specs.WaitingList.{entries_in}
 use Rattle.interval_list.proofs.order.commit_interval.Given as goal
 
 -- what is committed, with what is left of the interval, is all of it

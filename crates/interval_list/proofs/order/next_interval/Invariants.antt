@@ -1,5 +1,5 @@
 use Rattle.std.proofs.Common.{ℕ, ◌<◌, ◌≤◌, get_or}
-use Rattle.interval_list.specs.Waits.{Waiting}
+use Rattle.interval_list.specs.WaitingList.{Waiting}
 use Rattle.interval_list.proofs.order.next_interval.Given as goal
 
 -- no entry seen so far is of an interval between

@@ -16,7 +16,7 @@ nodes-preserved c = record {
   all = λ to l s n.
       rw c.from.ensures (elim (cases_eq to c.nodes.to) [
         | inl e ↦ rw (e, written c.nodes.tables c.distances_to.result c.nodes.to (omega arith))
-            (c.distances_to.ensures s n ∙ ap (λ t. distance (record { nodes = c.args.grid.now; dead = c.args.dead }) t s) c.node_of.ensures)
+            (c.distances_to.ensures s n ∙ ap (λ t. distance (record { nodes = c.args.grid.now; dead = c.args.dead }) t s) c.numbered.ensures)
         | inr d ↦ rw (kept c.nodes.tables c.distances_to.result c.nodes.to to d) (c.nodes.invariant.all to (omega arith) s n)
       ]);
 }

@@ -9,15 +9,15 @@ pub nodes-preserved : goal.nodes-preserved
 nodes-preserved c = record {
   net =
       tell-net c.args.net.now.routes c.nodes.net.routes (net_as c.args.net.now) (net_as c.nodes.net)
-      (net_as c.post.new.net) c.node_of-from.result c.args.tag c.new-block.result c.args.k c.nodes.number
-      (send c.node_of.result (Advance c.args.k)) c.nodes.invariant.routes c.nodes.invariant.net c.node_of-from.ensures c.new-block.ensures
-      (ap (λ t. send t (Advance c.args.k)) c.node_of.ensures) c.post.ensures.net;
+      (net_as c.post.new.net) c.numbered-from.result c.args.tag c.new-block.result c.args.k c.nodes.number
+      (send c.numbered.result (Advance c.args.k)) c.nodes.invariant.routes c.nodes.invariant.net c.numbered-from.ensures c.new-block.ensures
+      (ap (λ t. send t (Advance c.args.k)) c.numbered.ensures) c.post.ensures.net;
   routes = c.post.ensures.routes ∙ c.nodes.invariant.routes;
   sent =
       tell-sent c.args.net.now.routes c.nodes.net.routes (net_as c.args.net.now)
-      (net_as c.nodes.net) c.args.sent.now.items c.nodes.sent.items c.post.new.sent.items c.node_of-from.result c.args.tag c.new-block.result c.args.k c.nodes.number
-      (send c.node_of.result (Advance c.args.k)) c.nodes.invariant.routes c.nodes.invariant.net c.node_of-from.ensures c.new-block.ensures
-      (ap (λ t. send t (Advance c.args.k)) c.node_of.ensures) c.nodes.invariant.sent c.post.ensures.sent;
+      (net_as c.nodes.net) c.args.sent.now.items c.nodes.sent.items c.post.new.sent.items c.numbered-from.result c.args.tag c.new-block.result c.args.k c.nodes.number
+      (send c.numbered.result (Advance c.args.k)) c.nodes.invariant.routes c.nodes.invariant.net c.numbered-from.ensures c.new-block.ensures
+      (ap (λ t. send t (Advance c.args.k)) c.numbered.ensures) c.nodes.invariant.sent c.post.ensures.sent;
   count = omega (arith, c.post.ensures.count, c.nodes.invariant.count);
   flights = omega (arith, c.post.ensures.flights, c.nodes.invariant.flights);
   next = omega (arith, c.post.ensures.next, c.nodes.invariant.next);

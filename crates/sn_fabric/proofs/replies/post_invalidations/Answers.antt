@@ -7,20 +7,20 @@ use Rattle.sn_fabric.proofs.replies.post_invalidations.Goals as goal
 
 pub post_one-requires-clause-room : goal.post_one-requires-clause-room
 post_one-requires-clause-room c =
-    rw (c.invalidation-out.ensures, c.node_of.ensures)
+    rw (c.invalidation-out.ensures, c.numbered.ensures)
     (let h = below-fits c.args.set c.args.r c.nodes.number 16 c.nodes-test.true in
     omega (arith, h, c.nodes.invariant.flights, c.requires.room))
 
 pub post_one-requires-clause-receivers : goal.post_one-requires-clause-receivers
 post_one-requires-clause-receivers c =
-    rw (c.invalidation-out.ensures, c.node_of.ensures, c.nodes.invariant.routes)
+    rw (c.invalidation-out.ensures, c.numbered.ensures, c.nodes.invariant.routes)
     (below-goes c.args.set c.args.r c.nodes.number 16 c.args.net.now.routes.nodes c.nodes-test.true c.requires.receivers)
 
 pub nodes-preserved : goal.nodes-preserved
 nodes-preserved c =
     let e : outs_of c.invalidation-out.result
     ≡ outs_of (invalidation c.args.set c.args.r c.nodes.number) = ap outs_of
-    (c.invalidation-out.ensures ∙ ap (invalidation c.args.set c.args.r) c.node_of.ensures) in
+    (c.invalidation-out.ensures ∙ ap (invalidation c.args.set c.args.r) c.numbered.ensures) in
     let l : length (outs_of c.invalidation-out.result)
     ≡ length (outs_of (invalidation c.args.set c.args.r c.nodes.number)) = ap (λ (xs : List Out). length xs) e in
     rw (below-next c.args.set c.args.r c.nodes.number)

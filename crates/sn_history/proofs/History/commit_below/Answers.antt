@@ -1,5 +1,5 @@
 use Rattle.std.proofs.Common.{refl, length-append, arith}
-use Rattle.interval_list.specs.Waits.{entries_below}
+use Rattle.interval_list.specs.WaitingList.{entries_below}
 use Rattle.interval_list.proofs.Intervals.{left_fits}
 use Rattle.sn_history.proofs.Counts.{reads-commit}
 use Rattle.sn_history.proofs.History.commit_below.Goals as goal

@@ -1,4 +1,5 @@
-use Rattle.std.proofs.Common.{◌≡◌, ℕ, ◌+◌, ◌<◌, ◌≤◌, Bool, true, false, length, get_or, slice_get, take, Some, sym, subst, refl, ap, ◌∙◌, arith}
+use Rattle.std.proofs.Common.{◌≡◌, ℕ, ◌+◌, ◌<◌, ◌≤◌, Bool, true, false, length, get_or, slice_get, take, Some, sym, subst, refl, ap}
+use Rattle.std.proofs.Common.{◌∙◌, arith}
 use Rattle.std.proofs.lemmas.Option.{slice_get_read}
 use Rattle.std.proofs.lemmas.List.{length-set, get_or-replicate, get_or_default}
 use Rattle.sn_base.specs.Image.{ImageData}
@@ -17,7 +18,9 @@ use Rattle.trace_check.proofs.Tagged.{some_same, accesses_few, one_or_none}
 use Rattle.trace_check.proofs.OwnBefore.{own_set, next_set}
 use Rattle.trace_check.proofs.BlockReplay.{IsPartReplayed, part_start, part_all, tagged_more, tagged_stops}
 use Rattle.trace_check.proofs.blocks.replay_deeds.Goals as goal
-use Rattle.trace_check.proofs.blocks.replay_deeds.Goals.{After-from-core, else-is_of-via-then-is_of+in_ok-replay_access+else-not-branch, else-is_of-via-else-is_of}
+use Rattle.trace_check.proofs.blocks.replay_deeds.Goals.{After-from-core}
+use Rattle.trace_check.proofs.blocks.replay_deeds.Goals.{else-is_of-via-then-is_of+in_ok-replay_access+else-not-branch}
+use Rattle.trace_check.proofs.blocks.replay_deeds.Goals.{else-is_of-via-else-is_of}
 
 -- the record at the place, its core, and what is counted for it
 found : (c : After-from-core) → slice_get c.args.records.now c.records.place ≡ Some c.index-records-place.result

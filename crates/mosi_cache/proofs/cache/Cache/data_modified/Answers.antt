@@ -8,7 +8,7 @@ use Rattle.mosi_cache.proofs.Fits.{fits-missed, room-for-miss, misses-awaiting, 
 use Rattle.sn_base.specs.declared.log.Old.TheVariants.{NotOwned}
 use Rattle.log_buffer.specs.Log.{noted}
 use Rattle.sn_model.specs.CacheRows.{data_modified, AwaitsAnswer}
-use Rattle.mosi_cache.specs.Rows.{IsDone}
+use Rattle.mosi_cache.specs.Rows.{IsRowDone}
 use Rattle.mosi_cache.proofs.CompletedOrWaiting.{moved-done, mid-answered, some-awaiting}
 
 pub put-requires-clause-room : goal.put-requires-clause-room
@@ -35,7 +35,7 @@ returns-clause-done c entries =
     let q : AwaitsAnswer (miss_of c.self.inside.need c.self.inside.transactions.miss) c.args.block Write = subst
     (λ (d : CacheData). AwaitsAnswer d.cache.miss c.args.block Write) (sym c.self.view_is) c.requires.missed.0 in
     let s = some-awaiting (miss_of c.self.inside.need c.self.inside.transactions.miss) c.args.block Write c.args.tag c.args.due q in
-    subst (λ (d : CacheData). IsDone d c.complete_or_wait.new.self c.complete_or_wait.result
+    subst (λ (d : CacheData). IsRowDone d c.complete_or_wait.new.self c.complete_or_wait.result
     (data_modified (logged d entries) (c.args.block % d.nodes) c.args.block c.args.tag c.args.content c.args.due)) c.self.view_is
     (moved-done _ _ c.complete_or_wait.new.self c.complete_or_wait.result
     (noted entries c.args.tag c.args.block NotOwned) _ _ s.0 c.args.block

@@ -1,7 +1,7 @@
 use Rattle.std.proofs.Common.{◌≡◌, List, [], set, sym, ap, subst, ◌∙◌}
 use Rattle.cache_array.specs.Slots.{FrameSlots}
 use Rattle.sn_model.specs.Caches.{Line}
-use Rattle.mosi_cache.specs.Frames.{LinesData, HasRoom, lines_of}
+use Rattle.mosi_cache.specs.Frames.{LinesData, HasFrame, lines_of}
 use Rattle.mosi_cache.proofs.Changes.{Changed, put-found, put-new, has-frame}
 use Rattle.mosi_cache.proofs.lines.Lines.put.Goals as goal
 
@@ -31,7 +31,7 @@ pub reserve-frame-requires-clause-room : goal.reserve-frame-requires-clause-room
 reserve-frame-requires-clause-room c =
     has-frame c.self.inside.frames c.self.inside.kept.items c.args.block c.self.invariant.0
     (sym c.find.ensures.frame ∙ c.in-None.is) c.find.ensures.of_memory
-    (subst (λ (d : LinesData). HasRoom d c.args.block) (sym c.self.view_is) c.requires.room)
+    (subst (λ (d : LinesData). HasFrame d c.args.block) (sym c.self.view_is) c.requires.room)
 
 fresh : (c : goal.After-self-in-None-1) →
     Changed c.self.inside.frames c.reserve-frame.new.self c.self.inside.kept.items

@@ -1,7 +1,7 @@
 use Rattle.std.proofs.Common.{◌≡◌, ◌<◌, length, sym, ap, subst, ◌∙◌, arith, false, nat_le, List, ℕ}
 use Rattle.std.proofs.lemmas.Bool.Decides.{nat_tests}
 use Rattle.sn_base.specs.declared.config.Config.{Config}
-use Rattle.run_journals.specs.declared.entry.Entry.{Entry}
+use Rattle.run_journals.specs.declared.entry.JournalEntry.{JournalEntry}
 use Rattle.run_journals.specs.Journal.{Began}
 use Rattle.shared_machine.specs.Drawn.{AreDrawn}
 use Rattle.shared_machine.specs.Shared.{LockedData}
@@ -39,7 +39,7 @@ invariant_of-self-2 g c =
       omega (arith, c.self.invariant.2, c.note.ensures.room.0),
       omega (arith, c.self.invariant.3, c.note.ensures.room.1),
       turn-lengths s c.args.worker c.in_ok-event.event c.in_ok-event.answer _ _ _ _ passes _ _ longer more picked did c.self.invariant.4,
-      subst (λ (l : List Entry). AreDrawn s.seed l c.draw.new.drawings.items) (sym longer)
+      subst (λ (l : List JournalEntry). AreDrawn s.seed l c.draw.new.drawings.items) (sym longer)
           (c.draw.ensures.drawn s.seed s.journal c.in_ok-event.event c.self.invariant.5),
       c.draw.ensures.count ∙ c.self.invariant.6 ∙ ap (λ (k : Config). k.nodes) (sym did.later.config),
       turn-begun s c.args.worker c.in_ok-event.event c.in_ok-event.answer _ _ _ _ passes _ _ longer more picked did _ c.self.invariant.7,

@@ -1,5 +1,5 @@
 use Rattle.std.proofs.Common.{List, length, sym, ap, subst, ◌∙◌}
-use Rattle.run_journals.specs.declared.entry.Entry.{Entry}
+use Rattle.run_journals.specs.declared.entry.JournalEntry.{JournalEntry}
 use Rattle.sn_base.specs.declared.event.Answer.{Answer}
 use Rattle.shared_machine.specs.Drawn.{AreDrawn}
 use Rattle.shared_machine.specs.Shared.{SharedData, begins_with}
@@ -15,10 +15,10 @@ invariant_of-result g c =
       room-start _ _ ready _ _ _ journal,
       c.self.invariant.3,
       c.self.invariant.4,
-      ap (λ (l : List Answer). length l) answers ∙ sym (ap (λ (l : List Entry). length l) journal),
-      subst (λ (l : List Entry). AreDrawn c.self.inside.seed l c.self.inside.drawings.items) (sym journal) ready.drawn,
+      ap (λ (l : List Answer). length l) answers ∙ sym (ap (λ (l : List JournalEntry). length l) journal),
+      subst (λ (l : List JournalEntry). AreDrawn c.self.inside.seed l c.self.inside.drawings.items) (sym journal) ready.drawn,
       ready.drawers,
       ap (λ (s : SharedData). begins_with s) c.self.view_is ∙ c.requires.began,
-      ap (λ (l : List Entry). length l) journal ∙ sym c.requires.total,
+      ap (λ (l : List JournalEntry). length l) journal ∙ sym c.requires.total,
       c.requires.ring,
     )

@@ -12,7 +12,7 @@ returns-then-is_some-clause-same c =
     let d = c.args.self.now in
     let nodes : c.config.result.now.nodes ≡ m.config.nodes = ap (λ (q : Config). q.nodes) c.config.ensures.same in
     let left = m.config.nodes - (c.turns._turn + 1) in
-    let is = c.picked-picked.ensures.same ∙ ap (λ (n : ℕ). picked c.args.pick (list_of d.rules m.image m.config m.state d.numbers n)) c.node_of.ensures in
+    let is = c.picked-picked.ensures.same ∙ ap (λ (n : ℕ). picked c.args.pick (list_of d.rules m.image m.config m.state d.numbers n)) c.numbered.ensures in
     picked_here d.rules m.image m.config m.state d.numbers c.args.pick left c.turns.number c.picked-picked.result is (sym c.if-is_some.ensures)
     ∙ c.turns.invariant.same (suc left) (omega (arith, nodes, c.turns-test.true))
 
@@ -21,7 +21,7 @@ turns-preserved c =
     let m = c.args.machine.now in
     let d = c.args.self.now in
     let nodes : c.config.result.now.nodes ≡ m.config.nodes = ap (λ (q : Config). q.nodes) c.config.ensures.same in
-    let is = c.picked-picked.ensures.same ∙ ap (λ (n : ℕ). picked c.args.pick (list_of d.rules m.image m.config m.state d.numbers n)) c.node_of.ensures in
+    let is = c.picked-picked.ensures.same ∙ ap (λ (n : ℕ). picked c.args.pick (list_of d.rules m.image m.config m.state d.numbers n)) c.numbered.ensures in
     record {
       here = rw nodes (mod_below (c.turns.number + 1) m.config.nodes (omega (arith, c.turns.invariant.here)));
       same = λ left e.

@@ -1,14 +1,14 @@
-//! Probes that a caller hands in.
+//! Each probe is handed to a call, and what the call leaves of it is what stands beside it.
 ghost use Rattle.std.specs.Prelude.{[], ◌∷◌};
 ghost use Rattle.sn_probe.specs.Tally.{counted};
-ghost use Rattle.safetynet_main_tests.specs.Held.{place_of_held};
+ghost use Rattle.probed_calls.specs.Held.{place_of_held};
 
-use super::{
-    COUNTS, Faults, Left, NO_FAULT, PUTS_A, Probes, VALIDATED, WORDS, call_over, store_with,
+use calls_in_memory::{
+    COUNTS, Faults, Given, NO_FAULT, PUTS_A, Probes, VALIDATED, WORDS, call_with,
 };
 use elf_load::LoadCause;
 use safetynet_main::{ProgramCause, Status};
-use sn_base::{Answer, Event};
+use sn_base::{Answer, Event, Memory};
 use sn_probe::{EventTally, Probe};
 use std::alloc::{AllocError, Global};
 use std::sync::atomic::{AtomicU64, Ordering};
@@ -30,33 +30,35 @@ probe 0 8 1
 probe 0 9 0
 ";
 
-/// What a call with these probes leaves, whose files are a program and a script.
-fn call_with(
-    rt: &(impl Threads + Wait + Sync),
-    alloc: Global,
-    words: &str,
-    files: (&str, &str),
-    faults: Faults,
-    probes: Probes,
-) -> Result<Left, Fail> {
-    let (program, script) = files;
-    let mut store = store_with(alloc, program.as_bytes(), script.as_bytes(), faults.store)?;
-    call_over(rt, alloc, words, &mut store, faults, probes)
-}
-
 fn tally(alloc: Global) -> Result<Probes, AllocError> {
     let mut probes: Probes = Vec::new(alloc);
     probes.push(Box::new(alloc, EventTally::new())?)?;
     Ok(probes)
 }
 
+/// Whether a call that is handed these probes is done, and its report ends so.
+fn is_shown(
+    rt: &(impl Threads + Wait + Sync),
+    alloc: Global,
+    given: &Given<'_>,
+    probes: Probes,
+    end: &str,
+) -> Result<bool, Memory> {
+    let left = call_with(rt, alloc, given, probes)?;
+    Ok(left.status == Status::Done && left.report.bytes().ends_with(end.as_bytes()))
+}
+
 #[test]
 fn the_summary_ends_with_what_the_probes_measured(rt: HostRuntime) -> Result<(), Fail> {
     let probes = tally(rt.alloc())?;
-    let files = (PUTS_A, VALIDATED);
-    let left = call_with(&rt, rt.alloc(), WORDS, files, NO_FAULT, probes)?;
-    assert!(rt; left.status == Status::Done);
-    assert!(rt; left.report.bytes().ends_with(TALLIED.as_bytes()));
+    let given = Given {
+        words: WORDS,
+        program: PUTS_A.as_bytes(),
+        script: VALIDATED.as_bytes(),
+        faults: NO_FAULT,
+    };
+    let is_so = is_shown(&rt, rt.alloc(), &given, probes, TALLIED)?;
+    assert!(rt; is_so);
     Ok(())
 }
 
@@ -145,9 +147,14 @@ const HELD_TALLIED: &str = "core 1 80000000 running x10=00000001\nprobe 0 0 2\n"
 fn a_probe_without_a_number_has_no_line(rt: HostRuntime) -> Result<(), Fail> {
     let drops = Arc::new(rt.alloc(), AtomicU64::new(0))?;
     let probes = witnesses(rt.alloc(), 100, &drops)?;
-    let words = "safetynet replay --nodes 2 a.hex a.script";
-    let left = call_with(&rt, rt.alloc(), words, (COUNTS, HELD), NO_FAULT, probes)?;
-    assert!(rt; left.report.bytes().ends_with(HELD_TALLIED.as_bytes()));
+    let given = Given {
+        words: "safetynet replay --nodes 2 a.hex a.script",
+        program: COUNTS.as_bytes(),
+        script: HELD.as_bytes(),
+        faults: NO_FAULT,
+    };
+    let is_so = is_shown(&rt, rt.alloc(), &given, probes, HELD_TALLIED)?;
+    assert!(rt; is_so);
     Ok(())
 }
 
@@ -232,17 +239,33 @@ const ENDS: [Ending; 12] = [
     },
 ];
 
+/// How a call ends whose probes count their drops there.
+fn status_of(
+    rt: &(impl Threads + Wait + Sync),
+    alloc: Global,
+    ending: &Ending,
+    drops: &Arc<AtomicU64, Global>,
+) -> Result<Status, Memory> {
+    let probes = witnesses(alloc, ending.probes, drops)?;
+    let given = Given {
+        words: ending.words,
+        program: ending.program.as_bytes(),
+        script: VALIDATED.as_bytes(),
+        faults: ending.faults,
+    };
+    let left = call_with(rt, alloc, &given, probes)?;
+    Ok(left.status)
+}
+
 /// How a call ends, and how many of its probes it drops.
 fn ended(
     rt: &(impl Threads + Wait + Sync),
     alloc: Global,
     ending: &Ending,
-) -> Result<(Status, u64), Fail> {
+) -> Result<(Status, u64), Memory> {
     let drops = Arc::new(alloc, AtomicU64::new(0))?;
-    let probes = witnesses(alloc, ending.probes, &drops)?;
-    let files = (ending.program, VALIDATED);
-    let left = call_with(rt, alloc, ending.words, files, ending.faults, probes)?;
-    Ok((left.status, drops.load(Ordering::SeqCst)))
+    let status = status_of(rt, alloc, ending, &drops)?;
+    Ok((status, drops.load(Ordering::SeqCst)))
 }
 
 #[test]

@@ -5,7 +5,7 @@ use Rattle.std.specs.Coded.{Coded, code_by, coded×, coded_list, coded_ℕ}
 pub use Rattle.interval_list.specs.declared.Waiting.{Waiting}
 
 -- the entries that wait, in the order in which they came, those that are committed, and how many more may come
-pub record Waits (T : Type 0) : Type 0 where
+pub record WaitingList (T : Type 0) : Type 0 where
   pub waiting : List (Waiting T)
   pub committed : List T
   pub room : ℕ
@@ -14,8 +14,8 @@ module _ {T : Type 0} where
   abbrev pub waiting_code : Coded T → Coded (Waiting T)
   waiting_code c = code_by (ℕ × T) (coded× coded_ℕ c) (λ w. (w.interval, w.entry)) (λ p. record { interval = p.0; entry = p.1 }) (λ _. refl)
 
-  abbrev pub waits_code : Coded T → Coded (Waits T)
-  waits_code c =
+  abbrev pub waiting_list_code : Coded T → Coded (WaitingList T)
+  waiting_list_code c =
       code_by
       (List (Waiting T) × (List T × ℕ))
       (coded× (coded_list (waiting_code c)) (coded× (coded_list c) coded_ℕ))

@@ -1,5 +1,6 @@
 //! Words and files that are refused, with nothing written.
-use super::{NO_FAULT, PUTS_A, VALIDATED, WORDS, call};
+use super::{Failing, Outside, ends_so};
+use calls_in_memory::{Given, NO_FAULT, PUTS_A, VALIDATED, WORDS};
 use elf_load::LoadCause;
 use rv_asm::AsmCause;
 use safetynet_main::{ProgramCause, Status};
@@ -24,6 +25,11 @@ const NO_COMMANDS: &[&str] = &[
     "safetynet demo 0",
 ];
 
+const NONE: Failing = Failing {
+    of: Outside::Store,
+    number: 0,
+};
+
 /// A call that ends so, with nothing written.
 fn writes_nothing(
     rt: &(impl Abort + Threads + Wait + Sync),
@@ -31,11 +37,16 @@ fn writes_nothing(
     words: &str,
     program: &[u8],
     script: &[u8],
-    status: Status,
+    status: &Status,
 ) -> Result<(), Fail> {
-    let left = call(rt, alloc, words, program, script, NO_FAULT)?;
-    assert!(rt; left.status == status, "the status of {words}");
-    assert!(rt; left.console.bytes().is_empty() && left.report.bytes().is_empty());
+    let given = Given {
+        words,
+        program,
+        script,
+        faults: NO_FAULT,
+    };
+    let is_so = ends_so(rt, alloc, &given, status, &[], &NONE)?;
+    assert!(rt; is_so, "{words}");
     Ok(())
 }
 
@@ -43,7 +54,7 @@ fn writes_nothing(
 fn words_that_are_no_command_are_usage(rt: HostRuntime) -> Result<(), Fail> {
     let (program, script) = (PUTS_A.as_bytes(), VALIDATED.as_bytes());
     for words in NO_COMMANDS {
-        writes_nothing(&rt, rt.alloc(), words, program, script, Status::Usage)?;
+        writes_nothing(&rt, rt.alloc(), words, program, script, &Status::Usage)?;
     }
     Ok(())
 }
@@ -85,7 +96,7 @@ const REFUSED: [(&str, &str, &str, Status); 7] = [
 fn a_file_that_is_refused_is_refused_by_its_first_cause(rt: HostRuntime) -> Result<(), Fail> {
     for (words, program, script, status) in &REFUSED {
         let (program, script) = (program.as_bytes(), script.as_bytes());
-        writes_nothing(&rt, rt.alloc(), words, program, script, *status)?;
+        writes_nothing(&rt, rt.alloc(), words, program, script, status)?;
     }
     Ok(())
 }
@@ -115,7 +126,7 @@ const LONG_PROGRAMS: [(&str, usize, Status); 4] = [
 fn a_program_or_a_text_has_at_most_16_mebibytes(rt: HostRuntime) -> Result<(), Fail> {
     for (words, length, status) in &LONG_PROGRAMS {
         let file = comment(rt.alloc(), *length)?;
-        writes_nothing(&rt, rt.alloc(), words, file.as_slice(), b"", *status)?;
+        writes_nothing(&rt, rt.alloc(), words, file.as_slice(), b"", status)?;
     }
     Ok(())
 }
@@ -134,7 +145,7 @@ fn a_script_or_a_trace_has_at_most_32_mebibytes(rt: HostRuntime) -> Result<(), F
             words,
             PUTS_A.as_bytes(),
             file.as_slice(),
-            want,
+            &want,
         )?;
     }
     Ok(())

@@ -1,5 +1,5 @@
 use Rattle.std.proofs.Common.{◌≡◌, ◌<◌, ◌≤◌}
-use Rattle.sn_driver.proofs.tests.drives.Given as goal
+use Rattle.driver_rows.proofs.tests.drives.Given as goal
 
 -- the driver is one of the machine's nodes, and has applied no more events than there were rows
 abbrev pub invariant-rows : goal.invariant-rows
