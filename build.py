@@ -3,18 +3,26 @@
 
     build.py PROGRAM STAMP [COMMAND WORDS..]
 
-Crates are built side by side, each once those that it stands on are. Those with the most to come after them are urgent and may use all
-processors; the others run beside them with what is left. rt keeps others out of all crates below the one that it builds, so each is
-built in a view of its own: a folder with its sources, and with the built libraries below it. What rt keeps of a crate, its folder out/,
-goes into the view and comes back, also from a build that fails or is interrupted, so the next one goes on where it was. Whether a library
-is of the present text is rt's to find out in each view.
+Crates are proved side by side, each once those that it stands on are, and each by a process of its own (`build.py --prove`): from nothing
+and as the gate proves it, by the calls that rt's own file has for that, which hold each verdict, and the program, to HANDLES. Those with
+the most to come after them are urgent and may use all processors; the others run beside them with what is left.
 
-STAMP is written only once rt has ended well: its lines are the folders that the program was built from, its date is that of the
-build's beginning. Whatever changed later, or during the build, is newer than it. Then the command is run, if there is one, in place of
-this. Where the program can't be built the status is 125. Everything that is said goes to standard error.
+A library is built as its statements, which the crates above load in place of its proofs. It stands in the program's folder out/rlib,
+apart from the libraries of rt's other commands, which hold their proofs: NAME.rlib, and in NAME.of sums of what it was made from and of
+what it is. One that is of the present text, over the present libraries below it, isn't proved again, so a build that failed or was
+interrupted goes on with the crates that it hadn't proved. Nor is a crate that the gate has proved on this machine of the same text over the
+same libraries: rt keeps what that made, by the sums of all that it read, and gives it.
+
+STAMP is written only once all is proved and built: its lines are the files and folders that the program was built from, its date is that
+of the build's beginning. Whatever changed later, or during the build, is newer than it. Then the command is run, if there is one, in
+place of this. Where the program can't be built the status is 125. Everything that is said goes to standard error.
 """
 import contextlib
+import copy
 import fcntl
+import hashlib
+import importlib.machinery
+import importlib.util
 import os
 import re
 import shutil
@@ -23,15 +31,17 @@ import subprocess
 import sys
 import tempfile
 import time
+import traceback
 from pathlib import Path
 
-HERE = Path(__file__).resolve().parent
+OWN = Path(__file__).resolve()
+HERE = OWN.parent
 PARTS = ["src", "specs", "proofs"]
 MEMORY_EACH = 3 << 30
 
 
 class NotBuilt(Exception):
-    """The crate that isn't proved, and what rt said."""
+    """The crate that isn't proved, and what was said of it."""
 
 
 def folder_of(crate):
@@ -62,9 +72,18 @@ def below(crate, stands_on):
     return found
 
 
+def files_of(crate):
+    return [it for part in PARTS for it in sorted((folder_of(crate) / part).rglob("*")) if it.is_file()]
+
+
+def changes_of(crate):
+    """When each file and folder of a crate's text was last changed: it tells of a change that was taken back, too."""
+    folders = [folder_of(crate) / part for part in PARTS if (folder_of(crate) / part).is_dir()]
+    return [(str(it), it.stat().st_ctime_ns) for folder in folders for it in [folder, *sorted(folder.rglob("*"))]]
+
+
 def lines_of(crate):
-    files = [it for part in PARTS for it in (folder_of(crate) / part).rglob("*") if it.is_file()]
-    return sum(it.read_bytes().count(b"\n") for it in files)
+    return sum(it.read_bytes().count(b"\n") for it in files_of(crate))
 
 
 def work_behind(under):
@@ -104,58 +123,143 @@ class Progress:
             self.say(f"# proved {self.done} of {self.many}: {crate}, {self.minutes()}")
 
 
-def link_or_copy(one, other):
-    try:
-        os.link(one, other)
-    except OSError:
-        shutil.copy2(one, other)
-
-
 @contextlib.contextmanager
 def locked(folder):
-    """Keeps rt, and another build, out of a folder."""
+    """Keeps rt, and another build, out of a folder. Whoever inherits what this gives keeps them out too."""
     handle = os.open(folder, os.O_RDONLY)
     try:
-        fcntl.flock(handle, fcntl.LOCK_EX)
-        yield
+        try:
+            fcntl.flock(handle, fcntl.LOCK_EX | fcntl.LOCK_NB)
+        except BlockingIOError:
+            print(f"# waiting for another build, or for rt, to end in {folder}", file=sys.stderr)
+            fcntl.flock(handle, fcntl.LOCK_EX)
+        yield handle
     finally:
         os.close(handle)
 
 
-@contextlib.contextmanager
-def view_of(crate, under, views):
-    """Gives the crate's folder in a view of its own. The crate's out/ is there until the end."""
-    root, own = views / crate, folder_of(crate) / "out"
-    to = root / "crates" / crate
-    with locked(folder_of(crate)):
-        try:
-            for it in [*under, crate]:
-                for part in PARTS:
-                    if (folder_of(it) / part).is_dir():
-                        shutil.copytree(folder_of(it) / part, root / "crates" / it / part, copy_function=link_or_copy)
-            for it in under:
-                if (folder_of(it) / "out/rlib").is_dir():
-                    shutil.copytree(folder_of(it) / "out/rlib", root / "crates" / it / "out/rlib", copy_function=link_or_copy)
-            (root / "crates.txt").write_text("".join(f"{it}\n" for it in crate_lines() if name_in(it) in {*under, crate}))
-            if (HERE / "HANDLES").is_file():
-                shutil.copy2(HERE / "HANDLES", root)
-            if own.is_dir():
-                own.rename(to / "out")
-            yield to
-        finally:
-            if (to / "out").is_dir():
-                shutil.rmtree(own, ignore_errors=True)
-                (to / "out").rename(own)
-            shutil.rmtree(root, ignore_errors=True)
+def toolchain_of_rt():
+    """The toolchain's folder: the page that rt names to be read first stands at its top."""
+    page = Path(subprocess.run(["rt", "doc"], stdout=subprocess.PIPE, text=True, check=True).stdout.strip())
+    return page.parent
 
 
-class Rt:
-    """One rt command in a crate's folder, with what it says in a file."""
+def rt_itself(toolchain):
+    """rt's own file as a module, which is the gate's too, for the repository as it is."""
+    sys.dont_write_bytecode = True
+    loader = importlib.machinery.SourceFileLoader("rt", f"{toolchain}/bin/rt")
+    rt = importlib.util.module_from_spec(importlib.util.spec_from_loader("rt", loader))
+    loader.exec_module(rt)
+    # before any thread, as in rt itself: what it starts ends when this process does
+    rt.rtlib.guarded()
+    rt.rtlib.Crate = rt.Crate
+    rt.Crate.allowed = rt.handles_of(str(HERE))
+    return rt
 
-    def __init__(self, crate, folder, is_urgent, *words):
-        self.crate, self.log = crate, tempfile.TemporaryFile("w+", errors="replace")
+
+def reaches_beyond(rt, crate):
+    """Whether a crate's text names what only a handle reaches that isn't allowed: the gate's rule beside those of the verdict."""
+    code = rt.rtlib.code_of(crate.folder)
+    found = [it for it, words in rt.REACHES.items() if it not in crate.allowed and re.search(words, code)]
+    if found:
+        print(f"{crate.name} names what only the handle {found[0]} reaches, and HANDLES doesn't allow it")
+    return bool(found)
+
+
+def is_given(rt, crate, out):
+    """Whether the gate has made the same on this machine, and rt gives it. rt keeps a crate's product by all that it was made from."""
+    if not any(Path(rt.STORE).glob(f"proof-{crate.name}-*")):
+        return False
+    # rt is to find each library, and to put what it gives, where this keeps it
+    here = {it.name: copy.copy(it) for it in [*crate.below(), crate]}
+    for it in here.values():
+        it.folder = os.path.dirname(out)
+    kept = rt.Kept([*crate.below(), crate])
+    for it in crate.below():
+        kept.is_built(here[it.name])
+    return kept.give(here[crate.name], False, kept.key(crate))
+
+
+def prove(name, jobs, program, toolchain):
+    """Proves one crate from nothing, over the libraries below it, and builds its library, or the program. Gives rt's status."""
+    rt, out = rt_itself(toolchain), f"{folder_of(program)}/out"
+    crate = rt.Crate(str(folder_of(name)), str(HERE), {})
+    for it in [*crate.below(), crate]:
+        it.rlib = f"{out}/rlib/{it.name}.rlib"
+    # nothing is written into a file that rt gave, or that runs: such a file is removed
+    shutil.rmtree(crate.rlib, ignore_errors=True)
+    for it in Path(out).glob(f"{name}*") if crate.is_program else []:
+        it.unlink()
+    if is_given(rt, crate, out):
+        return 0
+    if reaches_beyond(rt, crate):
+        return 1
+    words = ["build", *crate.words(["--jobs", jobs], keeps=False)]
+    if not crate.is_program:
+        return crate.prove([*words, "--statements", "-o", crate.rlib])
+    words += ["--toolchain", f"{rt.KIT}/toolchain", "--backend", "llvm"]
+    return crate.prove([*words, "-o", f"out/{name}.o"]) or crate.link(f"out/{name}.o", f"out/{name}")
+
+
+class Built:
+    """What is built: the libraries in a folder, and the program. NAME.of there has sums of what a crate was made from and of what it is."""
+
+    def __init__(self, program, under, lock):
+        self.program, self.under, self.lock = program, under, lock
+        self.folder = folder_of(program) / "out/rlib"
+        self.folder.mkdir(parents=True, exist_ok=True)
+        self.toolchain = toolchain_of_rt()
+        self.for_all = [it.read_bytes() for it in (self.toolchain / "WHAT", HERE / "HANDLES") if it.is_file()]
+        for it in self.folder.iterdir():
+            if it.stem not in under:
+                shutil.rmtree(it) if it.is_dir() else it.unlink()
+
+    def product(self, crate):
+        """The file that tells what was made of a crate: of a library its format, which holds a sum of its other files."""
+        return folder_of(crate) / "out" / crate if crate == self.program else self.folder / f"{crate}.rlib/format"
+
+    def made_from(self, crate):
+        """A sum of the toolchain, what is allowed, the crate's line and text, and the libraries below it as they are."""
+        line = next(it for it in crate_lines() if name_in(it) == crate)
+        found = hashlib.sha256(repr((self.for_all, line)).encode())
+        for it in files_of(crate):
+            found.update(repr((str(it.relative_to(HERE)), it.read_bytes())).encode())
+        for it in sorted(self.under[crate]):
+            found.update(self.product(it).read_bytes())
+        return found.hexdigest()
+
+    def note_of(self, crate):
+        """The text of NAME.of."""
+        return f"{self.made_from(crate)} {hashlib.sha256(self.product(crate).read_bytes()).hexdigest()}"
+
+    def has(self, crate):
+        """Whether a crate is built of the present text, over the present libraries below it."""
+        of = self.folder / f"{crate}.of"
+        return of.is_file() and self.product(crate).is_file() and of.read_text() == self.note_of(crate)
+
+    def begin(self, crate):
+        """What is to be the same at the proof's end. What was built before counts for nothing from here on."""
+        (self.folder / f"{crate}.of").unlink(missing_ok=True)
+        return changes_of(crate), self.made_from(crate)
+
+    def keep(self, crate, begun):
+        """Notes what a crate was made from, unless its text was touched meanwhile: then the next build proves it again."""
+        if (changes_of(crate), self.made_from(crate)) == begun:
+            (self.folder / f"{crate}.of").write_text(self.note_of(crate))
+
+
+class Proof:
+    """One crate's proof, in a process of its own, with what it says in a file."""
+
+    def __init__(self, crate, built, jobs, is_urgent):
+        self.crate, self.built, self.begun = crate, built, built.begin(crate)
+        self.log = tempfile.TemporaryFile("w+", errors="replace")
+        words = [sys.executable, OWN, "--prove", crate, str(jobs), built.program, built.toolchain]
         how = {"stdin": subprocess.DEVNULL, "stdout": self.log, "stderr": subprocess.STDOUT}
-        self.ran = subprocess.Popen(["rt", *words], cwd=folder, **how)
+        # rt's own settings don't reach the gate's proofs either
+        how["env"] = {it: value for it, value in os.environ.items() if not it.startswith("RT_")}
+        # with the lock no other build begins while this proof goes on, whatever becomes of this process
+        self.ran = subprocess.Popen(words, cwd=folder_of(crate), pass_fds=[built.lock], **how)
         if not is_urgent:
             os.setpriority(os.PRIO_PROCESS, self.ran.pid, 10)
 
@@ -164,6 +268,8 @@ class Rt:
         if self.ran.poll():
             self.log.seek(0)
             raise NotBuilt(self.crate, self.log.read())
+        if self.ran.returncode == 0:
+            self.built.keep(self.crate, self.begun)
         return self.ran.returncode == 0
 
     def end(self):
@@ -184,103 +290,82 @@ def jobs_of(crate, urgent, many):
     return min(4, max(1, many // len(urgent))) if crate in urgent else 1
 
 
-def build_libraries(crates, under, views, progress):
-    """Proves and builds the libraries, each in its view."""
-    behind, done, running, many = work_behind(under), set(), {}, lanes()
-    with contextlib.ExitStack() as open_views:
-        try:
-            while len(done) < len(crates):
-                ready = [it for it in crates if it not in done and it not in running and under[it] <= done]
-                for crate in sorted(ready, key=lambda it: -behind[it]):
-                    urgent = urgent_of([*ready, *running], behind)
-                    # A place is kept for an urgent one. It may use all processors, others have what it leaves.
-                    if len(running) >= (many if crate in urgent else many - 1):
-                        break
-                    view = open_views.enter_context(contextlib.ExitStack())
-                    folder = view.enter_context(view_of(crate, under[crate], views))
-                    jobs = str(jobs_of(crate, urgent, many))
-                    running[crate] = Rt(crate, folder, crate in urgent, "lib", "--jobs", jobs), view
-                progress.working(running)
-                time.sleep(0.2)
-                for crate, (rt, view) in [*running.items()]:
-                    if rt.has_ended():
-                        del running[crate]
-                        rt.end()
-                        view.close()
+def build_crates(built, progress):
+    """Proves and builds the libraries and the program."""
+    under = built.under
+    behind, done, waiting, running, many = work_behind(under), set(), set(), {}, lanes()
+    try:
+        while len(done) < len(under):
+            for crate in sorted(under, key=lambda it: len(under[it])):
+                if crate not in done | waiting | {*running} and under[crate] <= done:
+                    if built.has(crate):
                         done.add(crate)
                         progress.proved(crate)
-        finally:
-            for rt, _ in running.values():
-                rt.end()
-
-
-def build_program(program, progress):
-    """Proves and builds the program over its libraries; rt runs it once, to say its version."""
-    rt = Rt(program, folder_of(program), True, "run", "--", "--version")
-    try:
-        while not rt.has_ended():
-            progress.working([program])
-            time.sleep(0.2)
+                    else:
+                        waiting.add(crate)
+            for crate in sorted(waiting, key=lambda it: -behind[it]):
+                urgent = urgent_of([*waiting, *running], behind)
+                # A place is kept for an urgent one. It may use all processors, others have what it leaves.
+                if len(running) >= (many if crate in urgent else many - 1):
+                    break
+                waiting.remove(crate)
+                running[crate] = Proof(crate, built, jobs_of(crate, urgent, many), crate in urgent)
+            if running:
+                progress.working(running)
+                time.sleep(0.2)
+            for crate, proof in [*running.items()]:
+                if proof.has_ended():
+                    running.pop(crate).end()
+                    done.add(crate)
+                    progress.proved(crate)
     finally:
-        rt.end()
-    progress.proved(program)
+        for proof in running.values():
+            proof.end()
 
 
-def taken_back(views):
-    """Brings back what a build that was killed left in its views."""
-    for left in views.glob("*/crates/*/out"):
-        crate = left.parent.name
-        if left.parents[2].name == crate and not (folder_of(crate) / "out").exists():
-            left.rename(folder_of(crate) / "out")
-    shutil.rmtree(views, ignore_errors=True)
-
-
-def build(program, progress, under):
-    views = folder_of(program) / "out/views"
-    taken_back(views)
-    try:
-        build_libraries(sorted(under[program]), {it: under[it] for it in under[program]}, views, progress)
-    finally:
-        shutil.rmtree(views, ignore_errors=True)
-    build_program(program, progress)
-
-
-def built(program, stamp):
+def build(program, stamp, lock):
     """Builds the program and writes the stamp; gives whether it is built."""
     stands_on = read_crates()
     under = {it: below(it, stands_on) for it in below(program, stands_on) | {program}}
+    files = [it for it in ("crates.txt", "HANDLES") if (HERE / it).is_file()]
     folders = [f"crates/{it}/{part}" for it in sorted(under) for part in PARTS if (folder_of(it) / part).is_dir()]
     progress = Progress(len(under))
     progress.say(f"# building: each of {len(under)} crates is proved first, which takes some minutes the first time")
     with tempfile.NamedTemporaryFile(dir=stamp.parent) as beginning:
         begun = os.stat(beginning.name).st_mtime_ns
         try:
-            build(program, progress, under)
+            build_crates(Built(program, under, lock), progress)
         except NotBuilt as why:
             crate, said = why.args
-            print(*said.splitlines()[-20:], sep="\n", file=sys.stderr)
+            # what was loaded of the libraries tells nothing of the crate
+            lines = [it for it in said.splitlines() if not it.startswith("statements ")]
+            print(*lines[-20:], sep="\n", file=sys.stderr)
             progress.say(f"# the program was not built: {crate} is not proved")
             return False
         progress.say(f"# built in {progress.minutes()}")
         new = stamp.with_suffix(".new")
-        new.write_text("".join(f"{it}\n" for it in ["crates.txt", *folders]))
+        new.write_text("".join(f"{it}\n" for it in [*files, *folders]))
         os.utime(new, ns=(begun, begun))
         new.replace(stamp)
     return True
 
 
-def main(program, stamp, *command):
-    # an end from outside ends rt too
+def build_and_run(program, stamp, *command):
+    # an end from outside ends the proofs too
     signal.signal(signal.SIGTERM, lambda *_: sys.exit(143))
     stamp = Path(stamp)
-    stamp.parent.mkdir(exist_ok=True)
-    with locked(stamp.parent):
+    with locked(folder_of(program)) as lock:
+        stamp.parent.mkdir(exist_ok=True)
         stamp.unlink(missing_ok=True)
-        if not built(program, stamp):
+        if not build(program, stamp, lock):
             return 125
     if command:
         os.execv(command[0], command)
     return 0
+
+
+def main(first, *rest):
+    return prove(*rest) if first == "--prove" else build_and_run(first, *rest)
 
 
 if __name__ == "__main__":
@@ -288,3 +373,7 @@ if __name__ == "__main__":
         sys.exit(main(*sys.argv[1:]))
     except KeyboardInterrupt:
         sys.exit(130)
+    except Exception:
+        # whatever it was, no program was run
+        traceback.print_exc()
+        sys.exit(125)
