@@ -82,15 +82,18 @@ def changes_of(crate):
     return [(str(it), it.stat().st_ctime_ns) for folder in folders for it in [folder, *sorted(folder.rglob("*"))]]
 
 
-def lines_of(crate):
-    return sum(it.read_bytes().count(b"\n") for it in files_of(crate))
+def work_of(crate, under):
+    """About what a crate's proof takes: its lines of code without tests, and what it loads of the crates below it."""
+    source = folder_of(crate) / "src"
+    code = [it for it in source.rglob("*.rt") if not str(it.relative_to(source)).startswith("tests")]
+    return sum(it.read_bytes().count(b"\n") for it in code) + 25 * len(under[crate])
 
 
 def work_behind(under):
-    """Of each crate the lines of the longest chain that begins with it."""
+    """Of each crate the work of the longest chain that begins with it."""
     behind = {}
     for crate in sorted(under, key=lambda it: -len(under[it])):
-        behind[crate] = lines_of(crate) + max((behind[it] for it in behind if crate in under[it]), default=0)
+        behind[crate] = work_of(crate, under) + max((behind[it] for it in behind if crate in under[it]), default=0)
     return behind
 
 
