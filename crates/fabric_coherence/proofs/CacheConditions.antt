@@ -13,7 +13,7 @@ use Rattle.sn_model.specs.declared.cache.Need.TheVariants.{Read, Write}
 use Rattle.sn_model.specs.Caches.{Miss, Put, line_of, is_owned, puts_on}
 use Rattle.sn_model.specs.Fabric.{Fabric, node_at}
 use Rattle.sn_model.specs.NetEvents.{logged_at}
-use Rattle.sn_model.specs.CacheRows.{AwaitsAnswer, is_absent_or_shared, MayForward, MayTakeCopy, MayTakeOwnership, MayUpgrade, MayCount}
+use Rattle.sn_model.specs.CacheRows.{AwaitsAnswer, NoneIn, is_absent_or_shared, MayForward, MayTakeCopy, MayTakeOwnership, MayUpgrade, MayCount}
 use Rattle.sn_model.specs.CacheRows.{MayGiveBack, MayClosePut}
 use Rattle.sn_coherence.specs.Block as block
 use Rattle.sn_coherence.specs.Kept.{Stages}
@@ -95,6 +95,13 @@ awaits_write (Some miss) b w f = (
     on : miss.block ≡ b
     on = on_block miss b (nat_eq miss.block b) refl (ap block.is_here w)
 
+none_in : (o : Option Miss) (b : ℕ) → (miss_seen b o).want ≡ block.Reads → (miss_seen b o).acks ≡ 0 → NoneIn o
+none_in None b w e = tt
+none_in (Some miss) b w e = subst (λ x. x.acks ≡ 0) (here_is miss b on) e
+  where
+    on : miss.block ≡ b
+    on = on_block miss b (nat_eq miss.block b) refl (ap block.is_here w)
+
 may_count : (o : Option Miss) (b : ℕ) → block.is_here (miss_seen b o).want ≡ true → (miss_seen b o).acks < 15 → MayCount o b
 may_count None b w l = absurd (cc)
 may_count (Some miss) b w l = (on, subst (λ x. x.acks < 15) (here_is miss b on) l)
@@ -147,8 +154,14 @@ module _ (s : Fabric) (t : Beside) (m : Message) (flight : IsInFlight s m) where
 
     pub meets_data_shared : (content : List ℕ) → m.body ≡ DataS content →
         MayTakeCopy (logged_at s m.to) m.block × ((here.miss m.to).acks ≡ 0)
-    meets_data_shared content e =
-        ((awaits_read (node_at s m.to).cache.miss m.block h.0 h.1, absent_is (line_of (node_at s m.to).cache m.block).state h.3), h.2)
+    meets_data_shared content e = (
+      (
+        awaits_read (node_at s m.to).cache.miss m.block h.0 h.1,
+        absent_is (line_of (node_at s m.to).cache m.block).state h.3,
+        none_in (node_at s m.to).cache.miss m.block h.0 h.2,
+      ),
+      h.2,
+    )
       where
         h : ((here.miss m.to).want ≡ block.Reads) × ((here.miss m.to).is_fixed ≡ false) × ((here.miss m.to).acks ≡ 0)
             × (here.line m.to ≡ block.NoLine)
@@ -159,8 +172,14 @@ module _ (s : Fabric) (t : Beside) (m : Message) (flight : IsInFlight s m) where
 
     pub meets_data_exclusive : (content : List ℕ) → m.body ≡ DataE content →
         MayTakeCopy (logged_at s m.to) m.block × ((here.miss m.to).acks ≡ 0)
-    meets_data_exclusive content e =
-        ((awaits_read (node_at s m.to).cache.miss m.block h.0 h.1, absent_is (line_of (node_at s m.to).cache m.block).state h.3), h.2)
+    meets_data_exclusive content e = (
+      (
+        awaits_read (node_at s m.to).cache.miss m.block h.0 h.1,
+        absent_is (line_of (node_at s m.to).cache m.block).state h.3,
+        none_in (node_at s m.to).cache.miss m.block h.0 h.2,
+      ),
+      h.2,
+    )
       where
         h : ((here.miss m.to).want ≡ block.Reads) × ((here.miss m.to).is_fixed ≡ false) × ((here.miss m.to).acks ≡ 0)
             × (here.line m.to ≡ block.NoLine)

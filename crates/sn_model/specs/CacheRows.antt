@@ -105,6 +105,11 @@ abbrev pub AwaitsAnswer : Option Miss → ℕ → Need → Type 0
 AwaitsAnswer None block need = ⊥
 AwaitsAnswer (Some miss) block need = (miss.block ≡ block) × (miss.need ≡ need) × (miss.fixed ≡ None)
 
+-- no acknowledgement has come to the open miss
+abbrev pub NoneIn : Option Miss → Type 0
+NoneIn None = Unit {0}
+NoneIn (Some miss) = miss.acks ≡ 0
+
 abbrev pub is_absent_or_shared : LineState → Bool
 is_absent_or_shared Absent = true
 is_absent_or_shared Shared = true
@@ -142,13 +147,14 @@ invalidate at block requester = record {
   lost = if is_present (line_of at.cache block).state then Some block else None;
 }
 
--- DataS: the line is Shared; the read is complete
+-- DataS: the line is Shared; the read is complete, since none are due and none are in
 abbrev pub data_shared : Logged → ℕ → ℕ → ℕ → List ℕ → CacheReply
 data_shared at home block tag content =
     completed_or_waiting (record at { cache = with_line at.cache block Shared content }) home (fixed_at at.cache.miss tag 0)
 
 abbrev pub MayTakeCopy : Logged → ℕ → Type 0
-MayTakeCopy at block = AwaitsAnswer at.cache.miss block Read × ((line_of at.cache block).state ≡ Absent)
+MayTakeCopy at block =
+    AwaitsAnswer at.cache.miss block Read × ((line_of at.cache block).state ≡ Absent) × NoneIn at.cache.miss
 
 -- DataM with so many acknowledgements due: that nothing was owned is noted under the tag; the line is Modified
 abbrev pub data_modified : Logged → ℕ → ℕ → ℕ → List ℕ → ℕ → CacheReply
@@ -191,7 +197,7 @@ put_done at = record { after = closed_put at; sends = []; lost = None }
 abbrev pub MayClosePut : Logged → ℕ → Type 0
 MayClosePut at block = puts_on at.cache.put block ≡ true
 
--- DataE: that nothing was owned is noted under the tag; the line is Exclusive; the read is complete
+-- DataE: that nothing was owned is noted under the tag; the line is Exclusive; the read is complete, as above
 abbrev pub data_exclusive : Logged → ℕ → ℕ → ℕ → List ℕ → CacheReply
 data_exclusive at home block tag content =
     completed_or_waiting (taken_over at block tag Exclusive content) home (fixed_at at.cache.miss tag 0)

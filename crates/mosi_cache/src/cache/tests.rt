@@ -5,7 +5,7 @@
 ghost use Rattle.std.specs.Prelude.{◌≡◌, ◌+◌, ◌≤◌, true, false, List};
 ghost use Rattle.sn_base.specs.declared.log.LogEntry.{LogEntry};
 ghost use Rattle.log_buffer.specs.Log.{logged_to};
-ghost use Rattle.sn_model.specs.CacheRows.{AwaitsAnswer, MayCount};
+ghost use Rattle.sn_model.specs.CacheRows.{AwaitsAnswer, NoneIn, MayCount};
 ghost use Rattle.sn_model.specs.Caches.{is_owned, puts_on};
 ghost use Rattle.mosi_cache.specs.Controller.{logged};
 ghost use Rattle.mosi_cache.specs.Rows.{MeetsRow, NotesLast, noted_in};
@@ -220,6 +220,15 @@ fn awaits(cache: &Cache, block: BlockNo, need: Need) -> bool
     }
 }
 
+fn has_none_in(cache: &Cache) -> bool
+    ensures { result ≡ true → NoneIn cache.now.cache.miss }
+{
+    match cache.transactions.miss() {
+        Some(miss) => miss.acks_in == 0,
+        None => true,
+    }
+}
+
 fn counts(cache: &Cache, block: BlockNo) -> bool
     ensures { result ≡ true → MayCount cache.now.cache.miss block }
 {
@@ -239,7 +248,7 @@ fn meets(cache: &Cache, message: &Message) -> bool
         Body::FwdGetS(_) | Body::FwdGetM(_, _) => is_owner(state),
         Body::Inv(_) => true,
         Body::DataS(_) | Body::DataE(_) => {
-            awaits(cache, block, Need::Read) && state == LineState::Absent
+            awaits(cache, block, Need::Read) && state == LineState::Absent && has_none_in(cache)
         }
         Body::DataM(_, _) => {
             awaits(cache, block, Need::Write)
