@@ -1,7 +1,9 @@
 #!/usr/bin/env python3
 """Proves and builds the program with the crates that it stands on. `./safetynet` calls this when it has to.
 
-    build.py PROGRAM STAMP [COMMAND WORDS..]
+    build.py PROGRAM TO                     builds the program and runs nothing
+    build.py PROGRAM TO proved WORDS..      and runs it with these words
+    build.py PROGRAM TO both WORDS..        and shows before that what the source does (early.py), to compare both answers then
 
 Crates are proved side by side, each once those that it stands on are, and each by a process of its own (`build.py --prove`): from nothing
 and as the gate proves it, by the calls that rt's own file has for that, which hold each verdict, and the program, to HANDLES. Those with
@@ -13,9 +15,10 @@ what it is. One that is of the present text, over the present libraries below it
 interrupted goes on with the crates that it hadn't proved. Nor is a crate that the gate has proved on this machine of the same text over the
 same libraries: rt keeps what that made, by the sums of all that it read, and gives it.
 
-STAMP is written only once all is proved and built: its lines are the files and folders that the program was built from, its date is that
-of the build's beginning. Whatever changed later, or during the build, is newer than it. Then the command is run, if there is one, in
-place of this. Where the program can't be built the status is 125. Everything that is said goes to standard error.
+The program is put into the folder TO, where the gate doesn't take it away, under the name `safetynet`. TO/current is written only once all
+is proved and built: its lines are the files and folders that the program was built from, its date is that of the build's beginning.
+Whatever changed later, or during the build, is newer than it. Where the program can't be built, or the two answers differ, the status is
+125. Everything that is said goes to standard error.
 """
 import contextlib
 import copy
@@ -33,11 +36,16 @@ import tempfile
 import time
 import traceback
 from pathlib import Path
+from typing import List, Optional
+
+from early import Early, objection, proved_answer
 
 OWN = Path(__file__).resolve()
 HERE = OWN.parent
 PARTS = ["src", "specs", "proofs"]
 MEMORY_EACH = 3 << 30
+# What a build from nothing takes on four processors that do nothing else (docs/MEASURES.md).
+MINUTES_FROM_NOTHING = 24
 
 
 class NotBuilt(Exception):
@@ -104,14 +112,15 @@ def lanes():
 
 
 class Progress:
-    """How far the build is: on a terminal one line that changes, else a line a crate."""
+    """How far the build is: on a terminal one line that changes, else a line a crate. Nothing is said while an early answer is awaited."""
 
-    def __init__(self, many):
+    def __init__(self, many, is_held=False):
         self.many, self.done, self.begun = many, 0, time.time()
-        self.is_terminal = sys.stderr.isatty()
+        self.is_terminal, self.is_held = sys.stderr.isatty(), is_held
 
     def say(self, text, end="\n"):
-        print(("\r\033[K" if self.is_terminal else "") + text, end=end, file=sys.stderr, flush=True)
+        if not self.is_held:
+            print(("\r\033[K" if self.is_terminal else "") + text, end=end, file=sys.stderr, flush=True)
 
     def minutes(self):
         return f"{(time.time() - self.begun) / 60:.0f} min"
@@ -126,16 +135,71 @@ class Progress:
             self.say(f"# proved {self.done} of {self.many}: {crate}, {self.minutes()}")
 
 
+class FirstAnswer:
+    """The answer before the proof, if there can be one: shown as soon as it is there, and held against the proved one."""
+
+    def __init__(self, program, words):
+        why = objection(words)
+        self.early: Optional[Early] = None if why else Early(folder_of(program), words)
+        self.shown = None
+        if why:
+            self.say_none(why)
+
+    @staticmethod
+    def say_none(why):
+        print(f"# no answer before the proof: {why}", file=sys.stderr, flush=True)
+
+    def is_awaited(self):
+        return self.early is not None and self.shown is None
+
+    def look(self, minutes):
+        """Shows the answer once it is there, with about how many minutes the proof still takes. Gives whether nothing more is awaited."""
+        if self.is_awaited() and self.early.has_ended():
+            self.shown = self.early.answer()
+            if self.shown is None:
+                self.say_none(self.early.why_none())
+                self.early = None
+            else:
+                print("# before the proof:", file=sys.stderr, flush=True)
+                self.shown.show()
+                goes_on = f"the proof goes on (about {minutes()} minutes; what is proved is kept if you stop it)"
+                print(f"# this answer came before the proof; {goes_on}", file=sys.stderr, flush=True)
+        return not self.is_awaited()
+
+    def end(self):
+        if self.early:
+            self.early.end()
+
+    def held_against(self, command: List[str]) -> int:
+        """Runs the proved program, and says whether it gives the answer that was shown. Gives the status."""
+        proved = proved_answer(command)
+        if proved == self.shown:
+            print("# proved: the same answer", file=sys.stderr)
+            return proved.status
+        other = f"another answer, with status {proved.status}; don't rely on the one above, and call again"
+        print(f"# proved: {other} (a file that was read may have changed meanwhile)", file=sys.stderr)
+        return 125
+
+
+def is_taken(handle):
+    """Whether a folder is locked by somebody else; locks it otherwise."""
+    try:
+        fcntl.flock(handle, fcntl.LOCK_EX | fcntl.LOCK_NB)
+    except BlockingIOError:
+        return True
+    return False
+
+
 @contextlib.contextmanager
-def locked(folder):
+def locked(folder, meanwhile):
     """Keeps rt, and another build, out of a folder. Whoever inherits what this gives keeps them out too."""
     handle = os.open(folder, os.O_RDONLY)
     try:
-        try:
-            fcntl.flock(handle, fcntl.LOCK_EX | fcntl.LOCK_NB)
-        except BlockingIOError:
+        if is_taken(handle):
             print(f"# waiting for another build, or for rt, to end in {folder}", file=sys.stderr)
-            fcntl.flock(handle, fcntl.LOCK_EX)
+            while is_taken(handle):
+                meanwhile()
+                time.sleep(0.2)
         yield handle
     finally:
         os.close(handle)
@@ -293,8 +357,14 @@ def jobs_of(crate, urgent, many):
     return min(4, max(1, many // len(urgent))) if crate in urgent else 1
 
 
-def build_crates(built, progress):
-    """Proves and builds the libraries and the program."""
+def minutes_left(under, done):
+    """About how long the rest of a build takes, by what its crates are of the whole work and by the processors."""
+    share = sum(work_of(it, under) for it in under if it not in done) / sum(work_of(it, under) for it in under)
+    return max(1, round(MINUTES_FROM_NOTHING * share * max(1, 4 / lanes())))
+
+
+def build_crates(built, progress, first):
+    """Proves and builds the libraries and the program, and shows an early answer as soon as it is there."""
     under = built.under
     behind, done, waiting, running, many = work_behind(under), set(), set(), {}, lanes()
     try:
@@ -313,6 +383,8 @@ def build_crates(built, progress):
                     break
                 waiting.remove(crate)
                 running[crate] = Proof(crate, built, jobs_of(crate, urgent, many), crate in urgent)
+            if first and first.look(lambda: minutes_left(under, done)):
+                progress.is_held = False
             if running:
                 progress.working(running)
                 time.sleep(0.2)
@@ -326,43 +398,60 @@ def build_crates(built, progress):
             proof.end()
 
 
-def build(program, stamp, lock):
+def build(program, to, lock, first):
     """Builds the program and writes the stamp; gives whether it is built."""
     stands_on = read_crates()
     under = {it: below(it, stands_on) for it in below(program, stands_on) | {program}}
     files = [it for it in ("crates.txt", "HANDLES") if (HERE / it).is_file()]
     folders = [f"crates/{it}/{part}" for it in sorted(under) for part in PARTS if (folder_of(it) / part).is_dir()]
-    progress = Progress(len(under))
+    progress = Progress(len(under), is_held=first is not None and first.is_awaited())
     progress.say(f"# building: each of {len(under)} crates is proved first, which takes some minutes the first time")
-    with tempfile.NamedTemporaryFile(dir=stamp.parent) as beginning:
+    with tempfile.NamedTemporaryFile(dir=to) as beginning:
         begun = os.stat(beginning.name).st_mtime_ns
         try:
-            build_crates(Built(program, under, lock), progress)
+            build_crates(Built(program, under, lock), progress, first)
         except NotBuilt as why:
             crate, said = why.args
             # what was loaded of the libraries tells nothing of the crate
             lines = [it for it in said.splitlines() if not it.startswith("statements ")]
             print(*lines[-20:], sep="\n", file=sys.stderr)
-            progress.say(f"# the program was not built: {crate} is not proved")
+            print(f"# the program was not built: {crate} is not proved", file=sys.stderr)
             return False
         progress.say(f"# built in {progress.minutes()}")
-        new = stamp.with_suffix(".new")
+        put_in_place(folder_of(program) / "out" / program, to / "safetynet")
+        new = to / "current.new"
         new.write_text("".join(f"{it}\n" for it in [*files, *folders]))
         os.utime(new, ns=(begun, begun))
-        new.replace(stamp)
+        new.replace(to / "current")
     return True
 
 
-def build_and_run(program, stamp, *command):
+def put_in_place(made, program):
+    """Puts a program where one may stand that runs."""
+    new = program.with_suffix(".new")
+    shutil.copy(made, new)
+    new.replace(program)
+
+
+def build_and_run(program, to, how=None, *words):
     # an end from outside ends the proofs too
     signal.signal(signal.SIGTERM, lambda *_: sys.exit(143))
-    stamp = Path(stamp)
-    with locked(folder_of(program)) as lock:
-        stamp.parent.mkdir(exist_ok=True)
-        stamp.unlink(missing_ok=True)
-        if not build(program, stamp, lock):
-            return 125
-    if command:
+    to, first = Path(to), FirstAnswer(program, [*words]) if how == "both" else None
+    meanwhile = (lambda: first.look(lambda: MINUTES_FROM_NOTHING)) if first else (lambda: None)
+    try:
+        with locked(folder_of(program), meanwhile) as lock:
+            to.mkdir(exist_ok=True)
+            (to / "current").unlink(missing_ok=True)
+            (folder_of(program) / "out").mkdir(exist_ok=True)
+            if not build(program, to, lock, first):
+                return 125
+    finally:
+        if first:
+            first.end()
+    command = [str(to / "safetynet"), *words]
+    if first and first.shown:
+        return first.held_against(command)
+    if how:
         os.execv(command[0], command)
     return 0
 

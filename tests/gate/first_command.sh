@@ -1,6 +1,7 @@
 #!/usr/bin/env bash
 # Shows when ./safetynet builds and what it runs, with a stand-in for rt: a program that isn't built of the present text, with
-# every proof passed, is never run. Then holds the pages that --help and --version give against the program's own answers.
+# every proof passed, is never run as a proved one, and an answer that comes before the proof says so and is held against the proved
+# one. Then holds the pages that --help and --version give against the program's own answers.
 set -u
 cd "$(dirname "$0")/../.." || exit 1
 top=$PWD failed=0 passed=0
@@ -11,19 +12,20 @@ export CALLS=$work/calls FAILS=$work/fails
 # A repository of five crates: two between the lowest and the program, and one that the program doesn't stand on.
 repo=$work/repo
 mkdir -p "$work/bin" "$repo"
-cp safetynet build.py "$repo"
+cp safetynet build.py early.py "$repo"
 printf '%s\n' '# crate: what it stands on' 'low: byteorder' 'left: low' 'right: low' 'aside: low' 'safetynet_program: low left right itoa' >"$repo/crates.txt"
 echo "Handles allowed: Wait." >"$repo/HANDLES"
 for crate in low left right aside safetynet_program; do
   mkdir -p "$repo/crates/$crate/src"
   echo "first" >"$repo/crates/$crate/src/lib.rt"
 done
-cp crates/safetynet_program/*.txt "$repo/crates/safetynet_program"
+cp -r crates/safetynet_program/pages "$repo/crates/safetynet_program"
 libraries=$repo/crates/safetynet_program/out/rlib
 
 # The stand-in, with what build.py takes of rt. A proof fails where the file FAILS names the crate, and where a text asks for a handle
 # that isn't allowed. What is built has a sum of its text and of the libraries below; the program prints the text of the library `low`
-# and its words.
+# and its words, and reports the words. `rt try` does the same with the present text, and says what rt itself says behind it; the file
+# FAILS.try has it answer otherwise, or not at all.
 echo "one toolchain" >"$work/WHAT"
 cat >"$work/bin/rt" <<'END'
 #!/usr/bin/env python3
@@ -92,7 +94,7 @@ class Crate:
     def link(self, made, program):
         told(self.name, made, program)
         low = next(Path(it.rlib, "text").read_text().strip() for it in self.below() if it.name == "low")
-        Path(self.folder, program).write_text(f'#!/usr/bin/env bash\necho "{low}:$*"\nexit 7\n')
+        Path(self.folder, program).write_text(f'#!/usr/bin/env bash\necho "{low}:$*"\necho "report of $*" >&2\nexit 7\n')
         Path(self.folder, program).chmod(0o755)
         return 0
 
@@ -120,18 +122,31 @@ if __name__ == "__main__" and sys.argv[1] == "doc":
     print(KIT / "START-HERE.md")
 elif __name__ == "__main__":
     told(*sys.argv[1:])
-    print("console", end="")
-    print(f"report of {sys.argv[-2]}\nchecked: ended status=5\nrun=ended status=5 runners=1 proved=no", file=sys.stderr)
-    sys.exit(5)
+    words, how = sys.argv[sys.argv.index("--") + 1 :], Path(f"{FAILS}.try")
+    how = how.read_text() if how.exists() else ""
+    low = Path("../low/src/lib.rt").read_text().strip()
+    if how == "none":
+        print("part of it", end="")
+        print("checked: no-answer: more than 1 MiB\nrun=none proved=no", file=sys.stderr)
+        sys.exit(6)
+    if how == "slow":
+        time.sleep(60)
+    print(f"{'other' if how == 'other' else low}:{' '.join(words)}")
+    print(f"report of {' '.join(words)}", file=sys.stderr)
+    print("checked: ended status=7\nraces: not looked for, since a kit has no ThreadSanitizer", file=sys.stderr)
+    print("run=ended status=7 runners=1 proved=no", file=sys.stderr)
+    sys.exit(7)
 END
 chmod +x "$work/bin/rt"
 
 PATH_TO=$work/bin:$PATH
 
-# One call of ./safetynet: its status, what it wrote on standard output, and whether rt was called (0 or 1).
+# One call of ./safetynet: its status, what it wrote on standard output, and whether rt was called (0 or 1). Words that ask for
+# neither a page nor a way to build are those of a call that shows no answer before the proof.
 check() { # what it shows, status, output, is_called, words..
   local what=$1 status=$2 output=$3 is_called=$4 found called=0
   shift 4
+  [ "${asks_page-}" ] || [[ ${1-} == --* ]] || set -- --proved "$@"
   : >"$CALLS"
   (cd "$repo" && PATH=$PATH_TO ./safetynet "$@") >"$work/out" 2>"$work/err"
   found=$?
@@ -243,11 +258,83 @@ check "those that are allowed are" 7 "third:x" 1 x
 change low "fourth"
 check "--build builds" 0 "" 1 --build
 check "and then has nothing to do" 0 "" 0 --build
-check "the words of an unproved run come through, and its console and status" 5 "console" 1 --unproved replay x y
-is_so "its report comes after a line that nothing is proved" diff - "$work/err" <<'END'
+
+# An answer before the proof: the same call, without a word that says how.
+early() { # what it shows, status, output, words..
+  local what=$1 status=$2 output=$3 found
+  shift 3
+  : >"$CALLS"
+  (cd "$repo" && PATH=$PATH_TO ./safetynet "$@") >"$work/out" 2>"$work/err"
+  found=$?
+  is_so "$what: status $found and not $status, or it wrote: $(head -c 200 "$work/out")" [ "$found:$(cat "$work/out")" = "$status:$output" ]
+}
+says() { # what it shows, a line of standard error
+  is_so "$1" grep -q "^$2" "$work/err"
+}
+check "the words of an unproved run come through, and its console and status" 7 "fourth:replay x y" 1 --unproved replay x y
+is_so "its report comes after a line that nothing is proved, and none of the toolchain's lines" diff - "$work/err" <<'END'
 # nothing of this run is proved
-report of x
+report of replay x y
 END
+early "a program that is built says nothing beside its answer" 7 "fourth:replay x" replay x
+is_so "nor does it call rt" [ ! -s "$CALLS" ]
+is_so "and its report is its own alone" diff - "$work/err" <<<"report of replay x"
+change low "sixth"
+early "before a proof the same source answers" 7 "sixth:replay x" replay x
+is_so "between two lines, and the proved program then says that it is so" diff - <(sed 's/about [0-9]* min/about N min/; /^# \(building\|built\|proved [0-9]\)/d' "$work/err") <<'END'
+# before the proof:
+report of replay x
+# this answer came before the proof; the proof goes on (about N minutes; what is proved is kept if you stop it)
+# proved: the same answer
+END
+early "from then on nothing is said" 7 "sixth:replay x" replay x
+is_so "but the report" diff - "$work/err" <<<"report of replay x"
+change low "seventh"
+printf other >"$FAILS.try"
+early "an answer that isn't the proved one" 125 "other:replay x" replay x
+says "is told" "# proved: another answer, with status 7"
+change low "eighth"
+printf none >"$FAILS.try"
+early "where there is no answer before the proof, the proved one comes alone" 7 "eighth:replay x" replay x
+says "which is said, with the reason" "# no answer before the proof: checked: no-answer: more than 1 MiB"
+check "an unproved run without an answer" 125 "" 1 --unproved replay x
+says "says so too" "# rt try gave no answer: checked: no-answer: more than 1 MiB"
+change low "ninth"
+printf slow >"$FAILS.try"
+early "a proof that ends first is not waited for" 7 "ninth:replay x" replay x
+is_so "and no rt is left behind" bash -c "! pgrep -f '$work/[b]in/rt try' >/dev/null"
+rm "$FAILS.try"
+for words in "run a" "run --nodes 2 a" "run --nodes=3 a" "monitor a"; do
+  change low "tenth, $words"
+  early "threads have no answer that could be compared" 7 "tenth, $words:$words" $words
+  says "which is said" "# no answer before the proof: threads decide"
+done
+change low "eleventh"
+early "but a run on one node has one" 7 "eleventh:run --nodes 1 a" run --nodes 1 a
+says "that is compared" "# proved: the same answer"
+change low "twelfth"
+mkfifo "$repo/once"
+early "what can be read once only is not read before the proof" 7 "twelfth:check once" check once
+says "which is said" "# no answer before the proof: once is no plain file"
+change low "thirteenth"
+echo right >"$FAILS"
+change right "thirteenth"
+early "an answer before a proof that fails is shown, and no other" 125 "thirteenth:replay x" replay x
+says "with the crate that isn't proved" "# the program was not built: right is not proved"
+: >"$FAILS"
+mkdir "$repo/a folder"
+echo 1 >"$repo/a folder/a file"
+(cd "$repo" && PATH=$PATH_TO ./safetynet --unproved replay "a folder/a file" ../repo/crates.txt) >"$work/out" 2>"$work/err"
+is_so "files keep their names where they can, also with blanks" grep -qF -- \
+  "--data a folder/a file=$repo/a folder/a file --data given/2=$repo/crates.txt -- replay a folder/a file given/2" "$CALLS"
+change low "fourth"
+mv "$repo" "$work/a repo"
+repo="$work/a repo"
+libraries=$repo/crates/safetynet_program/out/rlib
+early "all of it also stands in a folder with a blank" 7 "fourth:replay x" replay x
+mv "$repo" "$work/repo"
+repo=$work/repo
+libraries=$repo/crates/safetynet_program/out/rlib
 
 # What the gate has kept: here two of the three libraries, and another text of the third.
 mkdir "$work/kept"
@@ -271,7 +358,7 @@ for crate in low safetynet_program; do
   change low "fifth, $crate"
   hang=$FAILS.hang.$crate
   touch "$hang"
-  (cd "$repo" && PATH=$work/bin:$PATH exec ./safetynet x) >"$work/out" 2>"$work/err" &
+  (cd "$repo" && PATH=$work/bin:$PATH exec ./safetynet --proved x) >"$work/out" 2>"$work/err" &
   for _ in {1..600}; do
     [ -s "$hang" ] && break
     sleep 0.1
@@ -286,23 +373,23 @@ done
 is_so "what wasn't proved" diff - <(calls) <<<"safetynet_program"
 
 # Without rt, and without a build.
-rm -rf "$repo"/crates/*/out "$work/bin"/*
+rm -rf "$repo"/crates/*/out "$repo/build" "$work/bin"/*
 for tool in bash env dirname readlink cat find; do ln -s "$(command -v "$tool")" "$work/bin/$tool"; done
 PATH_TO=$work/bin
-check "--version needs no build" 0 "$(cat crates/safetynet_program/version.txt)" 0 --version
-help_calls=('' --help -h help) version_calls=(--version)
-for command in replay run check demo asm dis; do
-  help_calls+=("$command --help" "$command -h" "$command help" "help $command")
-  version_calls+=("$command --version")
-done
-for words in "${help_calls[@]}"; do
+pages=$top/crates/safetynet_program/pages asks_page=1
+is_so "--help begins with the overview" diff "$pages/overview.txt" <(head -n "$(wc -l <"$pages/overview.txt")" <(./safetynet --help))
+for words in '' --help -h help; do
   # Each word is one of its own.
-  check "the page that '$words' asks for needs no build" 0 "$(./safetynet --help)" 0 $words
+  check "the overview that '$words' asks for needs no build" 0 "$(./safetynet --help)" 0 $words
 done
-is_so "--help begins with the program's page" diff crates/safetynet_program/help.txt <(head -n "$(wc -l <crates/safetynet_program/help.txt)" <(./safetynet --help))
-for words in "${version_calls[@]}"; do
-  check "the page that '$words' asks for needs no build" 0 "$(cat crates/safetynet_program/version.txt)" 0 $words
+page_calls=("events=help events" "formats=help formats" "statuses=help statuses" "version=--version")
+for command in replay roll run monitor check demo asm dis; do
+  page_calls+=("$command=$command --help" "$command=$command -h" "$command=$command help" "$command=help $command" "version=$command --version")
 done
+for call in "${page_calls[@]}"; do
+  check "the page that '${call#*=}' asks for needs no build" 0 "$(cat "$pages/${call%%=*}.txt")" 0 ${call#*=}
+done
+asks_page=
 check "all else is refused" 125 "" 0 x
 check "a call for a page with another word too" 125 "" 0 replay --help x
 check "a page of no command" 125 "" 0 help fly
@@ -312,7 +399,7 @@ is_so "rt is named" grep -q "rt is not on the path" "$work/err"
 # The same with rt itself: a library, and a program that puts what it gives.
 small=$work/small
 mkdir -p "$small"/crates/{given,puts}/src
-cp build.py "$small"
+cp build.py early.py "$small"
 printf '%s\n' 'given:' 'puts: given' >"$small/crates.txt"
 echo "Handles allowed: none." >"$small/HANDLES"
 cat >"$small/crates/given/src/lib.rt" <<'END'
@@ -337,27 +424,30 @@ fn main(rt: HostRuntime) -> io::Result<()> {
     Ok(())
 }
 END
-small_build() { # what it shows, status, output
-  local out=$small/crates/puts/out status
-  python3 "$small/build.py" puts "$out/current" "$out/puts" >"$work/out" 2>"$work/err"
+small_build() { # what it shows, status, output, how
+  local status
+  python3 "$small/build.py" puts "$small/build" "${4-proved}" >"$work/out" 2>"$work/err"
   status=$?
   is_so "with rt itself, $1: status $status, $(tail -n 2 "$work/err")" [ "$status:$(cat "$work/out")" = "$2:$3" ]
 }
 small_build "a library that isn't proved isn't built" 125 ""
 is_so "and is named" grep -q "given is not proved" "$work/err"
 sed -i 's: / 2::' "$small/crates/given/src/lib.rt"
-small_build "what is proved is built and run" 0 7
+small_build "the same source answers before its proof, and what is proved then gives the same" 0 7 both
+says "which is said" "# this answer came before the proof"
+says "and compared" "# proved: the same answer"
+small_build "what is proved is run" 0 7
 echo "use std::net::TcpStream;" >>"$small/crates/given/src/lib.rt"
 small_build "a library beyond the handles isn't built" 125 ""
 
 # The pages are what the program itself says.
 ./safetynet --build || { echo "the program was not built" >&2; exit 1; }
-program=$top/crates/safetynet_program/out/safetynet_program
-for words in "${help_calls[@]}"; do
-  is_so "help.txt is what the program says to '$words'" diff crates/safetynet_program/help.txt <("$program" $words)
+for call in overview= overview=--help overview=-h overview=help "${page_calls[@]}"; do
+  is_so "the page ${call%%=*} is what the program says to '${call#*=}'" diff "$pages/${call%%=*}.txt" <(build/safetynet ${call#*=})
 done
-for words in "${version_calls[@]}"; do
-  is_so "version.txt is what the program says to '$words'" diff crates/safetynet_program/version.txt <("$program" $words)
+is_so "the overview has at most 40 lines" [ "$(wc -l <"$pages/overview.txt")" -le 40 ]
+for page in "$pages"/*.txt; do
+  is_so "$(basename "$page") has at most 60 lines of 81 letters" awk 'length > 81 { exit 1 } END { exit NR > 60 }' "$page"
 done
 
 echo "first command: $passed passed, $failed failed"

@@ -17,17 +17,19 @@ fn words_of(alloc: Global, line: &str) -> Result<Vec<String>, AllocError> {
 }
 
 /// The lines are parted by semicolons.
-const HELP: &str = "\
-;--help;-h;help;replay --help;replay -h;replay help;run --help;check --help;demo -h;asm help;dis --help;help replay;help run;help check;\
-help demo;help asm;help dis";
+const OVERVIEW: &str = ";--help;-h;help";
 
-const VERSION: &str =
-    "--version;replay --version;run --version;check --version;demo --version;asm --version;dis --version";
+const ROLL: &str = "roll --help;roll -h;roll help;help roll";
+
+const TOPIC: &str = "help statuses";
+
+const VERSION: &str = "--version;replay --version;roll --version;run --version;monitor --version;\
+check --version;demo --version;asm --version;dis --version";
 
 const NEITHER: &str = "\
 '';--;-;-V;--Help;HELP;--helper;hel;--help=1;version;replay;run;check;demo;asm;dis;fly;fly --help;fly --version;--help fly;\
---help --help;help --help;help help;help fly;help '';-h replay;--help replay;--version replay;Replay --help;\
-replay replay;replay --help --help;replay a --help;help replay help;help replay check;replay --nodes 2 --help;\
+--help --help;help --help;help help;help fly;help '';-h replay;--help replay;--version replay;Replay --help;statuses;\
+events --help;replay replay;replay --help --help;replay a --help;help replay help;help replay check;replay --nodes 2 --help;\
 demo 5 --help;asm a;dis a -h;replay ''";
 
 fn all_ask_for(
@@ -45,14 +47,16 @@ fn all_ask_for(
 
 #[test]
 fn a_call_for_a_page_is_one_word_alone_or_after_a_command(rt: HostRuntime) -> Result<(), Fail> {
-    all_ask_for(&rt, rt.alloc(), HELP, Some(Page::Help))?;
+    all_ask_for(&rt, rt.alloc(), OVERVIEW, Some(Page::Overview))?;
+    all_ask_for(&rt, rt.alloc(), ROLL, Some(Page::Roll))?;
+    all_ask_for(&rt, rt.alloc(), TOPIC, Some(Page::Statuses))?;
     all_ask_for(&rt, rt.alloc(), VERSION, Some(Page::Version))?;
     all_ask_for(&rt, rt.alloc(), NEITHER, None)
 }
 
 #[test]
-fn without_even_a_name_it_is_help(rt: HostRuntime) {
-    assert!(rt; page_of(&[]) == Some(Page::Help));
+fn without_even_a_name_it_is_the_overview(rt: HostRuntime) {
+    assert!(rt; page_of(&[]) == Some(Page::Overview));
 }
 
 /// Whether the page of the version comes to this on a console with so much room.
@@ -73,16 +77,4 @@ fn version_comes_to(
 fn a_page_is_put_in_one_piece(rt: HostRuntime) -> Result<(), Fail> {
     version_comes_to(&rt, rt.alloc(), 16, Ok(()), "safetynet 0.1.0\n")?;
     version_comes_to(&rt, rt.alloc(), 15, Err(Failed), "")
-}
-
-#[test]
-fn the_page_of_help_begins_with_what_the_program_does(rt: HostRuntime) -> Result<(), Fail> {
-    let mut console = MemSink::with_room(rt.alloc(), 10_000)?;
-    assert!(rt; show(&mut console, Page::Help) == Ok(()));
-    assert!(rt;
-        console
-            .bytes()
-            .starts_with(b"Replays a list of events on a simulated SafetyNet")
-    );
-    Ok(())
 }

@@ -8,7 +8,7 @@
 
 ghost use Rattle.std.specs.Prelude.{◌≡◌, ◌≢◌, false, map, string_bytes};
 ghost use Rattle.command_words.specs.Command.{the_app};
-ghost use Rattle.own_pages.specs.Pages.{page_by};
+ghost use Rattle.own_pages.specs.Pages.{command_pages, page_by};
 ghost use Rattle.own_pages.specs.Texts.{text_on};
 ghost use Rattle.safetynet_main.specs.Status.{has_written};
 ghost use Rattle.sn_io.specs.Outside.{Rose, followed_by};
@@ -29,9 +29,10 @@ use std::thread::Threads;
 /// How many bytes of the report are held back until they go out together.
 const HELD_BACK: usize = 65_536;
 
-// The page that the words ask for, by the commands of the table that the call reads its words with.
+// The page that the words ask for. Each command of the table by which the call reads its words has a page, in the same order.
 fn page_asked(words: &[String]) -> Option<Page>
-    ensures { result ≡ page_by (map (λ command. command.name) the_app.subs) (map string_bytes words.now) }
+    ensures page { result ≡ page_by (map string_bytes words.now) }
+    ensures commands { map (λ row. row.0) command_pages ≡ map (λ command. command.name) the_app.subs }
 {
     page_of(words)
 }
