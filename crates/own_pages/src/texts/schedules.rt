@@ -73,8 +73,8 @@ exit status: 0 done, 1 usage, 2 store, 3 program, 4 script, 5 sink, 7 memory
              (help statuses)
 
 examples:
-  safetynet roll --nodes 1 examples/first/a.hex examples/roll/empty.script \\
+  safetynet roll --nodes 1 examples/first/a.hex examples/roll/nothing.script \\
       examples/roll/one_node.control
   safetynet roll --nodes 2 examples/shared/count.hex \\
-      examples/roll/two_nodes.script examples/roll/two_nodes.control
+      examples/roll/moved_block.script examples/roll/each_node.control
 ";
