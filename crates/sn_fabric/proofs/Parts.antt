@@ -1,5 +1,5 @@
 -- What the parts say of the fabric that they stand for, and how they change.
-use Rattle.std.proofs.Common.{◌≡◌, ℕ, zero, suc, ◌<◌, List, [], ◌∷◌, length, get_or, set, refl, sym, ap, ◌∙◌, subst, arith, length-set}
+use Rattle.std.proofs.Common.{◌≡◌, ℕ, zero, suc, ◌<◌, ◌≤◌, List, [], ◌∷◌, length, get_or, set, refl, sym, ap, ◌∙◌, subst, arith, length-set}
 use Rattle.std.proofs.Common.{⊎_elim}
 use Rattle.std.specs.Prelude.{map}
 use Rattle.std.proofs.lemmas.List.{length-map, map-set, get_or-set_same, get_or-set_other, get_or_read}
@@ -15,6 +15,7 @@ use Rattle.sn_model.specs.Net.{routes_of}
 use Rattle.sn_model.specs.FabricEvents.{FabricEvent, moved_by}
 use Rattle.fabric_coherence.specs.Events.{MayBe}
 use Rattle.fabric_bounds.specs.Bounds.{HasLogRoom, KeepsBounds}
+use Rattle.fabric_bounds.proofs.Numbers.{event_sends}
 use Rattle.fabric_bounds.proofs.Runs.{each_keeps_bounds}
 use Rattle.sn_fabric.specs.declared.node.Seat.{Seat}
 use Rattle.sn_fabric.specs.Fabric.{FabricData, IsAfter}
@@ -76,6 +77,7 @@ pub record Comes (config : Config) (p q : Parts) (sends : List Sent) (said : Ans
   pub fabric : fabric_as q ≡ moved.fabric
   pub sent : sends ≡ moved.sent
   pub answer : said ≡ moved.answer
+  pub few : length sends ≤ 17
 
 -- whole parts that stand for what an event comes to are parts as they may be
 pub comes : (config : Config) (p q : Parts) (sends : List Sent) (said : Answer) (event : FabricEvent) (moved : Moved) → AreParts config p →
@@ -92,7 +94,15 @@ comes config p q sends said event moved k m r e w f s a = record {
   fabric = f;
   sent = s;
   answer = a;
+  few =
+      subst (λ (xs : List Sent). length xs ≤ 17) (ap (λ (x : Moved). x.sent) e ∙ sym s)
+      (event_sends config (fabric_as p) k.keeps.0 event k.keeps.1 m).few;
 }
+
+-- so they are kept, where the list of what was sent has its room
+pub kept : {config : Config} {p q : Parts} {sends : List Sent} {said : Answer} {moved : Moved} {room : ℕ} →
+    Comes config p q sends said moved → 17 ≤ room → AreParts config q × (17 ≤ room) × (length sends ≤ 17)
+kept c l = (c.parts, l, c.few)
 
 pub after-comes : (config : Config) (p q : Parts) (before sends : List Sent) (said : Answer) (moved : Moved) →
     Comes config p q sends said moved →

@@ -53,7 +53,7 @@ pub struct Fabric {
 }
 
 impl Model for Fabric {
-    ghost use Rattle.std.specs.Prelude.{◌≤◌, vec_capacity};
+    ghost use Rattle.std.specs.Prelude.{◌≤◌, length, vec_capacity};
     ghost use Rattle.sn_fabric.specs.Fabric.{FabricData};
     ghost use Rattle.sn_fabric.specs.Parts.{fabric_as, AreParts};
 
@@ -66,7 +66,7 @@ impl Model for Fabric {
     } };
 
     ghost invariant = { λ f. AreParts f.config (record { seats = f.seats.items; homes = f.homes.items; net = f.net; point = f.point })
-        × (17 ≤ vec_capacity f.sent) };
+        × (17 ≤ vec_capacity f.sent) × (length f.sent.items ≤ 17) };
 }
 
 impl Fabric {
@@ -89,9 +89,10 @@ impl Fabric {
             .is_some()
     }
 
-    /// What the last call sent, in order: at most 17 messages.
+    /// What the last call sent, in order of their numbers.
     pub fn sent(&self) -> &[Sent]
-        ensures { result.now ≡ self.now.sent }
+        ensures same { result.now ≡ self.now.sent }
+        ensures few { length result.now ≤ 17 }
     {
         self.sent.as_slice()
     }

@@ -2,7 +2,7 @@ use Rattle.std.proofs.Common.{set, ◌∙◌, arith}
 use Rattle.sn_base.specs.declared.event.Answer.TheVariants.{Missed}
 use Rattle.sn_model.specs.Access.{accessed}
 use Rattle.sn_fabric.specs.Fabric.{FabricData}
-use Rattle.sn_fabric.proofs.Parts.{after-whole}
+use Rattle.sn_fabric.proofs.Parts.{kept, after-whole}
 use Rattle.sn_fabric.proofs.Sends.{miss-asks, miss-comes, to-home}
 use Rattle.sn_fabric.proofs.Fabric.begin_miss.Goals as goal
 
@@ -33,22 +33,21 @@ post-requires-clause-receiver c =
     (rw (← c.self.view_is) at c.requires.here) (c.from.ensures ∙ c.number.ensures.same) c.index_mut-seat.ensures.value)
 
 pub invariant_of-self : goal.invariant_of-self
-invariant_of-self c = (
-  (miss-comes c.self.inside.config
-      (record {
-        seats = c.self.inside.seats.items;
-        homes = c.self.inside.homes.items;
-        net = c.self.inside.net;
-        point = c.self.inside.point;
-      }) c.args.node c.from.result c.args.block c.now-now.result c.args.need c.index_mut-seat.result.now
-      c.begin_miss-out.new.self c.begin_miss-out.result c.post.new.net c.post.new.sent.items c.self.invariant.0
-      (rw (← c.self.view_is) at c.requires.here)
-      (omega (arith, c.number-number.ensures.small, c.number-number.ensures.same)) (rw (← c.self.view_is) at c.requires.misses)
-      (c.from.ensures ∙ c.number.ensures.same) c.index_mut-seat.ensures.value c.now-now.ensures.same
-      c.begin_miss-out.ensures.open_now c.begin_miss-out.ensures.out c.post.ensures.routes c.post.ensures.net
-      (rw c.clear.ensures.items at c.post.ensures.sent)).parts,
-  omega (arith, c.self.invariant.1, c.clear.ensures.capacity, c.post.ensures.capacity),
-)
+invariant_of-self c =
+    kept (miss-comes c.self.inside.config
+    (record {
+      seats = c.self.inside.seats.items;
+      homes = c.self.inside.homes.items;
+      net = c.self.inside.net;
+      point = c.self.inside.point;
+    }) c.args.node c.from.result c.args.block c.now-now.result c.args.need c.index_mut-seat.result.now
+    c.begin_miss-out.new.self c.begin_miss-out.result c.post.new.net c.post.new.sent.items c.self.invariant.0
+    (rw (← c.self.view_is) at c.requires.here)
+    (omega (arith, c.number-number.ensures.small, c.number-number.ensures.same)) (rw (← c.self.view_is) at c.requires.misses)
+    (c.from.ensures ∙ c.number.ensures.same) c.index_mut-seat.ensures.value c.now-now.ensures.same
+    c.begin_miss-out.ensures.open_now c.begin_miss-out.ensures.out c.post.ensures.routes c.post.ensures.net
+    (rw c.clear.ensures.items at c.post.ensures.sent))
+    (omega (arith, c.self.invariant.1, c.clear.ensures.capacity, c.post.ensures.capacity))
 
 pub returns : goal.returns
 returns c =

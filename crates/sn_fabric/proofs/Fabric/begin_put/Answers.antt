@@ -3,7 +3,7 @@ use Rattle.sn_base.specs.declared.event.Answer.TheVariants.{PutBegun}
 use Rattle.sn_model.specs.Fabric.{Fabric}
 use Rattle.sn_model.specs.NodeEvents.{evicted}
 use Rattle.sn_fabric.proofs.Evicted.{put-comes}
-use Rattle.sn_fabric.proofs.Parts.{after-view}
+use Rattle.sn_fabric.proofs.Parts.{kept, after-view}
 use Rattle.sn_fabric.proofs.Sends.{to-home}
 use Rattle.sn_fabric.proofs.Fabric.begin_put.Goals as goal
 
@@ -20,21 +20,20 @@ post-requires-clause-receiver c =
     (rw (← c.self.view_is) at c.requires.here) (c.from.ensures ∙ c.number.ensures.same) c.index_mut-seat.ensures.value)
 
 pub invariant_of-self : goal.invariant_of-self
-invariant_of-self c = (
-  (put-comes c.self.inside.config
-      (record {
-        seats = c.self.inside.seats.items;
-        homes = c.self.inside.homes.items;
-        net = c.self.inside.net;
-        point = c.self.inside.point;
-      }) c.args.node c.from.result c.args.block c.now-now.result c.index_mut-seat.result.now c.begin_put-out.new.self c.begin_put-out.result c.post.new.net c.post.new.sent.items
-      c.self.invariant.0 (rw (← c.self.view_is) at c.requires.here)
-      (omega (arith, c.number-number.ensures.small, c.number-number.ensures.same)) (rw (← c.self.view_is) at c.requires.puts)
-      (c.from.ensures ∙ c.number.ensures.same) c.index_mut-seat.ensures.value c.now-now.ensures.same
-      c.begin_put-out.ensures.open_now c.begin_put-out.ensures.out c.post.ensures.routes c.post.ensures.net
-      (rw c.clear.ensures.items at c.post.ensures.sent)).parts,
-  omega (arith, c.self.invariant.1, c.clear.ensures.capacity, c.post.ensures.capacity),
-)
+invariant_of-self c =
+    kept (put-comes c.self.inside.config
+    (record {
+      seats = c.self.inside.seats.items;
+      homes = c.self.inside.homes.items;
+      net = c.self.inside.net;
+      point = c.self.inside.point;
+    }) c.args.node c.from.result c.args.block c.now-now.result c.index_mut-seat.result.now c.begin_put-out.new.self c.begin_put-out.result c.post.new.net c.post.new.sent.items
+    c.self.invariant.0 (rw (← c.self.view_is) at c.requires.here)
+    (omega (arith, c.number-number.ensures.small, c.number-number.ensures.same)) (rw (← c.self.view_is) at c.requires.puts)
+    (c.from.ensures ∙ c.number.ensures.same) c.index_mut-seat.ensures.value c.now-now.ensures.same
+    c.begin_put-out.ensures.open_now c.begin_put-out.ensures.out c.post.ensures.routes c.post.ensures.net
+    (rw c.clear.ensures.items at c.post.ensures.sent))
+    (omega (arith, c.self.invariant.1, c.clear.ensures.capacity, c.post.ensures.capacity))
 
 pub returns : goal.returns
 returns c =

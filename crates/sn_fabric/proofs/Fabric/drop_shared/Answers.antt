@@ -3,22 +3,21 @@ use Rattle.sn_base.specs.declared.event.Answer.TheVariants.{Evicted}
 use Rattle.sn_model.specs.Fabric.{Fabric}
 use Rattle.sn_model.specs.NodeEvents.{evicted}
 use Rattle.sn_fabric.proofs.Evicted.{drop-comes}
-use Rattle.sn_fabric.proofs.Parts.{after-view}
+use Rattle.sn_fabric.proofs.Parts.{kept, after-view}
 use Rattle.sn_fabric.proofs.Fabric.drop_shared.Goals as goal
 
 pub invariant_of-self : goal.invariant_of-self
-invariant_of-self c = (
-  (drop-comes c.self.inside.config
-      (record {
-        seats = c.self.inside.seats.items;
-        homes = c.self.inside.homes.items;
-        net = c.self.inside.net;
-        point = c.self.inside.point;
-      }) c.args.node c.from.result c.args.block c.index_mut-seat.result.now c.drop_shared.new.self c.clear.new.self.items c.self.invariant.0 (rw (← c.self.view_is) at c.requires.here)
-      (omega (arith, c.number-number.ensures.small, c.number-number.ensures.same)) (rw (← c.self.view_is) at c.requires.drops)
-      (c.from.ensures ∙ c.number.ensures.same) c.index_mut-seat.ensures.value c.drop_shared.ensures c.clear.ensures.items).parts,
-  omega (arith, c.self.invariant.1, c.clear.ensures.capacity),
-)
+invariant_of-self c =
+    kept (drop-comes c.self.inside.config
+    (record {
+      seats = c.self.inside.seats.items;
+      homes = c.self.inside.homes.items;
+      net = c.self.inside.net;
+      point = c.self.inside.point;
+    }) c.args.node c.from.result c.args.block c.index_mut-seat.result.now c.drop_shared.new.self c.clear.new.self.items c.self.invariant.0 (rw (← c.self.view_is) at c.requires.here)
+    (omega (arith, c.number-number.ensures.small, c.number-number.ensures.same)) (rw (← c.self.view_is) at c.requires.drops)
+    (c.from.ensures ∙ c.number.ensures.same) c.index_mut-seat.ensures.value c.drop_shared.ensures c.clear.ensures.items)
+    (omega (arith, c.self.invariant.1, c.clear.ensures.capacity))
 
 pub returns : goal.returns
 returns c =

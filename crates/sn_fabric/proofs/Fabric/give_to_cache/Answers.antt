@@ -4,7 +4,7 @@ use Rattle.sn_model.specs.NetEvents.{delivered}
 use Rattle.sn_fabric.specs.Parts.{fabric_as}
 use Rattle.sn_fabric.specs.Fabric.{FabricData}
 use Rattle.sn_fabric.proofs.Given.{inside, tag-reached, to-there, delivered-reached}
-use Rattle.sn_fabric.proofs.Parts.{after-whole}
+use Rattle.sn_fabric.proofs.Parts.{kept, after-whole}
 use Rattle.sn_fabric.proofs.ToCache.{cache-mine, cache-row, cache-last, cache-tells, cache-room, cache-goes, cache-comes}
 use Rattle.sn_fabric.proofs.Fabric.give_to_cache.Goals as goal
 
@@ -115,20 +115,19 @@ post_one-requires-clause-receivers c =
     (← c.self.view_is) at c.requires.delivers) c.receive-step.result c.receive-step.ensures.answer c.out_of-out.result c.out_of-out.ensures c.take_out.new.net c.take_out.ensures.net
 
 pub invariant_of-self : goal.invariant_of-self
-invariant_of-self c = (
-  (cache-comes c.self.inside.config
-      (record {
-        seats = c.self.inside.seats.items;
-        homes = c.self.inside.homes.items;
-        net = c.self.inside.net;
-        point = c.self.inside.point;
-      }) c.self.invariant.0 c.args.message.now
-      (rw (← c.self.view_is) at c.requires.come) c.requires.receiver c.from.result c.now-now.result c.index_mut-seat.result.now
-      (c.from.ensures ∙ c.number.ensures.same) c.index_mut-seat.ensures.value c.now-now.ensures.same
-      (rw
-      (← c.self.view_is) at c.requires.delivers) c.receive-step.result c.receive-step.ensures.answer c.out_of-out.result c.out_of-out.ensures c.take_out.new.net c.take_out.ensures.net c.receive-step.new.seat c.post_one.new.net c.post_one.new.sent.items c.receive-step.ensures.seat c.post_one.ensures.routes c.post_one.ensures.net (rw c.take_out.ensures.sent at c.post_one.ensures.sent)).parts,
-  omega (arith, c.self.invariant.1, c.take_out.ensures.capacity, c.post_one.ensures.capacity),
-)
+invariant_of-self c =
+    kept (cache-comes c.self.inside.config
+    (record {
+      seats = c.self.inside.seats.items;
+      homes = c.self.inside.homes.items;
+      net = c.self.inside.net;
+      point = c.self.inside.point;
+    }) c.self.invariant.0 c.args.message.now
+    (rw (← c.self.view_is) at c.requires.come) c.requires.receiver c.from.result c.now-now.result c.index_mut-seat.result.now
+    (c.from.ensures ∙ c.number.ensures.same) c.index_mut-seat.ensures.value c.now-now.ensures.same
+    (rw
+    (← c.self.view_is) at c.requires.delivers) c.receive-step.result c.receive-step.ensures.answer c.out_of-out.result c.out_of-out.ensures c.take_out.new.net c.take_out.ensures.net c.receive-step.new.seat c.post_one.new.net c.post_one.new.sent.items c.receive-step.ensures.seat c.post_one.ensures.routes c.post_one.ensures.net (rw c.take_out.ensures.sent at c.post_one.ensures.sent))
+    (omega (arith, c.self.invariant.1, c.take_out.ensures.capacity, c.post_one.ensures.capacity))
 
 pub returns-clause-after : goal.returns-clause-after
 returns-clause-after c =

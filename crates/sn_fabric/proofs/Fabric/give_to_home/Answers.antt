@@ -6,7 +6,7 @@ use Rattle.sn_model.specs.NetEvents.{delivered}
 use Rattle.sn_fabric.specs.Parts.{fabric_as}
 use Rattle.sn_fabric.specs.Fabric.{FabricData}
 use Rattle.sn_fabric.proofs.Given.{inside, tag-reached, to-there, delivered-reached}
-use Rattle.sn_fabric.proofs.Parts.{after-whole}
+use Rattle.sn_fabric.proofs.Parts.{kept, after-whole}
 use Rattle.sn_fabric.proofs.ToHome.{home-mine, home-here, home-row, home-last, home-tells, home-room, home-goes, home-comes}
 use Rattle.sn_fabric.proofs.Fabric.give_to_home.Goals as goal
 
@@ -142,21 +142,20 @@ post_step-requires-clause-receivers c =
     ∙ c.number.ensures.same) c.index_mut-seat.ensures.value c.now-now.ensures.same c.index_mut-home.result.now c.index_mut-home.ensures.value (rw (← c.self.view_is) at c.requires.delivers) c.receive-step.result c.receive-step.ensures.step c.take_out.new.net c.take_out.ensures.net
 
 pub invariant_of-self : goal.invariant_of-self
-invariant_of-self c = (
-  (home-comes c.self.inside.config
-      (record {
-        seats = c.self.inside.seats.items;
-        homes = c.self.inside.homes.items;
-        net = c.self.inside.net;
-        point = c.self.inside.point;
-      }) c.self.invariant.0 c.args.message.now
-      (rw (← c.self.view_is) at c.requires.come) c.requires.receiver c.from-place.result c.now-now.result c.index_mut-seat.result.now
-      (c.from-place.ensures
-      ∙ c.number.ensures.same) c.index_mut-seat.ensures.value c.now-now.ensures.same c.index_mut-home.result.now c.index_mut-home.ensures.value
-      (rw (← c.self.view_is) at c.requires.delivers) c.receive-step.result c.receive-step.ensures.step c.take_out.new.net c.take_out.ensures.net
-      (record c.index_mut-seat.result.now { log = c.receive-step.new.log }) c.receive-step.new.self c.post_step.new.net c.post_step.new.sent.items (ap (λ (l : LogData). record c.index_mut-seat.result.now { log = l }) c.receive-step.ensures.log) c.receive-step.ensures.home c.post_step.ensures.routes c.post_step.ensures.net (rw c.take_out.ensures.sent at c.post_step.ensures.sent)).parts,
-  omega (arith, c.self.invariant.1, c.take_out.ensures.capacity, c.post_step.ensures.capacity),
-)
+invariant_of-self c =
+    kept (home-comes c.self.inside.config
+    (record {
+      seats = c.self.inside.seats.items;
+      homes = c.self.inside.homes.items;
+      net = c.self.inside.net;
+      point = c.self.inside.point;
+    }) c.self.invariant.0 c.args.message.now
+    (rw (← c.self.view_is) at c.requires.come) c.requires.receiver c.from-place.result c.now-now.result c.index_mut-seat.result.now
+    (c.from-place.ensures
+    ∙ c.number.ensures.same) c.index_mut-seat.ensures.value c.now-now.ensures.same c.index_mut-home.result.now c.index_mut-home.ensures.value
+    (rw (← c.self.view_is) at c.requires.delivers) c.receive-step.result c.receive-step.ensures.step c.take_out.new.net c.take_out.ensures.net
+    (record c.index_mut-seat.result.now { log = c.receive-step.new.log }) c.receive-step.new.self c.post_step.new.net c.post_step.new.sent.items (ap (λ (l : LogData). record c.index_mut-seat.result.now { log = l }) c.receive-step.ensures.log) c.receive-step.ensures.home c.post_step.ensures.routes c.post_step.ensures.net (rw c.take_out.ensures.sent at c.post_step.ensures.sent))
+    (omega (arith, c.self.invariant.1, c.take_out.ensures.capacity, c.post_step.ensures.capacity))
 
 pub returns-clause-after : goal.returns-clause-after
 returns-clause-after c =

@@ -2,20 +2,19 @@ use Rattle.std.proofs.Common.{arith}
 use Rattle.sn_model.specs.Fabric.{Fabric}
 use Rattle.sn_model.specs.NetEvents.{hopped}
 use Rattle.sn_fabric.proofs.Calls.{hop-comes}
-use Rattle.sn_fabric.proofs.Parts.{after-view}
+use Rattle.sn_fabric.proofs.Parts.{kept, after-view}
 use Rattle.sn_fabric.proofs.Fabric.hop.Goals as goal
 
 pub invariant_of-self : goal.invariant_of-self
-invariant_of-self c = (
-  (hop-comes c.self.inside.config
-      (record {
-        seats = c.self.inside.seats.items;
-        homes = c.self.inside.homes.items;
-        net = c.self.inside.net;
-        point = c.self.inside.point;
-      }) c.args.id c.hop-answer.new.self c.hop-answer.result c.hop_answer.result c.clear.new.self.items c.self.invariant.0 c.hop-answer.ensures.after c.hop-answer.ensures.answer c.hop_answer.ensures c.clear.ensures.items).parts,
-  omega (arith, c.self.invariant.1, c.clear.ensures.capacity),
-)
+invariant_of-self c =
+    kept (hop-comes c.self.inside.config
+    (record {
+      seats = c.self.inside.seats.items;
+      homes = c.self.inside.homes.items;
+      net = c.self.inside.net;
+      point = c.self.inside.point;
+    }) c.args.id c.hop-answer.new.self c.hop-answer.result c.hop_answer.result c.clear.new.self.items c.self.invariant.0 c.hop-answer.ensures.after c.hop-answer.ensures.answer c.hop_answer.ensures c.clear.ensures.items)
+    (omega (arith, c.self.invariant.1, c.clear.ensures.capacity))
 
 pub returns : goal.returns
 returns c =

@@ -5,7 +5,7 @@ use Rattle.sn_model.specs.declared.net.Told.TheVariants.{Advance}
 use Rattle.sn_model.specs.NetEvents.{delivered}
 use Rattle.sn_fabric.specs.Fabric.{FabricData}
 use Rattle.sn_fabric.proofs.Given.{inside}
-use Rattle.sn_fabric.proofs.Parts.{after-whole}
+use Rattle.sn_fabric.proofs.Parts.{kept, after-whole}
 use Rattle.sn_fabric.proofs.ToNode.{advance-tells, advance-reached, advance-learned}
 use Rattle.sn_fabric.proofs.Fabric.learn.Goals as goal
 
@@ -33,19 +33,18 @@ learn-requires c =
     (c.from.ensures ∙ c.number.ensures.same) c.index_mut-seat.ensures.value
 
 pub invariant_of-self : goal.invariant_of-self
-invariant_of-self c = (
-  (advance-learned c.self.inside.config
-      (record {
-        seats = c.self.inside.seats.items;
-        homes = c.self.inside.homes.items;
-        net = c.self.inside.net;
-        point = c.self.inside.point;
-      }) c.self.invariant.0 c.args.message.now (rw (← c.self.view_is) at c.requires.come) c.args.k
-      (rw (← c.self.view_is) at c.requires.delivers) c.requires.receiver c.from.result c.index_mut-seat.result.now
-      (c.from.ensures
-      ∙ c.number.ensures.same) c.index_mut-seat.ensures.value c.learn.new.self c.free_below.new.self c.take_out.new.net c.take_out.new.sent.items c.learn.ensures c.free_below.ensures c.take_out.ensures.net c.take_out.ensures.sent).parts,
-  omega (arith, c.self.invariant.1, c.take_out.ensures.capacity),
-)
+invariant_of-self c =
+    kept (advance-learned c.self.inside.config
+    (record {
+      seats = c.self.inside.seats.items;
+      homes = c.self.inside.homes.items;
+      net = c.self.inside.net;
+      point = c.self.inside.point;
+    }) c.self.invariant.0 c.args.message.now (rw (← c.self.view_is) at c.requires.come) c.args.k
+    (rw (← c.self.view_is) at c.requires.delivers) c.requires.receiver c.from.result c.index_mut-seat.result.now
+    (c.from.ensures
+    ∙ c.number.ensures.same) c.index_mut-seat.ensures.value c.learn.new.self c.free_below.new.self c.take_out.new.net c.take_out.new.sent.items c.learn.ensures c.free_below.ensures c.take_out.ensures.net c.take_out.ensures.sent)
+    (omega (arith, c.self.invariant.1, c.take_out.ensures.capacity))
 
 pub returns-clause-after : goal.returns-clause-after
 returns-clause-after c =

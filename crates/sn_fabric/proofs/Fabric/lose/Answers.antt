@@ -2,20 +2,19 @@ use Rattle.std.proofs.Common.{arith}
 use Rattle.sn_model.specs.Fabric.{Fabric}
 use Rattle.sn_model.specs.NetEvents.{lost}
 use Rattle.sn_fabric.proofs.Calls.{loss-comes}
-use Rattle.sn_fabric.proofs.Parts.{after-view}
+use Rattle.sn_fabric.proofs.Parts.{kept, after-view}
 use Rattle.sn_fabric.proofs.Fabric.lose.Goals as goal
 
 pub invariant_of-self : goal.invariant_of-self
-invariant_of-self c = (
-  (loss-comes c.self.inside.config
-      (record {
-        seats = c.self.inside.seats.items;
-        homes = c.self.inside.homes.items;
-        net = c.self.inside.net;
-        point = c.self.inside.point;
-      }) c.args.id c.lose-found.new.self c.lose-found.result c.loss_answer.result c.clear.new.self.items c.self.invariant.0 (grind (arith, c.lose-found.ensures.there)) c.lose-found.ensures.lost c.lose-found.ensures.absent c.loss_answer.ensures c.clear.ensures.items).parts,
-  omega (arith, c.self.invariant.1, c.clear.ensures.capacity),
-)
+invariant_of-self c =
+    kept (loss-comes c.self.inside.config
+    (record {
+      seats = c.self.inside.seats.items;
+      homes = c.self.inside.homes.items;
+      net = c.self.inside.net;
+      point = c.self.inside.point;
+    }) c.args.id c.lose-found.new.self c.lose-found.result c.loss_answer.result c.clear.new.self.items c.self.invariant.0 (grind (arith, c.lose-found.ensures.there)) c.lose-found.ensures.lost c.lose-found.ensures.absent c.loss_answer.ensures c.clear.ensures.items)
+    (omega (arith, c.self.invariant.1, c.clear.ensures.capacity))
 
 pub returns : goal.returns
 returns c =

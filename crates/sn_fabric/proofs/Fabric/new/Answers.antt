@@ -6,6 +6,7 @@ pub invariant_of-result : goal.invariant_of-result
 invariant_of-result c = (
   rw (c.in_ok-seats.ensures, c.in_ok-homes.ensures, c.in_ok-net.ensures) (parts-start c.args.config c.args.image.now c.requires),
   omega (arith, c.in_ok-sent.ensures.capacity),
+  rw c.in_ok-sent.ensures.items (omega arith),
 )
 
 pub returns : goal.returns

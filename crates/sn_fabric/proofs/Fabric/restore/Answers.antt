@@ -5,7 +5,7 @@ use Rattle.sn_model.specs.Fabric.{Fabric}
 use Rattle.sn_model.specs.PointEvents.{recovered}
 use Rattle.sn_fabric.specs.declared.node.Seat.{Seat}
 use Rattle.sn_fabric.specs.Recovery.{restored_seat, undone_of}
-use Rattle.sn_fabric.proofs.Parts.{after-view}
+use Rattle.sn_fabric.proofs.Parts.{kept, after-view}
 use Rattle.sn_fabric.proofs.Recovered.{can-restore, recovery-comes}
 use Rattle.sn_fabric.proofs.Restoring.{written}
 use Rattle.sn_fabric.proofs.Fabric.restore.Goals as goal
@@ -23,29 +23,28 @@ restore_nodes-undone-requires-clause-can c n l =
     }) c.args.k c.self.invariant.0 (rw (← c.self.view_is) at c.requires.point) n h)
 
 pub invariant_of-self : goal.invariant_of-self
-invariant_of-self c = (
-  rw (
-    (written c.self.inside.seats.len c.restore_nodes-undone.new.seats c.self.inside.seats.items
-        (sym (c.restore_nodes-undone.auto.seats ∙ c.as_mut_slice.ensures.len))
-        ∙ c.restore_nodes-undone.ensures.seats ∙ ap (map (restored_seat c.args.k)) c.as_mut_slice.ensures.value),
-    (written c.self.inside.homes.len c.restore_nodes-undone.new.homes c.self.inside.homes.items
-        (sym (c.restore_nodes-undone.auto.homes ∙ c.as_mut_slice-2.ensures.len))),
-  )
-      (recovery-comes c.self.inside.config
-      (record {
-        seats = c.self.inside.seats.items;
-        homes = c.self.inside.homes.items;
-        net = c.self.inside.net;
-        point = c.self.inside.point;
-      }) c.args.k c.restore_nodes-undone.new.homes c.recover.new.self c.restore_nodes-undone.result c.unwrap-dropped.result c.clear.new.self.items
-      c.self.invariant.0 (rw (← c.self.view_is) at c.requires.point) (rw (← c.self.view_is) at c.requires.joined)
-      (c.restore_nodes-undone.auto.homes ∙ ap length c.as_mut_slice-2.ensures.value)
-      (rw (c.as_mut_slice.ensures.value, c.as_mut_slice-2.ensures.value) at c.restore_nodes-undone.ensures.homes)
-      (c.recover.ensures.recovered (rw c.unwrap-dropped.ensures refl))
-      (c.restore_nodes-undone.ensures.undone ∙ ap (sum_by (undone_of c.args.k)) c.as_mut_slice.ensures.value)
-      (rw c.unwrap-dropped.ensures at c.recover.ensures.dropped) c.clear.ensures.items).parts,
-  omega (arith, c.self.invariant.1, c.clear.ensures.capacity),
-)
+invariant_of-self c =
+    rw (
+      (written c.self.inside.seats.len c.restore_nodes-undone.new.seats c.self.inside.seats.items
+          (sym (c.restore_nodes-undone.auto.seats ∙ c.as_mut_slice.ensures.len))
+          ∙ c.restore_nodes-undone.ensures.seats ∙ ap (map (restored_seat c.args.k)) c.as_mut_slice.ensures.value),
+      (written c.self.inside.homes.len c.restore_nodes-undone.new.homes c.self.inside.homes.items
+          (sym (c.restore_nodes-undone.auto.homes ∙ c.as_mut_slice-2.ensures.len))),
+    )
+    (kept (recovery-comes c.self.inside.config
+    (record {
+      seats = c.self.inside.seats.items;
+      homes = c.self.inside.homes.items;
+      net = c.self.inside.net;
+      point = c.self.inside.point;
+    }) c.args.k c.restore_nodes-undone.new.homes c.recover.new.self c.restore_nodes-undone.result c.unwrap-dropped.result c.clear.new.self.items
+    c.self.invariant.0 (rw (← c.self.view_is) at c.requires.point) (rw (← c.self.view_is) at c.requires.joined)
+    (c.restore_nodes-undone.auto.homes ∙ ap length c.as_mut_slice-2.ensures.value)
+    (rw (c.as_mut_slice.ensures.value, c.as_mut_slice-2.ensures.value) at c.restore_nodes-undone.ensures.homes)
+    (c.recover.ensures.recovered (rw c.unwrap-dropped.ensures refl))
+    (c.restore_nodes-undone.ensures.undone ∙ ap (sum_by (undone_of c.args.k)) c.as_mut_slice.ensures.value)
+    (rw c.unwrap-dropped.ensures at c.recover.ensures.dropped) c.clear.ensures.items)
+    (omega (arith, c.self.invariant.1, c.clear.ensures.capacity)))
 
 pub returns : goal.returns
 returns c =

@@ -2,25 +2,24 @@ use Rattle.std.proofs.Common.{◌∙◌, arith}
 use Rattle.sn_base.specs.declared.event.Answer.TheVariants.{Reported}
 use Rattle.sn_model.specs.Fabric.{Fabric}
 use Rattle.sn_model.specs.NodeEvents.{reported}
-use Rattle.sn_fabric.proofs.Parts.{after-view}
+use Rattle.sn_fabric.proofs.Parts.{kept, after-view}
 use Rattle.sn_fabric.proofs.Reported.{report-comes}
 use Rattle.sn_fabric.proofs.Fabric.send_report.Goals as goal
 
 pub invariant_of-self : goal.invariant_of-self
-invariant_of-self c = (
-  (report-comes c.self.inside.config
-      (record {
-        seats = c.self.inside.seats.items;
-        homes = c.self.inside.homes.items;
-        net = c.self.inside.net;
-        point = c.self.inside.point;
-      }) c.args.node c.from.result c.now-now.result c.args.ready c.index-seat.result.now c.post.new.net c.post.new.sent.items c.self.invariant.0
-      (rw (← c.self.view_is) at c.requires.here) (rw (← c.self.view_is) at c.requires.spare) (rw (← c.self.view_is) at c.requires.ready)
-      (c.from.ensures ∙ c.number.ensures.same) c.index-seat.ensures c.now-now.ensures.same c.post.ensures.routes
-      (rw (c.controller.ensures, c.new-block.ensures) at c.post.ensures.net)
-      (rw (c.clear.ensures.items, c.controller.ensures, c.new-block.ensures) at c.post.ensures.sent)).parts,
-  omega (arith, c.self.invariant.1, c.clear.ensures.capacity, c.post.ensures.capacity),
-)
+invariant_of-self c =
+    kept (report-comes c.self.inside.config
+    (record {
+      seats = c.self.inside.seats.items;
+      homes = c.self.inside.homes.items;
+      net = c.self.inside.net;
+      point = c.self.inside.point;
+    }) c.args.node c.from.result c.now-now.result c.args.ready c.index-seat.result.now c.post.new.net c.post.new.sent.items c.self.invariant.0
+    (rw (← c.self.view_is) at c.requires.here) (rw (← c.self.view_is) at c.requires.spare) (rw (← c.self.view_is) at c.requires.ready)
+    (c.from.ensures ∙ c.number.ensures.same) c.index-seat.ensures c.now-now.ensures.same c.post.ensures.routes
+    (rw (c.controller.ensures, c.new-block.ensures) at c.post.ensures.net)
+    (rw (c.clear.ensures.items, c.controller.ensures, c.new-block.ensures) at c.post.ensures.sent))
+    (omega (arith, c.self.invariant.1, c.clear.ensures.capacity, c.post.ensures.capacity))
 
 pub returns : goal.returns
 returns c =

@@ -2,7 +2,7 @@ use Rattle.std.proofs.Common.{set, ◌∙◌, arith}
 use Rattle.sn_base.specs.declared.event.Answer.TheVariants.{Retired}
 use Rattle.sn_model.specs.Access.{stored}
 use Rattle.sn_model.specs.Fabric.{Fabric, answered}
-use Rattle.sn_fabric.proofs.Parts.{after-view}
+use Rattle.sn_fabric.proofs.Parts.{kept, after-view}
 use Rattle.sn_fabric.proofs.Stored.{store-ready, store-last, store-comes}
 use Rattle.sn_fabric.proofs.Fabric.store.Goals as goal
 
@@ -27,20 +27,19 @@ store-requires-clause-last c =
     }) c.args.node c.from.result c.now-now.result c.args.write.now c.index_mut-seat.result.now c.self.invariant.0 (rw (← c.self.view_is) at c.requires.can) (c.from.ensures ∙ c.number.ensures.same) c.index_mut-seat.ensures.value c.now-now.ensures.same
 
 pub invariant_of-self : goal.invariant_of-self
-invariant_of-self c = (
-  (store-comes c.self.inside.config
-      (record {
-        seats = c.self.inside.seats.items;
-        homes = c.self.inside.homes.items;
-        net = c.self.inside.net;
-        point = c.self.inside.point;
-      }) c.args.node c.from.result c.now-now.result c.args.write.now c.index_mut-seat.result.now c.self.invariant.0
-      (rw (← c.self.view_is) at c.requires.can)
-      (c.from.ensures
-      ∙ c.number.ensures.same) c.index_mut-seat.ensures.value c.now-now.ensures.same c.store.new.self c.store.new.log c.clear.new.self.items
-      (rw (← c.self.view_is) at c.requires.room) c.store.ensures.stored c.store.ensures.log c.clear.ensures.items).parts,
-  omega (arith, c.self.invariant.1, c.clear.ensures.capacity),
-)
+invariant_of-self c =
+    kept (store-comes c.self.inside.config
+    (record {
+      seats = c.self.inside.seats.items;
+      homes = c.self.inside.homes.items;
+      net = c.self.inside.net;
+      point = c.self.inside.point;
+    }) c.args.node c.from.result c.now-now.result c.args.write.now c.index_mut-seat.result.now c.self.invariant.0
+    (rw (← c.self.view_is) at c.requires.can)
+    (c.from.ensures
+    ∙ c.number.ensures.same) c.index_mut-seat.ensures.value c.now-now.ensures.same c.store.new.self c.store.new.log c.clear.new.self.items
+    (rw (← c.self.view_is) at c.requires.room) c.store.ensures.stored c.store.ensures.log c.clear.ensures.items)
+    (omega (arith, c.self.invariant.1, c.clear.ensures.capacity))
 
 pub returns : goal.returns
 returns c =

@@ -4,23 +4,22 @@ use Rattle.sn_base.specs.declared.event.Answer.TheVariants.{Delivered}
 use Rattle.sn_model.specs.declared.net.Told.TheVariants.{Ready}
 use Rattle.sn_model.specs.NetEvents.{delivered}
 use Rattle.sn_fabric.specs.Fabric.{FabricData}
-use Rattle.sn_fabric.proofs.Parts.{after-whole}
+use Rattle.sn_fabric.proofs.Parts.{kept, after-whole}
 use Rattle.sn_fabric.proofs.ToNode.{report-tells, report-taken}
 use Rattle.sn_fabric.proofs.Fabric.take_report.Goals as goal
 
 pub invariant_of-self : goal.invariant_of-self
-invariant_of-self c = (
-  (report-taken c.self.inside.config
-      (record {
-        seats = c.self.inside.seats.items;
-        homes = c.self.inside.homes.items;
-        net = c.self.inside.net;
-        point = c.self.inside.point;
-      }) c.self.invariant.0 c.args.message.now (rw (← c.self.view_is) at c.requires.come) c.args.k
-      (rw
-      (← c.self.view_is) at c.requires.delivers) c.requires.receiver c.take_out.new.net c.take_out.new.sent.items c.take_out.ensures.net c.take_out.ensures.sent).parts,
-  omega (arith, c.self.invariant.1, c.take_out.ensures.capacity),
-)
+invariant_of-self c =
+    kept (report-taken c.self.inside.config
+    (record {
+      seats = c.self.inside.seats.items;
+      homes = c.self.inside.homes.items;
+      net = c.self.inside.net;
+      point = c.self.inside.point;
+    }) c.self.invariant.0 c.args.message.now (rw (← c.self.view_is) at c.requires.come) c.args.k
+    (rw
+    (← c.self.view_is) at c.requires.delivers) c.requires.receiver c.take_out.new.net c.take_out.new.sent.items c.take_out.ensures.net c.take_out.ensures.sent)
+    (omega (arith, c.self.invariant.1, c.take_out.ensures.capacity))
 
 pub returns-clause-after : goal.returns-clause-after
 returns-clause-after c =
