@@ -1,4 +1,5 @@
 pub mod Fits
+pub mod Lawful
 pub mod Releases
 pub mod Recoveries
 pub mod Groups

@@ -26,9 +26,9 @@ use Rattle.script_replay.specs.declared.job.ReportKind.{ReportKind}
 use Rattle.script_replay.specs.declared.job.ReportKind.TheVariants.{Events, Trace, Summary}
 use Rattle.script_replay.specs.Pieces.{group_of, group_pieces, trace_pieces, tally_pieces, summary_pieces, last_pieces, end_pieces}
 use Rattle.script_replay.specs.Pieces.{turn_pieces, turns_from, turns_of, pieces_from, pieces_of}
-use Rattle.script_replay.specs.Shown.{committed_by, output_of, IsMoment, IsTrace, IsShown, IsShownInPart}
+use Rattle.script_replay.specs.Shown.{committed_by, output_of, IsInStep, IsTrace, IsShown, IsShownInPart}
 use Rattle.script_replay.proofs.Groups.{some-nodes, few-nodes}
-use Rattle.script_replay.proofs.Fits.{all_fit-take}
+use Rattle.script_replay.proofs.Lawful.{run-first, run-lawful}
 use Rattle.script_replay.proofs.Releases.{released-grows}
 
 -- groups, traces and the end put nothing to the console
@@ -147,19 +147,15 @@ module _ (image : ImageData) (config : Config) (showing : Showing) (events : Lis
   unfolding turns_of pieces_of
   console-whole tallies = console_text-turns image config showing tallies 0 (start_of image config.nodes) events ∙ console-output
 
-module _ (image : ImageData) (config : Config) (showing : Showing) (tallies : List (List ℕ)) (events : List Event) (run : IsRun config events) where
-  first-run : (i : ℕ) → IsRun config (take i events)
-  first-run i = record { fits = run.fits; events_fit = all_fit-take config.nodes events i run.events_fit }
-
-  moment : (i : ℕ) → IsMoment image config showing tallies (take i events) events
-  moment i =
-      let split = pieces_of-split image config showing tallies events i in
-      record {
-        lawful = reached_consistent image config (take i events) (first-run i);
-        others = split.0;
-        order = split.1;
-        output = console-output image config showing (take i events) (first-run i);
-      }
+in-step : (image : ImageData) (config : Config) (showing : Showing) (tallies : List (List ℕ)) (events : List Event) → IsRun config events →
+    IsInStep image config showing tallies events
+in-step image config showing tallies events run i =
+    let split = pieces_of-split image config showing tallies events i in
+    record {
+      others = split.0;
+      order = split.1;
+      output = console-output image config showing (take i events) (run-first config events i run);
+    }
 
 -- where the trace is asked for, the report's text is the trace and the summary
 
@@ -226,7 +222,8 @@ pub shown-all : (image : ImageData) (config : Config) (showing : Showing) (talli
     (before behind : Ends) → IsRun config events → behind ≡ after before (pieces_of image config showing tallies events) →
     IsShown image config showing tallies events before behind
 shown-all image config showing tallies events before behind run put = record {
-  lawful = moment image config showing tallies events run;
+  lawful = run-lawful image config events run;
+  in_step = in-step image config showing tallies events run;
   output =
       console-after before behind (pieces_of image config showing tallies events) put
       ∙ ap (followed_by before.console) (console-whole image config showing events run tallies);
@@ -237,7 +234,8 @@ pub shown-part : (image : ImageData) (config : Config) (showing : Showing) (tall
     (before behind : Ends) → IsRun config events → Breaks (pieces_of image config showing tallies events) before behind →
     IsShownInPart image config showing tallies events before behind
 shown-part image config showing tallies events before behind run broken = record {
-  lawful = moment image config showing tallies events run;
+  lawful = run-lawful image config events run;
+  in_step = in-step image config showing tallies events run;
   output = subst (λ (t : List ℕ). HasBeginning t before.console behind.console) (console-whole image config showing events run tallies)
       (console-begun
       (pieces_of image config showing tallies events) broken.whole broken.rest broken.piece broken.count before behind broken.all

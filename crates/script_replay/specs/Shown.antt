@@ -24,10 +24,14 @@ committed_by image config events = (reached image config events).committed
 abbrev pub output_of : ImageData → Config → List Event → List ℕ
 output_of image config events = out_of image config.nodes (committed_by image config events)
 
--- what holds once these events, the first of a replay's, are applied and their pieces are put
+-- at every moment of a run, at its start, after each event and at its end, the committed trace is an execution without faults, and
+-- the recovery point a cut of it
+abbrev pub IsLawful : ImageData → Config → List Event → Type 0
+IsLawful image config events =
+    (i : ℕ) → IsConsistent image config.nodes (reached image config (take i events)) (retirements image config (take i events))
+
+-- what is put once these events, the first of a replay's, are applied
 pub record IsMoment (image : ImageData) (config : Config) (showing : Showing) (tallies : List (List ℕ)) (first all : List Event) : Type 0 where
-  -- the committed trace is an execution without faults, and the recovery point a cut of it
-  pub lawful : IsConsistent image config.nodes (reached image config first) (retirements image config first)
   -- these pieces are put before all others
   pub others : List Piece
   pub order : turns_of image config showing first ++ others ≡ pieces_of image config showing tallies all
@@ -35,8 +39,8 @@ pub record IsMoment (image : ImageData) (config : Config) (showing : Showing) (t
   pub output : console_text (turns_of image config showing first) ≡ output_of image config first
 
 -- so it is at the start, after each event, and at the end
-abbrev pub IsLawful : ImageData → Config → Showing → List (List ℕ) → List Event → Type 0
-IsLawful image config showing tallies events = (i : ℕ) → IsMoment image config showing tallies (take i events) events
+abbrev pub IsInStep : ImageData → Config → Showing → List (List ℕ) → List Event → Type 0
+IsInStep image config showing tallies events = (i : ℕ) → IsMoment image config showing tallies (take i events) events
 
 -- the report is a trace: the records of an execution of the program, and then the summary, marked as comments
 pub record IsTrace (image : ImageData) (config : Config) (watch : Option ℕ) (tallies : List (List ℕ)) (events : List Event) (before behind : Option (List ℕ)) : Type 0 where
@@ -47,13 +51,15 @@ pub record IsTrace (image : ImageData) (config : Config) (watch : Option ℕ) (t
 
 -- all is written: the console has the output of the committed trace, and where the trace is asked for, the report has it
 pub record IsShown (image : ImageData) (config : Config) (showing : Showing) (tallies : List (List ℕ)) (events : List Event) (before behind : Ends) : Type 0 where
-  pub lawful : IsLawful image config showing tallies events
+  pub lawful : IsLawful image config events
+  pub in_step : IsInStep image config showing tallies events
   pub output : behind.console ≡ followed_by before.console (output_of image config events)
   pub traced : showing.report ≡ Trace → IsTrace image config showing.watch tallies events before.report behind.report
 
 -- a sink broke: each has the beginning of its text, the console that of the output
 pub record IsShownInPart (image : ImageData) (config : Config) (showing : Showing) (tallies : List (List ℕ)) (events : List Event) (before behind : Ends) : Type 0 where
-  pub lawful : IsLawful image config showing tallies events
+  pub lawful : IsLawful image config events
+  pub in_step : IsInStep image config showing tallies events
   pub output : HasBeginning (output_of image config events) before.console behind.console
   pub report : HasBeginning (report_text (pieces_of image config showing tallies events)) before.report behind.report
 

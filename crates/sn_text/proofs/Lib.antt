@@ -4,3 +4,4 @@ pub mod Reading
 pub mod Printed
 pub mod Lines
 pub mod Written
+pub mod Comments

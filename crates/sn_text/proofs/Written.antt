@@ -1,6 +1,6 @@
 -- Events and records that are written are read back.
 use Rattle.std.proofs.Common.{◌≡◌, ℕ, ◌+◌, ◌*◌, ◌/◌, ◌%◌, ◌^◌, ◌<◌, ◌≤◌, List, [], ◌∷◌, ◌++◌, length, All, refl, ap, sym, subst, ◌∙◌}
-use Rattle.std.proofs.Common.{append_assoc, arith}
+use Rattle.std.proofs.Common.{append_assoc, append-nil, arith}
 use Rattle.std.proofs.lemmas.Bool.Decides.{nat_tests}
 use Rattle.std.proofs.lemmas.Fmt.{decimal_nonempty}
 use Rattle.std.specs.Prelude.{Bool, true, false, nat_eq, nat_lt, nat_le, if◌then◌else◌, codes, decimal, Option, Some, None, IfSome}
@@ -15,8 +15,8 @@ use Rattle.sn_text.specs.Items.{most_items}
 use Rattle.text_lines.specs.Hex.{hex_byte, hex_word}
 use Rattle.sn_text.specs.Text.{event_text, switch_text, flag_text, read_text, record_text, script_line, trace_line}
 use Rattle.sn_text.specs.Trace.{record_by, with_last, record_of, trace_of}
-use Rattle.sn_text.specs.Written.{HasNumbers, IsEventOf, IsRecordOf, script_text, trace_text}
-use Rattle.sn_text.proofs.Lines.{IsLine, text-read_back}
+use Rattle.sn_text.specs.Written.{HasNumbers, IsEventOf, IsRecordOf, SaysNothing, script_text, trace_text}
+use Rattle.sn_text.proofs.Lines.{IsLine, says-nothing, text-read_back}
 use Rattle.sn_text.proofs.Printed.{From, is_from, from-tested, from-append, from-lower, from-decimal, from-byte, from-word}
 use Rattle.sn_text.proofs.Printed.{number_of-decimal, byte_of-text, word_of-text, parted-words}
 
@@ -173,7 +173,7 @@ words-back nodes core seen sc_done read few there word byte =
 -- a record's line is read back as the record
 pub record-back : (nodes : ℕ) (taken : Record) → nodes ≤ 16 → IsRecordOf nodes taken → record_of nodes (record_text taken) ≡ Ok taken
 record-back nodes taken few is =
-    ap (record_of nodes) (text-is taken) ∙ words-back nodes taken.core taken.seen taken.sc_done taken.read few is.core is.seen is.read
+    ap (record_of nodes) (text-is taken) ∙ words-back nodes taken.core taken.seen taken.sc_done taken.read few is.core is.values.seen is.values.read
 
 plain-last : (sc_done : Bool) (read : Option ℕ) → From 32 (last_words sc_done read)
 plain-last true None = (omega arith, tt)
@@ -194,13 +194,19 @@ pub script-back : (nodes : ℕ) (events : List Event) → nodes ≤ 16 → All (
     script_of nodes (script_text events) ≡ Ok events
 unfolding script_line
 script-back nodes events few are short =
-    text-read_back (event_of nodes) event_text script_line (IsEventOf nodes) (λ event. refl)
+    ap (script_of nodes) (sym (append-nil (script_text events)))
+    ∙ text-read_back (event_of nodes) event_text script_line (IsEventOf nodes) (λ event. refl)
     (λ event is. event-line nodes event few is.fits is.numbers)
-    (λ event is. event-back nodes event few is.fits is.numbers) events are short
+    (λ event is. event-back nodes event few is.fits is.numbers) events [] are short says-nothing
+
+pub trace-back_commented : (nodes : ℕ) (records : List Record) (comments : List ℕ) → nodes ≤ 16 → All (IsRecordOf nodes) records →
+    length records ≤ most_items → SaysNothing comments → trace_of nodes (trace_text records ++ comments) ≡ Ok records
+unfolding trace_line
+trace-back_commented nodes records comments few are short nothing =
+    text-read_back (record_of nodes) record_text trace_line (IsRecordOf nodes) (λ taken. refl) (λ taken is. record-line nodes taken few is)
+    (λ taken is. record-back nodes taken few is) records comments are short nothing
 
 pub trace-back : (nodes : ℕ) (records : List Record) → nodes ≤ 16 → All (IsRecordOf nodes) records → length records ≤ most_items →
     trace_of nodes (trace_text records) ≡ Ok records
-unfolding trace_line
 trace-back nodes records few are short =
-    text-read_back (record_of nodes) record_text trace_line (IsRecordOf nodes) (λ taken. refl) (λ taken is. record-line nodes taken few is)
-    (λ taken is. record-back nodes taken few is) records are short
+    ap (trace_of nodes) (sym (append-nil (trace_text records))) ∙ trace-back_commented nodes records [] few are short says-nothing

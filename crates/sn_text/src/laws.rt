@@ -6,7 +6,7 @@ ghost use Rattle.sn_text.specs.Items.{most_items};
 ghost use Rattle.sn_text.specs.Script.{event_of, script_of};
 ghost use Rattle.sn_text.specs.Text.{event_text, record_text};
 ghost use Rattle.sn_text.specs.Trace.{record_of, trace_of};
-ghost use Rattle.sn_text.specs.Written.{IsEventOf, IsRecordOf, script_text, trace_text};
+ghost use Rattle.sn_text.specs.Written.{IsEventOf, IsRecordOf, SaysNothing, script_text, trace_text};
 
 /// What `script` writes for an event of the machine is read back as that event, and a script of such lines as the list of
 /// their events.
@@ -18,10 +18,12 @@ pub fn scripts_are_read_back()
 {}
 
 /// What `trace` writes for a record of the machine is read back as that record, and a trace of such lines as the list of
-/// their records.
+/// their records, also where comments stand behind it.
 pub fn traces_are_read_back()
     ensures line { (nodes : ℕ) (taken : Record) → nodes ≤ 16 → IsRecordOf nodes taken
         → record_of nodes (record_text taken) ≡ Ok taken }
     ensures trace { (nodes : ℕ) (records : List Record) → nodes ≤ 16 → All (IsRecordOf nodes) records → length records ≤ most_items
         → trace_of nodes (trace_text records) ≡ Ok records }
+    ensures commented { (nodes : ℕ) (records : List Record) (comments : List ℕ) → nodes ≤ 16 → All (IsRecordOf nodes) records
+        → length records ≤ most_items → SaysNothing comments → trace_of nodes (trace_text records ++ comments) ≡ Ok records }
 {}

@@ -1,7 +1,8 @@
 //! Records as text.
-ghost use Rattle.std.specs.Prelude.{◌≡◌, ℕ, ◌+◌, ◌<◌, ◌≤◌, ◌^◌, ◌++◌, Ok, IfSome, length};
+ghost use Rattle.std.specs.Prelude.{◌≡◌, ℕ, ◌+◌, ◌<◌, ◌≤◌, ◌++◌, Ok, IfSome, length};
 ghost use Rattle.sn_text.specs.Trace.{record_of};
 ghost use Rattle.sn_text.specs.Text.{flag_text, read_text, record_text, trace_line};
+ghost use Rattle.sn_text.specs.Written.{HasValues};
 
 use crate::line::Line;
 use rv_core::Record;
@@ -30,8 +31,7 @@ impl Line {
         requires { length self.old + 17 ≤ 8192 }
         ensures text { self.new ≡ self.old ++ record_text taken.now }
         ensures short { length self.new ≤ length self.old + 17 }
-        ensures seen { taken.now.seen < 2 ^ 32 }
-        ensures read { IfSome taken.now.read (λ byte. byte < 256) }
+        ensures values { HasValues taken.now }
     {
         self.small(taken.core.number());
         self.text(" ");
@@ -48,6 +48,7 @@ impl Line {
         requires { length self.old + 18 ≤ 8192 }
         ensures text { self.new ≡ self.old ++ trace_line taken.now }
         ensures short { length self.new ≤ length self.old + 18 }
+        ensures values { HasValues taken.now }
         ensures read_back { (nodes : ℕ) → nodes ≤ 16 → taken.now.core < nodes → record_of nodes (record_text taken.now) ≡ Ok taken.now }
     {
         self.record(taken);

@@ -4,4 +4,4 @@ use Rattle.sn_text.proofs.line.Line.trace.Goals as goal
 pub returns-clause-read_back : goal.returns-clause-read_back
 returns-clause-read_back c =
     λ nodes few there. record-back nodes c.args.taken.now few
-    (record { core = there; seen = c.record.ensures.seen; read = c.record.ensures.read })
+    (record { core = there; values = c.record.ensures.values })
