@@ -7,8 +7,8 @@ use Rattle.sn_base.specs.declared.event.Answer.{Answer}
 use Rattle.sn_io.specs.Outside.{followed_by, Rose}
 use Rattle.sn_model.specs.Machine.{State}
 use Rattle.sn_model.specs.Trace.{TraceEntry}
-use Rattle.consistent_cuts.specs.Headline.{IsConsistent}
-use Rattle.sn_machine.specs.Machine.{MachineData, IsConsistentNow, flat_of}
+use Rattle.consistent_cuts.specs.Headline.{IsConsistent, retirements}
+use Rattle.sn_machine.specs.Machine.{MachineData, IsConsistentWithItsRun, flat_of}
 use Rattle.sn_probe.specs.Probes.{Meter, tallies_of}
 use Rattle.sn_console.specs.Handed.{IsHandedOn, IsBegun}
 use Rattle.sink_pieces.specs.Pieces.{Piece, Ends, ends, after, Breaks, console_piece, report_text}
@@ -63,7 +63,7 @@ ended-by nodes m began journal (finish.CutOff a b) ending released before after_
 ended-by nodes m began journal finish.Budget ending released before after_ was is e h = h
 ended-by nodes m began journal finish.Stopped ending released before after_ was is e h = absurd cc
 
-module _ (r : Run) (began : Began) (m : MachineData) (journal : List JournalEntry) (answers : List Answer) (same : began ≡ begins r) (left : IsRunOf began m journal answers) (consistent : IsConsistentNow m) (may : MayBegin r) where
+module _ (r : Run) (began : Began) (m : MachineData) (journal : List JournalEntry) (answers : List Answer) (same : began ≡ begins r) (left : IsRunOf began m journal answers) (consistent : IsConsistentWithItsRun m) (may : MayBegin r) where
   by_run : IsRunOf (begins r) m journal answers
   by_run = subst (λ (b : Began). IsRunOf b m journal answers) same left
 
@@ -72,11 +72,11 @@ module _ (r : Run) (began : Began) (m : MachineData) (journal : List JournalEntr
 
   lawful : IsLawful r journal
   lawful =
-      let trace : List TraceEntry = consistent.0 in (
+      let trace : List TraceEntry = retirements m.image m.config consistent.events in (
         trace,
         subst (λ (s : State). IsConsistent r.program r.config.nodes s trace) by_run.state
             (subst (λ (c : Config). IsConsistent r.program c.nodes m.state trace) by_run.config
-            (subst (λ (i : ImageData). IsConsistent i m.config.nodes m.state trace) by_run.image consistent.1)),
+            (subst (λ (i : ImageData). IsConsistent i m.config.nodes m.state trace) by_run.image (consistent.consistent consistent.events consistent.led))),
       )
 
   released-is : m.state.released ≡ output_by r journal

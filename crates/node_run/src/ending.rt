@@ -1,7 +1,7 @@
 //! How a run ends.
 ghost use Rattle.std.specs.Prelude.{◌≡◌, ◌<◌, ◌≤◌, Option};
 ghost use Rattle.std.specs.Option.{option_or};
-ghost use Rattle.sn_machine.specs.Machine.{IsConsistentNow, flat_of};
+ghost use Rattle.sn_machine.specs.Machine.{IsConsistentWithItsRun, flat_of};
 ghost use Rattle.node_run.specs.Endings.{trap_at, first_trap, ending_by};
 
 use node_threads::Finish;
@@ -57,7 +57,7 @@ fn first_trap(machine: &Machine) -> Option<(NodeId, Cause)>
 /// However it ended, the machine's recovery point is a consistent cut.
 pub(crate) fn how_ended(machine: &Machine, finish: Finish) -> Option<Ending>
     ensures ending { result ≡ ending_by machine.now.config.nodes (flat_of machine.now) finish }
-    ensures consistent { IsConsistentNow machine.now }
+    ensures consistent { IsConsistentWithItsRun machine.now }
 {
     let _cut = machine.recovered();
     match finish {

@@ -7,6 +7,5 @@ pub mod Retires
 pub mod Deliveries
 pub mod Restorations
 pub mod FirstParts
-pub mod Sends
 pub mod Kept
 pub mod Shown

@@ -11,22 +11,23 @@ use Rattle.sn_base.specs.Blocks.{ram_start, ram_size}
 use Rattle.rv_core.specs.Core.{bare, block_of, is_running}
 use Rattle.rv_core.specs.Flat.{FlatState, core_at as flat_core, word_at}
 use Rattle.rv_core.specs.Execution.{end_of}
-use Rattle.reg_ckpt.specs.Kept.{core_at}
-use Rattle.sn_model.specs.Machine.{Processor}
+use Rattle.reg_ckpt.specs.Kept.{HasCheckpoint, core_at}
+use Rattle.sn_model.specs.Machine.{Processor, processor_at}
 use Rattle.sn_consistency.specs.Words.{block_word, block_in as sorted_block_in}
 use Rattle.sn_consistency.proofs.BlockLaws.{word_block}
 use Rattle.sn_model.specs.Caches.{block_count}
-use Rattle.sn_model.specs.Cuts.{names_at}
-use Rattle.sn_model.specs.Fabric.{Fabric, node_at}
+use Rattle.sn_model.specs.Cuts.{names_at, transaction_before}
+use Rattle.sn_model.specs.Fabric.{Fabric, node_at, home_of}
 use Rattle.sn_model.specs.Homes.{Holder, Itself, OfCache}
 use Rattle.sn_model.specs.RecoveryPoint.{HasOneHolderWith, block_in}
-use Rattle.consistent_cuts.proofs.Run.{holds_consistent}
+use Rattle.fabric_coherence.proofs.Finished.{home_finished}
 use Rattle.sn_machine.specs.declared.processor.Processor.{Processor as Seat}
 use Rattle.sn_machine.specs.declared.hardware.Hardware.{Hardware}
 use Rattle.sn_machine.specs.Kept.{IsMachine}
 use Rattle.sn_machine.specs.Looks.{have_ended}
 use Rattle.sn_machine.specs.Machine.{MachineData, flat_of}
 use Rattle.sn_machine.specs.Parts.{state_of, seat_at}
+use Rattle.sn_machine.proofs.Kept.{consistent, sound}
 use Rattle.sn_machine.proofs.Parts.{processor-at, is_here, seat-read}
 
 injected : (a b : CoreState) → Some a ≡ Some b → a ≡ b
@@ -34,7 +35,23 @@ injected a b e = cc
 
 module _ (image : ImageData) (config : Config) (h : Hardware) (applied spare : ℕ) (m : IsMachine image config h applied spare) where
   pub here : (n : ℕ) → n < config.nodes → n < length h.fabric.fabric.nodes
-  here n l = let e = m.holds.0 in omega (arith, e, l)
+  here n l = let e = m.nodes in omega (arith, e, l)
+
+  -- it keeps the register checkpoint at the recovery point
+  pub core-kept : (n place point : ℕ) (x : Seat) → n < config.nodes → place ≡ n → x ≡ get_or h.processors.items place x →
+      point ≡ h.fabric.fabric.point → HasCheckpoint x.checkpoints point
+  core-kept n place point x l i r at =
+      let lh = here n l in
+      let e = seat-read h n place x m.whole lh i r in
+      let s = sound image config h applied spare m in
+      let known : (node_at h.fabric.fabric n).known ≤ h.fabric.fabric.point = (s.times n lh).known in
+      let reached : h.fabric.fabric.point ≤ (node_at h.fabric.fabric n).now = (s.times n lh).reached in
+      let count : (node_at h.fabric.fabric n).known + length (processor_at (state_of h) n).checkpoints ≡ (node_at h.fabric.fabric n).now + 1 =
+      s.shape.checkpoints n lh in
+      let cores : length (processor_at (state_of h) n).checkpoints ≡ length (seat_at h.processors.items n).checkpoints.cores =
+      ap (λ (q : Processor). length q.checkpoints) (processor-at h n (is_here h n m.whole lh)) in
+      let first = m.whole.known n (is_here h n m.whole lh) in
+      rw (e, at) (record { from = omega (arith, first, known); below = omega (arith, first, reached, count, cores) })
 
   pub core-shown : (n place : ℕ) (x : Seat) (core : CoreState) → n < config.nodes → place ≡ n → x ≡ get_or h.processors.items place x →
       core_at x.checkpoints h.fabric.fabric.point ≡ Some core →
@@ -42,7 +59,7 @@ module _ (image : ImageData) (config : Config) (h : Hardware) (applied spare : �
   core-shown n place x core l i r at =
       let lh = here n l in
       let e = seat-read h n place x m.whole lh i r in
-      let keeps = (holds_consistent image config.nodes (state_of h) m.trace m.holds).cut.cores n lh in
+      let keeps = (consistent image config h applied spare m).cut.cores n lh in
       let p = processor-at h n (is_here h n m.whole lh) in
       let first = m.whole.known n (is_here h n m.whole lh) in
       let a : slice_get (seat_at h.processors.items n).checkpoints.cores (h.fabric.fabric.point - (node_at h.fabric.fabric n).known)
@@ -68,13 +85,23 @@ word_of memory address place content i aligned low is =
     sym (word_block memory address ∙ rw (e, is, i) refl)
 
 module _ (image : ImageData) (config : Config) (h : Hardware) (applied spare : ℕ) (m : IsMachine image config h applied spare) where
+  -- no transaction of its block that was begun before the recovery point is open
+  pub word-settled : (address block point : ℕ) → ram_start ≤ address → address < ram_start + ram_size → block ≡ block_of address →
+      point ≡ h.fabric.fabric.point → transaction_before (home_of h.fabric.fabric block).transaction point ≡ false
+  word-settled address block point low high b p =
+      let inside : block_of address < block_count = omega (arith, low, high) in
+      let keeps = (sound image config h applied spare m).keeps in
+      rw (b, p)
+      (home_finished (home_of h.fabric.fabric (block_of address)).transaction h.fabric.fabric.point
+      (keeps.1.blocks (block_of address) inside).clocks.begun_point)
+
   pub word-shown : (address place block point value : ℕ) (content : List ℕ) → ram_start ≤ address → address < ram_start + ram_size →
       address % 4 ≡ 0 → place ≡ (address - ram_start) % 64 → block ≡ block_of address → point ≡ h.fabric.fabric.point →
       HasOneHolderWith h.fabric.fabric block point content (names_at h.fabric.fabric block point) →
       value ≡ little_number 4 (drop place content) → value ≡ word_at (end_of image config.nodes h.history.committed).memory address
   word-shown address place block point value content low high aligned i b p held is =
       let inside : block_of address < block_count = omega (arith, low, high) in
-      let blocks = (holds_consistent image config.nodes (state_of h) m.trace m.holds).cut.blocks (block_of address) inside in
+      let blocks = (consistent image config h applied spare m).cut.blocks (block_of address) inside in
       let same = contents h.fabric.fabric (block_of address) h.fabric.fabric.point content
       (block_in (end_of image config.nodes h.history.committed).memory (block_of address))
       (names_at h.fabric.fabric (block_of address) h.fabric.fabric.point) (rw (b, p) at held) blocks in

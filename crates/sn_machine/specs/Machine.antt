@@ -1,5 +1,5 @@
 -- A machine as a value, what an event makes of it, and what is promised of it at every moment.
-use Rattle.std.specs.Prelude.{◌≡◌, ℕ, ◌+◌, ◌-◌, List}
+use Rattle.std.specs.Prelude.{◌≡◌, ℕ, ◌+◌, ◌-◌, List, length}
 use Rattle.sn_base.specs.Image.{ImageData}
 use Rattle.sn_base.specs.declared.config.Config.{Config}
 use Rattle.sn_base.specs.declared.event.Event.{Event}
@@ -10,8 +10,7 @@ use Rattle.sn_model.specs.declared.net.Sent.{Sent}
 use Rattle.sn_model.specs.Instructions.{Stepped}
 use Rattle.sn_model.specs.Machine.{State}
 use Rattle.sn_model.specs.Step.{step_of}
-use Rattle.sn_model.specs.Trace.{TraceEntry}
-use Rattle.consistent_cuts.specs.Headline.{IsConsistent}
+use Rattle.consistent_cuts.specs.Headline.{IsRun, IsConsistent, reached, retirements}
 
 -- a machine and the life that it has: its program and sizes, its state, what the last event sent, how many events were
 -- applied, and for how many more there is room
@@ -41,6 +40,19 @@ pub record IsApplied (before after : MachineData) (event : Event) (said : Answer
 abbrev pub flat_of : MachineData → FlatState
 flat_of m = end_of m.image m.config.nodes m.state.committed
 
--- the recovery point is a consistent cut, for the retirements along some run
-abbrev pub IsConsistentNow : MachineData → Type 0
-IsConsistentNow m = (trace : List TraceEntry) × IsConsistent m.image m.config.nodes m.state trace
+-- these events, from the program's start, led to the machine: they are a run, it reached this state, and they are all that
+-- were applied
+pub record HasRun (m : MachineData) (events : List Event) : Type 0 where
+  pub run : IsRun m.config events
+  pub state : m.state ≡ reached m.image m.config events
+  pub count : length events ≡ m.applied
+
+-- the recovery point is a consistent cut, for what retired along these events and was not taken back
+abbrev pub IsConsistentAfter : MachineData → List Event → Type 0
+IsConsistentAfter m events = IsConsistent m.image m.config.nodes m.state (retirements m.image m.config events)
+
+-- some events led to the machine; and whichever events did, the recovery point is a consistent cut for what retired along them
+pub record IsConsistentWithItsRun (m : MachineData) : Type 0 where
+  pub events : List Event
+  pub led : HasRun m events
+  pub consistent : (others : List Event) → HasRun m others → IsConsistentAfter m others

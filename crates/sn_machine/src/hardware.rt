@@ -79,7 +79,8 @@ impl Hardware {
     }
 
     pub fn sent(&self) -> &[Sent]
-        ensures { result.now ≡ sent_of self.now }
+        ensures same { result.now ≡ sent_of self.now }
+        ensures few { length result.now ≤ 17 }
     {
         if self.is_carried {
             self.fabric.sent()

@@ -1,11 +1,12 @@
 //! The machine: its program and sizes, its parts, and the life that it has.
-ghost use Rattle.std.specs.Prelude.{◌≡◌, ◌+◌, ◌≤◌, max, true, [], length, IfOk, OnOk, OnErr};
+ghost use Rattle.std.specs.Prelude.{◌≡◌, ◌+◌, ◌≤◌, max, true, List, [], ◌∷◌, ◌++◌, length, IfOk, OnOk, OnErr};
 ghost use Rattle.sn_base.specs.Config.{config_fits};
 ghost use Rattle.sn_base.specs.Events.{event_fits};
+ghost use Rattle.sn_base.specs.declared.event.Event.{Event};
 ghost use Rattle.sn_model.specs.Machine.{start_of};
 ghost use Rattle.sn_model.specs.Refusals.{is_refusal};
 ghost use Rattle.consistent_cuts.specs.Headline.{IsStepOfRun};
-ghost use Rattle.sn_machine.specs.Machine.{IsApplied, IsConsistentNow, next_of};
+ghost use Rattle.sn_machine.specs.Machine.{IsApplied, HasRun, IsConsistentWithItsRun, next_of};
 
 use crate::hardware::Hardware;
 use crate::view::View;
@@ -48,7 +49,7 @@ impl Machine {
     /// A machine of these sizes at the start of a program, with room for no event.
     pub fn new(alloc: Global, image: Image, config: Config) -> Result<Machine, Memory>
         requires fits { config_fits config ≡ true }
-        ensures { IfOk result (λ m. m ≡ record {
+        ensures start { IfOk result (λ m. m ≡ record {
           image = image;
           config = config;
           state = start_of image config.nodes;
@@ -56,6 +57,7 @@ impl Machine {
           applied = 0;
           spare = 0;
         }) }
+        ensures led { IfOk result (λ m. HasRun m []) }
     {
         let hardware = Hardware::new(alloc, &image, config)?;
         Ok(Machine {
@@ -107,6 +109,7 @@ impl Machine {
         requires fits { event_fits self.old.config.nodes event ≡ true }
         requires room { 1 ≤ self.old.spare }
         ensures applied { IsApplied self.old self.new event result }
+        ensures led { (events : List Event) → HasRun self.old events → HasRun self.new (events ++ event ∷ []) }
         ensures run { IsStepOfRun self.old.image self.old.config self.old.state event (next_of self.old event) }
         ensures refused { is_refusal result ≡ true → self.new.state ≡ self.old.state }
     {
@@ -142,7 +145,7 @@ impl Machine {
     /// The cut at the recovery point.
     pub fn recovered(&self) -> View<'_>
         ensures shown { result ≡ self.now }
-        ensures consistent { IsConsistentNow self.now }
+        ensures consistent { IsConsistentWithItsRun self.now }
     {
         let _ = &self.image;
         View { machine: self }
