@@ -9,6 +9,9 @@ pub mod SoFar
 pub mod ToldSoFar
 pub mod Stops
 pub mod Playing
+pub mod Values
+pub mod Summaries
+pub mod ReadBack
 pub mod Shown
 pub mod Performed
 pub mod SameReplay

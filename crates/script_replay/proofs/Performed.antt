@@ -1,20 +1,24 @@
 -- What a machine that is ready puts is what the definition says of its program and events.
-use Rattle.std.proofs.Common.{◌≡◌, ℕ, ◌+◌, ◌<◌, ◌≤◌, List, ◌++◌, map, length, take, refl, ap, sym, subst, ◌∙◌, inl, inr, arith}
+use Rattle.std.proofs.Common.{◌≡◌, ℕ, ◌+◌, ◌<◌, ◌≤◌, List, ◌++◌, map, length, take, All, refl, ap, sym, subst, ◌∙◌, inl, inr, arith}
 use Rattle.sn_base.specs.Image.{ImageData}
 use Rattle.sn_base.specs.declared.config.Config.{Config}
 use Rattle.sn_base.specs.declared.event.Event.{Event}
 use Rattle.sn_model.specs.Machine.{State, start_of}
 use Rattle.sn_machine.specs.Machine.{MachineData}
-use Rattle.consistent_cuts.specs.Headline.{IsRun}
+use Rattle.sn_model.specs.Step.{state_after}
+use Rattle.consistent_cuts.specs.Headline.{reached}
+use Rattle.sn_text.specs.Written.{HasValues}
 use Rattle.sink_pieces.specs.Pieces.{Piece, Ends, after, Breaks}
 use Rattle.sn_probe.specs.Probes.{Meter, told_from, tallies_of}
 use Rattle.script_replay.specs.declared.job.Showing.{Showing}
+use Rattle.script_replay.specs.declared.job.ReportKind.TheVariants.{Trace}
 use Rattle.script_replay.specs.declared.job.Replay.{Replay}
 use Rattle.script_replay.specs.Pieces.{turns_from, turns_of, pieces_from, pieces_of}
 use Rattle.script_replay.specs.Probed.{answered, told_of_run, told_all, tallies_due}
-use Rattle.script_replay.specs.Played.{pieces_left, told_left, turns_left, StopsAt, StopsAtEnd, Stops, IsAtStart}
+use Rattle.script_replay.specs.Played.{pieces_left, told_left, turns_left, state_left, StopsAt, StopsAtEnd, Stops}
+use Rattle.script_replay.specs.Played.{MayBegin, IsAtStart}
 use Rattle.script_replay.specs.Scheduled.{replay_of}
-use Rattle.script_replay.specs.Shown.{pieces_due, IsReplayed, IsBrokenOff, BreaksAt, BreaksAtEnd, KnowApplied}
+use Rattle.script_replay.specs.Shown.{committed_by, pieces_due, IsReplayed, IsBrokenOff, BreaksAt, BreaksAtEnd, KnowApplied}
 use Rattle.script_replay.proofs.Shown.{shown-all, shown-part}
 
 -- what the probes are told from the start on
@@ -25,6 +29,14 @@ ready-told m image config events probes room ready =
     ∙ ap (λ (t : State). map (told_from 1 (answered m.image m.config t events)) probes) ready.start
     ∙ ap (λ (t : Config). map (told_from 1 (answered m.image t (start_of image config.nodes) events)) probes) ready.sizes
     ∙ ap (λ (t : ImageData). map (told_from 1 (answered t config (start_of image config.nodes) events)) probes) ready.program
+
+-- the state that they leave, and their pieces
+ready-reached : (m : MachineData) (image : ImageData) (config : Config) (events : List Event) (room : ℕ) →
+    IsAtStart m image config room → state_left m events ≡ reached image config events
+ready-reached m image config events room ready =
+    ap (λ (t : State). state_after m.image m.config t events) ready.start
+    ∙ ap (λ (t : Config). state_after m.image t (start_of image config.nodes) events) ready.sizes
+    ∙ ap (λ (t : ImageData). state_after t config (start_of image config.nodes) events) ready.program
 
 ready-turns : (m : MachineData) (image : ImageData) (config : Config) (showing : Showing) (events : List Event) (room : ℕ) →
     IsAtStart m image config room → turns_left m showing events ≡ turns_of image config showing events
@@ -81,19 +93,32 @@ module _ (m : MachineData) (r : Replay) (events : List Event) (room : ℕ) (prob
   pub performed-told : (now_ : List Meter) → now_ ≡ told_left m events probes → now_ ≡ told_all r probes
   performed-told now_ told = told ∙ all-told
 
-module _ (m : MachineData) (r : Replay) (events : List Event) (room : ℕ) (probes : List Meter) (before behind : Ends) (ready : IsAtStart m r.program r.config room) (same : events ≡ r.script) (run : IsRun r.config r.script) where
-  pub performed-all : behind ≡ after before (pieces_left m r.showing (tallies_of (told_left m events probes)) events) →
-      IsReplayed r probes before behind
-  performed-all put =
+module _ (m : MachineData) (r : Replay) (events : List Event) (room : ℕ) (probes : List Meter) (before behind : Ends) (ready : IsAtStart m r.program r.config room) (same : events ≡ r.script) (begin : MayBegin r) where
+  committed-is : (state_left m events).committed ≡ committed_by r.program r.config r.script
+  committed-is =
+      ap (λ (s : State). s.committed) (ready-reached m r.program r.config events room ready)
+      ∙ ap (committed_by r.program r.config) same
+
+  pub performed-all : (r.showing.report ≡ Trace → All HasValues (state_left m events).committed) →
+      behind ≡ after before (pieces_left m r.showing (tallies_of (told_left m events probes)) events) → IsReplayed r probes before behind
+  performed-all values put =
       let whole : behind ≡ after before (pieces_due r probes) = put ∙ ap (after before) (pieces-due m r events room probes ready same) in
-      record { put = whole; shown = shown-all r.program r.config r.showing (tallies_due r probes) r.script before behind run whole }
+      record {
+        put = whole;
+        shown =
+            shown-all r.program r.config r.showing (tallies_due r probes) r.script before behind begin.run begin.few
+            (λ is. subst (All HasValues) committed-is (values is)) whole;
+      }
 
   pub performed-part : Breaks (pieces_left m r.showing (tallies_of (told_left m events probes)) events) before behind →
       IsBrokenOff r probes before behind
   performed-part broken =
       let part : Breaks (pieces_due r probes) before behind = subst (λ (t : List Piece). Breaks t before behind)
       (pieces-due m r events room probes ready same) broken in
-      record { broken = part; shown = shown-part r.program r.config r.showing (tallies_due r probes) r.script before behind run part }
+      record {
+        broken = part;
+        shown = shown-part r.program r.config r.showing (tallies_due r probes) r.script before behind begin.run part;
+      }
 
 -- where a sink broke
 module _ (m : MachineData) (r : Replay) (events : List Event) (room : ℕ) (probes : List Meter) (before behind : Ends) (told : List Meter) (ready : IsAtStart m r.program r.config room) (same : events ≡ r.script) where

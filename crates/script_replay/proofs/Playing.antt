@@ -12,7 +12,8 @@ use Rattle.sn_probe.specs.Probes.{Meter, tallies_of}
 use Rattle.sink_pieces.specs.Pieces.{Ends, after, Breaks}
 use Rattle.sink_pieces.proofs.SoFar.{SoFar}
 use Rattle.script_replay.specs.declared.job.Showing.{Showing}
-use Rattle.script_replay.specs.Played.{after_event, end_now, turn_now, pieces_left, turns_left, told_next, told_left, Stops}
+use Rattle.script_replay.specs.Played.{after_event, end_now, turn_now, pieces_left, turns_left, state_left, told_next, told_left}
+use Rattle.script_replay.specs.Played.{Stops}
 use Rattle.script_replay.specs.Scheduled.{left_on}
 use Rattle.script_replay.proofs.SoFar.{SoFar-breaks_event, SoFar-breaks_end, SoFar-end}
 use Rattle.script_replay.proofs.ToldSoFar.{IsToldSoFar, told-next, told-done}
@@ -26,12 +27,17 @@ left-noted left noted m next event answer is said after_is =
     ap (λ (t : ImageData → Config → State → List Event). left_on t next) (is ∙ ap noted said)
     ∙ ap (left_on (noted (next_of m event).answer)) after_is
 
+-- whatever is still to come, the state after these events is the one that the others start from
+abbrev pub IsReachedSoFar : MachineData → List Event → MachineData → Type 0
+IsReachedSoFar start done m = (rest : List Event) → state_left m rest ≡ state_left start (done ++ rest)
+
 -- some of its events were applied, told and put, and these are left on the machine as it is now
 pub record IsPlaying (start : MachineData) (showing : Showing) (events : List Event) (probes : List Meter) (before : Ends) (m : MachineData) (left : List Event) (now_ : List Meter) (behind : Ends) : Type 0 where
   pub done : List Event
   pub all : done ++ left ≡ events
   pub put : IsPutSoFar start showing (tallies_of (told_left start events probes)) done m before behind
   pub told : IsToldSoFar start done probes m now_
+  pub reached : IsReachedSoFar start done m
   pub sizes : m.config ≡ start.config
   pub fit : AllFit start.config.nodes left
   pub room : length left ≤ m.spare
@@ -56,6 +62,7 @@ playing-starts m showing events probes e fit room = record {
   all = refl;
   put = put-start _ _ _ _;
   told = λ rest. refl;
+  reached = λ rest. refl;
   sizes = refl;
   fit = fit;
   room = room;
@@ -81,6 +88,9 @@ module _ (start : MachineData) (showing : Showing) (events : List Event) (probes
       all = ap (λ t. (h.done ++ event ∷ []) ++ t) same ∙ append_assoc h.done (event ∷ []) rest ∙ all-left;
       put = put-next start m showing _ h.done event before behind h.put next d after_is put;
       told = told-next start m next h.done probes now_ told event after_is knows h.told;
+      reached = λ later.
+          ap (λ (t : MachineData). state_left t later) after_is ∙ h.reached (event ∷ later)
+          ∙ ap (state_left start) (sym (append_assoc h.done (event ∷ []) later));
       sizes = ap (λ (t : MachineData). t.config) after_is ∙ h.sizes;
       fit = subst (AllFit start.config.nodes) (sym same) fit-left.1;
       room = omega (arith, h.room, length-left, ap length same, ap (λ (t : MachineData). t.spare) after_is);
@@ -111,6 +121,9 @@ module _ (start : MachineData) (showing : Showing) (events : List Event) (probes
   put-whole : IsPutSoFar start showing (tallies_of (told_left start events probes)) events m before behind
   put-whole =
       subst (λ (t : List Event). IsPutSoFar start showing (tallies_of (told_left start events probes)) t m before behind) whole h.put
+
+  pub playing-reached : m.state ≡ state_left start events
+  playing-reached = h.reached [] ∙ ap (state_left start) (append-nil h.done ∙ whole)
 
   pub playing-told : now_ ≡ told_left start events probes
   playing-told = told-done start m events probes now_ told-whole

@@ -1,7 +1,7 @@
 -- Over a whole run the console's text is what is released, and that is the output of the committed trace; and where the trace is
 -- asked for, the report's text is that trace and the summary.
 use Rattle.std.proofs.Common.{◌≡◌, ℕ, ◌+◌, List, [], ◌∷◌, ◌++◌, take, drop, length, refl, ap, sym, subst, ◌∙◌, append_assoc, append-nil}
-use Rattle.std.proofs.Common.{arith}
+use Rattle.std.proofs.Common.{◌≤◌, All, arith}
 use Rattle.std.proofs.lemmas.List.{drop_at, take-append-drop}
 use Rattle.std.specs.Prelude.{Option, codes}
 use Rattle.sn_base.specs.Image.{ImageData}
@@ -13,7 +13,8 @@ use Rattle.sn_model.specs.Step.{step_of, state_after}
 use Rattle.sn_model.specs.Trace.{TraceEntry, traced}
 use Rattle.sn_io.specs.Outside.{followed_by}
 use Rattle.sn_text.specs.Text.{trace_line}
-use Rattle.sn_text.specs.Written.{trace_text}
+use Rattle.sn_text.specs.Items.{most_items}
+use Rattle.sn_text.specs.Written.{HasValues, trace_text}
 use Rattle.consistent_cuts.specs.Headline.{IsRun, IsStepOfRun, reached}
 use Rattle.consistent_cuts.specs.Joined.{Holds}
 use Rattle.consistent_cuts.specs.Runs.{AllFit}
@@ -30,6 +31,7 @@ use Rattle.script_replay.specs.Shown.{committed_by, output_of, IsInStep, IsTrace
 use Rattle.script_replay.proofs.Groups.{some-nodes, few-nodes}
 use Rattle.script_replay.proofs.Lawful.{run-first, run-lawful}
 use Rattle.script_replay.proofs.Releases.{released-grows}
+use Rattle.script_replay.proofs.ReadBack.{trace-read}
 
 -- groups, traces and the end put nothing to the console
 
@@ -204,44 +206,45 @@ report_text-from image config showing tallies done s (event ∷ events) is =
     ∙ ap (λ n. trace_text (state_after image config next events).committed
     ++ report_text (summary_pieces (codes "# ") image config showing.watch tallies n (state_after image config next events))) same
 
-report-trace : (image : ImageData) (config : Config) (showing : Showing) (tallies : List (List ℕ)) (events : List Event)
-    (before behind : Ends) → IsRun config events → behind ≡ after before (pieces_of image config showing tallies events) →
-    showing.report ≡ Trace → IsTrace image config showing.watch tallies events before.report behind.report
-unfolding pieces_of
-report-trace image config showing tallies events before behind run put is =
-    let same : 0 + length events ≡ length events = omega arith in
-    record {
-      execution = (reached_consistent image config events run).execution;
-      written = report-after before behind (pieces_of image config showing tallies events) put
-          ∙ ap (followed_by before.report) (report_text-from image config showing tallies 0 (start_of image config.nodes) events is
-          ∙ ap (λ n. trace_text (committed_by image config events)
-          ++ report_text (summary_pieces (codes "# ") image config showing.watch tallies n (reached image config events))) same);
-    }
+module _ (image : ImageData) (config : Config) (showing : Showing) (tallies : List (List ℕ)) (events : List Event) (before behind : Ends) (run : IsRun config events) where
+  report-trace : length events ≤ most_items → All HasValues (committed_by image config events) →
+      behind ≡ after before (pieces_of image config showing tallies events) →
+      showing.report ≡ Trace → IsTrace image config showing.watch tallies events before.report behind.report
+  unfolding pieces_of
+  report-trace few values put is =
+      let same : 0 + length events ≡ length events = omega arith in
+      record {
+        execution = (reached_consistent image config events run).execution;
+        written = report-after before behind (pieces_of image config showing tallies events) put
+            ∙ ap (followed_by before.report) (report_text-from image config showing tallies 0 (start_of image config.nodes) events is
+            ∙ ap (λ n. trace_text (committed_by image config events)
+            ++ report_text (summary_pieces (codes "# ") image config showing.watch tallies n (reached image config events))) same);
+        read =
+            trace-read image config events run few values showing.watch tallies (length events) (reached image config events);
+      }
 
-pub shown-all : (image : ImageData) (config : Config) (showing : Showing) (tallies : List (List ℕ)) (events : List Event)
-    (before behind : Ends) → IsRun config events → behind ≡ after before (pieces_of image config showing tallies events) →
-    IsShown image config showing tallies events before behind
-shown-all image config showing tallies events before behind run put = record {
-  lawful = run-lawful image config events run;
-  in_step = in-step image config showing tallies events run;
-  output =
-      console-after before behind (pieces_of image config showing tallies events) put
-      ∙ ap (followed_by before.console) (console-whole image config showing events run tallies);
-  traced = report-trace image config showing tallies events before behind run put;
-}
+  pub shown-all : length events ≤ most_items → (showing.report ≡ Trace → All HasValues (committed_by image config events)) →
+      behind ≡ after before (pieces_of image config showing tallies events) → IsShown image config showing tallies events before behind
+  shown-all few values put = record {
+    lawful = run-lawful image config events run;
+    in_step = in-step image config showing tallies events run;
+    output =
+        console-after before behind (pieces_of image config showing tallies events) put
+        ∙ ap (followed_by before.console) (console-whole image config showing events run tallies);
+    traced = λ is. report-trace few (values is) put is;
+  }
 
-pub shown-part : (image : ImageData) (config : Config) (showing : Showing) (tallies : List (List ℕ)) (events : List Event)
-    (before behind : Ends) → IsRun config events → Breaks (pieces_of image config showing tallies events) before behind →
-    IsShownInPart image config showing tallies events before behind
-shown-part image config showing tallies events before behind run broken = record {
-  lawful = run-lawful image config events run;
-  in_step = in-step image config showing tallies events run;
-  output = subst (λ (t : List ℕ). HasBeginning t before.console behind.console) (console-whole image config showing events run tallies)
-      (console-begun
-      (pieces_of image config showing tallies events) broken.whole broken.rest broken.piece broken.count before behind broken.all
-      broken.put);
-  report =
-      report-begun
-      (pieces_of image config showing tallies events) broken.whole broken.rest broken.piece broken.count before behind broken.all
-      broken.put;
-}
+  pub shown-part : Breaks (pieces_of image config showing tallies events) before behind →
+      IsShownInPart image config showing tallies events before behind
+  shown-part broken = record {
+    lawful = run-lawful image config events run;
+    in_step = in-step image config showing tallies events run;
+    output = subst (λ (t : List ℕ). HasBeginning t before.console behind.console) (console-whole image config showing events run tallies)
+        (console-begun
+        (pieces_of image config showing tallies events) broken.whole broken.rest broken.piece broken.count before behind broken.all
+        broken.put);
+    report =
+        report-begun
+        (pieces_of image config showing tallies events) broken.whole broken.rest broken.piece broken.count before behind broken.all
+        broken.put;
+  }

@@ -9,7 +9,8 @@ use Rattle.sn_base.specs.declared.event.Undo.{Undo}
 use Rattle.sn_base.specs.declared.event.Answer.{Answer}
 use Rattle.sn_base.specs.declared.event.Answer.TheVariants.{Recovered}
 use Rattle.sn_model.specs.declared.net.Sent.{Sent}
-use Rattle.sn_model.specs.Machine.{start_of}
+use Rattle.sn_model.specs.Machine.{State, start_of}
+use Rattle.sn_model.specs.Step.{state_after}
 use Rattle.sn_machine.specs.Machine.{MachineData, next_of}
 use Rattle.consistent_cuts.specs.Headline.{IsRun}
 use Rattle.sink_pieces.specs.Pieces.{Piece, Ends, after, Breaks}
@@ -64,6 +65,10 @@ told_left m events probes = map (told_from (m.applied + 1) (answered m.image m.c
 -- the pieces of the events that are left, without the end
 abbrev pub turns_left : MachineData → Showing → List Event → List Piece
 turns_left m showing events = turns_from m.image m.config showing m.applied m.state events
+
+-- the state that those leave
+abbrev pub state_left : MachineData → List Event → State
+state_left m events = state_after m.image m.config m.state events
 
 -- a sink broke in the pieces of event i, counted from 0, and the probes were told the events up to that one
 pub record StopsAt (m : MachineData) (showing : Showing) (events : List Event) (i : ℕ) (before : Ends) (probes : List Meter) (behind : Ends) (told : List Meter) : Type 0 where

@@ -1,6 +1,6 @@
 -- What the sinks show of a replay: at every moment the committed trace is an execution of the program on the flat machine,
 -- without faults, and the console has the bytes that it puts out.
-use Rattle.std.specs.Prelude.{◌≡◌, ℕ, ◌+◌, ◌<◌, ◌⊎◌, List, ◌++◌, take, length, codes, Option}
+use Rattle.std.specs.Prelude.{◌≡◌, ℕ, ◌+◌, ◌<◌, ◌⊎◌, List, ◌++◌, take, length, codes, Option, Ok}
 use Rattle.sn_base.specs.Image.{ImageData}
 use Rattle.sn_base.specs.declared.config.Config.{Config}
 use Rattle.sn_base.specs.declared.event.Event.{Event}
@@ -8,6 +8,7 @@ use Rattle.rv_core.specs.declared.step.Record.{Record}
 use Rattle.rv_core.specs.Execution.{IsExecution, out_of}
 use Rattle.consistent_cuts.specs.Headline.{IsConsistent, reached, retirements}
 use Rattle.sn_io.specs.Outside.{followed_by}
+use Rattle.sn_text.specs.Trace.{trace_of}
 use Rattle.sn_text.specs.Written.{trace_text}
 use Rattle.sn_probe.specs.Probes.{Meter}
 use Rattle.sink_pieces.specs.Pieces.{Piece, Ends, after, Breaks, console_text, report_text, HasBeginning}
@@ -42,12 +43,16 @@ pub record IsMoment (image : ImageData) (config : Config) (showing : Showing) (t
 abbrev pub IsInStep : ImageData → Config → Showing → List (List ℕ) → List Event → Type 0
 IsInStep image config showing tallies events = (i : ℕ) → IsMoment image config showing tallies (take i events) events
 
--- the report is a trace: the records of an execution of the program, and then the summary, marked as comments
+-- the committed trace, and then the summary, marked as comments
+abbrev pub written_trace : ImageData → Config → Option ℕ → List (List ℕ) → List Event → List ℕ
+written_trace image config watch tallies events = trace_text (committed_by image config events)
+    ++ report_text (summary_pieces (codes "# ") image config watch tallies (length events) (reached image config events))
+
+-- the report is this text, which is read as the records of an execution of the program
 pub record IsTrace (image : ImageData) (config : Config) (watch : Option ℕ) (tallies : List (List ℕ)) (events : List Event) (before behind : Option (List ℕ)) : Type 0 where
   pub execution : IsExecution image config.nodes (committed_by image config events)
-  pub written : behind ≡ followed_by before
-      (trace_text (committed_by image config events)
-      ++ report_text (summary_pieces (codes "# ") image config watch tallies (length events) (reached image config events)))
+  pub written : behind ≡ followed_by before (written_trace image config watch tallies events)
+  pub read : trace_of config.nodes (written_trace image config watch tallies events) ≡ Ok (committed_by image config events)
 
 -- all is written: the console has the output of the committed trace, and where the trace is asked for, the report has it
 pub record IsShown (image : ImageData) (config : Config) (showing : Showing) (tallies : List (List ℕ)) (events : List Event) (before behind : Ends) : Type 0 where

@@ -1,19 +1,21 @@
 //! Events one after another: what each releases goes to the console, and its group of lines to the report.
-ghost use Rattle.std.specs.Prelude.{◌≡◌, ℕ, List, [], ◌∷◌, ◌+◌, ◌≤◌, ◌++◌, ◌⊎◌, true, length, drop, Option, OnOk, OnErr, IfOk, codes};
+ghost use Rattle.std.specs.Prelude.{◌≡◌, ℕ, List, [], ◌∷◌, ◌+◌, ◌≤◌, ◌++◌, ◌⊎◌, true, length, drop, All, Option, OnOk, OnErr, IfOk, Err, codes};
 ghost use Rattle.sn_base.specs.Events.{event_fits};
 ghost use Rattle.sn_io.specs.Outside.{Rose};
-ghost use Rattle.consistent_cuts.specs.Runs.{AllFit};
 ghost use Rattle.sink_pieces.specs.Pieces.{ends, after, Breaks};
 ghost use Rattle.sn_machine.specs.Machine.{next_of};
+ghost use Rattle.sn_text.specs.Written.{HasValues};
 ghost use Rattle.sn_probe.specs.Probes.{meters_in, tallies_of};
 ghost use Rattle.script_replay.specs.Pieces.{group_pieces, trace_pieces, tally_pieces};
-ghost use Rattle.script_replay.specs.Played.{after_event, group_now, summed_up, end_now, turn_now, pieces_left, told_next, told_left};
-ghost use Rattle.script_replay.specs.Played.{Stops};
-ghost use Rattle.script_replay.specs.Played.{IsAlone, IsWatchable};
-ghost use Rattle.script_replay.specs.Scheduled.{left_on};
+ghost use Rattle.script_replay.specs.Played.{after_event, group_now, summed_up, end_now, turn_now, told_next};
+ghost use Rattle.script_replay.specs.Played.{IsAlone, IsWatchable, IsAtStart, MayBegin};
+ghost use Rattle.script_replay.specs.Probed.{told_all};
+ghost use Rattle.script_replay.specs.Scheduled.{left_on, replay_of};
+ghost use Rattle.script_replay.specs.Shown.{IsReplayed, IsBrokenOff, KnowApplied};
 
 use crate::job::{ReportKind, Showing};
 use crate::lines::{write_group, write_summary, write_tally};
+use crate::replaying::ReplayFault;
 use crate::schedule::Schedule;
 use rv_core::Record;
 use sink_pieces::{put_console, put_report};
@@ -22,6 +24,7 @@ use sn_io::{Failed, Sink};
 use sn_machine::Machine;
 use sn_probe::ProbeSet;
 use sn_text::Line;
+use std::alloc::Global;
 
 // What was released since there were so many bytes.
 fn fresh(released: &[u8], had: usize) -> &[u8]
@@ -67,6 +70,7 @@ fn put_trace<R: Sink>(line: &mut Line, records: &[Record], report: &mut R) -> Re
         ends c (R.written report.new) ≡ after (ends c (R.written report.old)) (trace_pieces records.now)) }
     ensures err { OnErr result ((c : Option (List ℕ)) →
         Breaks (trace_pieces records.now) (ends c (R.written report.old)) (ends c (R.written report.new))) }
+    ensures values { OnOk result (All HasValues records.now) }
     ensures later { R.faults report.old ≤ R.faults report.new }
     ensures cause { OnErr result (Rose (R.faults report.old) (R.faults report.new)) }
 {
@@ -140,6 +144,7 @@ pub fn put_end<R: Sink>(
     ensures err { OnErr result ((c : Option (List ℕ)) →
         Breaks (end_now machine.now showing.now (tallies_of (meters_in first tally step probes.now.probes.items)))
         (ends c (R.written report.old)) (ends c (R.written report.new))) }
+    ensures values { OnOk result (showing.now.report ≡ ReportKind.Trace → All HasValues machine.now.state.committed) }
     ensures later { R.faults report.old ≤ R.faults report.new }
     ensures cause { OnErr result (Rose (R.faults report.old) (R.faults report.new)) }
 {
@@ -193,44 +198,51 @@ fn turn<C: Sink, R: Sink>(
 }
 
 /// Applies the events of a schedule one after another, tells each to the probes and puts its pieces, and then puts those of the
-/// end.
+/// end. All of its memory, which is a line's, it takes first.
 pub fn play<S: Schedule, C: Sink, R: Sink>(
+    alloc: Global,
     machine: &mut Machine,
-    line: &mut Line,
     schedule: &mut S,
     showing: &Showing,
     probes: &mut ProbeSet,
     console: &mut C,
     report: &mut R,
-) -> Result<(), Failed>
+) -> Result<(), ReplayFault>
+    requires ready { IsAtStart machine.old machine.old.image machine.old.config
+        (length (left_on (S.left schedule.old) machine.old)) }
     requires serves { S.serves schedule.old machine.old.config.nodes }
-    requires fit { AllFit machine.old.config.nodes (left_on (S.left schedule.old) machine.old) }
-    requires room { length (left_on (S.left schedule.old) machine.old) ≤ machine.old.spare }
-    requires watched { IsWatchable showing.now.watch }
-    ensures ok { OnOk result (ends (C.written console.new) (R.written report.new)
-        ≡ after (ends (C.written console.old) (R.written report.old))
-        (pieces_left machine.old showing.now
-        (tallies_of (told_left machine.old (left_on (S.left schedule.old) machine.old)
-        (meters_in first tally step probes.old.probes.items))) (left_on (S.left schedule.old) machine.old))) }
-    ensures told { OnOk result (meters_in first tally step probes.new.probes.items
-        ≡ told_left machine.old (left_on (S.left schedule.old) machine.old) (meters_in first tally step probes.old.probes.items)) }
-    ensures err { OnErr result (Breaks
-        (pieces_left machine.old showing.now
-        (tallies_of (told_left machine.old (left_on (S.left schedule.old) machine.old)
-        (meters_in first tally step probes.old.probes.items))) (left_on (S.left schedule.old) machine.old))
+    requires begin { MayBegin (replay_of machine.old showing.now (left_on (S.left schedule.old) machine.old)) }
+    ensures ok { OnOk result (IsReplayed (replay_of machine.old showing.now (left_on (S.left schedule.old) machine.old))
+        (meters_in first tally step probes.old.probes.items)
         (ends (C.written console.old) (R.written report.old)) (ends (C.written console.new) (R.written report.new))) }
-    ensures stops { OnErr result (Stops machine.old showing.now (left_on (S.left schedule.old) machine.old)
-        (ends (C.written console.old) (R.written report.old)) (meters_in first tally step probes.old.probes.items)
-        (ends (C.written console.new) (R.written report.new)) (meters_in first tally step probes.new.probes.items)) }
-    ensures console_later { C.faults console.old ≤ C.faults console.new }
-    ensures report_later { R.faults report.old ≤ R.faults report.new }
-    ensures cause { OnErr result
-        (Rose (C.faults console.old) (C.faults console.new) ⊎ Rose (R.faults report.old) (R.faults report.new)) }
+    ensures told { OnOk result (meters_in first tally step probes.new.probes.items
+        ≡ told_all (replay_of machine.old showing.now (left_on (S.left schedule.old) machine.old))
+        (meters_in first tally step probes.old.probes.items)) }
+    ensures sink { result ≡ Err ReplayFault.Sink →
+        IsBrokenOff (replay_of machine.old showing.now (left_on (S.left schedule.old) machine.old))
+        (meters_in first tally step probes.old.probes.items)
+        (ends (C.written console.old) (R.written report.old)) (ends (C.written console.new) (R.written report.new)) }
+    ensures applied { result ≡ Err ReplayFault.Sink →
+        KnowApplied (replay_of machine.old showing.now (left_on (S.left schedule.old) machine.old))
+        (meters_in first tally step probes.old.probes.items)
+        (ends (C.written console.old) (R.written report.old)) (ends (C.written console.new) (R.written report.new))
+        (meters_in first tally step probes.new.probes.items) }
+    ensures memory { result ≡ Err ReplayFault.Memory →
+        (console.new ≡ console.old) × (report.new ≡ report.old) × (probes.new ≡ probes.old) }
+    ensures cause { result ≡ Err ReplayFault.Sink
+        → Rose (C.faults console.old) (C.faults console.new) ⊎ Rose (R.faults report.old) (R.faults report.new) }
 {
+    let Ok(mut line) = Line::new(alloc) else {
+        return Err(ReplayFault::Memory);
+    };
     'events: while let Some(event) = schedule.next(machine) {
-        let answer = turn(machine, line, &event, showing, probes, console, report)?;
-        schedule.note(&event, &answer);
+        match turn(machine, &mut line, &event, showing, probes, console, report) {
+            Ok(answer) => schedule.note(&event, &answer),
+            Err(_) => return Err(ReplayFault::Sink),
+        }
     }
-    put_end(line, machine, showing, probes, report)?;
-    Ok(())
+    match put_end(&mut line, machine, showing, probes, report) {
+        Ok(()) => Ok(()),
+        Err(_) => Err(ReplayFault::Sink),
+    }
 }

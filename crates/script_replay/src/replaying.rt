@@ -16,7 +16,6 @@ use sn_base::{Config, Image};
 use sn_io::Sink;
 use sn_machine::Machine;
 use sn_probe::ProbeSet;
-use sn_text::Line;
 use std::alloc::Global;
 
 /// Why a replay didn't come to its end.
@@ -77,21 +76,15 @@ pub fn replay_on<S: Schedule, C: Sink, R: Sink>(
 {
     let mut machine = machine;
     let mut schedule = schedule;
-    let Ok(mut line) = Line::new(alloc) else {
-        return Err(ReplayFault::Memory);
-    };
-    match play(
+    play(
+        alloc,
         &mut machine,
-        &mut line,
         &mut schedule,
         &showing,
         probes,
         console,
         report,
-    ) {
-        Ok(()) => Ok(()),
-        Err(_) => Err(ReplayFault::Sink),
-    }
+    )
 }
 
 /// Applies the events in order, tells each to every probe, puts the released bytes to the console, and puts what is to be
