@@ -11,11 +11,11 @@ use crate::{Fabric, Owner};
 use sn_base::{Block, BlockNo, Interval, NodeId, Old};
 
 /// The content that a home noted, where the old content is one.
-fn noted_content(noted: Option<&Old>) -> Option<Block>
-    ensures { result ≡ noted_content (option_copied noted.entry) }
+fn noted_content(noted: Option<&Old>) -> Option<&Block>
+    ensures { option_copied result.entry ≡ noted_content (option_copied noted.entry) }
 {
     match noted {
-        Some(Old::WasHome(content)) => Some(*content),
+        Some(Old::WasHome(content)) => Some(content),
         _ => None,
     }
 }
@@ -27,6 +27,15 @@ impl Fabric {
         requires settled { transaction_before (home_of self.now.fabric block).transaction k ≡ false }
         ensures { HasOneHolderWith self.now.fabric block k result (names_at self.now.fabric block k) }
     {
+        *self.content_at(block, k)
+    }
+
+    /// The same where it stands: in a log, a cache or a home.
+    pub fn content_at(&self, block: BlockNo, k: Interval) -> &Block
+        requires point { self.now.fabric.point ≤ k }
+        requires settled { transaction_before (home_of self.now.fabric block).transaction k ≡ false }
+        ensures { HasOneHolderWith self.now.fabric block k result.now (names_at self.now.fabric block k) }
+    {
         let _config = &self.config;
         let _number = block.number();
         match self.owner_at(block, k) {
@@ -36,29 +45,29 @@ impl Fabric {
     }
 
     /// The content of a block whose home names itself at cut k.
-    fn content_at_home(&self, block: BlockNo, k: Interval) -> Block
+    fn content_at_home(&self, block: BlockNo, k: Interval) -> &Block
         requires { owner_of (names_at self.now.fabric block k) ≡ Owner.Home }
-        ensures { names_at self.now.fabric block k ≡ Itself result }
+        ensures { names_at self.now.fabric block k ≡ Itself result.now }
     {
         let _number = block.number();
         let home = block.home(self.config.nodes);
         let place = usize::from(home.number());
         match noted_content(self.seats[place].log.old_at(true, block, k)) {
             Some(content) => content,
-            None => *self.homes[place].content(block),
+            None => self.homes[place].content(block),
         }
     }
 
     /// The content of a block that a node's cache holds at cut k.
-    fn content_at_cache(&self, node: NodeId, block: BlockNo, k: Interval) -> Block
+    fn content_at_cache(&self, node: NodeId, block: BlockNo, k: Interval) -> &Block
         requires here { node < length self.now.fabric.nodes }
         requires held { is_some (holds_at self.now.fabric node block k) ≡ true }
-        ensures { holds_at self.now.fabric node block k ≡ Some result }
+        ensures { holds_at self.now.fabric node block k ≡ Some result.now }
     {
         let seat = &self.seats[usize::from(node.number())];
         match seat.log.old_at(false, block, k) {
-            Some(Old::Owned(content)) => *content,
-            _ => seat.cache.content(block),
+            Some(Old::Owned(content)) => content,
+            _ => seat.cache.owned(block).unwrap(),
         }
     }
 }

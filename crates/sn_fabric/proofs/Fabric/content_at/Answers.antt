@@ -1,6 +1,6 @@
 use Rattle.std.proofs.Common.{sym, arith}
 use Rattle.sn_fabric.proofs.HeldAt.{holder-at, held-home, holder-here, holder-holds, held-cache}
-use Rattle.sn_fabric.proofs.Fabric.block_at.Goals as goal
+use Rattle.sn_fabric.proofs.Fabric.content_at.Goals as goal
 
 pub content_at_cache-requires-clause-here : goal.content_at_cache-requires-clause-here
 content_at_cache-requires-clause-here c = holder-here c.args.self.now.fabric c.args.block c.args.k
@@ -39,7 +39,7 @@ returns-in-Home c = held-home c.args.self.now.fabric c.args.block c.args.k
     }) c.args.k c.args.block c.self.invariant.0
     (omega (arith, c.number-number.ensures.small, c.number-number.ensures.same)) (rw (← c.self.view_is) at c.requires.point)
     (rw (← c.self.view_is) at c.requires.settled)))
-    c.content_at_home.result c.content_at_home.ensures
+    c.content_at_home.result.now c.content_at_home.ensures
 
 pub returns-in-Cache : goal.returns-in-Cache
 returns-in-Cache c = held-cache c.args.self.now.fabric c.args.block c.args.k
@@ -52,4 +52,4 @@ returns-in-Cache c = held-cache c.args.self.now.fabric c.args.block c.args.k
     }) c.args.k c.args.block c.self.invariant.0
     (omega (arith, c.number-number.ensures.small, c.number-number.ensures.same)) (rw (← c.self.view_is) at c.requires.point)
     (rw (← c.self.view_is) at c.requires.settled)))
-    c.in-Cache.node (sym c.in-Cache.ensures) c.content_at_cache.result c.content_at_cache.ensures
+    c.in-Cache.node (sym c.in-Cache.ensures) c.content_at_cache.result.now c.content_at_cache.ensures
