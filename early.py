@@ -15,8 +15,8 @@ from typing import List, NamedTuple, Optional
 SAID = re.compile(rb"(?:^interpreter: .*\n)?(?:^checked: .*\n)?(?:^races: .*\n)?^run=ended status=(\d+) .*proved=no\n\Z", re.M)
 # Names that `rt try` keeps for itself in the folder where it runs the program.
 TAKEN = {"program", "stdin", "stdout", "stderr"}
-# Commands of which each run on more than one node takes its turns in an order of its own.
-BY_THREADS = {"run", "monitor"}
+# The commands of which each run on more than one node takes its turns in an order of its own.
+BY_THREADS = {"run"}
 
 
 class Answer(NamedTuple):

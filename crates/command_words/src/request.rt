@@ -17,18 +17,6 @@ pub struct Replay {
     pub script: String,
 }
 
-/// The sizes, what is shown, and the names of the files.
-#[derive(Drop)]
-pub struct Roll {
-    pub config: Config,
-    /// The address of the word that is shown in the summary.
-    pub watch: Option<u32>,
-    pub program: String,
-    pub script: String,
-    /// The file of the steps in which the recovery is led.
-    pub control: String,
-}
-
 /// What a run shows before its summary.
 #[derive(Clone, Copy, PartialEq, Eq, Debug)]
 pub enum RunReport {
@@ -51,16 +39,6 @@ pub struct Run {
     pub program: String,
 }
 
-/// The sizes, what the monitored run goes by, what is shown, and the name of the program's file.
-#[derive(Drop)]
-pub struct Monitor {
-    pub config: Config,
-    pub rules: RunRules,
-    /// The address of the word that each snapshot has, and that is shown in the summary.
-    pub watch: Option<u32>,
-    pub program: String,
-}
-
 /// The number of nodes, and the names of the files.
 #[derive(Drop)]
 pub struct Check {
@@ -73,9 +51,7 @@ pub struct Check {
 #[derive(Drop)]
 pub enum Request {
     Replay(Replay),
-    Roll(Roll),
     Run(Run),
-    Monitor(Monitor),
     Check(Check),
     /// How many events the demonstration has.
     Demo(u32),

@@ -7,9 +7,7 @@ ghost use Rattle.own_pages.specs.Pages.{asked_by, topic_pages, page_in, command_
 pub enum Page {
     Overview,
     Replay,
-    Roll,
     Run,
-    Monitor,
     Check,
     Demo,
     Asm,
@@ -38,9 +36,7 @@ fn command_page(word: &str) -> Option<Page>
 {
     match word {
         "replay" => Some(Page::Replay),
-        "roll" => Some(Page::Roll),
         "run" => Some(Page::Run),
-        "monitor" => Some(Page::Monitor),
         "check" => Some(Page::Check),
         "demo" => Some(Page::Demo),
         "asm" => Some(Page::Asm),

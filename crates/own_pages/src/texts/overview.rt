@@ -11,9 +11,7 @@ usage: safetynet COMMAND [OPTIONS] FILES
 
 commands:
   replay PROGRAM SCRIPT        applies the events of a script, one after another
-  roll PROGRAM SCRIPT CONTROL  recovers node by node, by orders that may be lost
   run PROGRAM                  lets a worker for each node pick the events
-  monitor PROGRAM              the same, turn by turn, with a watcher beside it
   check PROGRAM TRACE          judges whether a trace is an execution
   demo SIZE                    runs a program of its own; needs no file
   asm TEXT                     turns assembly text into a program
@@ -22,7 +20,7 @@ commands:
 help:
   safetynet COMMAND --help     a command's page (also -h, help, help COMMAND)
   safetynet help events        the events that a script may have
-  safetynet help formats       programs, scripts, control files, traces, reports
+  safetynet help formats       programs, scripts, traces, reports
   safetynet help statuses      how a call can end
   safetynet --version          the version
 
