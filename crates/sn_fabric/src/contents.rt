@@ -12,7 +12,7 @@ use sn_base::{Block, BlockNo, Interval, NodeId, Old};
 
 /// The content that a home noted, where the old content is one.
 fn noted_content(noted: Option<&Old>) -> Option<&Block>
-    ensures { option_copied result.entry ≡ noted_content (option_copied noted.entry) }
+    ensures { option_copied result ≡ noted_content (option_copied noted.entry) }
 {
     match noted {
         Some(Old::WasHome(content)) => Some(content),
