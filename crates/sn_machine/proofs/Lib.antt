@@ -10,3 +10,4 @@ pub mod FirstParts
 pub mod Sends
 pub mod Kept
 pub mod Shown
+pub mod AtCut
