@@ -9,3 +9,4 @@ pub mod Restorations
 pub mod FirstParts
 pub mod Kept
 pub mod Shown
+pub mod AtCut

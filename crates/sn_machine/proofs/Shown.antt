@@ -71,7 +71,7 @@ module _ (image : ImageData) (config : Config) (h : Hardware) (applied spare : �
 
 -- a word of memory
 
-contents : (s : Fabric) (b k : ℕ) (x y : List ℕ) (holder : Holder) → HasOneHolderWith s b k x holder → HasOneHolderWith s b k y holder →
+pub contents : (s : Fabric) (b k : ℕ) (x y : List ℕ) (holder : Holder) → HasOneHolderWith s b k x holder → HasOneHolderWith s b k y holder →
     x ≡ y
 contents s b k x y (Itself named) p q = sym p.0 ∙ q.0
 contents s b k x y (OfCache owner) p q = let a = p.1 in let c = q.1 in cc

@@ -10,6 +10,7 @@
 #![tactic(auto)]
 
 mod clocks;
+mod contents;
 mod evictions;
 mod hardware;
 mod hearing;

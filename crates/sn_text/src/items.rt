@@ -10,7 +10,7 @@ use text_lines::lines_of;
 const MOST_ITEMS: usize = 1_000_000;
 
 /// A form of text: what one of its lines says.
-pub(crate) trait Form {
+pub trait Form {
     type Item: Drop;
 
     ghost use Rattle.std.specs.Prelude.{◌≡◌, ℕ, List, Result, IfOk};
@@ -21,6 +21,7 @@ pub(crate) trait Form {
     // what is known of each item
     ghost good: { Self → Self.Item → Type 0 };
 
+    /// What a line says, which is neither empty nor a comment.
     fn read(&self, line: &[u8]) -> Result<Self::Item, Fault>
         ensures said { result ≡ item_of self.now line.now }
         ensures good { IfOk result (good self.now) };
@@ -69,8 +70,8 @@ fn add_line<F: Form>(
     }
 }
 
-/// The items of a text.
-pub(crate) fn read_items<F: Form>(
+/// The items of a text, or the first cause for which it has another form.
+pub fn read_items<F: Form>(
     alloc: Global,
     form: &F,
     bytes: &[u8],

@@ -49,7 +49,8 @@ impl Line {
         self.text.as_slice()
     }
 
-    pub(crate) fn text(&mut self, text: &str)
+    /// A text as it is.
+    pub fn text(&mut self, text: &str)
         requires { length self.old + length text.now ≤ 8192 }
         ensures { self.new ≡ self.old ++ text.now }
     {
@@ -58,7 +59,7 @@ impl Line {
 
     /// A number. The clause `number` here, and its like in the calls below, says what the type does, so that the layer above
     /// knows in its clauses that what it writes is read back.
-    pub(crate) fn number(&mut self, number: u64)
+    pub fn number(&mut self, number: u64)
         requires { length self.old + 20 ≤ 8192 }
         ensures text { self.new ≡ self.old ++ decimal number }
         ensures short { length self.new ≤ length self.old + 20 }
@@ -69,7 +70,7 @@ impl Line {
     }
 
     /// A name, a blank and a number.
-    pub(crate) fn named(&mut self, name: &str, number: u64)
+    pub fn named(&mut self, name: &str, number: u64)
         requires { length self.old + length name.now + 21 ≤ 8192 }
         ensures text { self.new ≡ self.old ++ named_number name.now number }
         ensures short { length self.new ≤ length self.old + length name.now + 21 }

@@ -24,7 +24,7 @@ pub(crate) fn node_by(nodes: u8, number: u64) -> Result<NodeId, Fault>
 }
 
 /// A node of the machine.
-pub(crate) fn node_in(nodes: u8, text: &[u8]) -> Result<NodeId, Fault>
+pub fn node_in(nodes: u8, text: &[u8]) -> Result<NodeId, Fault>
     requires few { nodes ≤ 16 }
     ensures same { result ≡ node_in nodes text.now }
     ensures there { IfOk result (λ node. node < nodes) }
@@ -36,7 +36,7 @@ pub(crate) fn node_in(nodes: u8, text: &[u8]) -> Result<NodeId, Fault>
 }
 
 /// The number of a message, whether it is in flight or not.
-pub(crate) fn message_in(text: &[u8]) -> Result<u64, Fault>
+pub fn message_in(text: &[u8]) -> Result<u64, Fault>
     ensures { result ≡ message_in text.now }
 {
     number_in(text).ok_or(Fault::NotOfForm)

@@ -12,7 +12,7 @@ use std::alloc::Global;
 use std::marker::Model;
 
 /// What stands after a word where a line begins with it.
-fn rest_after<'a>(line: &'a [u8], word: &str) -> Option<&'a [u8]>
+pub fn rest_after<'a>(line: &'a [u8], word: &str) -> Option<&'a [u8]>
     ensures { MatchOption result (begins word.now line.now ≡ false)
         (λ rest. (begins word.now line.now ≡ true) × (rest.now ≡ after word.now line.now)) }
 {

@@ -1,0 +1,9 @@
+pub mod Flights
+pub mod Marks
+pub mod Calls
+pub mod Parted
+pub mod Copies
+pub mod Restored
+pub mod Led
+pub mod Example
+pub mod Kept

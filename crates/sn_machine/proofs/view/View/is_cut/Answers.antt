@@ -1,0 +1,17 @@
+use Rattle.std.proofs.Common.{◌∙◌, subst}
+use Rattle.sn_base.specs.declared.event.Event.TheVariants.{Recover}
+use Rattle.sn_model.specs.RecoveryPoint.{IsCut}
+use Rattle.consistent_cuts.specs.Headline.{IsStepOfRun}
+use Rattle.sn_machine.specs.Machine.{MachineData, flat_of, next_of}
+use Rattle.sn_machine.proofs.AtCut.{cut, back}
+use Rattle.sn_machine.proofs.view.View.is_cut.Goals as goal
+
+pub returns-clause-cut : goal.returns-clause-cut
+returns-clause-cut c =
+    subst (λ (d : MachineData). IsCut d.state d.state.fabric.point (flat_of d)) (c.machine.view_is ∙ c.self.view_is)
+    (cut c.machine.inside.image c.machine.inside.config c.machine.inside.hardware c.machine.inside.applied c.machine.inside.spare c.machine.invariant)
+
+pub returns-clause-back : goal.returns-clause-back
+returns-clause-back c =
+    subst (λ (d : MachineData). IsStepOfRun d.image d.config d.state Recover (next_of d Recover)) (c.machine.view_is ∙ c.self.view_is)
+    (back c.machine.inside.image c.machine.inside.config c.machine.inside.hardware c.machine.inside.applied c.machine.inside.spare c.machine.invariant)
