@@ -75,6 +75,7 @@ pub record Follows (nodes : ℕ) (r : RollingData) : Type 0 where
   pub notes : length r.noted ≡ 16
   pub flights : All (λ f. IsMessageOf nodes r.restored f.message) r.messages.flights
   pub noted : (n : ℕ) → is_noted r n ≡ true → has_part r n ≡ true
+  pub here : (n : ℕ) → has_part r n ≡ true → n < nodes
 
 pub nobody : (n : ℕ) → has_node no_nodes n ≡ true → ⊥
 nobody n e = let l = marked-within no_nodes n e in none n l e
@@ -88,6 +89,7 @@ begun-follows m = record {
   notes = length-replicate 16 false;
   flights = All-nil (λ (f : Flight). IsMessageOf m.config.nodes no_nodes f.message);
   noted = λ n e. absurd (nobody n e);
+  here = λ n e. absurd (nobody n e);
 }
 
 module _ (nodes : ℕ) (few : nodes ≤ 16) where
@@ -103,6 +105,7 @@ module _ (nodes : ℕ) (few : nodes ≤ 16) where
     flights =
         All-push (λ g. IsMessageOf nodes r.restored g.message) r.messages.flights (record { id = r.messages.next; message = m }) f.flights h;
     noted = f.noted;
+    here = f.here;
   }
 
   losing-follows : (r : RollingData) (id : ℕ) → Follows nodes r → Follows nodes (losing r id)
@@ -111,7 +114,12 @@ module _ (nodes : ℕ) (few : nodes ≤ 16) where
     notes = f.notes;
     flights = All-filter (λ g. not (nat_eq g.id id)) (λ g. IsMessageOf nodes r.restored g.message) r.messages.flights f.flights;
     noted = f.noted;
+    here = f.here;
   }
+
+  marked-here : (r : RollingData) (k n : ℕ) → k < nodes → ((has_part r n ≡ true) ⊎ (nat_eq k n ≡ true)) → Follows nodes r → n < nodes
+  marked-here r k n l (inl h) f = f.here n h
+  marked-here r k n l (inr e) f = let same : k ≡ n = eqb-true k n e in omega (arith, l, same)
 
   restoring-follows : (r : RollingData) (k : ℕ) → k < nodes → Follows nodes r → Follows nodes (restoring r k)
   restoring-follows r k l f =
@@ -121,6 +129,7 @@ module _ (nodes : ℕ) (few : nodes ≤ 16) where
         flights = All-weaker (λ g. IsMessageOf nodes r.restored g.message) (λ g. IsMessageOf nodes (slice_set r.restored k true) g.message)
             (λ g h. message-more r.restored k inside g.message h) r.messages.flights f.flights;
         noted = λ n e. marked-more r.restored k n inside (f.noted n e);
+        here = λ n e. marked-here r k n l (or_cases (has_part r n) (nat_eq k n) (sym (marked r.restored k n inside) ∙ e)) f;
       }
 
   noting-noted : (r : RollingData) (k n : ℕ) → k < length r.noted → has_part r k ≡ true → Follows nodes r → is_noted (noting r k) n ≡ true →
@@ -138,6 +147,7 @@ module _ (nodes : ℕ) (few : nodes ≤ 16) where
         notes = length-set r.noted k true ∙ f.notes;
         flights = f.flights;
         noted = λ n e. noting-noted r k n inside has f e;
+        here = f.here;
       }
 
   pub known : (r : RollingData) (id : ℕ) (m : ControlMessage) → Follows nodes r → message_of r id ≡ Some m → IsMessageOf nodes r.restored m

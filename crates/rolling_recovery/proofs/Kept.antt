@@ -13,86 +13,84 @@ use Rattle.rolling_recovery.specs.declared.messages.ControlMessage.TheVariants.{
 use Rattle.rolling_recovery.specs.Controls.{control_fits}
 use Rattle.rolling_recovery.specs.Messages.{MessagesData, message_in, without, sent, is_full}
 use Rattle.rolling_recovery.specs.Rolling.{RollingData, no_nodes, lost_by, sending, repeated_by, delivered_by, after_control}
-use Rattle.rolling_recovery.specs.Kept.{PartsData, AreOfCut, IsRolling}
+use Rattle.rolling_recovery.specs.Kept.{IsRolling}
 use Rattle.rolling_recovery.proofs.Calls.{nobody, led-on, call-machine, follows, known}
 
 abbrev rolling : MachineData → MessagesData → List Bool → List Bool → RollingData
 rolling m messages restored noted = record { machine = m; messages = messages; restored = restored; noted = noted }
 
-pub start-kept : (m : MachineData) (messages : MessagesData) (p : PartsData) (noted : List Bool) → 1 ≤ m.spare → m.config.nodes ≤ 16 →
-    messages ≡ record { flights = []; next = 1 } → p.restored ≡ no_nodes → noted ≡ no_nodes →
-    IsRolling (rolling m messages p.restored noted) p
-start-kept m messages p noted some few quiet empty none = record {
+pub start-kept : (m : MachineData) (messages : MessagesData) (restored noted : List Bool) → 1 ≤ m.spare → m.config.nodes ≤ 16 →
+    messages ≡ record { flights = []; next = 1 } → restored ≡ no_nodes → noted ≡ no_nodes →
+    IsRolling (rolling m messages restored noted)
+start-kept m messages restored noted some few quiet empty none = record {
   room = some;
   few = few;
-  parts = record {
-    cores = λ n e. absurd (nobody n (subst (λ (marks : List Bool). has_node marks n ≡ true) empty e));
-    blocks = λ n block l e i. absurd (nobody n (subst (λ (marks : List Bool). has_node marks n ≡ true) empty e));
-  };
   calls = [];
   led = record {
     fit = All-nil (λ call. control_fits m.config.nodes call ≡ true);
     led =
-        ap (λ x. rolling m x p.restored noted) quiet
+        ap (λ x. rolling m x restored noted) quiet
         ∙ ap (λ (x : List Bool). rolling m (record { flights = []; next = 1 }) x noted) empty
         ∙ ap (λ (x : List Bool). rolling m (record { flights = []; next = 1 }) no_nodes x) none;
   };
 }
 
--- a call, after which the parts are still the cut's
-kept-on : (r : RollingData) (p q : PartsData) (call : Control) → control_fits r.machine.config.nodes call ≡ true → AreOfCut r.machine q →
-    IsRolling r p → IsRolling (after_control r call) q
-kept-on r p q call fits parts k = record {
+-- one more call
+kept-on : (r : RollingData) (call : Control) → control_fits r.machine.config.nodes call ≡ true → IsRolling r →
+    IsRolling (after_control r call)
+kept-on r call fits k = record {
   room = subst (λ (m : MachineData). 1 ≤ m.spare) (sym (call-machine r call)) k.room;
   few = subst (λ (m : MachineData). m.config.nodes ≤ 16) (sym (call-machine r call)) k.few;
-  parts = subst (λ (m : MachineData). AreOfCut m q) (sym (call-machine r call)) parts;
   calls = k.calls ++ call ∷ [];
   led = led-on r k.calls call fits k.led;
 }
 
-module _ (m : MachineData) (messages : MessagesData) (restored noted : List Bool) (p : PartsData) (k : IsRolling (rolling m messages restored noted) p) where
+module _ (m : MachineData) (messages : MessagesData) (restored noted : List Bool) (k : IsRolling (rolling m messages restored noted)) where
   pub order-kept : (n : ℕ) (full : Bool) (later : MessagesData) → n < m.config.nodes → full ≡ is_full messages → full ≡ false →
-      later ≡ sent messages (Order n) → IsRolling (rolling m later restored noted) p
+      later ≡ sent messages (Order n) → IsRolling (rolling m later restored noted)
   order-kept n full later l f e s =
-      rw s (subst (λ b. IsRolling (cond b (rolling m messages restored noted) (sending (rolling m messages restored noted) (Order n))) p)
+      rw s (subst (λ b. IsRolling (cond b (rolling m messages restored noted) (sending (rolling m messages restored noted) (Order n))))
       (sym f ∙ e)
-      (kept-on (rolling m messages restored noted) p p (control.Order n) (lt-ltb n m.config.nodes l) k.parts k))
+      (kept-on (rolling m messages restored noted) (control.Order n) (lt-ltb n m.config.nodes l) k))
 
   pub repeat-kept : (id : ℕ) (message : ControlMessage) (full : Bool) (later : MessagesData) →
       Some message ≡ message_in messages.flights id → full ≡ is_full messages → full ≡ false →
-      later ≡ sent messages message → IsRolling (rolling m later restored noted) p
+      later ≡ sent messages message → IsRolling (rolling m later restored noted)
   repeat-kept id message full later o f e s =
-      rw s (subst (λ b. IsRolling (cond b (rolling m messages restored noted) (sending (rolling m messages restored noted) message)) p)
+      rw s (subst (λ b. IsRolling (cond b (rolling m messages restored noted) (sending (rolling m messages restored noted) message)))
       (sym f ∙ e)
-      (subst (λ x. IsRolling (repeated_by (rolling m messages restored noted) x) p) (sym o)
-      (kept-on (rolling m messages restored noted) p p (control.Repeat id) refl k.parts k)))
+      (subst (λ x. IsRolling (repeated_by (rolling m messages restored noted) x)) (sym o)
+      (kept-on (rolling m messages restored noted) (control.Repeat id) refl k)))
 
   pub lose-kept : (id : ℕ) (o : Option ControlMessage) (later : MessagesData) → o ≡ message_in messages.flights id →
       OnSome o (later ≡ record messages { flights = without messages.flights id }) → IfNone o (later ≡ messages) →
-      IsRolling (rolling m later restored noted) p
+      IsRolling (rolling m later restored noted)
   lose-kept id None later e some none = rw none k
   lose-kept id (Some message) later e some none =
-      rw some (subst (λ x. IsRolling (lost_by (rolling m messages restored noted) id x) p) (sym e)
-      (kept-on (rolling m messages restored noted) p p (control.Lose id) refl k.parts k))
+      rw some (subst (λ x. IsRolling (lost_by (rolling m messages restored noted) id x)) (sym e)
+      (kept-on (rolling m messages restored noted) (control.Lose id) refl k))
 
   pub there : (id n : ℕ) → Some (Order n) ≡ message_in messages.flights id → n < m.config.nodes
   there id n e =
       known m.config.nodes k.few (rolling m messages restored noted) id (Order n)
       (follows (rolling m messages restored noted) k.calls k.few k.led) (sym e)
 
-  pub obey-kept : (id n : ℕ) (q : PartsData) (taken later : MessagesData) → Some (Order n) ≡ message_in messages.flights id →
+  pub has-its-node : (n : ℕ) → has_node restored n ≡ true → n < m.config.nodes
+  has-its-node n e = (follows (rolling m messages restored noted) k.calls k.few k.led).here n e
+
+  pub obey-kept : (id n : ℕ) (marks : List Bool) (taken later : MessagesData) → Some (Order n) ≡ message_in messages.flights id →
       taken ≡ record messages { flights = without messages.flights id } → later ≡ sent taken (Done n) →
-      q.restored ≡ slice_set restored n true → AreOfCut m q → IsRolling (rolling m later q.restored noted) q
-  obey-kept id n q taken later e t s marks cut =
+      marks ≡ slice_set restored n true → IsRolling (rolling m later marks noted)
+  obey-kept id n marks taken later e t s is =
       rw (s, t) (subst
-      (λ (x : List Bool). IsRolling (rolling m (sent (record messages { flights = without messages.flights id }) (Done n)) x noted) q)
-      (sym marks)
-      (subst (λ x. IsRolling (delivered_by (rolling m messages restored noted) id x) q) (sym e)
-      (kept-on (rolling m messages restored noted) p q (control.Deliver id) refl cut k)))
+      (λ (x : List Bool). IsRolling (rolling m (sent (record messages { flights = without messages.flights id }) (Done n)) x noted))
+      (sym is)
+      (subst (λ x. IsRolling (delivered_by (rolling m messages restored noted) id x)) (sym e)
+      (kept-on (rolling m messages restored noted) (control.Deliver id) refl k)))
 
   pub note-kept : (id n place : ℕ) (taken : MessagesData) → Some (Done n) ≡ message_in messages.flights id →
       taken ≡ record messages { flights = without messages.flights id } → place ≡ n →
-      IsRolling (rolling m taken restored (slice_set noted place true)) p
+      IsRolling (rolling m taken restored (slice_set noted place true))
   note-kept id n place taken e t i =
-      rw (t, i) (subst (λ x. IsRolling (delivered_by (rolling m messages restored noted) id x) p) (sym e)
-      (kept-on (rolling m messages restored noted) p p (control.Deliver id) refl k.parts k))
+      rw (t, i) (subst (λ x. IsRolling (delivered_by (rolling m messages restored noted) id x)) (sym e)
+      (kept-on (rolling m messages restored noted) (control.Deliver id) refl k))

@@ -2,7 +2,7 @@ pub mod Flights
 pub mod Marks
 pub mod Calls
 pub mod Parted
-pub mod Copies
+pub mod Sizes
 pub mod Restored
 pub mod Led
 pub mod Example

@@ -3,34 +3,31 @@ ghost use Rattle.std.specs.Prelude.{◌≡◌, ℕ, ◌<◌, ◌≤◌, ◌^◌,
 ghost use Rattle.sn_machine.specs.Machine.{IsApplied};
 ghost use Rattle.rolling_recovery.specs.declared.controls.Control.{Control as Call};
 ghost use Rattle.rolling_recovery.specs.Messages.{is_full};
-ghost use Rattle.rolling_recovery.specs.Rolling.{no_nodes, begun, ordered, repeated, repeat_answer, lost, delivered, deliver_answer, message_of};
-ghost use Rattle.rolling_recovery.specs.Rolling.{core_in_part, block_in_part, unnoted, finish_fault};
+ghost use Rattle.rolling_recovery.specs.Rolling.{begun, ordered, repeated, repeat_answer, lost, delivered, deliver_answer, message_of};
+ghost use Rattle.rolling_recovery.specs.Rolling.{has_part, core_in_part, block_in_part, unnoted, finish_fault};
 ghost use Rattle.rolling_recovery.specs.Kept.{HasCalls};
 ghost use Rattle.rolling_recovery.specs.Recovered.{IsLedTo, IsMadeOfParts};
 
 use crate::answers::{FinishFault, Full, RepeatFault, Told};
 use crate::messages::{ControlMessage, Messages};
-use crate::parts::{Parts, keeper};
+use crate::parts::{keeper, obey};
 use rv_core::CoreState;
 use sn_base::{Answer, Block, BlockNo, Event, Memory, MsgId, NodeId, Undo};
 use sn_machine::Machine;
 use std::alloc::Global;
 use std::marker::Model;
 
-/// The room of a recovery: for the messages in flight, and for the nodes' parts, 4 MiB in all.
+/// The room of a recovery, for the messages in flight. The nodes' parts need none: they are looks into the machine.
 #[derive(Drop)]
 pub struct Room {
     messages: Messages,
-    parts: Parts,
     ghost quiet: { messages ≡ record { flights = []; next = 1 } },
-    ghost empty: { parts.restored ≡ no_nodes },
 }
 
 impl Room {
     pub fn new(alloc: Global) -> Result<Room, Memory> {
         let messages = Messages::new(alloc)?;
-        let parts = Parts::new(alloc)?;
-        Ok(Room { messages, parts })
+        Ok(Room { messages })
     }
 }
 
@@ -40,7 +37,7 @@ impl Room {
 pub struct Rolling {
     machine: Machine,
     messages: Messages,
-    parts: Parts,
+    restored: [bool; 16],
     noted: [bool; 16],
 }
 
@@ -53,16 +50,16 @@ impl Model for Rolling {
     ghost view = { λ r. record {
       machine = r.machine;
       messages = r.messages;
-      restored = r.parts.restored;
+      restored = r.restored;
       noted = r.noted;
     } };
 
     ghost invariant = { λ r. IsRolling (record {
       machine = r.machine;
       messages = r.messages;
-      restored = r.parts.restored;
+      restored = r.restored;
       noted = r.noted;
-    }) r.parts };
+    }) };
 }
 
 impl Rolling {
@@ -71,12 +68,12 @@ impl Rolling {
         requires { 1 ≤ machine.spare }
         ensures { result ≡ begun machine }
     {
-        let Room { messages, parts } = room;
+        let Room { messages } = room;
         machine.recovered().is_cut();
         Rolling {
             machine,
             messages,
-            parts,
+            restored: [false; 16],
             noted: [false; 16],
         }
     }
@@ -136,7 +133,7 @@ impl Rolling {
         };
         match message {
             ControlMessage::Order(node) => {
-                let told = self.parts.obey(&self.machine, node);
+                let told = obey(&mut self.restored, &self.machine, node);
                 self.messages.send(ControlMessage::Done(node));
                 told
             }
@@ -147,12 +144,19 @@ impl Rolling {
         }
     }
 
+    fn has_part(&self, node: NodeId) -> bool
+        ensures mark { result ≡ has_part self.now node }
+        ensures here { result ≡ true → node < self.now.machine.config.nodes }
+    {
+        self.restored[usize::from(node.number())]
+    }
+
     /// The core of a node's part.
     pub fn part_core(&self, node: NodeId) -> Option<&CoreState>
         ensures { option_copied result ≡ core_in_part self.now node }
     {
-        if self.parts.has(node) {
-            Some(self.parts.core(node))
+        if self.has_part(node) {
+            Some(self.machine.recovered().core(node))
         } else {
             None
         }
@@ -162,8 +166,8 @@ impl Rolling {
     pub fn part_block(&self, node: NodeId, block: BlockNo) -> Option<&Block>
         ensures { option_copied result ≡ block_in_part self.now node block }
     {
-        if self.parts.has(node) && keeper(&self.machine, block) == node {
-            Some(self.parts.block(block))
+        if self.has_part(node) && keeper(&self.machine, block) == node {
+            Some(self.machine.recovered().block(block))
         } else {
             None
         }

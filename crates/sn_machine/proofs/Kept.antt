@@ -66,10 +66,10 @@ held_late point (e ∷ es) h =
 
 -- the numbers
 
-some_nodes : (config : Config) → config_fits config ≡ true → 1 ≤ config.nodes
+pub some_nodes : (config : Config) → config_fits config ≡ true → 1 ≤ config.nodes
 some_nodes config fits = grind (arith, nat_tests)
 
-few_nodes : (config : Config) → config_fits config ≡ true → config.nodes ≤ 16
+pub few_nodes : (config : Config) → config_fits config ≡ true → config.nodes ≤ 16
 few_nodes config fits = grind (arith, nat_tests)
 
 far : (next : ℕ) → next < 9223372036854775808 → next ≤ 2 ^ 63
@@ -168,7 +168,7 @@ module _ (image : ImageData) (config : Config) (h : Hardware) (applied spare : �
       subst (λ (s : State). IsStepOfRun image config s event (step_of image config s event)) (sym m.state)
       (reached_next image config m.events m.run event fits)
 
-  holds : Holds image config.nodes (state_of h) (retirements image config m.events)
+  pub holds : Holds image config.nodes (state_of h) (retirements image config m.events)
   holds =
       subst (λ (s : State). Holds image config.nodes s (retirements image config m.events)) (sym m.state)
       (run_holds image config config.nodes (start_of image config.nodes) [] m.events m.run.events_fit

@@ -85,15 +85,18 @@ word_of memory address place content i aligned low is =
     sym (word_block memory address ∙ rw (e, is, i) refl)
 
 module _ (image : ImageData) (config : Config) (h : Hardware) (applied spare : ℕ) (m : IsMachine image config h applied spare) where
-  -- no transaction of its block that was begun before the recovery point is open
+  -- no transaction of a block that was begun before the recovery point is open
+  pub settled : (block point : ℕ) → block < block_count → point ≡ h.fabric.fabric.point →
+      transaction_before (home_of h.fabric.fabric block).transaction point ≡ false
+  settled block point inside p =
+      let keeps = (sound image config h applied spare m).keeps in
+      rw p
+      (home_finished (home_of h.fabric.fabric block).transaction h.fabric.fabric.point
+      (keeps.1.blocks block inside).clocks.begun_point)
+
   pub word-settled : (address block point : ℕ) → ram_start ≤ address → address < ram_start + ram_size → block ≡ block_of address →
       point ≡ h.fabric.fabric.point → transaction_before (home_of h.fabric.fabric block).transaction point ≡ false
-  word-settled address block point low high b p =
-      let inside : block_of address < block_count = omega (arith, low, high) in
-      let keeps = (sound image config h applied spare m).keeps in
-      rw (b, p)
-      (home_finished (home_of h.fabric.fabric (block_of address)).transaction h.fabric.fabric.point
-      (keeps.1.blocks (block_of address) inside).clocks.begun_point)
+  word-settled address block point low high b p = settled block point (omega (arith, low, high, b)) p
 
   pub word-shown : (address place block point value : ℕ) (content : List ℕ) → ram_start ≤ address → address < ram_start + ram_size →
       address % 4 ≡ 0 → place ≡ (address - ram_start) % 64 → block ≡ block_of address → point ≡ h.fabric.fabric.point →

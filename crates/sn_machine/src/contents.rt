@@ -8,15 +8,16 @@ ghost use Rattle.sn_machine.specs.Machine.{flat_of, next_of};
 use crate::view::View;
 use sn_base::{Block, BlockNo, Event};
 
-impl View<'_> {
-    /// The content of a block.
-    pub fn block(&self, block: BlockNo) -> Block
-        ensures { result ≡ block_in (flat_of self.now).memory block }
+impl<'a> View<'a> {
+    /// The content of a block, where the machine has it.
+    pub fn block(&self, block: BlockNo) -> &'a Block
+        ensures { result.now ≡ block_in (flat_of self.now).memory block }
     {
         let machine = self.machine;
         let hardware = &machine.hardware;
+        // The prover learns here that it is the number of a block.
         let _number = block.number();
-        hardware.fabric.block_at(block, hardware.point())
+        hardware.fabric.content_at(block, hardware.point())
     }
 
     /// That what is shown is a cut of a whole machine, which has its 1 to 16 nodes and an entry for each block: the recovery

@@ -32,7 +32,7 @@ impl<'a> Model for View<'a> {
     ghost view = { λ v. v.machine.now };
 }
 
-impl View<'_> {
+impl<'a> View<'a> {
     /// The recovery point: the last checkpoint that was validated, 0 at first.
     pub fn point(&self) -> Interval
         ensures { result ≡ self.now.state.fabric.point }
@@ -42,7 +42,7 @@ impl View<'_> {
     }
 
     /// A node's core as its register checkpoint at the recovery point keeps it: without a reservation.
-    pub fn core(&self, node: NodeId) -> &CoreState
+    pub fn core(&self, node: NodeId) -> &'a CoreState
         requires { node < self.now.config.nodes }
         ensures { result.now ≡ bare (core_at (flat_of self.now) node) }
     {

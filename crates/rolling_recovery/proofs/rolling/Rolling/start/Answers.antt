@@ -5,5 +5,5 @@ use Rattle.rolling_recovery.proofs.rolling.Rolling.start.Goals as goal
 
 pub invariant_of-result : goal.invariant_of-result
 invariant_of-result c =
-    start-kept c.args.machine c.args.room.messages c.args.room.parts _ c.requires
-    (subst (λ (m : MachineData). m.config.nodes ≤ 16) c.recovered.ensures.shown c.is_cut.ensures.few) c.args.room.quiet c.args.room.empty refl
+    start-kept c.args.machine c.args.room.messages _ _ c.requires
+    (subst (λ (m : MachineData). m.config.nodes ≤ 16) c.recovered.ensures.shown c.is_cut.ensures.few) c.args.room.quiet refl refl
