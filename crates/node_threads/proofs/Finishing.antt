@@ -31,6 +31,7 @@ run-of s began m journal answers kept same machine_is journal_is answers_is =
       few = kept.few;
       answers_are = kept.answers;
       due = kept.due;
+      workers = kept.workers;
       fit = kept.fit;
     }))))
 

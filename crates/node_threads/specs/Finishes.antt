@@ -1,16 +1,16 @@
 -- What a run leaves, and why it ends.
-use Rattle.std.specs.Prelude.{◌≡◌, ℕ, ◌≤◌, true, nat_le, if◌then◌else◌, List, [], length, Option, Some, None, Result, Ok, Err}
+use Rattle.std.specs.Prelude.{◌≡◌, ℕ, ◌<◌, ◌≤◌, nat_le, if◌then◌else◌, List, [], length, Option, Some, None, Result, Ok, Err}
 use Rattle.std.specs.List.{All}
-use Rattle.sn_base.specs.Events.{event_fits}
 use Rattle.sn_base.specs.declared.event.Answer.{Answer}
 use Rattle.sn_base.specs.Rules.{AreRules}
+use Rattle.consistent_cuts.specs.Runs.{AllFit}
 use Rattle.sn_io.specs.declared.outside.Failed.{Failed}
 use Rattle.sn_io.specs.Outside.{Rose}
 use Rattle.sn_machine.specs.Machine.{MachineData}
 use Rattle.due_events.specs.Due.{is_over}
 use Rattle.sn_console.specs.Handed.{IsHandedOn, IsBegun}
 use Rattle.run_journals.specs.declared.entry.JournalEntry.{JournalEntry}
-use Rattle.run_journals.specs.Journal.{Began, IsDue, state_of, answers_of, numbers_of}
+use Rattle.run_journals.specs.Journal.{Began, IsDue, events_of, state_of, answers_of, numbers_of}
 use Rattle.shared_machine.specs.declared.finish.Finish.{Finish}
 use Rattle.shared_machine.specs.declared.finish.Finish.TheVariants.{Over, Stopped}
 use Rattle.shared_machine.specs.Shared.{cut_off_or_spent}
@@ -22,7 +22,8 @@ finish_by began journal =
     if is_over began.image began.config (state_of began journal) then Some Over
     else cut_off_or_spent (numbers_of began journal).cut_off (nat_le began.budget (length journal))
 
--- a machine, with the journal and the answers of the run that made it, whose events fit it, where the rules are ones for its nodes
+-- a machine, with the journal and the answers of the run that made it, whose workers are its nodes', and whose events fit it, where
+-- the rules are ones for its nodes
 pub record IsRunOf (began : Began) (m : MachineData) (journal : List JournalEntry) (answers : List Answer) : Type 0 where
   pub image : m.image ≡ began.image
   pub config : m.config ≡ began.config
@@ -31,7 +32,8 @@ pub record IsRunOf (began : Began) (m : MachineData) (journal : List JournalEntr
   pub few : length journal ≤ began.budget
   pub answers_are : answers ≡ answers_of began journal
   pub due : IsDue began journal
-  pub fit : AreRules began.rules began.config.nodes → All (λ e. event_fits began.config.nodes e.event ≡ true) journal
+  pub workers : All (λ e. e.worker < began.config.nodes) journal
+  pub fit : AreRules began.rules began.config.nodes → AllFit began.config.nodes (events_of journal)
 
 -- all of a text was written, or, where the sink failed, the first of it, and then its count of faults rose
 abbrev pub Put : Result (Unit {0}) Failed → List ℕ → Option (List ℕ) → Option (List ℕ) → ℕ → ℕ → Type 0

@@ -1,12 +1,11 @@
 -- A turn keeps what the lock keeps.
 use Rattle.std.proofs.Common.{◌≡◌, ℕ, ◌+◌, ◌-◌, ◌<◌, Bool, List, [], ◌∷◌, ◌++◌, length, Some, sym, ap, subst, ◌∙◌, arith, length-append}
 use Rattle.std.proofs.lemmas.List.Elements.{All-push}
-use Rattle.std.specs.Prelude.{true}
-use Rattle.sn_base.specs.Events.{event_fits}
 use Rattle.sn_base.specs.declared.event.Event.{Event}
 use Rattle.sn_base.specs.declared.event.Answer.{Answer}
 use Rattle.sn_model.specs.Machine.{State}
 use Rattle.sn_model.specs.Step.{step_of}
+use Rattle.consistent_cuts.specs.Runs.{AllFit}
 use Rattle.sn_machine.specs.Machine.{MachineData, IsApplied, next_of}
 use Rattle.due_events.specs.Numbers.{Numbers, numbers_after}
 use Rattle.due_events.specs.Due.{due_of}
@@ -15,25 +14,26 @@ use Rattle.sn_driver.specs.Turns.{due_at}
 use Rattle.sn_console.specs.Handed.{IsFirstOf}
 use Rattle.sn_console.proofs.FirstOf.{IsFirstOf-trans}
 use Rattle.run_journals.specs.declared.entry.JournalEntry.{JournalEntry}
-use Rattle.run_journals.specs.Journal.{Began, entry_of, next_pick, state_of, answers_of, numbers_of}
-use Rattle.run_journals.proofs.Folds.{state_of-snoc, answers_of-snoc, numbers_of-snoc}
+use Rattle.run_journals.specs.Journal.{Began, entry_of, events_of, next_pick, state_of, answers_of, numbers_of}
+use Rattle.run_journals.proofs.Folds.{events_of-snoc, state_of-snoc, answers_of-snoc, numbers_of-snoc}
 use Rattle.run_journals.proofs.Dues.{IsDue-snoc}
 use Rattle.run_journals.proofs.Released.{released-grows}
 use Rattle.shared_machine.specs.Shared.{LockedData, began_with, Did}
 use Rattle.shared_machine.specs.Kept.{FollowsJournal, HasRoomForRest}
-use Rattle.shared_machine.proofs.Fits.{due-fits}
+use Rattle.shared_machine.proofs.Fits.{due-fits, all_fit-push}
 
 -- the locked value after a turn that left this machine and this driver
-abbrev pub after_turn : LockedData → ℕ → Event → Answer → MachineData → DriverData → List ℕ → LockedData
-after_turn s worker event answer machine driver passes = record s {
+abbrev pub after_turn : LockedData → ℕ → Event → Answer → MachineData → DriverData → List ℕ → ℕ → LockedData
+after_turn s worker event answer machine driver passes frees = record s {
   machine = machine;
   driver = driver;
   journal = s.journal ++ entry_of worker event ∷ [];
   answers = s.answers ++ answer ∷ [];
   passed = passes;
+  free = frees;
 }
 
-module _ (s : LockedData) (worker : ℕ) (event : Event) (answer : Answer) (passes : List ℕ) where
+module _ (s : LockedData) (worker : ℕ) (event : Event) (answer : Answer) (passes : List ℕ) (frees : ℕ) where
   abbrev machine_next : MachineData
   machine_next = record s.machine {
     state = (next_of s.machine event).state;
@@ -54,7 +54,7 @@ module _ (s : LockedData) (worker : ℕ) (event : Event) (answer : Answer) (pass
   keeps : FollowsJournal s → worker < s.machine.config.nodes → due_at s.driver s.machine worker (next_pick s.seed s.journal worker) ≡ Some event →
       answer ≡ (next_of s.machine event).answer →
       IsFirstOf passes machine_next.state.released → length s.journal < s.budget →
-      FollowsJournal (after_turn s worker event answer machine_next driver_next passes)
+      FollowsJournal (after_turn s worker event answer machine_next driver_next passes frees)
   keeps kept there due said first left =
       let grown = length-append s.journal (entry_of worker event ∷ []) in
       let answered : answer ≡ step_at (state_of b s.journal) = said ∙ ap step_at kept.state in record {
@@ -71,11 +71,12 @@ module _ (s : LockedData) (worker : ℕ) (event : Event) (answer : Answer) (pass
             ∙ ap (λ (x : Numbers). due_of b.rules b.image b.config s.machine.state x worker (next_pick s.seed s.journal worker))
             (sym kept.numbers)
             ∙ due);
-        fit =
-            λ ruled. All-push (λ (e : JournalEntry). event_fits s.machine.config.nodes e.event ≡ true) s.journal (entry_of worker event)
-            (kept.fit ruled)
+        workers =
+            All-push (λ (e : JournalEntry). e.worker < s.machine.config.nodes) s.journal (entry_of worker event) kept.workers there;
+        fit = λ ruled. subst (AllFit s.machine.config.nodes) (sym (events_of-snoc s.journal (entry_of worker event)))
+            (all_fit-push s.machine.config.nodes (events_of s.journal) event (kept.fit ruled)
             (due-fits s.driver.rules s.machine.image s.machine.config s.machine.state s.driver.numbers worker
-            (next_pick s.seed s.journal worker) event ruled there due);
+            (next_pick s.seed s.journal worker) event ruled there due));
         applied = omega (arith, grown, kept.applied);
         few = omega (arith, grown, left);
         passed = first;
@@ -84,16 +85,16 @@ module _ (s : LockedData) (worker : ℕ) (event : Event) (answer : Answer) (pass
   pub kept-next : (machine : MachineData) (driver : DriverData) (spent : Bool) → FollowsJournal s → worker < s.machine.config.nodes →
       Did s.driver s.machine worker (next_pick s.seed s.journal worker) spent event answer driver machine →
       IsFirstOf passes machine.state.released →
-      length s.journal < s.budget → FollowsJournal (after_turn s worker event answer machine driver passes)
+      length s.journal < s.budget → FollowsJournal (after_turn s worker event answer machine driver passes frees)
   kept-next machine driver spent kept there did first left =
       let here = keeps kept there did.due did.applied.answer
       (subst (λ (m : MachineData). IsFirstOf passes m.state.released) did.applied.left first) left in
-      subst (λ (m : MachineData). FollowsJournal (after_turn s worker event answer m driver passes)) (sym did.applied.left)
-      (subst (λ (d : DriverData). FollowsJournal (after_turn s worker event answer machine_next d passes)) (sym did.counted) here)
+      subst (λ (m : MachineData). FollowsJournal (after_turn s worker event answer m driver passes frees)) (sym did.applied.left)
+      (subst (λ (d : DriverData). FollowsJournal (after_turn s worker event answer machine_next d passes frees)) (sym did.counted) here)
 
   pub room-next : (machine : MachineData) (driver : DriverData) (spent : Bool) → HasRoomForRest s → length s.journal < s.budget →
       Did s.driver s.machine worker (next_pick s.seed s.journal worker) spent event answer driver machine →
-      HasRoomForRest (after_turn s worker event answer machine driver passes)
+      HasRoomForRest (after_turn s worker event answer machine driver passes frees)
   room-next machine driver spent room more did =
       let grown = length-append s.journal (entry_of worker event ∷ []) in
       let spare : machine.spare ≡ s.machine.spare - 1 = ap (λ (m : MachineData). m.spare) did.applied.left in
@@ -115,11 +116,11 @@ passed-next m after event answer passes applied first =
 
 -- the same, where the new lists are known by what they are
 module _ (s : LockedData) (worker : ℕ) (event : Event) (answer : Answer) (machine : MachineData) (driver : DriverData) (pick : ℕ)
-    (spent : Bool) (passes : List ℕ) (journal : List JournalEntry) (answers : List Answer)
+    (spent : Bool) (passes : List ℕ) (frees : ℕ) (journal : List JournalEntry) (answers : List Answer)
     (longer : journal ≡ s.journal ++ entry_of worker event ∷ []) (more : answers ≡ s.answers ++ answer ∷ [])
     (picked : pick ≡ next_pick s.seed s.journal worker) (did : Did s.driver s.machine worker pick spent event answer driver machine) where
   abbrev turned : LockedData
-  turned = record s { machine = machine; driver = driver; journal = journal; answers = answers; passed = passes }
+  turned = record s { machine = machine; driver = driver; journal = journal; answers = answers; passed = passes; free = frees }
 
   by_pick : Did s.driver s.machine worker (next_pick s.seed s.journal worker) spent event answer driver machine
   by_pick = subst (λ (p : ℕ). Did s.driver s.machine worker p spent event answer driver machine) picked did
@@ -129,13 +130,13 @@ module _ (s : LockedData) (worker : ℕ) (event : Event) (answer : Answer) (mach
   turn-keeps kept there first left =
       subst (λ (l : List JournalEntry). FollowsJournal (record turned { journal = l })) (sym longer)
       (subst (λ (l : List Answer). FollowsJournal (record turned { journal = s.journal ++ entry_of worker event ∷ []; answers = l })) (sym more)
-      (kept-next s worker event answer passes machine driver spent kept there by_pick first left))
+      (kept-next s worker event answer passes frees machine driver spent kept there by_pick first left))
 
   pub turn-room : HasRoomForRest s → length s.journal < s.budget → HasRoomForRest turned
   turn-room room left =
       subst (λ (l : List JournalEntry). HasRoomForRest (record turned { journal = l })) (sym longer)
       (subst (λ (l : List Answer). HasRoomForRest (record turned { journal = s.journal ++ entry_of worker event ∷ []; answers = l })) (sym more)
-      (room-next s worker event answer passes machine driver spent room left by_pick))
+      (room-next s worker event answer passes frees machine driver spent room left by_pick))
 
   pub turn-lengths : length s.answers ≡ length s.journal → length answers ≡ length journal
   turn-lengths same =

@@ -1,8 +1,6 @@
 -- What the lock keeps at the run's start.
-use Rattle.std.proofs.Common.{◌≡◌, ℕ, List, [], length, refl, ap, arith}
+use Rattle.std.proofs.Common.{◌≡◌, ℕ, ◌<◌, List, [], length, refl, ap, arith}
 use Rattle.std.proofs.lemmas.List.Elements.{All-nil}
-use Rattle.std.specs.Prelude.{true}
-use Rattle.sn_base.specs.Events.{event_fits}
 use Rattle.sn_base.specs.declared.event.Answer.{Answer}
 use Rattle.due_events.specs.Numbers.{Numbers}
 use Rattle.run_journals.specs.declared.entry.JournalEntry.{JournalEntry}
@@ -11,21 +9,22 @@ use Rattle.shared_machine.specs.declared.drawing.Drawing.{Drawing}
 use Rattle.shared_machine.specs.Shared.{SharedData, LockedData, locked}
 use Rattle.shared_machine.specs.Kept.{FollowsJournal, HasRoomForRest, CanBegin}
 
-module _ (s : SharedData) (drawings : List Drawing) (ready : CanBegin s drawings) where
-  pub kept-first : FollowsJournal (locked s)
+module _ (s : SharedData) (drawings : List Drawing) (free : ℕ) (ready : CanBegin s drawings) where
+  pub kept-first : FollowsJournal (locked free s)
   unfolding IsDue state_of answers_of numbers_of draws_of
   kept-first = record {
     state = ready.state;
     answers = refl;
     numbers = ready.numbers;
     due = refl;
-    fit = λ ruled. All-nil (λ (e : JournalEntry). event_fits s.machine.config.nodes e.event ≡ true);
+    workers = All-nil (λ (e : JournalEntry). e.worker < s.machine.config.nodes);
+    fit = λ ruled. tt;
     applied = ready.applied;
     few = omega arith;
     passed = record { rest = s.machine.state.released; whole = refl };
   }
 
-  pub room-first : HasRoomForRest (locked s)
+  pub room-first : HasRoomForRest (locked free s)
   room-first =
       let done : s.driver.numbers.done ≡ 0 = ap (λ (x : Numbers). x.done) ready.numbers in
       record { nodes = ready.nodes; budget = ready.budget; spare = omega (arith, ready.spare); done = omega (arith, done) }
@@ -33,7 +32,7 @@ module _ (s : SharedData) (drawings : List Drawing) (ready : CanBegin s drawings
   -- the same, where the lists are known to be empty
   module _ (journal : List JournalEntry) (answers : List Answer) (passes : List ℕ) where
     abbrev begun : LockedData
-    begun = record (locked s) { journal = journal; answers = answers; passed = passes }
+    begun = record (locked free s) { journal = journal; answers = answers; passed = passes }
 
     pub kept-start : journal ≡ [] → answers ≡ [] → passes ≡ [] → FollowsJournal begun
     kept-start no_entry no_answer no_byte = rw (no_entry, no_answer, no_byte) kept-first

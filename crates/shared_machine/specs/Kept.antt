@@ -1,25 +1,27 @@
 -- What the lock keeps.
-use Rattle.std.specs.Prelude.{◌≡◌, ◌+◌, ◌≤◌, true, List, [], length}
+use Rattle.std.specs.Prelude.{◌≡◌, ◌+◌, ◌<◌, ◌≤◌, List, [], length}
 use Rattle.std.specs.List.{All}
-use Rattle.sn_base.specs.Events.{event_fits}
 use Rattle.sn_base.specs.Rules.{AreRules}
 use Rattle.sn_model.specs.Machine.{start_of}
+use Rattle.consistent_cuts.specs.Runs.{AllFit}
 use Rattle.due_events.specs.Numbers.{first_numbers}
-use Rattle.run_journals.specs.Journal.{IsDue, state_of, answers_of, numbers_of}
+use Rattle.run_journals.specs.Journal.{IsDue, events_of, state_of, answers_of, numbers_of}
 use Rattle.sn_console.specs.Handed.{IsFirstOf}
 use Rattle.shared_machine.specs.declared.drawing.Drawing.{Drawing}
 use Rattle.shared_machine.specs.Drawn.{AreDrawn}
 use Rattle.shared_machine.specs.Shared.{SharedData, LockedData, began_with}
 
 -- the journal, folded from the run's start, gives the machine, the answers and the driver's numbers; each of its events was due
--- for its worker with that worker's next pick, and fits the machine, where the rules are ones for its nodes; no other event
--- was applied, and there are no more than the budget; what was passed on to the console is the first of what is released
+-- for its worker, which is a node's, with that worker's next pick, and fits the machine, where the rules are ones for its nodes;
+-- no other event was applied, and there are no more than the budget; what was passed on to the console is the first of what is
+-- released
 pub record FollowsJournal (s : LockedData) : Type 0 where
   pub state : s.machine.state ≡ state_of (began_with s) s.journal
   pub answers : s.answers ≡ answers_of (began_with s) s.journal
   pub numbers : s.driver.numbers ≡ numbers_of (began_with s) s.journal
   pub due : IsDue (began_with s) s.journal
-  pub fit : AreRules s.driver.rules s.machine.config.nodes → All (λ e. event_fits s.machine.config.nodes e.event ≡ true) s.journal
+  pub workers : All (λ e. e.worker < s.machine.config.nodes) s.journal
+  pub fit : AreRules s.driver.rules s.machine.config.nodes → AllFit s.machine.config.nodes (events_of s.journal)
   pub applied : s.machine.applied ≡ length s.journal
   pub few : length s.journal ≤ s.budget
   pub passed : IsFirstOf s.passed s.machine.state.released

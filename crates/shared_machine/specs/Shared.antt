@@ -1,5 +1,5 @@
 -- The machine that workers share, as a value: before its run and during it.
-use Rattle.std.specs.Prelude.{◌≡◌, ℕ, Bool, false, nat_le, if◌then◌else◌, List, [], ◌∷◌, ◌++◌, length, Option, Some, None}
+use Rattle.std.specs.Prelude.{◌≡◌, ℕ, ◌+◌, ◌≤◌, min, Bool, false, nat_le, if◌then◌else◌, List, [], ◌∷◌, ◌++◌, length, Option, Some, None}
 use Rattle.sn_base.specs.declared.event.Event.{Event}
 use Rattle.sn_base.specs.declared.event.Answer.{Answer}
 use Rattle.sn_base.specs.declared.event.Answer.TheVariants.{Validated}
@@ -25,7 +25,7 @@ abbrev pub begins_with : SharedData → Began
 begins_with s = record { image = s.machine.image; config = s.machine.config; rules = s.driver.rules; seed = s.seed; budget = s.budget }
 
 -- the same during the run: the journal so far and what each of its events was answered, the bytes that were passed on to the
--- console, and whether a stop stands
+-- console, for how many more its ring is known to have room, and whether a stop stands
 pub record LockedData : Type 0 where
   pub machine : MachineData
   pub driver : DriverData
@@ -34,14 +34,15 @@ pub record LockedData : Type 0 where
   pub journal : List JournalEntry
   pub answers : List Answer
   pub passed : List ℕ
+  pub free : ℕ
   pub stopped : Bool
 
 abbrev pub began_with : LockedData → Began
 began_with s = record { image = s.machine.image; config = s.machine.config; rules = s.driver.rules; seed = s.seed; budget = s.budget }
 
--- the run's start
-abbrev pub locked : SharedData → LockedData
-locked s =
+-- the run's start, with a ring that is known to have so much room
+abbrev pub locked : ℕ → SharedData → LockedData
+locked free s =
     record {
       machine = s.machine;
       driver = s.driver;
@@ -50,6 +51,7 @@ locked s =
       journal = [];
       answers = [];
       passed = [];
+      free = free;
       stopped = false;
     }
 
@@ -75,23 +77,30 @@ pub record Did (driver : DriverData) (m : MachineData) (worker pick : ℕ) (spen
   pub counted : went ≡ record driver { numbers = numbers_after driver.numbers event answer }
   pub later : IsLater driver m went after
 
--- released bytes go to the console where something is validated. How many, the ring decides, which a turn doesn't see, so here it may be
--- none: `Outbox::offer` says that they are all that the ring is known to have room for
+-- of what is released, the next bytes are passed on: all of them, or at least as many as the ring was known to have room for; and room
+-- that is known is lost only to them
+pub record PassesOn (released passed : List ℕ) (free : ℕ) (passes : List ℕ) (frees : ℕ) : Type 0 where
+  pub next : IsFirstOf passed passes
+  pub first : IsFirstOf passes released
+  pub least : min (length released) (length passed + free) ≤ length passes
+  pub known : length passed + free ≤ length passes + frees
 
-abbrev pub Passes : Answer → List ℕ → List ℕ → Type 0
-Passes (Validated k) passed passes = IsFirstOf passed passes
-Passes _ passed passes = passes ≡ passed
+-- so it is where something is validated; no other answer touches the ring
+abbrev pub Passes : Answer → List ℕ → List ℕ → ℕ → List ℕ → ℕ → Type 0
+Passes (Validated k) released passed free passes frees = PassesOn released passed free passes frees
+Passes _ released passed free passes frees = (passes ≡ passed) × (frees ≡ free)
 
 -- a turn: the event that was due for the worker with its next pick was applied and counted, and stands in the journal as the
 -- last
 pub record IsTurn (s : LockedData) (worker : ℕ) (event : Event) (answer : Answer) (t : LockedData) : Type 0 where
   pub due : due_at s.driver s.machine worker (next_pick s.seed s.journal worker) ≡ Some event
   pub applied : IsApplied s.machine t.machine event answer
-  pub passes : Passes answer s.passed t.passed
+  pub passes : Passes answer t.machine.state.released s.passed s.free t.passed t.free
   pub left : t ≡ record s {
     machine = t.machine;
     driver = record s.driver { numbers = numbers_after s.driver.numbers event answer };
     journal = s.journal ++ entry_of worker event ∷ [];
     answers = s.answers ++ answer ∷ [];
     passed = t.passed;
+    free = t.free;
   }

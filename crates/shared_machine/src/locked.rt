@@ -1,7 +1,7 @@
 //! The value behind the lock.
 ghost use Rattle.std.specs.Prelude.{◌≡◌, ◌+◌, ◌<◌, ◌≤◌, true, false, nat_le, Some, None, [], ◌∷◌, ◌++◌, IfOk, IfErr, MatchResult, length};
 ghost use Rattle.std.specs.Prelude.{vec_len, vec_capacity};
-ghost use Rattle.sn_console.specs.Ends.{passed, SameOutbox};
+ghost use Rattle.sn_console.specs.Ends.{passed, free_places, SameOutbox};
 ghost use Rattle.sn_console.specs.Handed.{IsFirstOf};
 ghost use Rattle.run_journals.specs.Journal.{entry_of};
 ghost use Rattle.shared_machine.specs.Shared.{began_with, finish_of, IsTurn, Passes, refusal_of, Did};
@@ -19,7 +19,7 @@ use std::marker::Model;
 use std::sync::ledger::{Book, Share};
 
 /// A machine during its run. Contracts see it with its driver, seed and budget, the journal and the answers so far, what was
-/// passed on to the console, and whether a stop stands.
+/// passed on to the console and for how much more that has room, and whether a stop stands.
 #[derive(Drop)]
 pub struct Locked<L: RunName> {
     pub(crate) machine: Machine,
@@ -36,7 +36,7 @@ pub struct Locked<L: RunName> {
 
 impl<L: RunName> Model for Locked<L> {
     ghost use Rattle.std.specs.Prelude.{◌≡◌, ◌≤◌, length, vec_capacity};
-    ghost use Rattle.sn_console.specs.Ends.{passed};
+    ghost use Rattle.sn_console.specs.Ends.{passed, free_places};
     ghost use Rattle.shared_machine.specs.Shared.{LockedData, began_with};
     ghost use Rattle.shared_machine.specs.Kept.{FollowsJournal, HasRoomForRest};
     ghost use Rattle.shared_machine.specs.Drawn.{AreDrawn};
@@ -51,6 +51,7 @@ impl<L: RunName> Model for Locked<L> {
       journal = l.journal.items;
       answers = l.answers.items;
       passed = passed l.outbox;
+      free = free_places l.outbox;
       stopped = l.stopped;
     } };
 
@@ -63,6 +64,7 @@ impl<L: RunName> Model for Locked<L> {
           journal = l.journal.items;
           answers = l.answers.items;
           passed = passed l.outbox;
+          free = free_places l.outbox;
           stopped = l.stopped;
         } in
         FollowsJournal s × HasRoomForRest s × (l.budget ≤ vec_capacity l.journal) × (l.budget ≤ vec_capacity l.answers)
@@ -139,7 +141,8 @@ fn note(
 fn pass(outbox: &mut Outbox, machine: &Machine, answer: &Answer)
     requires { IsFirstOf (passed outbox.old) machine.now.state.released }
     ensures end { SameOutbox outbox.old outbox.new }
-    ensures passes { Passes answer.now (passed outbox.old) (passed outbox.new) }
+    ensures passes { Passes answer.now machine.now.state.released (passed outbox.old) (free_places outbox.old) (passed outbox.new)
+        (free_places outbox.new) }
     ensures first { IsFirstOf (passed outbox.new) machine.now.state.released }
 {
     if let Answer::Validated(_) = answer {

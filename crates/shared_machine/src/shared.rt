@@ -1,8 +1,8 @@
 //! The machine before its run.
-ghost use Rattle.std.specs.Prelude.{◌≡◌, ◌+◌, ◌≤◌, [], max, vec_len, IfOk};
+ghost use Rattle.std.specs.Prelude.{◌≡◌, ◌+◌, ◌≤◌, [], max, vec_len, vec_capacity, IfOk, OnOk};
 ghost use Rattle.sn_model.specs.Machine.{start_of};
 ghost use Rattle.due_events.specs.Numbers.{first_numbers};
-ghost use Rattle.sn_console.specs.Ends.{passed};
+ghost use Rattle.sn_console.specs.Ends.{passed, free_places};
 ghost use Rattle.shared_machine.specs.Drawn.{AreDrawn};
 ghost use Rattle.shared_machine.specs.Shared.{begins_with, locked};
 
@@ -56,6 +56,36 @@ fn drawings(alloc: Global, seed: u64, workers: u8) -> Result<Vec<Drawing>, Memor
     Ok(drawings)
 }
 
+/// What a run fills: the workers' generators, and a journal and its answers without a turn.
+#[derive(Drop)]
+struct Room {
+    drawings: Vec<Drawing>,
+    journal: Vec<JournalEntry>,
+    answers: Vec<Answer>,
+}
+
+/// All memory of a run of so many events.
+fn room_for(alloc: Global, machine: &mut Machine, budget: u32, seed: u64) -> Result<Room, Memory>
+    requires fresh { machine.old.applied ≡ 0 }
+    requires budget { budget ≤ 1000000 }
+    ensures machine { OnOk result (machine.new ≡ record machine.old { spare = max machine.old.spare (budget + 1) }) }
+    ensures drawings { IfOk result
+        (λ room. AreDrawn seed [] room.drawings.items × (vec_len room.drawings ≡ machine.old.config.nodes)) }
+    ensures journal { IfOk result (λ room. (room.journal.items ≡ []) × (budget ≤ vec_capacity room.journal)) }
+    ensures answers { IfOk result (λ room. (room.answers.items ≡ []) × (budget ≤ vec_capacity room.answers)) }
+{
+    // One event more than the run does, so that a driver may always be asked for one.
+    machine.reserve(budget + 1)?;
+    let drawings = drawings(alloc, seed, machine.config().nodes)?;
+    let journal = Vec::with_capacity(alloc, budget as usize)?;
+    let answers = Vec::with_capacity(alloc, budget as usize)?;
+    Ok(Room {
+        drawings,
+        journal,
+        answers,
+    })
+}
+
 impl SharedMachine {
     /// All memory of the run is taken here.
     pub fn new(
@@ -77,11 +107,14 @@ impl SharedMachine {
         }) }
     {
         let mut machine = machine;
-        // One event more than the run does, so that a driver may always be asked for one.
-        machine.reserve(budget + 1)?;
-        let drawings = drawings(alloc, seed, machine.config().nodes)?;
-        let journal = Vec::with_capacity(alloc, budget as usize)?;
-        let answers = Vec::with_capacity(alloc, budget as usize)?;
+        let Ok(room) = room_for(alloc, &mut machine, budget, seed) else {
+            return Err(Memory);
+        };
+        let Room {
+            drawings,
+            journal,
+            answers,
+        } = room;
         Ok(SharedMachine {
             machine,
             driver,
@@ -107,7 +140,7 @@ impl SharedMachine {
         requires total { book.total ≡ 0 }
         requires ring { L.of_ring outbox }
         requires passed { passed outbox ≡ [] }
-        ensures { result ≡ locked self }
+        ensures { result ≡ locked (free_places outbox) self }
     {
         let SharedMachine {
             machine,

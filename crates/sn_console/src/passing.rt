@@ -36,6 +36,7 @@ impl Outbox {
         ensures next { IsFirstOf (passed self.old) (passed self.new) }
         ensures first { IsFirstOf (passed self.new) released.now }
         ensures least { min (length released.now) (length (passed self.old) + free_places self.old) ≤ length (passed self.new) }
+        ensures known { length (passed self.old) + free_places self.old ≤ length (passed self.new) + free_places self.new }
     {
         let Outbox { ring, count } = self;
         let (gone, _left) = ring.push_partial_slice(&released[*count..]);

@@ -11,8 +11,8 @@ invariant_of-result g c =
     let ready = c.self.invariant.0 in
     let journal = c.self.invariant.1 in
     let answers = c.self.invariant.2 in (
-      kept-start _ _ ready _ _ _ journal answers c.requires.passed,
-      room-start _ _ ready _ _ _ journal,
+      kept-start _ _ _ ready _ _ _ journal answers c.requires.passed,
+      room-start _ _ _ ready _ _ _ journal,
       c.self.invariant.3,
       c.self.invariant.4,
       ap (λ (l : List Answer). length l) answers ∙ sym (ap (λ (l : List JournalEntry). length l) journal),
