@@ -3,3 +3,4 @@ pub mod Replays
 pub mod Runs
 pub mod Comments
 pub mod ReadBack
+pub mod Ended

@@ -1,10 +1,11 @@
 -- The text of a journal, with a marked summary behind it, is read as the journal's events.
-use Rattle.std.proofs.Common.{◌≡◌, ℕ, suc, ◌+◌, ◌<◌, ◌≤◌, List, [], ◌∷◌, ◌++◌, length, All, refl, ap, sym, subst, ◌∙◌, append_assoc}
+use Rattle.std.proofs.Common.{◌≡◌, ℕ, suc, ◌+◌, ◌<◌, ◌≤◌, List, [], ◌∷◌, ◌++◌, length, refl, ap, sym, subst, ◌∙◌, append_assoc}
 use Rattle.std.proofs.Common.{append-nil, arith}
 use Rattle.std.proofs.lemmas.Bool.Decides.{nat_tests}
 use Rattle.std.specs.Prelude.{true, false, nat_le, Ok, codes}
 use Rattle.sn_base.specs.Events.{event_fits}
 use Rattle.sn_base.specs.declared.event.Event.{Event}
+use Rattle.consistent_cuts.specs.Runs.{AllFit}
 use Rattle.text_lines.specs.Lines.{lines_from}
 use Rattle.sn_text.specs.Items.{most_items, is_skipped, followed, items_from}
 use Rattle.sn_text.specs.Script.{event_of, script_of}
@@ -57,21 +58,20 @@ module _ (nodes : ℕ) (small : nodes ≤ 16) where
       (skips-count nodes (codes "worker") entry.worker refl count (script_line entry.event ++ rest) (entry.event ∷ events)
       (read-event count entry.event rest events fits numbers few h))
 
-  read-journal : (count : ℕ) (journal : List JournalEntry) (summary : List ℕ) → All (λ e. event_fits nodes e.event ≡ true) journal →
+  read-journal : (count : ℕ) (journal : List JournalEntry) (summary : List ℕ) → AllFit nodes (events_of journal) →
       HaveNumbers journal → count + length journal ≤ most_items →
       Skips nodes summary → Reads nodes count (journal_text journal ++ summary) (events_of journal)
   read-journal count [] summary fits numbers few h =
       subst (λ (t : List ℕ). Reads nodes count t []) (append-nil summary) (h count [] [] (read-nothing count))
   read-journal count (entry ∷ entries) summary fits numbers few h =
-      let more_fit : All (λ e. event_fits nodes e.event ≡ true) entries = λ k d l. fits (suc k) d (omega (arith, l)) in
       let more_numbers : HaveNumbers entries = λ k d l. numbers (suc k) d (omega (arith, l)) in
       subst (λ (t : List ℕ). Reads nodes count t (events_of (entry ∷ entries)))
       (sym (append_assoc (entry_lines entry) (journal_text entries) summary))
-      (read-entry count entry (journal_text entries ++ summary) (events_of entries) (fits 0 entry (omega arith))
+      (read-entry count entry (journal_text entries ++ summary) (events_of entries) fits.0.numbers
       (numbers 0 entry (omega arith)) (omega (arith, few))
-      (read-journal (count + 1) entries summary more_fit more_numbers (omega (arith, few)) h))
+      (read-journal (count + 1) entries summary fits.1 more_numbers (omega (arith, few)) h))
 
-  pub journal-read : (journal : List JournalEntry) (summary : List ℕ) → All (λ e. event_fits nodes e.event ≡ true) journal → HaveNumbers journal →
+  pub journal-read : (journal : List JournalEntry) (summary : List ℕ) → AllFit nodes (events_of journal) → HaveNumbers journal →
       length journal ≤ most_items →
       Skips nodes summary → script_of nodes (journal_text journal ++ summary) ≡ Ok (events_of journal)
   journal-read journal summary fits numbers few h = read-journal 0 journal summary fits numbers (omega (arith, few)) h 1
