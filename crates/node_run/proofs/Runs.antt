@@ -1,6 +1,7 @@
 -- What a run has put, by what its workers left.
-use Rattle.std.proofs.Common.{◌≡◌, ℕ, List, [], ◌∷◌, ◌++◌, length, arith, refl, ap, sym, subst, ◌∙◌, inl, inr}
-use Rattle.std.specs.Prelude.{Option, Some, None, codes, option_and_then}
+use Rattle.std.proofs.Common.{◌≡◌, ℕ, List, [], ◌∷◌, ◌++◌, length, All, arith, refl, ap, sym, subst, ◌∙◌, inl, inr}
+use Rattle.std.proofs.lemmas.List.{length-map}
+use Rattle.std.specs.Prelude.{◌≤◌, Option, Some, None, Ok, codes, option_and_then}
 use Rattle.sn_base.specs.Image.{ImageData}
 use Rattle.sn_base.specs.declared.config.Config.{Config}
 use Rattle.sn_base.specs.declared.event.Answer.{Answer}
@@ -9,6 +10,9 @@ use Rattle.sn_model.specs.Machine.{State}
 use Rattle.consistent_cuts.specs.Headline.{IsRun, IsConsistent, retirements}
 use Rattle.consistent_cuts.proofs.Run.{reached_consistent}
 use Rattle.sn_machine.specs.Machine.{MachineData, flat_of}
+use Rattle.sn_text.specs.Items.{most_items}
+use Rattle.sn_text.specs.Trace.{trace_of}
+use Rattle.sn_text.specs.Written.{HasValues}
 use Rattle.sn_probe.specs.Probes.{Meter, tallies_of}
 use Rattle.sn_console.specs.Handed.{IsHandedOn, IsBegun}
 use Rattle.sink_pieces.specs.Pieces.{Piece, Ends, ends, after, Breaks, console_piece, report_text}
@@ -18,7 +22,9 @@ use Rattle.script_replay.specs.Pieces.{trace_pieces, summary_pieces, end_pieces}
 use Rattle.script_replay.specs.Played.{summed_up}
 use Rattle.script_replay.specs.Shown.{IsLawful}
 use Rattle.script_replay.proofs.Lawful.{run-lawful}
+use Rattle.script_replay.proofs.ReadBack.{trace-read}
 use Rattle.script_replay.proofs.Shown.{report_text-trace}
+use Rattle.script_replay.proofs.Summaries.{comments-summary}
 use Rattle.run_journals.specs.declared.entry.JournalEntry.{JournalEntry}
 use Rattle.run_journals.specs.Journal.{Began, events_of, state_of}
 use Rattle.shared_machine.specs.declared.finish.Finish.{Finish}
@@ -32,9 +38,8 @@ use Rattle.node_run.specs.declared.job.RunReport.TheVariants.{Summary, Trace, Jo
 use Rattle.node_run.specs.Endings.{ending_by, flat_after, ending_of}
 use Rattle.node_run.specs.Pieces.{begins, tallies_by, entry_lines, journal_text, journal_pieces, summary_by, report_by}
 use Rattle.node_run.specs.Reported.{report_by_kind, report_now, HaveNumbers, ended_now, IsReported, IsUnreported}
-use Rattle.node_run.specs.Shown.{MayBegin, IsJournal, IsTrace, IsScript}
+use Rattle.node_run.specs.Shown.{MayBegin, IsJournal, IsTrace, IsScript, written_trace}
 use Rattle.node_run.specs.Shown.{IsDone, IsBrokenOff, KnowAll, output_by}
-use Rattle.node_run.proofs.Comments.{skips-summary}
 use Rattle.node_run.proofs.ReadBack.{journal-read}
 use Rattle.node_run.proofs.Replays.{told-replayed, replayed-so}
 
@@ -119,15 +124,25 @@ module _ (r : Run) (began : Began) (m : MachineData) (journal : List JournalEntr
       report-by_kind r.showing.report probes (tallies_of told) (ap (λ (t : List Meter). tallies_of t) (knows-all probes told are))
 
   -- as a trace, and as a script
-  is-trace : (probes : List Meter) (before behind : Option (List ℕ)) → r.showing.report ≡ Trace →
+  trace-is_read : (probes : List Meter) → All HasValues (state_of (begins r) journal).committed →
+      trace_of r.config.nodes (written_trace r probes journal) ≡ Ok (state_of (begins r) journal).committed
+  unfolding state_of
+  trace-is_read probes values =
+      trace-read r.program r.config (events_of journal) its-run few values r.showing.watch (tallies_by r probes journal) (length journal) _
+    where
+      few : length (events_of journal) ≤ most_items
+      few = omega (arith, length-map journal (λ (e : JournalEntry). e.event), by_run.few, may.few)
+
+  is-trace : (probes : List Meter) (before behind : Option (List ℕ)) → All HasValues m.state.committed → r.showing.report ≡ Trace →
       behind ≡ followed_by before (report_text (report_by r.showing.report r probes journal)) → IsTrace r probes journal before behind
-  is-trace probes before behind kind put = record {
+  is-trace probes before behind values kind put = record {
     execution = consistent.execution;
     written = put ∙ ap (λ (k : RunReport). followed_by before (report_text (report_by k r probes journal))) kind
         ∙ ap (followed_by before)
         (report_text-append (trace_pieces (state_of (begins r) journal).committed) (summary_by (codes "# ") r probes journal)
         ∙ ap (λ t. t ++ report_text (summary_by (codes "# ") r probes journal))
         (report_text-trace (state_of (begins r) journal).committed));
+    read = trace-is_read probes (subst (λ (s : State). All HasValues s.committed) by_run.state values);
   }
 
   is-script : (probes : List Meter) (before behind : Option (List ℕ)) → HaveNumbers journal → r.showing.report ≡ Journal →
@@ -139,7 +154,7 @@ module _ (r : Run) (began : Began) (m : MachineData) (journal : List JournalEntr
     read =
         journal-read r.config.nodes may.ruled.few journal (report_text (summary_by (codes "# ") r probes journal))
         (by_run.fit may.ruled) numbers (omega (arith, by_run.few, may.few))
-        (skips-summary r.config.nodes r.program r.config r.showing.watch (tallies_by r probes journal) (length journal)
+        (comments-summary r.program r.config r.showing.watch (tallies_by r probes journal) (length journal)
         (state_of (begins r) journal));
   }
 
@@ -166,10 +181,10 @@ module _ (r : Run) (began : Began) (m : MachineData) (journal : List JournalEntr
         after-console_piece console written report (state_of (begins r) journal).released
         (all-released ∙ ap (λ (s : State). followed_by console s.released) by_run.state)
 
-    run-done : (r.showing.report ≡ Journal → HaveNumbers journal) →
+    run-done : (r.showing.report ≡ Journal → HaveNumbers journal) → (r.showing.report ≡ Trace → All HasValues m.state.committed) →
         ((c : Option (List ℕ)) → ends c shown ≡ after (ends c report) (report_now m journal r.showing (tallies_of told))) →
         IsDone r probes ending (ends console report) (ends written shown) told
-    run-done numbers put =
+    run-done numbers values put =
         let whole : ends written shown ≡ after (ends written report) (report_by r.showing.report r probes journal) = put written
         ∙ ap (after (ends written report)) (report-is probes told are) in
         let text : shown ≡ followed_by report (report_text (report_by r.showing.report r probes journal)) = report-after
@@ -184,7 +199,7 @@ module _ (r : Run) (began : Began) (m : MachineData) (journal : List JournalEntr
             shown = record {
               lawful = lawful;
               output = output-is;
-              traced = λ kind. is-trace probes report shown kind text;
+              traced = λ kind. is-trace probes report shown (values kind) kind text;
               journaled = λ kind. is-script probes report shown (numbers kind) kind text;
               replayed = replayed-so r probes journal consistent.output;
             };
@@ -247,7 +262,7 @@ module _ (r : Run) (began : Began) (m : MachineData) (journal : List JournalEntr
 
     pub run-reported : (ending : Ending) → IsReported m journal found r.showing (tallies_of told) ending report shown →
         IsDone r probes ending (ends console report) (ends written shown) told
-    run-reported ending h = run-done found ending was is console written report shown probes told h.ended so are h.numbers h.put
+    run-reported ending h = run-done found ending was is console written report shown probes told h.ended so are h.numbers h.values h.put
 
     pub run-unreported : IsUnreported m journal found r.showing (tallies_of told) report shown →
         IsBrokenOff r probes (ends console report) (ends written shown) told

@@ -1,7 +1,7 @@
 -- The report of a run, by the machine that it left.
 use Rattle.std.specs.Prelude.{◌≡◌, ◌⊎◌, ℕ, List, [], ◌++◌, codes, Option, Some, None}
 use Rattle.std.specs.List.{All}
-use Rattle.sn_text.specs.Written.{HasNumbers}
+use Rattle.sn_text.specs.Written.{HasNumbers, HasValues}
 use Rattle.sn_machine.specs.Machine.{MachineData, flat_of}
 use Rattle.sink_pieces.specs.Pieces.{Piece, ends, after, Breaks}
 use Rattle.script_replay.specs.declared.job.ReportKind.TheVariants as replayed
@@ -41,6 +41,7 @@ pub record IsReported (m : MachineData) (journal : List JournalEntry) (found : F
   pub ended : ended_now m found ≡ Some ending
   pub put : (c : Option (List ℕ)) → ends c behind ≡ after (ends c before) (report_now m journal showing tallies)
   pub numbers : showing.report ≡ Journal → HaveNumbers journal
+  pub values : showing.report ≡ Trace → All HasValues m.state.committed
 
 -- it came to an end, and its report broke
 pub record BreaksReport (m : MachineData) (journal : List JournalEntry) (found : Finish) (showing : RunShowing) (tallies : List (List ℕ)) (before behind : Option (List ℕ)) : Type 0 where

@@ -7,6 +7,7 @@ use Rattle.sn_base.specs.Rules.{AreRules}
 use Rattle.consistent_cuts.specs.Runs.{AllFit}
 use Rattle.sn_io.specs.Outside.{followed_by}
 use Rattle.sn_text.specs.Script.{script_of}
+use Rattle.sn_text.specs.Trace.{trace_of}
 use Rattle.sn_text.specs.Written.{trace_text}
 use Rattle.sn_probe.specs.Probes.{Meter}
 use Rattle.sink_pieces.specs.Pieces.{Ends, after, Breaks, console_text, report_text, HasBeginning}
@@ -41,11 +42,16 @@ pub record IsJournal (r : Run) (journal : List JournalEntry) : Type 0 where
 abbrev pub output_by : Run → List JournalEntry → List ℕ
 output_by r journal = out_of r.program r.config.nodes (state_of (begins r) journal).committed
 
--- the report is a trace: the records of an execution of the program, and then the summary, marked as comments
+-- the committed trace, and then the summary, marked as comments
+abbrev pub written_trace : Run → List Meter → List JournalEntry → List ℕ
+written_trace r probes journal =
+    trace_text (state_of (begins r) journal).committed ++ report_text (summary_by (codes "# ") r probes journal)
+
+-- the report is this text, which is read as the records of an execution of the program
 pub record IsTrace (r : Run) (probes : List Meter) (journal : List JournalEntry) (before behind : Option (List ℕ)) : Type 0 where
   pub execution : IsExecution r.program r.config.nodes (state_of (begins r) journal).committed
-  pub written : behind ≡ followed_by before
-      (trace_text (state_of (begins r) journal).committed ++ report_text (summary_by (codes "# ") r probes journal))
+  pub written : behind ≡ followed_by before (written_trace r probes journal)
+  pub read : trace_of r.config.nodes (written_trace r probes journal) ≡ Ok (state_of (begins r) journal).committed
 
 -- a journal, and then the summary, marked as comments
 abbrev pub written_script : Run → List Meter → List JournalEntry → List ℕ

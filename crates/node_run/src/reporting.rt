@@ -1,7 +1,7 @@
 //! What the report has of a run.
-ghost use Rattle.std.specs.Prelude.{◌≡◌, ◌⊎◌, ℕ, List, ◌≤◌, Option, None, IfSome, IsNone, OnOk, OnErr};
+ghost use Rattle.std.specs.Prelude.{◌≡◌, ◌⊎◌, ℕ, List, ◌≤◌, Option, None, IfSome, IsNone, OnOk, OnErr, All};
 ghost use Rattle.sn_io.specs.Outside.{Rose};
-ghost use Rattle.sn_text.specs.Written.{HasNumbers};
+ghost use Rattle.sn_text.specs.Written.{HasNumbers, HasValues};
 ghost use Rattle.sn_probe.specs.Probes.{meters_in, tallies_of};
 ghost use Rattle.sink_pieces.specs.Pieces.{ends, after, Breaks};
 ghost use Rattle.script_replay.specs.Played.{IsWatchable};
@@ -90,6 +90,7 @@ fn put_run<R: Sink>(
         Breaks (report_now machine.now journal.now showing.now (tallies_of (meters_in first tally step probes.now.probes.items)))
         (ends c (R.written report.old)) (ends c (R.written report.new))) }
     ensures numbers { OnOk result (showing.now.report ≡ RunReport.Journal → HaveNumbers journal.now) }
+    ensures values { OnOk result (showing.now.report ≡ RunReport.Trace → All HasValues machine.now.state.committed) }
     ensures later { R.faults report.old ≤ R.faults report.new }
     ensures cause { OnErr result (Rose (R.faults report.old) (R.faults report.new)) }
 {
