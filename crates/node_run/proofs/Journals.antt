@@ -1,10 +1,11 @@
 -- Laws of the pieces of a journal.
-use Rattle.std.proofs.Common.{◌≡◌, ℕ, ◌+◌, ◌<◌, List, [], ◌∷◌, ◌++◌, take, drop, length, get_or, All, ap, sym, subst, ◌∙◌, arith}
+use Rattle.std.proofs.Common.{◌≡◌, ℕ, ◌+◌, ◌<◌, List, [], ◌∷◌, take, drop, length, get_or, All, refl, ap, sym, subst, ◌∙◌, arith}
 use Rattle.std.proofs.lemmas.List.{drop_more, drop_all, take_more, take_all}
 use Rattle.std.proofs.lemmas.List.Elements.{All-nil, All-push}
 use Rattle.std.specs.Prelude.{Option, Result, Ok, Err, OnOk, OnErr, codes}
 use Rattle.sn_io.specs.declared.outside.Failed.{Failed}
-use Rattle.sn_text.specs.Written.{HasNumbers}
+use Rattle.rv_core.specs.declared.step.Record.{Record}
+use Rattle.sn_text.specs.Written.{HasNumbers, HasValues}
 use Rattle.sn_machine.specs.Machine.{MachineData}
 use Rattle.sink_pieces.specs.Pieces.{Piece, Report, Ends, ends, after, Breaks}
 use Rattle.sink_pieces.proofs.PieceLaws.{after-append, after-nil, Breaks-more, Breaks-after}
@@ -120,6 +121,12 @@ no-summary e = cc
 no-trace : Trace ≡ Journal → ⊥
 no-trace e = cc
 
+no-summary_traced : Summary ≡ Trace → ⊥
+no-summary_traced e = cc
+
+no-journal_traced : Journal ≡ Trace → ⊥
+no-journal_traced e = cc
+
 module _ (journal : List JournalEntry) (showing : RunShowing) (r : Result (Unit {0}) Failed) where
   abbrev IfAsked : Type 0
   IfAsked = showing.report ≡ Journal → HaveNumbers journal
@@ -132,3 +139,17 @@ module _ (journal : List JournalEntry) (showing : RunShowing) (r : Result (Unit 
 
   pub script-numbers : OnOk r (HaveNumbers journal) → OnOk r IfAsked
   script-numbers h = on-ok r (HaveNumbers journal) IfAsked (λ all kind. all) h
+
+-- and the values of a trace that was
+module _ (records : List Record) (showing : RunShowing) (r : Result (Unit {0}) Failed) where
+  abbrev IfTraced : Type 0
+  IfTraced = showing.report ≡ Trace → All HasValues records
+
+  pub summary-values : showing.report ≡ Summary → OnOk r IfTraced
+  summary-values is = always r IfTraced (λ kind. absurd (no-summary_traced (sym is ∙ kind)))
+
+  pub trace-values : OnOk r (replayed.Trace ≡ replayed.Trace → All HasValues records) → OnOk r IfTraced
+  trace-values h = on-ok r (replayed.Trace ≡ replayed.Trace → All HasValues records) IfTraced (λ all kind. all refl) h
+
+  pub script-values : showing.report ≡ Journal → OnOk r IfTraced
+  script-values is = always r IfTraced (λ kind. absurd (no-journal_traced (sym is ∙ kind)))

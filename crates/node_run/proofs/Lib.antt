@@ -1,5 +1,5 @@
 pub mod Journals
 pub mod Replays
 pub mod Runs
-pub mod Comments
 pub mod ReadBack
+pub mod Ended

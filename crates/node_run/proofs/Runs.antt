@@ -1,14 +1,18 @@
 -- What a run has put, by what its workers left.
-use Rattle.std.proofs.Common.{◌≡◌, ℕ, ◌≤◌, List, [], ◌∷◌, ◌++◌, length, arith, refl, ap, sym, subst, ◌∙◌, append_assoc, inl, inr}
-use Rattle.std.specs.Prelude.{Option, Some, None, codes, option_and_then}
+use Rattle.std.proofs.Common.{◌≡◌, ℕ, List, [], ◌∷◌, ◌++◌, length, All, arith, refl, ap, sym, subst, ◌∙◌, inl, inr}
+use Rattle.std.proofs.lemmas.List.{length-map}
+use Rattle.std.specs.Prelude.{◌≤◌, Option, Some, None, Ok, codes, option_and_then}
 use Rattle.sn_base.specs.Image.{ImageData}
 use Rattle.sn_base.specs.declared.config.Config.{Config}
 use Rattle.sn_base.specs.declared.event.Answer.{Answer}
 use Rattle.sn_io.specs.Outside.{followed_by, Rose}
 use Rattle.sn_model.specs.Machine.{State}
-use Rattle.sn_model.specs.Trace.{TraceEntry}
-use Rattle.consistent_cuts.specs.Headline.{IsConsistent, retirements}
-use Rattle.sn_machine.specs.Machine.{MachineData, IsConsistentWithItsRun, flat_of}
+use Rattle.consistent_cuts.specs.Headline.{IsRun, IsConsistent, retirements}
+use Rattle.consistent_cuts.proofs.Run.{reached_consistent}
+use Rattle.sn_machine.specs.Machine.{MachineData, flat_of}
+use Rattle.sn_text.specs.Items.{most_items}
+use Rattle.sn_text.specs.Trace.{trace_of}
+use Rattle.sn_text.specs.Written.{HasValues}
 use Rattle.sn_probe.specs.Probes.{Meter, tallies_of}
 use Rattle.sn_console.specs.Handed.{IsHandedOn, IsBegun}
 use Rattle.sink_pieces.specs.Pieces.{Piece, Ends, ends, after, Breaks, console_piece, report_text}
@@ -16,9 +20,13 @@ use Rattle.sink_pieces.proofs.PieceLaws.{report_text-append, after-append, after
 use Rattle.sink_pieces.proofs.Begun.{report-after, report-begun}
 use Rattle.script_replay.specs.Pieces.{trace_pieces, summary_pieces, end_pieces}
 use Rattle.script_replay.specs.Played.{summed_up}
+use Rattle.script_replay.specs.Shown.{IsLawful}
+use Rattle.script_replay.proofs.Lawful.{run-lawful}
+use Rattle.script_replay.proofs.ReadBack.{trace-read}
 use Rattle.script_replay.proofs.Shown.{report_text-trace}
+use Rattle.script_replay.proofs.Summaries.{comments-summary}
 use Rattle.run_journals.specs.declared.entry.JournalEntry.{JournalEntry}
-use Rattle.run_journals.specs.Journal.{Began, state_of}
+use Rattle.run_journals.specs.Journal.{Began, events_of, state_of}
 use Rattle.shared_machine.specs.declared.finish.Finish.{Finish}
 use Rattle.shared_machine.specs.declared.finish.Finish.TheVariants as finish
 use Rattle.node_threads.specs.Finishes.{IsRunOf, finish_by, Ends as EndsSo}
@@ -29,10 +37,9 @@ use Rattle.node_run.specs.declared.job.RunReport.{RunReport}
 use Rattle.node_run.specs.declared.job.RunReport.TheVariants.{Summary, Trace, Journal}
 use Rattle.node_run.specs.Endings.{ending_by, flat_after, ending_of}
 use Rattle.node_run.specs.Pieces.{begins, tallies_by, entry_lines, journal_text, journal_pieces, summary_by, report_by}
-use Rattle.node_run.specs.Reported.{report_by_kind, report_now, HaveNumbers}
-use Rattle.node_run.specs.Shown.{MayBegin, IsJournal, IsLawful, IsTrace, IsScript}
+use Rattle.node_run.specs.Reported.{report_by_kind, report_now, HaveNumbers, ended_now, IsReported, IsUnreported}
+use Rattle.node_run.specs.Shown.{MayBegin, IsJournal, IsTrace, IsScript, written_trace}
 use Rattle.node_run.specs.Shown.{IsDone, IsBrokenOff, KnowAll, output_by}
-use Rattle.node_run.proofs.Comments.{skips-summary}
 use Rattle.node_run.proofs.ReadBack.{journal-read}
 use Rattle.node_run.proofs.Replays.{told-replayed, replayed-so}
 
@@ -40,10 +47,6 @@ report_text-journal : (journal : List JournalEntry) → report_text (journal_pie
 unfolding journal_pieces
 report_text-journal [] = refl
 report_text-journal (entry ∷ entries) = ap (λ t. entry_lines entry ++ t) (report_text-journal entries)
-
-none-of : (o : Option Ending) → ((ending : Ending) → o ≡ Some ending → ⊥) → o ≡ None
-none-of None h = refl
-none-of (Some ending) h = absurd (h ending refl)
 
 -- a run is stopped only where it has no end, and else it has the end that its journal says
 stopped-by : (nodes : ℕ) (m : MachineData) (found : Finish) → ending_by nodes (flat_of m) found ≡ None → found ≡ finish.Stopped
@@ -63,24 +66,25 @@ ended-by nodes m began journal (finish.CutOff a b) ending released before after_
 ended-by nodes m began journal finish.Budget ending released before after_ was is e h = h
 ended-by nodes m began journal finish.Stopped ending released before after_ was is e h = absurd cc
 
-module _ (r : Run) (began : Began) (m : MachineData) (journal : List JournalEntry) (answers : List Answer) (same : began ≡ begins r) (left : IsRunOf began m journal answers) (consistent : IsConsistentWithItsRun m) (may : MayBegin r) where
+module _ (r : Run) (began : Began) (m : MachineData) (journal : List JournalEntry) (answers : List Answer) (same : began ≡ begins r) (left : IsRunOf began m journal answers) (may : MayBegin r) where
   by_run : IsRunOf (begins r) m journal answers
   by_run = subst (λ (b : Began). IsRunOf b m journal answers) same left
 
   its-journal : IsJournal r journal
-  its-journal = record { due = by_run.due; fit = by_run.fit may.ruled; few = by_run.few }
+  its-journal = record { due = by_run.due; workers = by_run.workers; fit = by_run.fit may.ruled; few = by_run.few }
 
-  lawful : IsLawful r journal
-  lawful =
-      let trace : List TraceEntry = retirements m.image m.config consistent.events in (
-        trace,
-        subst (λ (s : State). IsConsistent r.program r.config.nodes s trace) by_run.state
-            (subst (λ (c : Config). IsConsistent r.program c.nodes m.state trace) by_run.config
-            (subst (λ (i : ImageData). IsConsistent i m.config.nodes m.state trace) by_run.image (consistent.consistent consistent.events consistent.led))),
-      )
+  its-run : IsRun r.config (events_of journal)
+  its-run = record { fits = may.fits; events_fit = its-journal.fit }
+
+  lawful : IsLawful r.program r.config (events_of journal)
+  lawful = run-lawful r.program r.config (events_of journal) its-run
+
+  consistent : IsConsistent r.program r.config.nodes (state_of (begins r) journal) (retirements r.program r.config (events_of journal))
+  unfolding state_of
+  consistent = reached_consistent r.program r.config (events_of journal) its-run
 
   released-is : m.state.released ≡ output_by r journal
-  released-is = ap (λ (s : State). s.released) by_run.state ∙ lawful.1.output
+  released-is = ap (λ (s : State). s.released) by_run.state ∙ consistent.output
 
   flat-is : flat_of m ≡ flat_after (begins r) journal
   flat-is =
@@ -120,15 +124,25 @@ module _ (r : Run) (began : Began) (m : MachineData) (journal : List JournalEntr
       report-by_kind r.showing.report probes (tallies_of told) (ap (λ (t : List Meter). tallies_of t) (knows-all probes told are))
 
   -- as a trace, and as a script
-  is-trace : (probes : List Meter) (before behind : Option (List ℕ)) → r.showing.report ≡ Trace →
+  trace-is_read : (probes : List Meter) → All HasValues (state_of (begins r) journal).committed →
+      trace_of r.config.nodes (written_trace r probes journal) ≡ Ok (state_of (begins r) journal).committed
+  unfolding state_of
+  trace-is_read probes values =
+      trace-read r.program r.config (events_of journal) its-run few values r.showing.watch (tallies_by r probes journal) (length journal) _
+    where
+      few : length (events_of journal) ≤ most_items
+      few = omega (arith, length-map journal (λ (e : JournalEntry). e.event), by_run.few, may.few)
+
+  is-trace : (probes : List Meter) (before behind : Option (List ℕ)) → All HasValues m.state.committed → r.showing.report ≡ Trace →
       behind ≡ followed_by before (report_text (report_by r.showing.report r probes journal)) → IsTrace r probes journal before behind
-  is-trace probes before behind kind put = record {
-    execution = lawful.1.execution;
+  is-trace probes before behind values kind put = record {
+    execution = consistent.execution;
     written = put ∙ ap (λ (k : RunReport). followed_by before (report_text (report_by k r probes journal))) kind
         ∙ ap (followed_by before)
         (report_text-append (trace_pieces (state_of (begins r) journal).committed) (summary_by (codes "# ") r probes journal)
         ∙ ap (λ t. t ++ report_text (summary_by (codes "# ") r probes journal))
         (report_text-trace (state_of (begins r) journal).committed));
+    read = trace-is_read probes (subst (λ (s : State). All HasValues s.committed) by_run.state values);
   }
 
   is-script : (probes : List Meter) (before behind : Option (List ℕ)) → HaveNumbers journal → r.showing.report ≡ Journal →
@@ -140,7 +154,7 @@ module _ (r : Run) (began : Began) (m : MachineData) (journal : List JournalEntr
     read =
         journal-read r.config.nodes may.ruled.few journal (report_text (summary_by (codes "# ") r probes journal))
         (by_run.fit may.ruled) numbers (omega (arith, by_run.few, may.few))
-        (skips-summary r.config.nodes r.program r.config r.showing.watch (tallies_by r probes journal) (length journal)
+        (comments-summary r.program r.config r.showing.watch (tallies_by r probes journal) (length journal)
         (state_of (begins r) journal));
   }
 
@@ -167,12 +181,11 @@ module _ (r : Run) (began : Began) (m : MachineData) (journal : List JournalEntr
         after-console_piece console written report (state_of (begins r) journal).released
         (all-released ∙ ap (λ (s : State). followed_by console s.released) by_run.state)
 
-    pub run-done : (listed : List JournalEntry) → listed ≡ journal → (r.showing.report ≡ Journal → HaveNumbers listed) →
-        ((c : Option (List ℕ)) → ends c shown ≡ after (ends c report) (report_now m listed r.showing (tallies_of told))) →
+    run-done : (r.showing.report ≡ Journal → HaveNumbers journal) → (r.showing.report ≡ Trace → All HasValues m.state.committed) →
+        ((c : Option (List ℕ)) → ends c shown ≡ after (ends c report) (report_now m journal r.showing (tallies_of told))) →
         IsDone r probes ending (ends console report) (ends written shown) told
-    run-done listed all numbers put =
+    run-done numbers values put =
         let whole : ends written shown ≡ after (ends written report) (report_by r.showing.report r probes journal) = put written
-        ∙ ap (λ (l : List JournalEntry). after (ends written report) (report_now m l r.showing (tallies_of told))) all
         ∙ ap (after (ends written report)) (report-is probes told are) in
         let text : shown ≡ followed_by report (report_text (report_by r.showing.report r probes journal)) = report-after
         (ends written report) (ends written shown) (report_by r.showing.report r probes journal) whole in (
@@ -186,21 +199,19 @@ module _ (r : Run) (began : Began) (m : MachineData) (journal : List JournalEntr
             shown = record {
               lawful = lawful;
               output = output-is;
-              traced = λ kind. is-trace probes report shown kind text;
-              journaled = λ kind. is-script probes report shown (subst (λ (l : List JournalEntry). HaveNumbers l) all (numbers kind)) kind text;
-              replayed = replayed-so r probes journal lawful.1.output;
+              traced = λ kind. is-trace probes report shown (values kind) kind text;
+              journaled = λ kind. is-script probes report shown (numbers kind) kind text;
+              replayed = replayed-so r probes journal consistent.output;
             };
           },
           knows-all probes told are,
         )
 
-    pub run-cut_short : (listed : List JournalEntry) → listed ≡ journal →
-        ((c : Option (List ℕ)) → Breaks (report_now m listed r.showing (tallies_of told)) (ends c report) (ends c shown)) →
+    run-cut_short : ((c : Option (List ℕ)) → Breaks (report_now m journal r.showing (tallies_of told)) (ends c report) (ends c shown)) →
         IsBrokenOff r probes (ends console report) (ends written shown) told
-    run-cut_short listed all put =
+    run-cut_short put =
         let part : Breaks (report_by r.showing.report r probes journal) (ends written report) (ends written shown) =
-        subst (λ (t : List Piece). Breaks t (ends written report) (ends written shown))
-        (ap (λ (l : List JournalEntry). report_now m l r.showing (tallies_of told)) all ∙ report-is probes told are) (put written) in (
+        subst (λ (t : List Piece). Breaks t (ends written report) (ends written shown)) (report-is probes told are) (put written) in (
           journal,
           knows-all probes told are,
           inr (
@@ -218,33 +229,42 @@ module _ (r : Run) (began : Began) (m : MachineData) (journal : List JournalEntr
                 report =
                     report-begun (report_by r.showing.report r probes journal) part.whole part.rest part.piece part.count
                     (ends written report) (ends written shown) part.all part.put;
-                replayed = replayed-so r probes journal lawful.1.output;
+                replayed = replayed-so r probes journal consistent.output;
               };
             },
           ),
         )
 
-  -- where the console failed
-  module _ (found : Finish) (was is : ℕ) (console written report : Option (List ℕ)) (probes told : List Meter) (result : Option Ending) (says : result ≡ ending_by m.config.nodes (flat_of m) found) (none : (ending : Ending) → result ≡ Some ending → ⊥) (so : EndsSo began journal found m.state.released console written was is) where
-    stopped : IsBegun [] m.state.released console written × Rose was is
-    stopped =
-        subst (λ (f : Finish). EndsSo began journal f m.state.released console written was is)
-        (stopped-by m.config.nodes m found (sym says ∙ none-of result none)) so
+  -- by what the workers left and what of it was put
+  module _ (found : Finish) (was is : ℕ) (console written report shown : Option (List ℕ)) (probes told : List Meter) (so : EndsSo began journal found m.state.released console written was is) (are : told ≡ told_all journal answers probes) where
+    stopped : ended_now m found ≡ None → IsBegun [] m.state.released console written × Rose was is
+    stopped none =
+        subst (λ (f : Finish). EndsSo began journal f m.state.released console written was is) (stopped-by m.config.nodes m found none) so
 
-    pub run-stopped : told ≡ told_all journal answers probes → IsBrokenOff r probes (ends console report) (ends written report) told
-    run-stopped are = (
-      journal,
-      knows-all probes told are,
-      inl (record {
-        journal_is = its-journal;
-        lawful = lawful;
-        output =
-            record {
-              put = stopped.0.more;
-              left = stopped.0.begun.rest;
-              whole = stopped.0.begun.whole ∙ released-is;
-              written = stopped.0.put;
-            };
-        report = refl;
-      }),
-    )
+    run-stopped : ended_now m found ≡ None → shown ≡ report → IsBrokenOff r probes (ends console report) (ends written shown) told
+    run-stopped none same =
+        let failed = stopped none in (
+          journal,
+          knows-all probes told are,
+          inl (record {
+            journal_is = its-journal;
+            lawful = lawful;
+            output =
+                record {
+                  put = failed.0.more;
+                  left = failed.0.begun.rest;
+                  whole = failed.0.begun.whole ∙ released-is;
+                  written = failed.0.put;
+                };
+            report = same;
+          }),
+        )
+
+    pub run-reported : (ending : Ending) → IsReported m journal found r.showing (tallies_of told) ending report shown →
+        IsDone r probes ending (ends console report) (ends written shown) told
+    run-reported ending h = run-done found ending was is console written report shown probes told h.ended so are h.numbers h.values h.put
+
+    pub run-unreported : IsUnreported m journal found r.showing (tallies_of told) report shown →
+        IsBrokenOff r probes (ends console report) (ends written shown) told
+    run-unreported (inl none) = run-stopped none.0 none.1
+    run-unreported (inr h) = run-cut_short found h.ending was is console written report shown probes told h.ended so are h.broken

@@ -1,15 +1,18 @@
 -- The report of a run, by the machine that it left.
-use Rattle.std.specs.Prelude.{ℕ, List, [], ◌++◌, codes, Option}
+use Rattle.std.specs.Prelude.{◌≡◌, ◌⊎◌, ℕ, List, [], ◌++◌, codes, Option, Some, None}
 use Rattle.std.specs.List.{All}
-use Rattle.sn_text.specs.Written.{HasNumbers}
-use Rattle.sn_machine.specs.Machine.{MachineData}
-use Rattle.sink_pieces.specs.Pieces.{Piece}
+use Rattle.sn_text.specs.Written.{HasNumbers, HasValues}
+use Rattle.sn_machine.specs.Machine.{MachineData, flat_of}
+use Rattle.sink_pieces.specs.Pieces.{Piece, ends, after, Breaks}
 use Rattle.script_replay.specs.declared.job.ReportKind.TheVariants as replayed
 use Rattle.script_replay.specs.Played.{summed_up, end_now}
 use Rattle.run_journals.specs.declared.entry.JournalEntry.{JournalEntry}
+use Rattle.shared_machine.specs.declared.finish.Finish.{Finish}
+use Rattle.node_run.specs.declared.ending.Ending.{Ending}
 use Rattle.node_run.specs.declared.job.RunReport.{RunReport}
 use Rattle.node_run.specs.declared.job.RunReport.TheVariants.{Summary, Trace, Journal}
 use Rattle.node_run.specs.declared.job.RunShowing.{RunShowing}
+use Rattle.node_run.specs.Endings.{ending_by}
 use Rattle.node_run.specs.Pieces.{journal_pieces}
 
 -- the journal, and then the summary
@@ -28,3 +31,25 @@ report_now m journal showing tallies = report_by_kind showing.report m journal s
 -- the numbers of each event of a journal are numbers of their types
 abbrev pub HaveNumbers : List JournalEntry → Type 0
 HaveNumbers journal = All (λ e. HasNumbers e.event) journal
+
+-- the end of a run that left this machine, by why it had no turn any more; none where it was stopped
+abbrev pub ended_now : MachineData → Finish → Option Ending
+ended_now m found = ending_by m.config.nodes (flat_of m) found
+
+-- it came to this end, and its report is put
+pub record IsReported (m : MachineData) (journal : List JournalEntry) (found : Finish) (showing : RunShowing) (tallies : List (List ℕ)) (ending : Ending) (before behind : Option (List ℕ)) : Type 0 where
+  pub ended : ended_now m found ≡ Some ending
+  pub put : (c : Option (List ℕ)) → ends c behind ≡ after (ends c before) (report_now m journal showing tallies)
+  pub numbers : showing.report ≡ Journal → HaveNumbers journal
+  pub values : showing.report ≡ Trace → All HasValues m.state.committed
+
+-- it came to an end, and its report broke
+pub record BreaksReport (m : MachineData) (journal : List JournalEntry) (found : Finish) (showing : RunShowing) (tallies : List (List ℕ)) (before behind : Option (List ℕ)) : Type 0 where
+  pub ending : Ending
+  pub ended : ended_now m found ≡ Some ending
+  pub broken : (c : Option (List ℕ)) → Breaks (report_now m journal showing tallies) (ends c before) (ends c behind)
+
+-- so, or it was stopped, and the report has nothing
+abbrev pub IsUnreported : MachineData → List JournalEntry → Finish → RunShowing → List (List ℕ) → Option (List ℕ) → Option (List ℕ) → Type 0
+IsUnreported m journal found showing tallies before behind =
+    ((ended_now m found ≡ None) × (behind ≡ before)) ⊎ BreaksReport m journal found showing tallies before behind

@@ -1,20 +1,19 @@
 -- What the sinks show of a run.
-use Rattle.std.specs.Prelude.{◌≡◌, ◌⊎◌, ℕ, ◌≤◌, true, List, [], ◌++◌, length, codes, Option, Some, None, IfSome, Ok}
+use Rattle.std.specs.Prelude.{◌≡◌, ◌⊎◌, ℕ, ◌<◌, ◌≤◌, true, List, [], ◌++◌, length, codes, Option, Some, Ok}
 use Rattle.std.specs.List.{All}
 use Rattle.rv_core.specs.Execution.{IsExecution, out_of}
 use Rattle.sn_base.specs.Config.{config_fits}
-use Rattle.sn_base.specs.Events.{event_fits}
 use Rattle.sn_base.specs.Rules.{AreRules}
-use Rattle.sn_model.specs.Trace.{TraceEntry}
-use Rattle.consistent_cuts.specs.Headline.{IsConsistent}
+use Rattle.consistent_cuts.specs.Runs.{AllFit}
 use Rattle.sn_io.specs.Outside.{followed_by}
 use Rattle.sn_text.specs.Script.{script_of}
+use Rattle.sn_text.specs.Trace.{trace_of}
 use Rattle.sn_text.specs.Written.{trace_text}
 use Rattle.sn_probe.specs.Probes.{Meter}
 use Rattle.sink_pieces.specs.Pieces.{Ends, after, Breaks, console_text, report_text, HasBeginning}
 use Rattle.script_replay.specs.Played.{IsWatchable}
 use Rattle.script_replay.specs.Probed.{told_all}
-use Rattle.script_replay.specs.Shown.{pieces_due}
+use Rattle.script_replay.specs.Shown.{IsLawful, pieces_due}
 use Rattle.run_journals.specs.declared.entry.JournalEntry.{JournalEntry}
 use Rattle.run_journals.specs.Journal.{IsDue, events_of, state_of}
 use Rattle.node_run.specs.declared.ending.Ending.{Ending}
@@ -31,21 +30,28 @@ pub record MayBegin (r : Run) : Type 0 where
   pub few : r.budget ≤ 1000000
   pub watched : IsWatchable r.showing.watch
 
--- the journal of a run: each of its events was due and fits the machine, and there are no more than the budget
+-- the journal of a run: each of its events was due for its worker, which is a node's, and fits the machine, and there are no more
+-- than the budget
 pub record IsJournal (r : Run) (journal : List JournalEntry) : Type 0 where
   pub due : IsDue (begins r) journal
-  pub fit : All (λ e. event_fits r.config.nodes e.event ≡ true) journal
+  pub workers : All (λ e. e.worker < r.config.nodes) journal
+  pub fit : AllFit r.config.nodes (events_of journal)
   pub few : length journal ≤ r.budget
 
 -- the bytes that its committed trace puts out
 abbrev pub output_by : Run → List JournalEntry → List ℕ
 output_by r journal = out_of r.program r.config.nodes (state_of (begins r) journal).committed
 
--- the report is a trace: the records of an execution of the program, and then the summary, marked as comments
+-- the committed trace, and then the summary, marked as comments
+abbrev pub written_trace : Run → List Meter → List JournalEntry → List ℕ
+written_trace r probes journal =
+    trace_text (state_of (begins r) journal).committed ++ report_text (summary_by (codes "# ") r probes journal)
+
+-- the report is this text, which is read as the records of an execution of the program
 pub record IsTrace (r : Run) (probes : List Meter) (journal : List JournalEntry) (before behind : Option (List ℕ)) : Type 0 where
   pub execution : IsExecution r.program r.config.nodes (state_of (begins r) journal).committed
-  pub written : behind ≡ followed_by before
-      (trace_text (state_of (begins r) journal).committed ++ report_text (summary_by (codes "# ") r probes journal))
+  pub written : behind ≡ followed_by before (written_trace r probes journal)
+  pub read : trace_of r.config.nodes (written_trace r probes journal) ≡ Ok (state_of (begins r) journal).committed
 
 -- a journal, and then the summary, marked as comments
 abbrev pub written_script : Run → List Meter → List JournalEntry → List ℕ
@@ -61,13 +67,10 @@ pub record IsReplayedSo (r : Run) (probes : List Meter) (journal : List JournalE
   pub console : console_text (pieces_due (replay_of r journal) probes) ≡ output_by r journal
   pub report : report_text (pieces_due (replay_of r journal) probes) ≡ report_text (summary_by [] r probes journal)
 
--- at the recovery point the committed trace is an execution without faults, and the point a cut of it
-abbrev pub IsLawful : Run → List JournalEntry → Type 0
-IsLawful r journal = (trace : List TraceEntry) × IsConsistent r.program r.config.nodes (state_of (begins r) journal) trace
-
--- all is written: the console has the output of the committed trace
+-- all is written: at every moment of the run the recovery point was a consistent cut, and the console has the output of the committed
+-- trace
 pub record IsShown (r : Run) (probes : List Meter) (journal : List JournalEntry) (before behind : Ends) : Type 0 where
-  pub lawful : IsLawful r journal
+  pub lawful : IsLawful r.program r.config (events_of journal)
   pub output : behind.console ≡ followed_by before.console (output_by r journal)
   pub traced : r.showing.report ≡ Trace → IsTrace r probes journal before.report behind.report
   pub journaled : r.showing.report ≡ Journal → IsScript r probes journal before.report behind.report
@@ -75,7 +78,7 @@ pub record IsShown (r : Run) (probes : List Meter) (journal : List JournalEntry)
 
 -- the report broke: it has the beginning of its text, and the console has the output
 pub record IsShownInPart (r : Run) (probes : List Meter) (journal : List JournalEntry) (before behind : Ends) : Type 0 where
-  pub lawful : IsLawful r journal
+  pub lawful : IsLawful r.program r.config (events_of journal)
   pub output : behind.console ≡ followed_by before.console (output_by r journal)
   pub report : HasBeginning (report_text (report_by r.showing.report r probes journal)) before.report behind.report
   pub replayed : IsReplayedSo r probes journal
@@ -83,7 +86,7 @@ pub record IsShownInPart (r : Run) (probes : List Meter) (journal : List Journal
 -- the console broke, and so the workers were stopped: it has the beginning of the output, and the report has nothing
 pub record IsStopped (r : Run) (journal : List JournalEntry) (before behind : Ends) : Type 0 where
   pub journal_is : IsJournal r journal
-  pub lawful : IsLawful r journal
+  pub lawful : IsLawful r.program r.config (events_of journal)
   pub output : HasBeginning (output_by r journal) before.console behind.console
   pub report : behind.report ≡ before.report
 

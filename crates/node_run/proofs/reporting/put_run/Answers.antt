@@ -1,4 +1,5 @@
 use Rattle.node_run.proofs.Journals.{summary-breaks, trace-breaks, script-breaks, summary-numbers, trace-numbers, script-numbers}
+use Rattle.node_run.proofs.Journals.{summary-values, trace-values, script-values}
 use Rattle.node_run.proofs.reporting.put_run.Goals as goal
 
 pub returns-in-Summary-clause-err : goal.returns-in-Summary-clause-err
@@ -24,3 +25,15 @@ returns-in-Trace-clause-numbers g c = trace-numbers c.args.journal.now c.args.sh
 pub returns-in-Journal-clause-numbers : goal.returns-in-Journal-clause-numbers
 returns-in-Journal-clause-numbers g c =
     script-numbers c.args.journal.now c.args.showing.now c.put_script.result c.put_script.ensures.numbers
+
+pub returns-in-Summary-clause-values : goal.returns-in-Summary-clause-values
+returns-in-Summary-clause-values g c =
+    summary-values c.args.machine.now.state.committed c.args.showing.now c.put_summary.result c.in-Summary.is
+
+pub returns-in-Trace-clause-values : goal.returns-in-Trace-clause-values
+returns-in-Trace-clause-values g c =
+    trace-values c.args.machine.now.state.committed c.args.showing.now c.put_end.result c.put_end.ensures.values
+
+pub returns-in-Journal-clause-values : goal.returns-in-Journal-clause-values
+returns-in-Journal-clause-values g c =
+    script-values c.args.machine.now.state.committed c.args.showing.now c.put_script.result c.in-Journal.is
