@@ -14,6 +14,6 @@ mod replaying;
 mod schedule;
 
 pub use job::{Replay, ReportKind, Script, Showing};
-pub use play::{put_end, put_summary};
+pub use play::{put_counted_summary, put_end, put_summary, turn};
 pub use replaying::{ReplayFault, replay, replay_on};
 pub use schedule::Schedule;

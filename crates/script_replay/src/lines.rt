@@ -2,8 +2,8 @@
 ghost use Rattle.std.specs.Prelude.{◌≡◌, ◌+◌, ◌<◌, ◌≤◌, ◌++◌, take, length, slice_get, IfSome};
 ghost use Rattle.sn_machine.specs.Machine.{flat_of};
 ghost use Rattle.sn_probe.specs.Probes.{meters_in};
-ghost use Rattle.script_replay.specs.Pieces.{core_lines, watch_lines, cut_lines, tally_lines};
-ghost use Rattle.script_replay.specs.Played.{group_now, summary_now, IsAlone, IsWatchable};
+ghost use Rattle.script_replay.specs.Pieces.{core_lines, watch_lines, cut_lines, summary_of, tally_lines};
+ghost use Rattle.script_replay.specs.Played.{group_now, IsAlone, IsWatchable};
 
 use sn_base::{Answer, Event, NodeId};
 use sn_machine::Machine;
@@ -71,16 +71,22 @@ pub fn write_group(
     }
 }
 
-/// What the summary says of the machine, with `before` before each of its lines.
+/// What the summary says of so many events and of the machine, with `before` before each of its lines.
 #[tactic(auto, unfolding(crate::specs::Pieces::summary_of))]
-pub fn write_summary(line: &mut Line, before: &str, machine: &Machine, watch: Option<u32>)
+pub fn write_summary(
+    line: &mut Line,
+    before: &str,
+    events: u64,
+    machine: &Machine,
+    watch: Option<u32>,
+)
     requires before_short { length before.now ≤ 2 }
     requires watched { IsWatchable watch }
-    ensures { line.new ≡ summary_now before.now machine.now watch }
+    ensures { line.new ≡ summary_of before.now machine.now.image machine.now.config watch events machine.now.state }
 {
     let view = machine.recovered();
     line.clear();
-    line.count(before, "events", u64::from(machine.applied()));
+    line.count(before, "events", events);
     line.count(before, "point", u64::from(view.point()));
     line.count(before, "committed", view.committed().len() as u64);
     line.count(before, "released", view.released().len() as u64);

@@ -6,7 +6,7 @@ ghost use Rattle.sink_pieces.specs.Pieces.{ends, after, Breaks};
 ghost use Rattle.sn_machine.specs.Machine.{next_of};
 ghost use Rattle.sn_text.specs.Written.{HasValues};
 ghost use Rattle.sn_probe.specs.Probes.{meters_in, tallies_of};
-ghost use Rattle.script_replay.specs.Pieces.{group_pieces, trace_pieces, tally_pieces};
+ghost use Rattle.script_replay.specs.Pieces.{group_pieces, trace_pieces, tally_pieces, summary_pieces};
 ghost use Rattle.script_replay.specs.Played.{after_event, group_now, summed_up, end_now, turn_now, told_next};
 ghost use Rattle.script_replay.specs.Played.{IsAlone, IsWatchable, IsAtStart, MayBegin};
 ghost use Rattle.script_replay.specs.Probed.{told_all};
@@ -105,7 +105,35 @@ fn put_tallies<R: Sink>(
     Ok(())
 }
 
-/// Puts the summary, with `before` before each of its lines: what it says of the machine, and of each probe.
+/// Puts the summary, with `before` before each of its lines: what it says of so many events, of the machine and of each probe.
+pub fn put_counted_summary<R: Sink>(
+    line: &mut Line,
+    before: &str,
+    events: u64,
+    machine: &Machine,
+    watch: Option<u32>,
+    probes: &ProbeSet,
+    report: &mut R,
+) -> Result<(), Failed>
+    requires before_short { length before.now ≤ 2 }
+    requires watched { IsWatchable watch }
+    ensures ok { OnOk result ((c : Option (List ℕ)) → ends c (R.written report.new) ≡ after (ends c (R.written report.old))
+        (summary_pieces before.now machine.now.image machine.now.config watch
+        (tallies_of (meters_in first tally step probes.now.probes.items)) events machine.now.state)) }
+    ensures err { OnErr result ((c : Option (List ℕ)) →
+        Breaks (summary_pieces before.now machine.now.image machine.now.config watch
+        (tallies_of (meters_in first tally step probes.now.probes.items)) events machine.now.state)
+        (ends c (R.written report.old)) (ends c (R.written report.new))) }
+    ensures later { R.faults report.old ≤ R.faults report.new }
+    ensures cause { OnErr result (Rose (R.faults report.old) (R.faults report.new)) }
+{
+    write_summary(line, before, events, machine, watch);
+    put_report(report, line.bytes())?;
+    put_tallies(line, before, probes, report)?;
+    Ok(())
+}
+
+/// Puts the summary of the events that were applied to the machine.
 pub fn put_summary<R: Sink>(
     line: &mut Line,
     before: &str,
@@ -124,10 +152,8 @@ pub fn put_summary<R: Sink>(
     ensures later { R.faults report.old ≤ R.faults report.new }
     ensures cause { OnErr result (Rose (R.faults report.old) (R.faults report.new)) }
 {
-    write_summary(line, before, machine, watch);
-    put_report(report, line.bytes())?;
-    put_tallies(line, before, probes, report)?;
-    Ok(())
+    let events = u64::from(machine.applied());
+    put_counted_summary(line, before, events, machine, watch, probes, report)
 }
 
 /// Puts what stands at the end: the summary, after the committed trace where that is asked for.
@@ -162,8 +188,8 @@ pub fn put_end<R: Sink>(
     }
 }
 
-// One event: every probe is told it; then its piece for the console, where it releases bytes, and its group for the report.
-fn turn<C: Sink, R: Sink>(
+/// One event: every probe is told it; then its piece for the console, where it releases bytes, and its group for the report.
+pub fn turn<C: Sink, R: Sink>(
     machine: &mut Machine,
     line: &mut Line,
     event: &Event,
