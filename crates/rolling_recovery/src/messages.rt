@@ -64,6 +64,13 @@ impl Messages {
         self.flights.len() >= MOST_MESSAGES
     }
 
+    /// The number that the next message gets.
+    pub fn next(&self) -> MsgId
+        ensures { result ≡ self.now.next }
+    {
+        self.next
+    }
+
     /// The message of a number.
     pub fn get(&self, id: MsgId) -> Option<ControlMessage>
         ensures { result ≡ message_in self.now.flights id }

@@ -1,5 +1,5 @@
 //! A recovery node by node.
-ghost use Rattle.std.specs.Prelude.{◌≡◌, ℕ, ◌<◌, ◌≤◌, ◌^◌, ◌↔◌, true, not, [], IfOk, IfErr, IsErr, List, option_copied, is_some, position, Some, None};
+ghost use Rattle.std.specs.Prelude.{◌≡◌, ℕ, ◌<◌, ◌≤◌, ◌^◌, ◌↔◌, true, not, nat_le, [], IfOk, IfErr, IsErr, List, option_copied, is_some, position, Some, None};
 ghost use Rattle.sn_machine.specs.Machine.{IsApplied};
 ghost use Rattle.rolling_recovery.specs.declared.controls.Control.{Control as Call};
 ghost use Rattle.rolling_recovery.specs.Messages.{is_full};
@@ -83,6 +83,13 @@ impl Rolling {
         ensures { result.now ≡ self.now.machine }
     {
         &self.machine
+    }
+
+    /// Whether another message can have a number, of which there are 2^63.
+    pub fn has_numbers(&self) -> bool
+        ensures { result ≡ nat_le self.now.messages.next (2 ^ 63) }
+    {
+        self.messages.next() <= 1 << 63
     }
 
     /// Sends an order to a node, and says its number. Where 64 messages are in flight nothing is sent.
