@@ -149,7 +149,7 @@ def line(choose, commands):
 def commands_of(built):
     """The commands that the program's page names."""
     page = subprocess.run([built, "--help"], capture_output=True, text=True).stdout
-    return [name for name in COMMANDS if re.search(rf"^(usage:)? +safetynet {name} ", page, re.MULTILINE)]
+    return [name for name in COMMANDS if re.search(rf"^  {name} +[A-Z]", page, re.MULTILINE)]
 
 
 def is_left_out(words, commands):

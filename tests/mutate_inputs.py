@@ -142,7 +142,7 @@ def started(built, words, folder):
 def commands_of(built):
     """The commands that the program's page names."""
     page = subprocess.run([built, "--help"], capture_output=True, text=True, check=True).stdout
-    return [name for name in SHARES if re.search(rf"^(usage:)? +safetynet {name} ", page, re.MULTILINE)]
+    return [name for name in SHARES if re.search(rf"^  {name} +[A-Z]", page, re.MULTILINE)]
 
 
 def is_own(words):
