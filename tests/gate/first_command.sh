@@ -4,140 +4,13 @@
 # one. Then holds the pages that --help and --version give against the program's own answers.
 set -u
 cd "$(dirname "$0")/../.." || exit 1
-top=$PWD failed=0 passed=0
-work=$(mktemp -d)
-trap 'rm -rf "$work"' EXIT
+top=$PWD
+. tests/gate/lib/checks.sh
+. tests/gate/lib/small_repository.sh
 export CALLS=$work/calls FAILS=$work/fails
-
-# A repository of five crates: two between the lowest and the program, and one that the program doesn't stand on.
 repo=$work/repo
-mkdir -p "$work/bin" "$repo"
-cp safetynet build.py early.py "$repo"
-printf '%s\n' '# crate: what it stands on' 'low: byteorder' 'left: low' 'right: low' 'aside: low' 'safetynet_program: low left right itoa' >"$repo/crates.txt"
-echo "Handles allowed: Wait." >"$repo/HANDLES"
-for crate in low left right aside safetynet_program; do
-  mkdir -p "$repo/crates/$crate/src"
-  echo "first" >"$repo/crates/$crate/src/lib.rt"
-done
-cp -r crates/safetynet_program/pages "$repo/crates/safetynet_program"
+small_repository "$work/bin" "$repo"
 libraries=$repo/crates/safetynet_program/out/rlib
-
-# The stand-in, with what build.py takes of rt. A proof fails where the file FAILS names the crate, and where a text asks for a handle
-# that isn't allowed. What is built has a sum of its text and of the libraries below; the program prints the text of the library `low`
-# and its words, and reports the words. `rt try` does the same with the present text, and says what rt itself says behind it; the file
-# FAILS.try has it answer otherwise, or not at all.
-echo "one toolchain" >"$work/WHAT"
-cat >"$work/bin/rt" <<'END'
-#!/usr/bin/env python3
-import hashlib
-import os
-import shutil
-import sys
-import time
-from pathlib import Path
-from types import SimpleNamespace
-
-KIT = Path(__file__).resolve().parent.parent
-FAILS = os.environ["FAILS"]
-STORE = KIT / "kept"
-REACHES = {"Net": r"\bnet\b"}
-
-
-def told(*words):
-    with open(os.environ["CALLS"], "a") as calls:
-        print(*words, file=calls)
-
-
-def text_in(folder):
-    return "".join(it.read_text() for it in Path(folder, "src").iterdir())
-
-
-def sum_of(text, formats):
-    return hashlib.sha256(repr((text, formats)).encode()).hexdigest()
-
-
-def handles_of(root):
-    return Path(root, "HANDLES").read_text().split()[2].rstrip(".")
-
-
-class Crate:
-    def __init__(self, folder, root, known):
-        self.folder, self.name, self.is_program = folder, Path(folder).name, folder.endswith("_program")
-        rows = [it.split() for it in Path(root, "crates.txt").read_text().splitlines()]
-        uses = next(it[1:] for it in rows if it[0] == f"{self.name}:")
-        self.deps = [Crate(f"{root}/crates/{it}", root, known) for it in uses if Path(root, "crates", it).is_dir()]
-
-    def below(self):
-        return [it for dep in self.deps for it in [*dep.below(), dep]]
-
-    def words(self, flags, keeps=True):
-        return ["--incremental", "out", *flags] if keeps else flags
-
-    def prove(self, words):
-        told(self.name, *words)
-        if Path(f"{FAILS}.hang.{self.name}").exists():
-            Path(f"{FAILS}.hang.{self.name}").write_text(str(os.getpid()))
-            time.sleep(60)
-        text = text_in(self.folder)
-        if self.name in Path(FAILS).read_text().split() or "threads" in text and "Threads" not in self.allowed:
-            print(f"fn {self.name}::f: not proved")
-            return 1
-        if Path(f"{FAILS}.{self.name}").exists():
-            time.sleep(0.1)
-            Path(self.folder, "../left/src/lib.rt").write_text(Path(f"{FAILS}.{self.name}").read_text())
-        if not self.is_program:
-            Path(self.rlib).mkdir(exist_ok=True)
-            Path(self.rlib, "text").write_text(text)
-            Path(self.rlib, "format").write_text(sum_of(text, [Path(it.rlib, "format").read_text() for it in self.below()]))
-        return 0
-
-    def link(self, made, program):
-        told(self.name, made, program)
-        low = next(Path(it.rlib, "text").read_text().strip() for it in self.below() if it.name == "low")
-        Path(self.folder, program).write_text(f'#!/usr/bin/env bash\necho "{low}:$*"\necho "report of $*" >&2\nexit 7\n')
-        Path(self.folder, program).chmod(0o755)
-        return 0
-
-
-class Kept:
-    def __init__(self, crates):
-        self.formats = {}
-
-    def is_built(self, crate):
-        self.formats[crate.name] = Path(crate.folder, "out/rlib", f"{crate.name}.rlib/format").read_text()
-
-    def key(self, crate):
-        return sum_of(text_in(crate.folder), [self.formats[it.name] for it in crate.below()])
-
-    def give(self, crate, tests, key):
-        kept = STORE / f"proof-{crate.name}-{key}"
-        if kept.is_dir():
-            shutil.copytree(kept, f"{crate.folder}/out/rlib/{crate.name}.rlib")
-        return kept.is_dir()
-
-
-rtlib = SimpleNamespace(guarded=list, code_of=text_in)
-
-if __name__ == "__main__" and sys.argv[1] == "doc":
-    print(KIT / "START-HERE.md")
-elif __name__ == "__main__":
-    told(*sys.argv[1:])
-    words, how = sys.argv[sys.argv.index("--") + 1 :], Path(f"{FAILS}.try")
-    how = how.read_text() if how.exists() else ""
-    low = Path("../low/src/lib.rt").read_text().strip()
-    if how == "none":
-        print("part of it", end="")
-        print("checked: no-answer: more than 1 MiB\nrun=none proved=no", file=sys.stderr)
-        sys.exit(6)
-    if how == "slow":
-        time.sleep(60)
-    print(f"{'other' if how == 'other' else low}:{' '.join(words)}")
-    print(f"report of {' '.join(words)}", file=sys.stderr)
-    print("checked: ended status=7\nraces: not looked for, since a kit has no ThreadSanitizer", file=sys.stderr)
-    print("run=ended status=7 runners=1 proved=no", file=sys.stderr)
-    sys.exit(7)
-END
-chmod +x "$work/bin/rt"
 
 PATH_TO=$work/bin:$PATH
 
@@ -157,11 +30,6 @@ check() { # what it shows, status, output, is_called, words..
     echo "./safetynet: $what: status $found and not $status, rt called $called and not $is_called, or it wrote: $(head -c 200 "$work/out")" >&2
     failed=$((failed + 1))
   fi
-}
-is_so() { # what it shows, command..
-  local what=$1
-  shift
-  if "$@"; then passed=$((passed + 1)); else echo "./safetynet: $what" >&2; failed=$((failed + 1)); fi
 }
 calls() { # the crates that the last call proved, by name
   grep -o '^[a-z_]* build' "$CALLS" | cut -d ' ' -f 1 | sort
@@ -450,5 +318,4 @@ for page in "$pages"/*.txt; do
   is_so "$(basename "$page") has at most 60 lines of 81 letters" awk 'length > 81 { exit 1 } END { exit NR > 60 }' "$page"
 done
 
-echo "first command: $passed passed, $failed failed"
-[ "$failed" -eq 0 ]
+told "first command"
