@@ -6,6 +6,7 @@
 # Of each command what stands behind its options, and the options: one that ends with = takes a value.
 declare -gA _safetynet_operands=(
   [replay]='PROGRAM SCRIPT'
+  [roll]='PROGRAM SCRIPT CONTROL'
   [run]='PROGRAM'
   [check]='PROGRAM TRACE'
   [demo]='SIZE'
@@ -14,6 +15,7 @@ declare -gA _safetynet_operands=(
 )
 declare -gA _safetynet_options=(
   [replay]='--nodes= --sets= --ways= --log= --watch= --trace'
+  [roll]='--nodes= --sets= --ways= --log= --watch='
   [run]='--nodes= --sets= --ways= --log= --interval= --wait= --budget= --lose-every= --kill= --seed= --watch= --trace --journal'
   [check]='--nodes='
   [demo]=''

@@ -22,6 +22,7 @@ from pathlib import Path
 # A command's files, options with a value, and flags.
 COMMANDS = {
     "replay": (["program", "events.script"], ["nodes", "sets", "ways", "log", "watch"], ["trace"]),
+    "roll": (["program", "events.script", "calls.control"], ["nodes", "sets", "ways", "log", "watch"], []),
     "run": (["program"], ["nodes", "sets", "ways", "log", "watch", "interval", "wait", "lose-every", "kill", "budget", "seed"], ["trace", "journal"]),
     "check": (["program", "records.trace"], ["nodes"], []),
     "demo": (["20"], [], []),
@@ -32,6 +33,7 @@ COMMANDS = {
 FILES = {
     "program": "800012b7\n00100313\n0062a3af\n05d00893\n00000073\n",
     "events.script": "step 0\nstep 0\nstep 0\ndeliver 1\ndeliver 2\ndeliver 3\nstep 0\nedge 0\nreport 0\nrecover\n",
+    "calls.control": "order 0\nrepeat 1\ndeliver 2\nlose 1\ndeliver 3\nfinish\nfinish\n",
     "records.trace": "0 00000000 0\n0 00000000 0\n0 00000000 0\n",
     "text.s": "loop:\naddi t0, t0, 1\njal zero, loop\n",
     "bad": "fly\n",

@@ -1,5 +1,5 @@
 #!/usr/bin/env python3
-"""Gives the program spoiled programs, scripts, traces, texts and words for as long as it is told.
+"""Gives the program spoiled programs, scripts, control files, traces, texts and words for as long as it is told.
 
     tests/mutate_inputs.py PROGRAM SIMULATOR COUNT [SEED] [PROCESSES]
 
@@ -29,7 +29,7 @@ STATUSES = {0, 1, 2, 3, 4, 5, 6, 7, 8, 9, 10, 13}
 SECONDS = 60
 
 # How often each command comes, of those that the program's page names.
-SHARES = {"replay": 50, "check": 20, "asm": 12, "dis": 14, "demo": 4, "run": 10}
+SHARES = {"replay": 50, "roll": 15, "check": 20, "asm": 12, "dis": 14, "demo": 4, "run": 10}
 
 LETTERS = b" \t\r\n#0123456789abcdefABCDEF-=@xx" + bytes([0, 0x7F, 0x80, 0xEF, 0xBB, 0xBF, 0xFF])
 
@@ -38,6 +38,8 @@ GREAT = [b"18446744073709551615", b"18446744073709551616", b"4294967295", b"4294
 
 STATEMENTS = [b"addi a0, zero, 65", b"lui t0, 0x80001", b"amoadd.w t2, t1, (t0)", b"lw a1, 4(t0)", b"sw a1, -4(t0)", b"ecall", b"loop:",
               b"jal zero, loop", b"beq a0, a1, loop", b".word 0x12345678", b"# a line", b"lr.w a2, (t0)", b"sc.w a3, a2, (t0)", b"nop"]
+
+CONTROLS = [b"order 0", b"order 1", b"repeat 1", b"repeat 2", b"lose 1", b"lose 3", b"deliver 1", b"deliver 2", b"deliver 3", b"deliver 4", b"finish", b"# a step"]
 
 RECORDS = [b"0 00000000 0", b"1 00000000 0", b"0 00000001 0", b"1 00000001 0", b"0 00000000 1", b"0 00000000 0 41", b"3 00000000 0", b"# a record"]
 
@@ -96,7 +98,7 @@ def spoiled_words(choose, words):
         elif kind == 1 and words:
             del words[min(place, len(words) - 1)]
         elif kind == 2 and words:
-            words[min(place, len(words) - 1)] = choose.choice(["replay", "check", "asm", "dis", "demo", "fly", "a", "nowhere", "1", "é"])
+            words[min(place, len(words) - 1)] = choose.choice(["replay", "roll", "check", "asm", "dis", "demo", "fly", "a", "nowhere", "1", "é"])
         elif words:
             words.insert(place, words[min(place, len(words) - 1)])
     return words
@@ -121,6 +123,10 @@ def case_of(choose, commands):
     if kind == "replay":
         files["b"] = maybe_changed(choose, script(choose, nodes), chance)
         words = [kind, "--nodes", str(nodes), "a", "b"]
+    elif kind == "roll":
+        files["b"] = maybe_changed(choose, script(choose, nodes), chance / 2)
+        files["c"] = maybe_changed(choose, lines(choose, CONTROLS, 20), chance)
+        words = [kind, "--nodes", str(nodes), "a", "b", "c"]
     elif kind == "check":
         files["b"] = maybe_changed(choose, lines(choose, RECORDS, 12), chance)
         words = [kind, f"--nodes={nodes}", "a", "b"]
@@ -157,7 +163,7 @@ def has_one_outcome(words):
 
 def put_files(folder, files):
     """Just these files stand there then."""
-    for name in ("a", "b"):
+    for name in ("a", "b", "c"):
         if name in files:
             Path(folder, name).write_bytes(files[name])
         else:

@@ -1,8 +1,8 @@
 #!/usr/bin/env bash
 # Runs each example by the README's first command and compares console, report and status with the files beside it: the first
-# program once as hexadecimal words and once as an ELF file, and those of examples/shared, examples/asm and examples/traces by the
-# words that their scripts and traces begin with. What a replay shows as its trace is to be legal, and a file may be empty. Then runs
-# programs, scripts and words that are refused, and compares the status and its word.
+# program once as hexadecimal words and once as an ELF file, and those of examples/shared, examples/asm, examples/traces and
+# examples/roll by the words that their scripts, traces and control files begin with. What a replay shows as its trace is to be
+# legal, and a file may be empty. Then runs programs, scripts and words that are refused, and compares the status and its word.
 set -u
 cd "$(dirname "$0")/../.." || exit 1
 failed=0 passed=0
@@ -38,6 +38,14 @@ for file in examples/shared/*.script examples/asm/*.script examples/traces/*.tra
   read -ra words <<<"$line"
   last=$((${#words[@]} - 1))
   shows "$file" "${words[@]:0:last}" "${file%/*}/${words[last]}"
+done
+
+# A control file names the program and the script before it.
+for control in examples/roll/*.control; do
+  read -r _ line <"$control"
+  read -ra words <<<"$line"
+  last=$((${#words[@]} - 1))
+  shows "$control" "${words[@]:0:last-1}" "${control%/*}/${words[last-1]}" "${control%/*}/${words[last]}"
 done
 
 # What a replay shows as its trace is judged legal, with as many records as its summary says.
@@ -165,6 +173,31 @@ refused_script 'script badline'
 # A comment of 32 MiB is a script without an event, and one of a byte more is too long.
 head -c 33554433 /dev/zero | tr '\0' '#' >"$work/script"
 refused_script 'script toolong'
+
+# A control file has a script's causes, and is looked at after the script.
+refused_control() { # word, script
+  ./safetynet roll --nodes 2 examples/shared/count.hex "$2" "$work/control" >"$work/console" 2>"$work/report"
+  local status=$?
+  if [ "$status" -eq 4 ] && [ ! -s "$work/console" ] && diff <(echo "# safetynet: $1") "$work/report"; then
+    passed=$((passed + 1))
+  else
+    echo "a control file that is refused as $1: status $status, or something else was written" >&2
+    failed=$((failed + 1))
+  fi
+}
+moved=examples/roll/moved_block.script
+for line in 'order' 'order  0' 'order 00' 'repeat -1' 'finish 0' 'step 0' 'deliver 18446744073709551616' 'Order 0'; do
+  printf 'order 0\n%s\n' "$line" >"$work/control"
+  refused_control 'script badline' "$moved"
+done
+printf 'order 2\n' >"$work/control"
+refused_control 'script outofrange' "$moved"
+printf 'step 0\n step 0\n' >"$work/bad"
+refused_control 'script badline' "$work/bad"
+yes finish | head -n 1000001 >"$work/control"
+refused_control 'script toomany' "$moved"
+cp "$work/script" "$work/control"
+refused_control 'script toolong' "$moved"
 
 printf '2 00000000 0\n' >"$work/trace"
 refused 4 'script outofrange' examples/shared/count.hex "$work/trace" 2 check

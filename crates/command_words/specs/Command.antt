@@ -22,6 +22,10 @@ abbrev pub replay_app : App
 replay_app = command_app (codes "replay") (codes "program" ∷ codes "script" ∷ [])
     (codes "nodes" ∷ codes "sets" ∷ codes "ways" ∷ codes "log" ∷ codes "watch" ∷ []) (codes "trace" ∷ [])
 
+abbrev pub roll_app : App
+roll_app = command_app (codes "roll") (codes "program" ∷ codes "script" ∷ codes "control" ∷ [])
+    (codes "nodes" ∷ codes "sets" ∷ codes "ways" ∷ codes "log" ∷ codes "watch" ∷ []) []
+
 abbrev pub run_app : App
 run_app = command_app (codes "run") (codes "program" ∷ [])
     (codes "nodes" ∷ codes "sets" ∷ codes "ways" ∷ codes "log" ∷ codes "watch"
@@ -49,4 +53,4 @@ abbrev pub with_command : App → App → App
 with_command app command = with_subcommand app command.top
 
 abbrev pub the_app : App
-the_app = fold with_command named_app (replay_app ∷ run_app ∷ check_app ∷ demo_app ∷ asm_app ∷ dis_app ∷ [])
+the_app = fold with_command named_app (replay_app ∷ roll_app ∷ run_app ∷ check_app ∷ demo_app ∷ asm_app ∷ dis_app ∷ [])

@@ -10,6 +10,7 @@ use Rattle.option_values.specs.Values.{nodes_rule, number_by, config_by, watch_b
 use Rattle.clap.specs.Words.{Row, Text, first_of, takes, subcommand_of}
 use Rattle.command_words.specs.Command.{the_app}
 use Rattle.command_words.specs.declared.request.Replay as code_replay
+use Rattle.command_words.specs.declared.request.Roll as code_roll
 use Rattle.command_words.specs.declared.request.Run as code_run
 use Rattle.command_words.specs.declared.request.RunReport.{RunReport}
 use Rattle.command_words.specs.declared.request.RunReport.TheVariants as shown
@@ -18,9 +19,10 @@ use Rattle.command_words.specs.declared.request.Request as code_request
 use Rattle.command_words.specs.declared.request.Request.TheVariants as asked
 
 -- the sizes, the rules of a run, whether the trace is to be shown or what else of a run is, which word is to be watched, and the
--- names of files: of the program and of the script or the trace, or of the text
+-- names of files: of the program and of the script, the control or the trace, or of the text
 pub data Request : Type 0 where
   Replay : Config → Bool → Option ℕ → Text → Text → Request
+  Roll : Config → Option ℕ → Text → Text → Text → Request
   Run : Config → RunRules → RunReport → Option ℕ → Text → Request
   Check : ℕ → Text → Text → Request
   Demo : ℕ → Request
@@ -40,6 +42,13 @@ replay_of entries =
     option_and_then (λ config. option_and_then (λ watch. option_and_then (λ program. option_map (λ script.
     Replay config (flag_of (codes "trace") entries) watch program script)
     (first_of (codes "script") entries)) (first_of (codes "program") entries)) (watch_by (first_of (codes "watch") entries))) (config_of entries)
+
+abbrev pub roll_of : List Row → Option Request
+roll_of entries =
+    option_and_then (λ config. option_and_then (λ watch. option_and_then (λ program. option_and_then (λ script. option_map (λ control.
+    Roll config watch program script control)
+    (first_of (codes "control") entries)) (first_of (codes "script") entries)) (first_of (codes "program") entries))
+    (watch_by (first_of (codes "watch") entries))) (config_of entries)
 
 -- the rules of a run on so many nodes
 abbrev pub run_rules_of : ℕ → List Row → Option RunRules
@@ -76,6 +85,7 @@ demo_of entries = option_and_then demo_size (first_of (codes "size") entries)
 abbrev pub request_of : Text → List Row → Option Request
 request_of command entries =
     if bytes_eq command (codes "replay") then replay_of entries else
+    if bytes_eq command (codes "roll") then roll_of entries else
     if bytes_eq command (codes "run") then run_of entries else
     if bytes_eq command (codes "check") then check_of entries else
     if bytes_eq command (codes "demo") then option_map (λ size. Demo size) (demo_of entries) else
@@ -91,6 +101,9 @@ ask_of words =
 abbrev pub as_replay : code_replay.Replay → Request
 as_replay r = Replay r.config r.trace r.watch (string_bytes r.program) (string_bytes r.script)
 
+abbrev pub as_roll : code_roll.Roll → Request
+as_roll r = Roll r.config r.watch (string_bytes r.program) (string_bytes r.script) (string_bytes r.control)
+
 abbrev pub as_run : code_run.Run → Request
 as_run r = Run r.config r.rules r.report r.watch (string_bytes r.program)
 
@@ -99,6 +112,7 @@ as_check c = Check c.nodes (string_bytes c.program) (string_bytes c.trace)
 
 abbrev pub as_request : code_request.Request → Request
 as_request (asked.Replay r) = as_replay r
+as_request (asked.Roll r) = as_roll r
 as_request (asked.Run r) = as_run r
 as_request (asked.Check c) = as_check c
 as_request (asked.Demo size) = Demo size
@@ -112,6 +126,7 @@ watch_fits watch = option_map_or is_word_address watch true
 -- whether the sizes and the rules of a run lie in their ranges, and the watched word in memory
 abbrev pub request_fits : Request → Bool
 request_fits (Replay config trace watch program script) = config_fits config && watch_fits watch
+request_fits (Roll config watch program script control) = config_fits config && watch_fits watch
 request_fits (Run config rules report watch program) = config_fits config && (run_rules_fit config.nodes rules && watch_fits watch)
 request_fits (Check nodes program trace) = lies_in 1 16 nodes
 request_fits (Demo size) = lies_in 1 1000000 size

@@ -2,8 +2,8 @@
 ghost use Rattle.std.specs.Prelude.{◌≡◌, ◌↔◌, IfOk, IfErr, false, true, [], map, string_bytes, codes};
 ghost use Rattle.clap.specs.Words.{app_of, rule_of, with_rule, takes, kind_of, subcommand_of, subcommand_rows_of};
 ghost use Rattle.clap.specs.declared.builder.command.Command.TheViews.{out-Command as fields_of};
-ghost use Rattle.command_words.specs.Command.{rule_by, with_args, command_app, replay_app, run_app, check_app, demo_app, asm_app, dis_app};
-ghost use Rattle.command_words.specs.Command.{named_app, with_command, the_app};
+ghost use Rattle.command_words.specs.Command.{rule_by, with_args, command_app, replay_app, roll_app, run_app};
+ghost use Rattle.command_words.specs.Command.{check_app, demo_app, asm_app, dis_app, named_app, with_command, the_app};
 
 use crate::request::WordsFault;
 use clap::error::ErrorKind;
@@ -87,6 +87,20 @@ fn replay<'a>(alloc: Global) -> Result<Command<'a>, AllocError>
     )
 }
 
+fn roll<'a>(alloc: Global) -> Result<Command<'a>, AllocError>
+    ensures app { IfOk result (λ c. app_of c ≡ roll_app) }
+    ensures alone { IfOk result (λ c. (fields_of c).has_globals ≡ false) }
+{
+    let options = ["nodes", "sets", "ways", "log", "watch"];
+    command_by(
+        alloc,
+        "roll",
+        &["program", "script", "control"],
+        &options,
+        &[],
+    )
+}
+
 fn run<'a>(alloc: Global) -> Result<Command<'a>, AllocError>
     ensures app { IfOk result (λ c. app_of c ≡ run_app) }
     ensures alone { IfOk result (λ c. (fields_of c).has_globals ≡ false) }
@@ -156,6 +170,7 @@ fn command<'a>(alloc: Global) -> Result<Command<'a>, AllocError>
     ensures { IfOk result (λ c. app_of c ≡ the_app) }
 {
     let command = with_command(named(alloc), replay(alloc)?)?;
+    let command = with_command(command, roll(alloc)?)?;
     let command = with_command(command, run(alloc)?)?;
     let command = with_command(command, check(alloc)?)?;
     let command = with_command(command, demo(alloc)?)?;

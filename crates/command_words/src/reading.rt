@@ -3,12 +3,13 @@ ghost use Rattle.std.specs.Prelude.{◌≡◌, ◌≤◌, IfOk, IfErr, true, Som
 ghost use Rattle.sn_base.specs.Config.{lies_in, config_fits};
 ghost use Rattle.option_values.specs.Runs.{run_rules_fit};
 ghost use Rattle.clap.specs.Words.{found_of, rows_of, first_of};
-ghost use Rattle.command_words.specs.Request.{ask_of, as_request, request_of, config_of, replay_of, run_rules_of, run_report_of, run_of};
-ghost use Rattle.command_words.specs.Request.{check_of, demo_of, as_replay, as_run, as_check, watch_fits, request_fits};
+ghost use Rattle.command_words.specs.Request.{ask_of, as_request, request_of, config_of, replay_of, roll_of, run_rules_of, run_report_of};
+ghost use Rattle.command_words.specs.Request.{run_of, check_of, demo_of, as_replay, as_roll, as_run, as_check};
+ghost use Rattle.command_words.specs.Request.{watch_fits, request_fits};
 
 use crate::command::entries_of;
 use crate::entries::{command_of, has_flag, text_of};
-use crate::request::{Check, Replay, Request, Run, RunReport, WordsFault};
+use crate::request::{Check, Replay, Request, Roll, Run, RunReport, WordsFault};
 use clap::ArgMatches;
 use option_values::{RunRules, RunWords, SizeWords, read_demo_size, read_nodes, read_watch};
 use sn_base::Config;
@@ -51,6 +52,21 @@ fn replay(alloc: Global, entries: &ArgMatches<'_>) -> Result<Replay, WordsFault>
         watch: read_watch(text_of(entries, "watch")).ok_or(WordsFault::Usage)?,
         program: name(alloc, entries, "program")?,
         script: name(alloc, entries, "script")?,
+    })
+}
+
+fn roll(alloc: Global, entries: &ArgMatches<'_>) -> Result<Roll, WordsFault>
+    ensures ok { IfOk result (λ roll. roll_of (rows_of (found_of entries.now)) ≡ Some (as_roll roll)) }
+    ensures usage { result ≡ Err WordsFault.Usage → roll_of (rows_of (found_of entries.now)) ≡ None }
+    ensures fits { IfOk result (λ roll. config_fits roll.config ≡ true) }
+    ensures watched { IfOk result (λ roll. watch_fits roll.watch ≡ true) }
+{
+    Ok(Roll {
+        config: config(entries)?,
+        watch: read_watch(text_of(entries, "watch")).ok_or(WordsFault::Usage)?,
+        program: name(alloc, entries, "program")?,
+        script: name(alloc, entries, "script")?,
+        control: name(alloc, entries, "control")?,
     })
 }
 
@@ -131,6 +147,7 @@ fn request(alloc: Global, command: &str, entries: &ArgMatches<'_>) -> Result<Req
 {
     match command {
         "replay" => Ok(Request::Replay(replay(alloc, entries)?)),
+        "roll" => Ok(Request::Roll(roll(alloc, entries)?)),
         "run" => Ok(Request::Run(run(alloc, entries)?)),
         "check" => Ok(Request::Check(check(alloc, entries)?)),
         "demo" => Ok(Request::Demo(demo(entries)?)),

@@ -17,6 +17,18 @@ pub struct Replay {
     pub script: String,
 }
 
+/// The sizes, what is shown, and the names of the files.
+#[derive(Drop)]
+pub struct Roll {
+    pub config: Config,
+    /// The address of the word that is shown in the summary.
+    pub watch: Option<u32>,
+    pub program: String,
+    pub script: String,
+    /// The file of the steps in which the recovery is led.
+    pub control: String,
+}
+
 /// What a run shows before its summary.
 #[derive(Clone, Copy, PartialEq, Eq, Debug)]
 pub enum RunReport {
@@ -51,6 +63,7 @@ pub struct Check {
 #[derive(Drop)]
 pub enum Request {
     Replay(Replay),
+    Roll(Roll),
     Run(Run),
     Check(Check),
     /// How many events the demonstration has.

@@ -25,6 +25,14 @@ fn shown(alloc: Global, request: &Request) -> Result<String, AllocError> {
                 r.program, r.script, c.nodes, c.sets, c.ways, c.log
             )
         }
+        Request::Roll(r) => {
+            let c = &r.config;
+            let watch = r.watch;
+            format!(in alloc;
+                "roll {} {} {} ({} nodes, {} sets, {} ways, log {}) {watch:?}",
+                r.program, r.script, r.control, c.nodes, c.sets, c.ways, c.log
+            )
+        }
         Request::Run(r) => {
             let (c, rules) = (&r.config, &r.rules.rules);
             let (watch, report) = (r.watch, r.report);
@@ -127,6 +135,14 @@ const REQUESTS: &[(&str, &str)] = &[
     (
         "replay '' s",
         "replay  s (4 nodes, 16 sets, 4 ways, log 256) None false",
+    ),
+    (
+        "roll p s c",
+        "roll p s c (4 nodes, 16 sets, 4 ways, log 256) None",
+    ),
+    (
+        "roll --nodes 2 --sets 3 --ways 5 --log 7 --watch 80000004 p s c",
+        "roll p s c (2 nodes, 3 sets, 5 ways, log 7) Some(2147483652)",
     ),
     (
         "run p",

@@ -3,7 +3,7 @@ use Rattle.std.specs.Prelude.{ℕ, List, [], ◌∷◌, Bool, codes, Option, Som
 use Rattle.std.specs.List.{list_any}
 use Rattle.std.specs.Option.{option_or}
 use Rattle.own_pages.specs.declared.page.Page.{Page}
-use Rattle.own_pages.specs.declared.page.Page.TheVariants.{Overview, Replay, Run, Check, Demo, Asm, Dis}
+use Rattle.own_pages.specs.declared.page.Page.TheVariants.{Overview, Replay, Roll, Run, Check, Demo, Asm, Dis}
 use Rattle.own_pages.specs.declared.page.Page.TheVariants.{Events, Formats, Statuses, Version}
 
 abbrev pub Text : Type 0
@@ -12,8 +12,8 @@ Text = List ℕ
 -- the commands, in the order of the overview, each with its page
 abbrev pub command_pages : List (Text × Page)
 command_pages =
-    (codes "replay", Replay) ∷ (codes "run", Run) ∷ (codes "check", Check) ∷ (codes "demo", Demo) ∷ (codes "asm", Asm)
-    ∷ (codes "dis", Dis) ∷ []
+    (codes "replay", Replay) ∷ (codes "roll", Roll) ∷ (codes "run", Run) ∷ (codes "check", Check)
+    ∷ (codes "demo", Demo) ∷ (codes "asm", Asm) ∷ (codes "dis", Dis) ∷ []
 
 -- what else has a page
 abbrev pub topic_pages : List (Text × Page)

@@ -4,13 +4,15 @@ use Rattle.own_pages.specs.declared.page.Page.{Page}
 use Rattle.own_pages.specs.declared.page.Page.TheVariants as page
 use Rattle.own_pages.specs.declared.texts.overview.TheConstants.{OVERVIEW}
 use Rattle.own_pages.specs.declared.texts.commands.TheConstants.{CHECK, DEMO, ASM, DIS}
-use Rattle.own_pages.specs.declared.texts.machines.TheConstants.{REPLAY, RUN}
+use Rattle.own_pages.specs.declared.texts.schedules.TheConstants.{REPLAY, ROLL}
+use Rattle.own_pages.specs.declared.texts.runs.TheConstants.{RUN}
 use Rattle.own_pages.specs.declared.texts.topics.TheConstants.{EVENTS, FORMATS, STATUSES}
 use Rattle.own_pages.specs.declared.texts.overview.TheConstants.{VERSION}
 
 abbrev pub text_on : Page → Text
 text_on page.Overview = OVERVIEW.now
 text_on page.Replay = REPLAY.now
+text_on page.Roll = ROLL.now
 text_on page.Run = RUN.now
 text_on page.Check = CHECK.now
 text_on page.Demo = DEMO.now

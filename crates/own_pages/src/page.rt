@@ -7,6 +7,7 @@ ghost use Rattle.own_pages.specs.Pages.{asked_by, topic_pages, page_in, command_
 pub enum Page {
     Overview,
     Replay,
+    Roll,
     Run,
     Check,
     Demo,
@@ -36,6 +37,7 @@ fn command_page(word: &str) -> Option<Page>
 {
     match word {
         "replay" => Some(Page::Replay),
+        "roll" => Some(Page::Roll),
         "run" => Some(Page::Run),
         "check" => Some(Page::Check),
         "demo" => Some(Page::Demo),

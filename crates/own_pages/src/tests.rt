@@ -19,12 +19,12 @@ fn words_of(alloc: Global, line: &str) -> Result<Vec<String>, AllocError> {
 /// The lines are parted by semicolons.
 const OVERVIEW: &str = ";--help;-h;help";
 
-const RUN: &str = "run --help;run -h;run help;help run";
+const ROLL: &str = "roll --help;roll -h;roll help;help roll";
 
 const TOPIC: &str = "help statuses";
 
-const VERSION: &str = "--version;replay --version;run --version;check --version;demo --version;\
-asm --version;dis --version";
+const VERSION: &str =
+    "--version;replay --version;roll --version;run --version;check --version;demo --version;asm --version;dis --version";
 
 const NEITHER: &str = "\
 '';--;-;-V;--Help;HELP;--helper;hel;--help=1;version;replay;run;check;demo;asm;dis;fly;fly --help;fly --version;--help fly;\
@@ -48,7 +48,7 @@ fn all_ask_for(
 #[test]
 fn a_call_for_a_page_is_one_word_alone_or_after_a_command(rt: HostRuntime) -> Result<(), Fail> {
     all_ask_for(&rt, rt.alloc(), OVERVIEW, Some(Page::Overview))?;
-    all_ask_for(&rt, rt.alloc(), RUN, Some(Page::Run))?;
+    all_ask_for(&rt, rt.alloc(), ROLL, Some(Page::Roll))?;
     all_ask_for(&rt, rt.alloc(), TOPIC, Some(Page::Statuses))?;
     all_ask_for(&rt, rt.alloc(), VERSION, Some(Page::Version))?;
     all_ask_for(&rt, rt.alloc(), NEITHER, None)

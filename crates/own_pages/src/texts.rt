@@ -4,14 +4,16 @@ ghost use Rattle.sn_io.specs.Outside.{Rose, followed_by};
 ghost use Rattle.own_pages.specs.Texts.{text_on};
 
 mod commands;
-mod machines;
 mod overview;
+mod runs;
+mod schedules;
 mod topics;
 
 use crate::page::Page;
 use commands::{ASM, CHECK, DEMO, DIS};
-use machines::{REPLAY, RUN};
 use overview::{OVERVIEW, VERSION};
+use runs::RUN;
+use schedules::{REPLAY, ROLL};
 use sn_io::{Failed, Sink};
 use topics::{EVENTS, FORMATS, STATUSES};
 
@@ -21,6 +23,7 @@ fn text_of(page: Page) -> &'static str
     match page {
         Page::Overview => OVERVIEW,
         Page::Replay => REPLAY,
+        Page::Roll => ROLL,
         Page::Run => RUN,
         Page::Check => CHECK,
         Page::Demo => DEMO,

@@ -15,16 +15,19 @@ use Rattle.sn_text.specs.Script.{script_of}
 use Rattle.sn_text.specs.Trace.{trace_of}
 use Rattle.sn_text.specs.declared.cause.ScriptCause.{ScriptCause}
 use Rattle.sn_text.specs.declared.cause.ScriptCause.TheVariants.{TooLong as ScriptTooLong}
-use Rattle.command_words.specs.Request.{Request, Replay, Run, Check, Demo, Assemble, Disassemble}
+use Rattle.rolling_recovery.specs.Controls.{controls_of}
+use Rattle.rolling_recovery.specs.declared.controls.Control.{Control}
+use Rattle.command_words.specs.Request.{Request, Replay, Roll, Run, Check, Demo, Assemble, Disassemble}
 use Rattle.command_words.specs.declared.request.RunReport.{RunReport}
 use Rattle.option_values.specs.declared.run.RunRules.{RunRules}
 use Rattle.script_replay.specs.declared.job.Showing.{Showing}
 use Rattle.asm_texts.specs.Texts.{words_text}
 use Rattle.counting_program.specs.Program.{counting_words}
-use Rattle.safetynet_main.specs.Files.{program_limit, script_limit, if_loaded, program_of, if_read, events_of, records_of, if_assembled}
+use Rattle.safetynet_main.specs.Files.{program_limit, script_limit, if_loaded, program_of, if_read, events_of, steps_of, records_of, if_assembled}
 use Rattle.safetynet_main.specs.Files.{assembly_of, listing_of}
 use Rattle.safetynet_main.specs.Errand.{Errand, Due, Fetch, due_by, Loads}
-use Rattle.safetynet_main.specs.Call.{Fetches, report_of, job_with, run_with, check_with, text_job, script_errand, trace_errand}
+use Rattle.safetynet_main.specs.Call.{Fetches, report_of, job_with, roll_with, run_with, check_with, text_job, script_errand, trace_errand}
+use Rattle.safetynet_main.specs.Call.{control_errand, rolled_errand}
 use Rattle.safetynet_main.specs.Call.{generated_job, errand_of}
 use Rattle.safetynet_main.specs.declared.job.Job.{Job}
 use Rattle.safetynet_main.specs.declared.status.ProgramCause.TheVariants.{TooLong as ProgramTooLong}
@@ -75,6 +78,11 @@ plain-job : (config : Config) (showing : Showing) (image : ImageData) (events : 
 plain-job config showing image (Ok events) h = (λ e. cc, λ e. cc)
 plain-job config showing image (Err status) h = (λ e. h.0 cc, λ e. h.1 cc)
 
+plain-roll : (config : Config) (watch : Option ℕ) (image : ImageData) (events : List Event) (controls : Result (List Control) Status) →
+    IsOfBytes controls → IsOfBytes (roll_with config watch image events controls)
+plain-roll config watch image events (Ok controls) h = (λ e. cc, λ e. cc)
+plain-roll config watch image events (Err status) h = (λ e. h.0 cc, λ e. h.1 cc)
+
 plain-check : (nodes : ℕ) (image : ImageData) (records : Result (List Record) Status) → IsOfBytes records →
     IsOfBytes (check_with nodes image records)
 plain-check nodes image (Ok records) h = (λ e. cc, λ e. cc)
@@ -100,6 +108,26 @@ plain-script config showing script (Ok image) h = (
   refl,
   plain-job config showing image (Err (BadScript ScriptTooLong)) (λ e. cc, λ e. cc),
   λ bytes. plain-job config showing image (events_of config.nodes bytes)
+      (read (script_of config.nodes bytes) (nat_lt script_limit (length bytes))),
+)
+
+plain-control : (config : Config) (watch : Option ℕ) (control : List ℕ) (image : ImageData) (events : Result (List Event) Status) →
+    IsOfBytes events → IsPlain (control_errand config watch control image events)
+plain-control config watch control image (Err status) h = (λ e. h.0 cc, λ e. h.1 cc)
+plain-control config watch control image (Ok events) h = (
+  refl,
+  plain-roll config watch image events (Err (BadScript ScriptTooLong)) (λ e. cc, λ e. cc),
+  λ bytes. plain-roll config watch image events (steps_of config.nodes bytes)
+      (read (controls_of config.nodes bytes) (nat_lt script_limit (length bytes))),
+)
+
+plain-rolled : (config : Config) (watch : Option ℕ) (script control : List ℕ) (program : Result ImageData Status) → IsOfBytes program →
+    IsPlain (rolled_errand config watch script control program)
+plain-rolled config watch script control (Err status) h = (λ e. h.0 cc, λ e. h.1 cc)
+plain-rolled config watch script control (Ok image) h = (
+  refl,
+  plain-control config watch control image (Err (BadScript ScriptTooLong)) (λ e. cc, λ e. cc),
+  λ bytes. plain-control config watch control image (events_of config.nodes bytes)
       (read (script_of config.nodes bytes) (nat_lt script_limit (length bytes))),
 )
 
@@ -134,6 +162,11 @@ errand-of_words (Some (Replay config trace watch program script)) =
       plain-script config showing script (Err (BadProgram ProgramTooLong)) (λ e. cc, λ e. cc),
       λ bytes. plain-script config showing script (program_of bytes) (program-of_bytes bytes),
     )
+errand-of_words (Some (Roll config watch program script control)) = (
+  refl,
+  plain-rolled config watch script control (Err (BadProgram ProgramTooLong)) (λ e. cc, λ e. cc),
+  λ bytes. plain-rolled config watch script control (program_of bytes) (program-of_bytes bytes),
+)
 errand-of_words (Some (Run config rules report watch program)) = (
   refl,
   plain-run config rules report watch (Err (BadProgram ProgramTooLong)) (λ e. cc, λ e. cc),
@@ -280,6 +313,7 @@ refused-at_once (Some (Check nodes program trace)) e = absurd cc
 refused-at_once (Some (Demo size)) e =
     absurd ((plain-generated size (program_of (words_text counting_words)) (program-of_bytes (words_text counting_words))).1 cc)
 refused-at_once (Some (Replay config trace watch program script)) e = absurd cc
+refused-at_once (Some (Roll config watch program script control)) e = absurd cc
 refused-at_once (Some (Run config rules report watch program)) e = absurd cc
 refused-at_once (Some (Assemble text)) e = absurd cc
 refused-at_once (Some (Disassemble program)) e = absurd cc

@@ -1,6 +1,6 @@
--- The errands of a replay, of a check and of a run, from how their files were fetched and read.
+-- The errands of a replay, of a recovery node by node, of a check and of a run, from how their files were fetched and read.
 use Rattle.std.proofs.Common.{◌≡◌, ℕ, List, refl, ap, subst}
-use Rattle.std.specs.Prelude.{Option, Result, Ok}
+use Rattle.std.specs.Prelude.{Option, Result, Ok, Err}
 use Rattle.sn_base.specs.Image.{ImageData}
 use Rattle.sn_base.specs.declared.config.Config.{Config}
 use Rattle.sn_base.specs.declared.event.Event.{Event}
@@ -9,15 +9,17 @@ use Rattle.sn_io.specs.Outside.{Found}
 use Rattle.script_replay.specs.declared.job.Showing.{Showing}
 use Rattle.option_values.specs.declared.run.RunRules.{RunRules}
 use Rattle.command_words.specs.declared.request.RunReport.{RunReport}
-use Rattle.safetynet_main.specs.Files.{program_limit, script_limit, program_in, script_in, trace_in}
+use Rattle.rolling_recovery.specs.declared.controls.Control.{Control}
+use Rattle.safetynet_main.specs.Files.{program_limit, script_limit, program_in, script_in, control_in, trace_in}
 use Rattle.safetynet_main.specs.Errand.{Errand, Fetch, Loads}
-use Rattle.safetynet_main.specs.Call.{job_with, run_with, check_with, script_errand, trace_errand, replay_errand, run_errand, check_errand}
+use Rattle.safetynet_main.specs.Call.{job_with, roll_with, run_with, check_with, script_errand, control_errand, rolled_errand, trace_errand}
+use Rattle.safetynet_main.specs.Call.{replay_errand, roll_errand, run_errand, check_errand}
 use Rattle.safetynet_main.specs.declared.job.Job.{Job}
 use Rattle.safetynet_main.specs.declared.status.Status.{Status}
 
 module _ {S : Type 0} (fetches : S → List ℕ → ℕ → Found → S → Type 0) (image : ImageData) (old mid new : S) where
   -- the program, and then the rest
-  loads-rest : (rest : Result ImageData Status → Errand) (job : Result Job Status) (program : List ℕ)
+  pub loads-rest : (rest : Result ImageData Status → Errand) (job : Result Job Status) (program : List ℕ)
       → (found : Found) × fetches old program program_limit found mid × (Ok image ≡ program_in found)
       → Loads fetches (rest (Ok image)) job mid new
       → Loads fetches (Fetch program program_limit (λ found. rest (program_in found))) job old new
@@ -58,3 +60,41 @@ module _ {S : Type 0} (fetches : S → List ℕ → ℕ → Found → S → Type
       subst (λ (t : List ℕ). Loads fetches (run_errand config rules report watch t)
       (run_with config rules report watch (Ok image)) old mid) p
       (h.0, mid, h.1, (ap (run_with config rules report watch) h.2, refl))
+
+-- the files of a recovery node by node, of which the script is refused, or the control file is fetched too
+module _ {S : Type 0} (fetches : S → List ℕ → ℕ → Found → S → Type 0) (image : ImageData) (config : Config) (watch : Option ℕ) (old mid : S) (program script control asked_program asked_script asked_control : List ℕ) (p : program ≡ asked_program) (s : script ≡ asked_script) (c : control ≡ asked_control) (h : (found : Found) × fetches old program program_limit found mid × (Ok image ≡ program_in found)) where
+  named : (job : Result Job Status) (new : S) → Loads fetches (rolled_errand config watch script control (Ok image)) job mid new →
+      Loads fetches (roll_errand config watch asked_program asked_script asked_control) job old new
+  named job new l =
+      subst (λ (t : List ℕ). Loads fetches (roll_errand config watch t asked_script asked_control) job old new) p
+      (subst (λ (t : List ℕ). Loads fetches (roll_errand config watch program t asked_control) job old new) s
+      (subst (λ (t : List ℕ). Loads fetches (roll_errand config watch program script t) job old new) c
+      (loads-rest fetches image old mid new (rolled_errand config watch script control) job program h l)))
+
+  pub loads-roll_script : (status : Status) (new : S) →
+      (found : Found) × fetches mid script script_limit found new × (Err status ≡ script_in config.nodes found) →
+      Loads fetches (roll_errand config watch asked_program asked_script asked_control) (Err status) old new
+  loads-roll_script status new k =
+      named (Err status) new (
+        k.0,
+        new,
+        k.1,
+        subst (λ (r : Result (List Event) Status). Loads fetches (control_errand config watch control image r) (Err status) new new) k.2
+            (refl, refl),
+      )
+
+  pub loads-roll : (events : List Event) (controls : Result (List Control) Status) (later new : S) →
+      (found : Found) × fetches mid script script_limit found later × (Ok events ≡ script_in config.nodes found) →
+      (found : Found) × fetches later control script_limit found new × (controls ≡ control_in config.nodes found) →
+      Loads fetches (roll_errand config watch asked_program asked_script asked_control) (roll_with config watch image events controls) old new
+  loads-roll events controls later new k l =
+      named (roll_with config watch image events controls) new (
+        k.0,
+        later,
+        k.1,
+        subst
+            (λ (r : Result (List Event) Status). Loads fetches (control_errand config watch control image r)
+            (roll_with config watch image events controls) later new)
+            k.2
+            (l.0, new, l.1, (ap (roll_with config watch image events) l.2, refl)),
+      )

@@ -8,7 +8,7 @@ use Rattle.sn_base.specs.declared.event.Event.{Event}
 use Rattle.rv_core.specs.declared.step.Record.{Record}
 use Rattle.sn_io.specs.Outside.{Found, File, TooLong, Missing, Rose, found_in}
 use Rattle.option_values.specs.declared.run.RunRules.{RunRules}
-use Rattle.command_words.specs.Request.{Request, Replay, Run as RunRequest, Check, Demo, Assemble, Disassemble}
+use Rattle.command_words.specs.Request.{Request, Replay, Roll as RollRequest, Run as RunRequest, Check, Demo, Assemble, Disassemble}
 use Rattle.command_words.specs.declared.request.RunReport.{RunReport as AskedReport}
 use Rattle.command_words.specs.declared.request.RunReport.TheVariants as asked
 use Rattle.sn_probe.specs.Probes.{Meter}
@@ -19,6 +19,9 @@ use Rattle.script_replay.specs.declared.job.ReportKind.TheVariants.{Events, Trac
 use Rattle.script_replay.specs.Played.{MayBegin}
 use Rattle.script_replay.specs.Probed.{tallies_due}
 use Rattle.script_replay.specs.Shown.{pieces_due, IsShown, IsShownInPart}
+use Rattle.rolling_recovery.specs.declared.controls.Control.{Control}
+use Rattle.rolled_replay.specs.declared.job.Roll.{Roll}
+use Rattle.rolled_replay.specs.Rolled.{MayRoll, IsRolled, IsBrokenOff as IsRollBrokenOff, pieces_due as rolled_pieces}
 use Rattle.run_journals.specs.declared.entry.JournalEntry.{JournalEntry}
 use Rattle.node_run.specs.declared.job.Run.{Run}
 use Rattle.node_run.specs.declared.job.RunReport.{RunReport}
@@ -29,12 +32,13 @@ use Rattle.node_run.specs.Shown.{MayBegin as MayRun, IsJournal, IsShown as IsRun
 use Rattle.asm_texts.specs.Texts.{words_text}
 use Rattle.counting_program.specs.Program.{counting_words}
 use Rattle.generated_runs.specs.Generated.{generated_config, generated_events}
-use Rattle.safetynet_main.specs.Files.{program_limit, script_limit, program_of, program_in, script_in, trace_in, assembly_in, listing_of}
+use Rattle.safetynet_main.specs.Files.{program_limit, script_limit, program_of, program_in, script_in, control_in, trace_in, assembly_in}
+use Rattle.safetynet_main.specs.Files.{listing_of}
 use Rattle.safetynet_main.specs.Errand.{Errand, Due, Fetch, due_by, Loads}
 use Rattle.safetynet_main.specs.Outcome.{Outcome, Finished, Judged, Ran, IsVerdict, verdict_line, status_of}
 use Rattle.safetynet_main.specs.declared.job.Check.{Check as Judging}
 use Rattle.safetynet_main.specs.declared.job.Job.{Job}
-use Rattle.safetynet_main.specs.declared.job.Job.TheVariants.{Replay as ReplayJob, Run as RunJob, Check as CheckJob, Text}
+use Rattle.safetynet_main.specs.declared.job.Job.TheVariants.{Replay as ReplayJob, Roll as RollJob, Run as RunJob, Check as CheckJob, Text}
 use Rattle.safetynet_main.specs.declared.files.Unread.{Unread}
 use Rattle.safetynet_main.specs.declared.files.Unread.TheVariants.{Missing as UnreadMissing, TooLong as UnreadTooLong}
 use Rattle.safetynet_main.specs.declared.files.Unread.TheVariants.{Memory as UnreadMemory}
@@ -62,6 +66,12 @@ pub record Fetches {S : Type 0} (files : S → Option (List ℕ → Option (List
 abbrev pub job_with : Config → Showing → ImageData → Result (List Event) Status → Result Job Status
 job_with config showing image (Ok events) = Ok (ReplayJob (record { program = image; config = config; showing = showing; script = events }))
 job_with config showing image (Err status) = Err status
+
+-- the job of a program, of a script's events and of what was read of the control file
+abbrev pub roll_with : Config → Option ℕ → ImageData → List Event → Result (List Control) Status → Result Job Status
+roll_with config watch image events (Ok controls) =
+    Ok (RollJob (record { program = image; config = config; watch = watch; script = events; controls = controls }))
+roll_with config watch image events (Err status) = Err status
 
 -- the job of a program and of what was read of the trace
 abbrev pub check_with : ℕ → ImageData → Result (List Record) Status → Result Job Status
@@ -100,6 +110,17 @@ script_errand config showing script (Ok image) =
     Fetch script script_limit (λ found. Due (job_with config showing image (script_in config.nodes found)))
 script_errand config showing script (Err status) = Due (Err status)
 
+-- a script that is refused leaves the control file alone
+abbrev pub control_errand : Config → Option ℕ → List ℕ → ImageData → Result (List Event) Status → Errand
+control_errand config watch control image (Ok events) =
+    Fetch control script_limit (λ found. Due (roll_with config watch image events (control_in config.nodes found)))
+control_errand config watch control image (Err status) = Due (Err status)
+
+abbrev pub rolled_errand : Config → Option ℕ → List ℕ → List ℕ → Result ImageData Status → Errand
+rolled_errand config watch script control (Ok image) =
+    Fetch script script_limit (λ found. control_errand config watch control image (script_in config.nodes found))
+rolled_errand config watch script control (Err status) = Due (Err status)
+
 abbrev pub trace_errand : ℕ → List ℕ → Result ImageData Status → Errand
 trace_errand nodes trace (Ok image) = Fetch trace script_limit (λ found. Due (check_with nodes image (trace_in nodes found)))
 trace_errand nodes trace (Err status) = Due (Err status)
@@ -112,6 +133,10 @@ report_of false = Events
 -- what each command fetches, and what is due then
 abbrev pub replay_errand : Config → Showing → List ℕ → List ℕ → Errand
 replay_errand config showing program script = Fetch program program_limit (λ found. script_errand config showing script (program_in found))
+
+abbrev pub roll_errand : Config → Option ℕ → List ℕ → List ℕ → List ℕ → Errand
+roll_errand config watch program script control =
+    Fetch program program_limit (λ found. rolled_errand config watch script control (program_in found))
 
 abbrev pub run_errand : Config → RunRules → AskedReport → Option ℕ → List ℕ → Errand
 run_errand config rules report watch program =
@@ -139,6 +164,7 @@ demo_errand size = Due (generated_job size (program_of (words_text counting_word
 abbrev pub errand_of : Option Request → Errand
 errand_of (Some (Replay config trace watch program script)) =
     replay_errand config (record { report = report_of trace; watch = watch }) program script
+errand_of (Some (RollRequest config watch program script control)) = roll_errand config watch program script control
 errand_of (Some (RunRequest config rules report watch program)) = run_errand config rules report watch program
 errand_of (Some (Check nodes program trace)) = check_errand nodes program trace
 errand_of (Some (Demo size)) = demo_errand size
@@ -166,6 +192,7 @@ IsJudged c _ = ⊥
 -- what a job comes to: events and a text come to their end, workers to one of a due journal, and a trace to its verdict
 abbrev pub IsOutcome : Job → Outcome → Type 0
 IsOutcome (ReplayJob r) outcome = outcome ≡ Finished
+IsOutcome (RollJob r) outcome = outcome ≡ Finished
 IsOutcome (RunJob r) outcome = RunsTo r outcome
 IsOutcome (CheckJob c) outcome = IsJudged c outcome
 IsOutcome (Text text) outcome = outcome ≡ Finished
@@ -182,6 +209,7 @@ verdict_pieces c _ = []
 -- all that a job puts that comes to this, where these probes are told its events
 abbrev pub pieces_of_job : List Meter → Job → Outcome → List Piece
 pieces_of_job probes (ReplayJob r) outcome = pieces_due r probes
+pieces_of_job probes (RollJob r) outcome = rolled_pieces r probes
 pieces_of_job probes (RunJob r) outcome = journal_pieces probes r outcome
 pieces_of_job probes (CheckJob c) outcome = verdict_pieces c outcome
 pieces_of_job probes (Text text) outcome = console_piece text
@@ -202,12 +230,14 @@ ShowsRunInPart probes r _ old new = ⊥
 -- what the sinks show of a job that was done, and of one that a sink broke
 abbrev pub Shows : List Meter → Job → Outcome → Ends → Ends → Type 0
 Shows probes (ReplayJob r) outcome old new = IsShown r.program r.config r.showing (tallies_due r probes) r.script old new
+Shows probes (RollJob r) outcome old new = IsRolled r probes old new
 Shows probes (RunJob r) outcome old new = ShowsRun probes r outcome old new
 Shows probes (CheckJob c) outcome old new = ⊤
 Shows probes (Text text) outcome old new = ⊤
 
 abbrev pub ShowsInPart : List Meter → Job → Outcome → Ends → Ends → Type 0
 ShowsInPart probes (ReplayJob r) outcome old new = IsShownInPart r.program r.config r.showing (tallies_due r probes) r.script old new
+ShowsInPart probes (RollJob r) outcome old new = IsRollBrokenOff r probes old new
 ShowsInPart probes (RunJob r) outcome old new = ShowsRunInPart probes r outcome old new
 ShowsInPart probes (CheckJob c) outcome old new = ⊤
 ShowsInPart probes (Text text) outcome old new = ⊤
@@ -238,6 +268,7 @@ Comes fetches probes ask status old new before behind =
 -- a job that may begin
 abbrev pub IsRead : Job → Type 0
 IsRead (ReplayJob r) = MayBegin r
+IsRead (RollJob r) = MayRoll r
 IsRead (RunJob r) = MayRun r
 IsRead (CheckJob c) = (1 ≤ c.nodes) × (c.nodes ≤ 16)
 IsRead (Text text) = ⊤

@@ -6,6 +6,8 @@ use Rattle.rv_core.specs.declared.step.Record.{Record}
 use Rattle.sn_io.specs.Outside.{Found, File, TooLong, Missing}
 use Rattle.elf_load.specs.declared.fault.LoadCause.{LoadCause}
 use Rattle.elf_load.specs.Loading.{image_of}
+use Rattle.rolling_recovery.specs.Controls.{controls_of}
+use Rattle.rolling_recovery.specs.declared.controls.Control.{Control}
 use Rattle.rv_asm.specs.Assembly.{asm_of}
 use Rattle.rv_asm.specs.declared.fault.AsmCause.{AsmCause}
 use Rattle.rv_asm.specs.declared.fault.AsmCause.TheVariants.{TooLong as AsmTooLong}
@@ -22,7 +24,7 @@ use Rattle.safetynet_main.specs.declared.status.Status.TheVariants.{StoreFault, 
 abbrev pub program_limit : ℕ
 program_limit = 16777216
 
--- 32 MiB, of a script and of a trace
+-- 32 MiB, of a script, of a control file and of a trace
 abbrev pub script_limit : ℕ
 script_limit = 33554432
 
@@ -34,7 +36,7 @@ if_loaded (Ok image) = Ok image
 abbrev pub program_of : List ℕ → Result ImageData Status
 program_of bytes = if nat_lt program_limit (length bytes) then Err (BadProgram ProgramTooLong) else if_loaded (image_of bytes)
 
--- a script or a trace that is refused is the status
+-- a script, a control file or a trace that is refused is the status
 abbrev pub if_read : {A : Type 0} → Result (List A) ScriptCause → Result (List A) Status
 if_read (Ok items) = Ok items
 if_read (Err cause) = Err (BadScript cause)
@@ -42,6 +44,10 @@ if_read (Err cause) = Err (BadScript cause)
 -- the events for so many nodes
 abbrev pub events_of : ℕ → List ℕ → Result (List Event) Status
 events_of nodes bytes = if nat_lt script_limit (length bytes) then Err (BadScript ScriptTooLong) else if_read (script_of nodes bytes)
+
+-- the controls of a recovery of so many nodes
+abbrev pub steps_of : ℕ → List ℕ → Result (List Control) Status
+steps_of nodes bytes = if nat_lt script_limit (length bytes) then Err (BadScript ScriptTooLong) else if_read (controls_of nodes bytes)
 
 -- the records of a trace of so many nodes
 abbrev pub records_of : ℕ → List ℕ → Result (List Record) Status
@@ -70,6 +76,11 @@ abbrev pub script_in : ℕ → Found → Result (List Event) Status
 script_in nodes Missing = Err StoreFault
 script_in nodes TooLong = Err (BadScript ScriptTooLong)
 script_in nodes (File bytes) = events_of nodes bytes
+
+abbrev pub control_in : ℕ → Found → Result (List Control) Status
+control_in nodes Missing = Err StoreFault
+control_in nodes TooLong = Err (BadScript ScriptTooLong)
+control_in nodes (File bytes) = steps_of nodes bytes
 
 abbrev pub trace_in : ℕ → Found → Result (List Record) Status
 trace_in nodes Missing = Err StoreFault

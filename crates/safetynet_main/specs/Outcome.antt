@@ -15,7 +15,7 @@ use Rattle.safetynet_main.specs.declared.status.Status.TheVariants.{Done, Budget
 use Rattle.safetynet_main.specs.declared.status.Status.TheVariants.{Trapped as TrappedStatus}
 
 pub data Outcome : Type 0 where
-  -- events were applied up to the last, or a text was put
+  -- events were applied up to the last, and the controls of a recovery after them, or a text was put
   Finished : Outcome
   -- a trace was judged
   Judged : (verdict : Verdict) → Outcome

@@ -14,6 +14,7 @@ use crate::job::Job;
 use crate::status::{Status, ended_as};
 use command_words::{Request, WordsFault, read_words};
 use node_run::{RunFault, run};
+use rolled_replay::{RollFault, roll};
 use script_replay::{ReplayFault, replay};
 use sink_pieces::put_console;
 use sn_io::{Gate, Sink, Store};
@@ -44,6 +45,11 @@ fn perform<T: Threads + Wait + Sync, C: Sink + Send, R: Sink, G: Gate + Sync>(
             Ok(()) => Status::Done,
             Err(ReplayFault::Sink) => Status::SinkFault,
             Err(ReplayFault::Memory) => Status::Memory,
+        },
+        Job::Roll(job) => match roll(alloc, job, probes, console, report) {
+            Ok(()) => Status::Done,
+            Err(RollFault::Sink) => Status::SinkFault,
+            Err(RollFault::Memory) => Status::Memory,
         },
         Job::Run(job) => match run(rt, alloc, job, probes, console, report, gate) {
             Ok(ending) => ended_as(ending),

@@ -1,22 +1,25 @@
 //! Files fetched from the store, and read.
-ghost use Rattle.std.specs.Prelude.{◌≡◌, ◌≢◌, ◌≤◌, ℕ, true, length, Some, Ok, Err, IfOk, string_bytes};
+ghost use Rattle.std.specs.Prelude.{◌≡◌, ◌≢◌, ◌≤◌, ℕ, true, All, length, Some, Ok, Err, IfOk, string_bytes};
 ghost use Rattle.sn_base.specs.Config.{lies_in, config_fits};
 ghost use Rattle.sn_io.specs.Outside.{Found};
 ghost use Rattle.consistent_cuts.specs.Runs.{AllFit};
+ghost use Rattle.rolling_recovery.specs.Controls.{control_fits};
 ghost use Rattle.command_words.specs.Request.{as_request, watch_fits, request_fits};
 ghost use Rattle.option_values.specs.Runs.{run_rules_fit};
-ghost use Rattle.safetynet_main.specs.Files.{program_in, script_in, trace_in, assembly_in};
+ghost use Rattle.safetynet_main.specs.Files.{program_in, script_in, control_in, trace_in, assembly_in};
 ghost use Rattle.safetynet_main.specs.Errand.{Loads};
-ghost use Rattle.safetynet_main.specs.Call.{Fetches, found_by, report_of, report_shown, errand_of, replay_errand, run_errand};
-ghost use Rattle.safetynet_main.specs.Call.{check_errand, assembly_errand, listing_errand, IsRead};
+ghost use Rattle.safetynet_main.specs.Call.{Fetches, found_by, report_of, report_shown, errand_of, replay_errand, roll_errand};
+ghost use Rattle.safetynet_main.specs.Call.{run_errand, check_errand, assembly_errand, listing_errand, IsRead};
 
 use crate::job::{Check, Job, Text, Trace};
 use crate::reading::{
-    PROGRAM_LIMIT, SCRIPT_LIMIT, list_program, read_assembly, read_program, read_script, read_trace,
+    PROGRAM_LIMIT, SCRIPT_LIMIT, list_program, read_assembly, read_control, read_program,
+    read_script, read_trace,
 };
 use crate::status::{ProgramCause, Status};
 use command_words::Request;
 use node_run::{Run, RunReport, RunShowing};
+use rolled_replay::{Controls, Roll};
 use rv_asm::AsmCause;
 use script_replay::{Replay, ReportKind, Script, Showing};
 use sn_base::Image;
@@ -83,6 +86,29 @@ fn fetch_script<S: Store>(
 {
     match fetch_file(alloc, store, name, SCRIPT_LIMIT) {
         Ok(bytes) => read_script(alloc, bytes.as_slice(), nodes),
+        Err(Unread::Missing) => Err(Status::StoreFault),
+        Err(Unread::TooLong) => Err(Status::BadScript(ScriptCause::TooLong)),
+        Err(Unread::Memory) => Err(Status::Memory),
+    }
+}
+
+fn fetch_control<S: Store>(
+    alloc: Global,
+    store: &mut S,
+    name: &str,
+    nodes: u8,
+) -> Result<Controls, Status>
+    requires { nodes ≤ 16 }
+    ensures found { result ≢ Err Status.Memory → (found : Found)
+        × Fetches S.files S.sure S.faults S.gave store.old name.now 33554432 found store.new
+        × (result ≡ control_in nodes found) }
+    ensures fit { IfOk result (λ controls. All (λ control. control_fits nodes control ≡ true) controls) }
+    ensures few { IfOk result (λ controls. length controls ≤ 1000000) }
+    ensures files { S.files store.new ≡ S.files store.old }
+    ensures stays_sure { S.sure store.old → S.sure store.new }
+{
+    match fetch_file(alloc, store, name, SCRIPT_LIMIT) {
+        Ok(bytes) => read_control(alloc, bytes.as_slice(), nodes),
         Err(Unread::Missing) => Err(Status::StoreFault),
         Err(Unread::TooLong) => Err(Status::BadScript(ScriptCause::TooLong)),
         Err(Unread::Memory) => Err(Status::Memory),
@@ -167,6 +193,45 @@ fn load_replay<S: Store>(
             config,
             showing,
             script,
+        })),
+        Err(status) => Err(status),
+    }
+}
+
+// The program, the script and the control file of a recovery node by node, in this order.
+#[tactic(auto, using(crate::proofs::Watched::watched_is))]
+fn load_roll<S: Store>(
+    alloc: Global,
+    store: &mut S,
+    asked: &command_words::Roll,
+) -> Result<Job, Status>
+    requires sizes { config_fits asked.now.config ≡ true }
+    requires watched { watch_fits asked.now.watch ≡ true }
+    ensures loads { result ≢ Err Status.Memory → Loads (Fetches S.files S.sure S.faults S.gave)
+        (roll_errand asked.now.config asked.now.watch (string_bytes asked.now.program) (string_bytes asked.now.script)
+        (string_bytes asked.now.control))
+        result store.old store.new }
+    ensures read { IfOk result IsRead }
+    ensures files { S.files store.new ≡ S.files store.old }
+    ensures stays_sure { S.sure store.old → S.sure store.new }
+{
+    let program = match fetch_program(alloc, store, asked.program.as_str()) {
+        Ok(program) => program,
+        Err(status) => return Err(status),
+    };
+    let config = asked.config;
+    let watch = asked.watch;
+    let script = match fetch_script(alloc, store, asked.script.as_str(), config.nodes) {
+        Ok(script) => script,
+        Err(status) => return Err(status),
+    };
+    match fetch_control(alloc, store, asked.control.as_str(), config.nodes) {
+        Ok(controls) => Ok(Job::Roll(Roll {
+            program,
+            config,
+            watch,
+            script,
+            controls,
         })),
         Err(status) => Err(status),
     }
@@ -293,6 +358,7 @@ pub fn load<S: Store>(alloc: Global, store: &mut S, request: &Request) -> Result
 {
     match request {
         Request::Replay(asked) => load_replay(alloc, store, asked),
+        Request::Roll(asked) => load_roll(alloc, store, asked),
         Request::Run(asked) => load_run(alloc, store, asked),
         Request::Check(asked) => load_check(alloc, store, asked),
         Request::Assemble(text) => load_assembly(alloc, store, text.as_str()),

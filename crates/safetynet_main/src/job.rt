@@ -4,6 +4,7 @@ ghost use Rattle.safetynet_main.specs.Outcome.{verdict_status};
 
 use crate::status::Status;
 use node_run::Run;
+use rolled_replay::Roll;
 use rv_core::Record;
 use script_replay::Replay;
 use sn_base::Image;
@@ -79,6 +80,8 @@ pub struct Check {
 pub enum Job {
     /// Events are applied.
     Replay(Replay),
+    /// Events are applied, and then controls lead a recovery.
+    Roll(Roll),
     /// Workers run a machine, each in a thread of its own.
     Run(Run),
     /// A trace is judged, and the verdict is put to the report.

@@ -1,13 +1,15 @@
 //! What the bytes of files are.
-ghost use Rattle.std.specs.Prelude.{◌≡◌, ◌≢◌, ◌≤◌, length, Ok, Err, IfOk};
+ghost use Rattle.std.specs.Prelude.{◌≡◌, ◌≢◌, ◌≤◌, true, All, length, Ok, Err, IfOk};
 ghost use Rattle.consistent_cuts.specs.Runs.{AllFit};
 ghost use Rattle.asm_texts.specs.Texts.{words_text};
-ghost use Rattle.safetynet_main.specs.Files.{program_of, events_of, records_of, assembly_of, listing_of};
+ghost use Rattle.rolling_recovery.specs.Controls.{control_fits};
+ghost use Rattle.safetynet_main.specs.Files.{program_of, events_of, steps_of, records_of, assembly_of, listing_of};
 
 use crate::job::{Text, Trace};
 use crate::status::{ProgramCause, Status};
 use asm_texts::words_text;
 use elf_load::{LoadFault, load};
+use rolled_replay::Controls;
 use rv_asm::{AsmCause, AsmFault, assemble};
 use script_replay::Script;
 use sn_base::Image;
@@ -17,7 +19,7 @@ use std::alloc::Global;
 /// The most bytes of a program's file, and of a text that is assembled.
 pub const PROGRAM_LIMIT: usize = 16_777_216;
 
-/// The most bytes of a script's file, and of a trace's.
+/// The most bytes of a script's file, of a control file and of a trace's.
 pub const SCRIPT_LIMIT: usize = 33_554_432;
 
 /// The program that the bytes of a file are: an ELF file or a hexadecimal image, as the loader reads them.
@@ -46,6 +48,23 @@ pub fn read_script(alloc: Global, bytes: &[u8], nodes: u8) -> Result<Script, Sta
     }
     match sn_text::read_script(alloc, bytes, nodes) {
         Ok(events) => Ok(Script::new(events)),
+        Err(ScriptFault::Refused(cause)) => Err(Status::BadScript(cause)),
+        Err(ScriptFault::Memory) => Err(Status::Memory),
+    }
+}
+
+/// The controls of a recovery of so many nodes that the bytes of a file are.
+pub fn read_control(alloc: Global, bytes: &[u8], nodes: u8) -> Result<Controls, Status>
+    requires { nodes ≤ 16 }
+    ensures read { result ≢ Err Status.Memory → result ≡ steps_of nodes bytes.now }
+    ensures fit { IfOk result (λ controls. All (λ control. control_fits nodes control ≡ true) controls) }
+    ensures few { IfOk result (λ controls. length controls ≤ 1000000) }
+{
+    if bytes.len() > SCRIPT_LIMIT {
+        return Err(Status::BadScript(ScriptCause::TooLong));
+    }
+    match rolling_recovery::read_control(alloc, bytes, nodes) {
+        Ok(controls) => Ok(Controls::new(controls)),
         Err(ScriptFault::Refused(cause)) => Err(Status::BadScript(cause)),
         Err(ScriptFault::Memory) => Err(Status::Memory),
     }

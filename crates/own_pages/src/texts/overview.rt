@@ -11,6 +11,7 @@ usage: safetynet COMMAND [OPTIONS] FILES
 
 commands:
   replay PROGRAM SCRIPT        applies the events of a script, one after another
+  roll PROGRAM SCRIPT CONTROL  recovers node by node, by orders that may be lost
   run PROGRAM                  lets a worker for each node pick the events
   check PROGRAM TRACE          judges whether a trace is an execution
   demo SIZE                    runs a program of its own; needs no file
@@ -20,7 +21,7 @@ commands:
 help:
   safetynet COMMAND --help     a command's page (also -h, help, help COMMAND)
   safetynet help events        the events that a script may have
-  safetynet help formats       programs, scripts, traces, reports
+  safetynet help formats       programs, scripts, control files, traces, reports
   safetynet help statuses      how a call can end
   safetynet --version          the version
 

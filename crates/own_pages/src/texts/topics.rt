@@ -25,6 +25,8 @@ on: `deliver 9: nomessage` where no message 9 is in flight, `deliver 9: held`
 where its receiver hasn't reached the message's interval, `validate: notready 1`
 where node 1 hasn't reported that checkpoint. docs/FORMATS.md lists all answers,
 and docs/PROTOCOL.md says what each event does.
+
+A control file, for roll, has its own lines: see `safetynet help roll`.
 ";
 
 pub const FORMATS: &str = "\
@@ -40,8 +42,8 @@ one with 2 reads a byte into x10, and one with 93 ends the core with code x10.
     00100893
     00000073
 
-SCRIPT: one event a line (help events). TRACE: one instruction a line, in the
-order of the execution:
+SCRIPT: one event a line (help events). CONTROL: one step of a recovery a line
+(help roll). TRACE: one instruction a line, in the order of the execution:
 
   N WORD F     the core of node N did one that saw WORD, eight hexadecimal
                digits; F is 1 where a store-conditional was done, else 0
@@ -70,9 +72,9 @@ standard error names it (`# safetynet: WORD`).
    1  usage          the words aren't a command, or a value isn't in its range
    2  store          a file is lacking or couldn't be read
    3  program CAUSE  PROGRAM is too long (toolong) or can't be loaded
-   4  script CAUSE   SCRIPT or TRACE is too long (toolong, toomany), has a line
-                     of another form (badline), or names a node, a block or a
-                     switch that isn't there (outofrange)
+   4  script CAUSE   SCRIPT, CONTROL or TRACE is too long (toolong, toomany), has
+                     a line of another form (badline), or names a node, a block
+                     or a switch that isn't there (outofrange)
    5  sink           not all of the output could be written
    6  budget         a run has as many events as its budget
    7  memory         there was not enough of it

@@ -1,4 +1,4 @@
-//! The commands that run a machine: by a script's events, or by those that its workers pick.
+//! The commands that apply a script's events.
 
 pub const REPLAY: &str = "\
 Applies the events of a script to a machine that runs a program, and reports
@@ -38,52 +38,43 @@ examples:
   safetynet replay --nodes=1 --trace examples/first/a.hex examples/first/a.script
 ";
 
-pub const RUN: &str = "\
-Runs a program with a worker for each node, in a thread of its own. Each worker
-applies events that are due, under rules, until all cores have ended, a recovery
-finds two nodes cut off, or the budget is spent.
+pub const ROLL: &str = "\
+Applies the events of a script, and then recovers the machine node by node: by
+orders that go out to the nodes, may be lost, come twice or come late.
 
-usage: safetynet run [OPTIONS] PROGRAM
+usage: safetynet roll [OPTIONS] PROGRAM SCRIPT CONTROL
 
-options, before or after the file, each at most once, as --nodes 2 or --nodes=2:
+options, before or after the files, each at most once, as --nodes 2 or --nodes=2:
   --nodes N        how many nodes, 1 to 16 [default: 4]
   --sets N         sets of each cache, 1 to 256 [default: 16]
   --ways N         lines of each set, 1 to 16 [default: 4]
   --log N          entries of each node's log, 4 to 4096 [default: 256]
-  --interval N     instructions of a node between two checkpoints, 1 to 1000000
-                   [default: 100]
-  --wait N         events without a validation before a recovery, 1 to 1000000
-                   [default: 20000]
-  --budget N       how many events at most, 1 to 1000000 [default: 1000000]
-  --lose-every N   one in N moves of a message loses it, up to 1000000; 0 for
-                   none [default: 0]
-  --kill S@N       switch S, aN or bN of node N, dies after N events, 0 to
-                   1000000 [default: none]
-  --seed N         of the numbers that workers draw, 0 to 2^64 - 1 [default: 1]
   --watch ADDRESS  also show the word at ADDRESS in the summary: eight
                    hexadecimal digits, 80000000 to 803ffffc, a multiple of 4
-  --trace          report the committed trace, one record a line, and then the
-                   summary with \"# \" before each line
-  --journal        report each event as a line of a script, after a comment that
-                   names the worker, and then the summary with \"# \" before each
-                   line; not together with --trace
 
 reads:
   PROGRAM  an ELF file or a text of words, at most 16 MiB (help formats)
+  SCRIPT   one event a line, at most 32 MiB and 1,000,000 events (help events)
+  CONTROL  one step of the recovery a line, with a script's limits:
+    order N    sends node N the order to go back
+    repeat I   sends control message I once more, under a new number
+    lose I     control message I is lost
+    deliver I  control message I arrives: an order makes the node's part of the
+               cut and is answered; an answer notes that the node is done
+    finish     ends the recovery, where every node is noted
 
 writes:
   standard output  the bytes that the program puts out, once validated
-  standard error   the summary, after the trace or the journal
+  standard error   each step of CONTROL with its answer, and then the summary
 
-The threads decide whose turn comes next, so two runs on more than one node may
-differ. Each run can be had again: replay its journal, which is a script, with
-the same sizes; it puts the same output and the same summary.
+Control messages are numbered from 1; at most 64 are in flight.
 
-exit status: 0 done, 1 usage, 2 store, 3 program, 5 sink, 6 budget, 7 memory,
-             8 cutoff, 10 trapped (help statuses)
+exit status: 0 done, 1 usage, 2 store, 3 program, 4 script, 5 sink, 7 memory
+             (help statuses)
 
 examples:
-  safetynet run --nodes 1 --interval 10 examples/first/a.hex
-  safetynet run --nodes 2 --lose-every 500 --wait 2000 --budget 20000 --journal \\
-      examples/shared/count.hex
+  safetynet roll --nodes 1 examples/first/a.hex examples/roll/nothing.script \\
+      examples/roll/one_node.control
+  safetynet roll --nodes 2 examples/shared/count.hex \\
+      examples/roll/moved_block.script examples/roll/each_node.control
 ";

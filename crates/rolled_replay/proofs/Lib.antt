@@ -1,0 +1,10 @@
+pub mod Staged
+pub mod Lined
+pub mod Told
+pub mod Left
+pub mod LedOn
+pub mod Begun
+pub mod Summed
+pub mod Moments
+pub mod Rolled
+pub mod SameRoll

@@ -1,0 +1,5 @@
+pub mod Stages
+pub mod Text
+pub mod Pieces
+pub mod Led
+pub mod Rolled

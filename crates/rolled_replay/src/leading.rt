@@ -1,0 +1,132 @@
+//! The parts of a replay with its recovery: all memory, the events, and the controls.
+ghost use Rattle.std.specs.Prelude.{◌≡◌, ℕ, ◌+◌, ◌≤◌, ◌⊎◌, List, [], true, Option, Err, OnOk, OnErr, IfOk, IfSome, length};
+ghost use Rattle.std.specs.List.{All};
+ghost use Rattle.sn_base.specs.Config.{config_fits};
+ghost use Rattle.consistent_cuts.specs.Runs.{AllFit};
+ghost use Rattle.sn_io.specs.Outside.{Rose};
+ghost use Rattle.sink_pieces.specs.Pieces.{ends, after, Breaks};
+ghost use Rattle.sn_probe.specs.Probes.{meters_in, tallies_of};
+ghost use Rattle.script_replay.specs.Played.{turns_left, told_left, StopsAt, IsWatchable};
+ghost use Rattle.rolling_recovery.specs.Controls.{control_fits};
+ghost use Rattle.rolled_replay.specs.Stages.{IsNumbered, machine_of, stage_after};
+ghost use Rattle.rolled_replay.specs.Pieces.{after_events, control_pieces, machine_with_room, quietly};
+
+use crate::lines::write_line;
+use crate::stage::Stage;
+use rolling_recovery::{Control, Room};
+use script_replay::{ReportKind, Showing, turn};
+use sink_pieces::put_report;
+use sn_base::{Config, Event, Image};
+use sn_io::{Failed, Sink};
+use sn_machine::Machine;
+use sn_probe::ProbeSet;
+use sn_text::Line;
+use std::alloc::Global;
+
+/// Why a replay with its recovery didn't come to its end.
+#[derive(Clone, Copy, PartialEq, Eq, Debug)]
+pub enum RollFault {
+    /// A sink took less than the whole of a piece.
+    Sink,
+    /// Memory was wanted and not given. No event was applied.
+    Memory,
+}
+
+/// All memory of a replay with its recovery.
+#[derive(Drop)]
+pub struct Ready {
+    pub machine: Machine,
+    pub line: Line,
+    pub room: Room,
+}
+
+/// A machine of these sizes at the start of the program, with room for so many events and a recovery, and the room of that.
+pub fn ready_for(alloc: Global, program: Image, config: Config, events: u32) -> Option<Ready>
+    requires sizes { config_fits config ≡ true }
+    requires few { events ≤ 1000000 }
+    ensures { IfSome result (λ r. r.machine ≡ machine_with_room program config (events + 1)) }
+{
+    let Ok(line) = Line::new(alloc) else {
+        return None;
+    };
+    let Ok(room) = Room::new(alloc) else {
+        return None;
+    };
+    let Ok(mut machine) = Machine::new(alloc, program, config) else {
+        return None;
+    };
+    match machine.reserve(events + 1) {
+        Ok(()) => Some(Ready {
+            machine,
+            line,
+            room,
+        }),
+        Err(_) => None,
+    }
+}
+
+/// Applies events one after another, tells each to the probes and puts what it releases.
+pub fn put_events<C: Sink, R: Sink>(
+    machine: &mut Machine,
+    line: &mut Line,
+    events: &[Event],
+    watch: Option<u32>,
+    probes: &mut ProbeSet,
+    console: &mut C,
+    report: &mut R,
+) -> Result<(), Failed>
+    requires fit { AllFit machine.old.config.nodes events.now }
+    requires room { length events.now ≤ machine.old.spare }
+    requires watched { IsWatchable watch }
+    ensures machine { OnOk result (machine.new ≡ after_events machine.old events.now) }
+    ensures told { OnOk result (meters_in first tally step probes.new.probes.items
+        ≡ told_left machine.old events.now (meters_in first tally step probes.old.probes.items)) }
+    ensures ok { OnOk result (ends (C.written console.new) (R.written report.new)
+        ≡ after (ends (C.written console.old) (R.written report.old)) (turns_left machine.old (quietly watch) events.now)) }
+    ensures stops { OnErr result ((i : ℕ) × StopsAt machine.old (quietly watch) events.now i
+        (ends (C.written console.old) (R.written report.old)) (meters_in first tally step probes.old.probes.items)
+        (ends (C.written console.new) (R.written report.new)) (meters_in first tally step probes.new.probes.items)) }
+    ensures console_later { C.faults console.old ≤ C.faults console.new }
+    ensures report_later { R.faults report.old ≤ R.faults report.new }
+    ensures cause { OnErr result
+        (Rose (C.faults console.old) (C.faults console.new) ⊎ Rose (R.faults report.old) (R.faults report.new)) }
+{
+    let showing = Showing {
+        report: ReportKind::Summary,
+        watch,
+    };
+    'events: for event in events {
+        turn(machine, line, event, &showing, probes, console, report)?;
+    }
+    Ok(())
+}
+
+/// Leads the recovery, and puts each control's line.
+pub fn put_controls<R: Sink>(
+    stage: Stage,
+    line: &mut Line,
+    controls: &[Control],
+    report: &mut R,
+) -> Result<Stage, Failed>
+    requires fit { All (λ call. control_fits (machine_of stage).config.nodes call ≡ true) controls.now }
+    requires few { length controls.now ≤ 1000000 }
+    requires numbers { IsNumbered stage 1 }
+    ensures stage { IfOk result (λ last. last ≡ stage_after stage controls.now) }
+    ensures ok { OnOk result ((c : Option (List ℕ)) → ends c (R.written report.new)
+        ≡ after (ends c (R.written report.old)) (control_pieces 0 stage controls.now)) }
+    ensures err { OnErr result ((c : Option (List ℕ)) → Breaks (control_pieces 0 stage controls.now)
+        (ends c (R.written report.old)) (ends c (R.written report.new))) }
+    ensures later { R.faults report.old ≤ R.faults report.new }
+    ensures cause { OnErr result (Rose (R.faults report.old) (R.faults report.new)) }
+{
+    let mut stage = stage;
+    let mut place = 0u64;
+    'controls: for control in controls {
+        let (next, reply) = stage.control(control);
+        stage = next;
+        place += 1;
+        write_line(line, place, control, &reply);
+        put_report(report, line.bytes())?;
+    }
+    Ok(stage)
+}
