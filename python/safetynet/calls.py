@@ -1,0 +1,357 @@
+"""The program's commands as functions: replay, run, check, assemble, disassemble, demo.
+
+Each is one call of the program. A program is a path, bytes (a file's content) or a list of words; `command` says where `safetynet` is
+(`safetynet.program.find_program`), `timeout` is the time limit in seconds. All of them raise `SafetyNetError` where the program refuses its words
+or files, and the errors of `safetynet.program.call`.
+"""
+from __future__ import annotations
+
+import os
+import re
+from dataclasses import dataclass
+from typing import List, Optional, Tuple, Union
+
+from .errors import ReportError
+from .files import Files, ProgramLike, ScriptLike, TraceLike, options, watch_option
+from .journal import Journal
+from .program import DEFAULT_TIMEOUT, Called, PathLike, call
+from .report import Answer, Summary, parse_report, parse_summary, parted_summary
+from .trace import Trace
+
+_LEGAL = re.compile(r"legal (0|[1-9][0-9]*)\n")
+_REFUSED = re.compile(r"refused ([1-9][0-9]*)\n")
+_WORD = re.compile(r"[0-9a-f]{8}")
+_SWITCH_AT = re.compile(r"[ab](0|[1-9][0-9]*)@(0|[1-9][0-9]*)")
+# The statuses with which a run's report is whole: done, its budget spent, two nodes cut off, a core trapped.
+_RUN_ENDS = (0, 6, 8, 10)
+
+
+@dataclass(frozen=True)
+class Replay:
+    """What a replay gave.
+
+    Attributes
+    ----------
+    answers : tuple of Answer
+        One an event; none where the trace was asked for.
+    summary : Summary
+        The machine at its recovery point, at the end.
+    console : bytes
+        What the program put out and was validated.
+    trace : Trace or None
+        The committed trace, where it was asked for.
+    """
+
+    answers: Tuple[Answer, ...]
+    summary: Summary
+    console: bytes
+    trace: Optional[Trace] = None
+
+
+@dataclass(frozen=True)
+class Run:
+    """What a run, or the demo, gave.
+
+    Attributes
+    ----------
+    status : int
+        0, or 6 where its budget was spent, 8 where two nodes were cut off, 10 where a core trapped.
+    words : str
+        How it ended: ``"done"``, ``"budget"``, ``"cutoff 0 1"``, ``"trapped 0 illegal"``.
+    summary : Summary
+        The machine at its recovery point, at the end.
+    console : bytes
+        What the program put out and was validated.
+    journal : Journal or None
+        Each event with its worker, where it was asked for.
+    trace : Trace or None
+        The committed trace, where it was asked for.
+    why : str or None
+        More on how it ended, where the program says it.
+    """
+
+    status: int
+    words: str
+    summary: Summary
+    console: bytes
+    journal: Optional[Journal] = None
+    trace: Optional[Trace] = None
+    why: Optional[str] = None
+
+
+@dataclass(frozen=True)
+class Verdict:
+    """A verdict on a trace; true where it is legal.
+
+    Attributes
+    ----------
+    legal : bool
+        Whether the trace is an execution of the program.
+    records : int or None
+        Of a legal one how many records it has.
+    place : int or None
+        Of another the place, from 1, of the first record that can't come after those before it.
+    why : str or None
+        What was expected there, where the program says it.
+    """
+
+    legal: bool
+    records: Optional[int] = None
+    place: Optional[int] = None
+    why: Optional[str] = None
+
+    def __bool__(self) -> bool:
+        return self.legal
+
+
+def read_traced(text: str) -> Tuple[Trace, Summary]:
+    """The trace of a report with ``--trace``, and the summary below it.
+
+    Raises
+    ------
+    ReportError
+        It isn't such a report.
+    """
+    above, summary = parted_summary(text)
+    try:
+        trace = Trace.parse(above)
+    except ValueError as error:
+        raise ReportError(str(error)) from None
+    if str(trace) != above or len(trace) != summary.committed:
+        raise ReportError(f"the trace isn't one of {summary.committed} records, a line each")
+    return trace, summary
+
+
+def replay(
+    program: ProgramLike,
+    script: ScriptLike,
+    *,
+    nodes: int = 4,
+    sets: int = 16,
+    ways: int = 4,
+    log: int = 256,
+    watch: Optional[int] = None,
+    trace: bool = False,
+    command: Optional[PathLike] = None,
+    timeout: float = DEFAULT_TIMEOUT,
+) -> Replay:
+    """Apply a script's events to a machine.
+
+    Parameters
+    ----------
+    program : path, bytes or sequence of int
+        The program that each core runs.
+    script : path, bytes, or iterable of events or lines
+        The events; of bytes the program judges each line, of events and lines this function does, before anything is called.
+    nodes, sets, ways, log : int
+        How many nodes, sets of each cache, lines of each set, and entries of each node's log.
+    watch : int, optional
+        The address of a word that is shown wherever cores are.
+    trace : bool
+        Whether to give the committed trace in place of the answers.
+
+    Raises
+    ------
+    ValueError
+        A line or an event of the script is none, or an option is no number.
+    SafetyNetError
+        The program, the script or an option is refused.
+    """
+    files = Files()
+    words = ["replay", *options(nodes=nodes, sets=sets, ways=ways, log=log)]
+    words += [watch_option(watch)] if watch is not None else []
+    words += ["--trace"] if trace else []
+    words += [files.program(program), files.script(script)]
+    called = call(words, files.contents, command=command, timeout=timeout)
+    if called.status != 0:
+        called.raise_refusal()
+    if trace:
+        committed, summary = read_traced(called.report)
+        return Replay((), summary, called.console, committed)
+    report = parse_report(called.report)
+    return Replay(report.answers, report.summary, called.console)
+
+
+def run(
+    program: ProgramLike,
+    *,
+    nodes: int = 4,
+    sets: int = 16,
+    ways: int = 4,
+    log: int = 256,
+    interval: int = 100,
+    wait: int = 20_000,
+    budget: int = 1_000_000,
+    lose_every: int = 0,
+    kill: Optional[str] = None,
+    seed: int = 1,
+    watch: Optional[int] = None,
+    trace: bool = False,
+    journal: bool = False,
+    command: Optional[PathLike] = None,
+    timeout: float = DEFAULT_TIMEOUT,
+) -> Run:
+    """Let a worker for each node, in a thread of its own, pick the events.
+
+    Parameters
+    ----------
+    program : path, bytes or sequence of int
+        The program that each core runs.
+    nodes, sets, ways, log : int
+        The machine's sizes, as of `replay`.
+    interval : int
+        Instructions of a node between two checkpoints.
+    wait : int
+        Events without a validation before a recovery.
+    budget : int
+        How many events at most.
+    lose_every : int
+        One in so many moves of a message loses it; 0 for none.
+    kill : str, optional
+        A switch and after how many events it dies, as ``"a1@500"``.
+    seed : int
+        Of the numbers that workers draw. The threads decide whose turn is next, so two runs may differ all the same.
+    watch : int, optional
+        The address of a word that the summary shows.
+    trace, journal : bool
+        Whether to give the committed trace, or the journal; not both.
+
+    Raises
+    ------
+    ValueError
+        An option has another form, or both trace and journal are asked for.
+    SafetyNetError
+        The program or an option is refused. That the budget is spent, nodes are cut off or a core traps is no error: see `Run`.
+    """
+    if trace and journal:
+        raise ValueError("a run gives its trace or its journal, and not both")
+    if kill is not None and not (isinstance(kill, str) and _SWITCH_AT.fullmatch(kill)):
+        raise ValueError(f"kill is a switch and a number of events, as a1@500, and not {kill!r}")
+    files = Files()
+    sizes = options(nodes=nodes, sets=sets, ways=ways, log=log)
+    rules = options(interval=interval, wait=wait, budget=budget, lose_every=lose_every, seed=seed)
+    words = ["run", *sizes, *rules]
+    words += [f"--kill={kill}"] if kill is not None else []
+    words += [watch_option(watch)] if watch is not None else []
+    words += ["--trace"] if trace else ["--journal"] if journal else []
+    called = call([*words, files.program(program)], files.contents, command=command, timeout=timeout)
+    if called.status not in _RUN_ENDS:
+        called.raise_refusal()
+    return _run_of(called, trace, journal)
+
+
+def _run_of(called: Called, trace: bool, journal: bool) -> Run:
+    committed, turns = None, None
+    if trace:
+        committed, summary = read_traced(called.report)
+    elif journal:
+        above, summary = parted_summary(called.report)
+        try:
+            turns = Journal.parse(above)
+        except ValueError as error:
+            raise ReportError(str(error)) from None
+    else:
+        summary = parse_summary(called.report)
+    return Run(called.status, called.words, summary, called.console, turns, committed, called.why)
+
+
+def check(
+    program: ProgramLike,
+    trace: TraceLike,
+    *,
+    nodes: int = 4,
+    command: Optional[PathLike] = None,
+    timeout: float = DEFAULT_TIMEOUT,
+) -> Verdict:
+    """Judge whether a trace is an execution of the program on one memory, without faults.
+
+    Parameters
+    ----------
+    program : path, bytes or sequence of int
+        The program.
+    trace : path, bytes or Trace
+        The instructions in their order.
+    nodes : int
+        On how many nodes it ran.
+
+    Raises
+    ------
+    SafetyNetError
+        The program, or the trace's form, is refused. That the trace is no execution is a `Verdict`.
+    """
+    files = Files()
+    words = ["check", *options(nodes=nodes), files.program(program), files.trace(trace)]
+    called = call(words, files.contents, command=command, timeout=timeout)
+    legal, refused = _LEGAL.fullmatch(called.report), _REFUSED.fullmatch(called.report)
+    if called.status == 0 and legal:
+        return Verdict(True, records=int(legal[1]))
+    if called.status == 9 and refused and called.words == f"refused {refused[1]}":
+        return Verdict(False, place=int(refused[1]), why=called.why)
+    if called.status in (0, 9):
+        raise ReportError("it is no verdict", 1, called.report.split("\n")[0], called.status)
+    called.raise_refusal()
+
+
+def assemble(
+    text: Union[str, bytes, "os.PathLike[str]"], *, command: Optional[PathLike] = None, timeout: float = DEFAULT_TIMEOUT
+) -> List[int]:
+    """The words of a text in assembly language, which every function here takes as a program.
+
+    Parameters
+    ----------
+    text : str, bytes or pathlib.Path
+        The text itself, or the path of its file; a str is always the text.
+
+    Raises
+    ------
+    SafetyNetError
+        The text is refused, with words like ``"asm badline"``.
+    """
+    files = Files()
+    given = text.encode("utf-8", "surrogateescape") if isinstance(text, str) else text
+    called = call(["asm", files.named("text", given)], files.contents, command=command, timeout=timeout)
+    if called.status != 0:
+        called.raise_refusal()
+    words = []
+    for number, line in enumerate(called.console.decode("ascii", "replace").splitlines(), 1):
+        if not _WORD.fullmatch(line):
+            raise ReportError("it is no word of eight hexadecimal digits", number, line)
+        words.append(int(line, 16))
+    return words
+
+
+def disassemble(program: ProgramLike, *, command: Optional[PathLike] = None, timeout: float = DEFAULT_TIMEOUT) -> str:
+    """The executable words of a program as lines of assembly language, which `assemble` takes.
+
+    Raises
+    ------
+    SafetyNetError
+        The program is refused.
+    """
+    files = Files()
+    called = call(["dis", files.program(program)], files.contents, command=command, timeout=timeout)
+    if called.status != 0:
+        called.raise_refusal()
+    return called.console.decode("ascii")
+
+
+def demo(size: int, *, command: Optional[PathLike] = None, timeout: float = DEFAULT_TIMEOUT) -> Run:
+    """Run the program's own demonstration: four nodes add to one word, with a loss and a recovery now and then.
+
+    Parameters
+    ----------
+    size : int
+        How many events, 1 to 1,000,000. One size gives one run.
+
+    Raises
+    ------
+    ValueError
+        The size is no number.
+    SafetyNetError
+        The size is refused.
+    """
+    options(size=size)
+    called = call(["demo", str(size)], command=command, timeout=timeout)
+    if called.status != 0:
+        called.raise_refusal()
+    return _run_of(called, False, False)

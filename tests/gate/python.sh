@@ -1,0 +1,102 @@
+#!/usr/bin/env bash
+# The Python package of python/: its types, its tests over the real program, its examples at their defaults, and that it installs without a network.
+# A part whose tool isn't there is skipped. The program is ./safetynet, or what SAFETYNET says.
+set -u
+cd "$(dirname "$0")/../.." || exit 1
+. tests/gate/lib/checks.sh
+export SAFETYNET=${SAFETYNET:-$PWD/safetynet} PYTHONDONTWRITEBYTECODE=1
+export MYPY_CACHE_DIR=$work/mypy
+
+skipped() { # the tool that isn't there
+  echo "python: skipped: $1 isn't here"
+}
+# Debian's modules belong to Debian's Python, and another one may come first on the path.
+python_with() { # modules..
+  local python
+  for python in python3 /usr/bin/python3; do
+    if command -v "$python" >/dev/null && "$python" -c "import sys; sys.version_info >= (3, 9) or sys.exit(1)
+for name in sys.argv[1:]: __import__(name)" "$@" 2>/dev/null; then
+      echo "$python"
+      return
+    fi
+  done
+  return 1
+}
+typed() { # folder, files..
+  (cd "$1" && shift && MYPYPATH=$top/python:$top/python/examples is_silent_but_success mypy --strict --config-file "$top/python/pyproject.toml" "$@")
+}
+is_silent_but_success() { # command..
+  "$@" >"$work/said" 2>&1
+  local status=$?
+  [ "$status" -eq 0 ] || head -n 20 "$work/said" >&2
+  [ "$status" -eq 0 ]
+}
+top=$PWD
+
+if [ "$SAFETYNET" = "$top/safetynet" ]; then
+  "$SAFETYNET" --build || { echo "the program was not built" >&2; exit 1; }
+fi
+
+if command -v mypy >/dev/null; then
+  is_so "the package is typed" typed python safetynet
+  is_so "the examples are typed" typed python/examples schedules.py explore.py adversary.py fuzz.py
+  is_so "the tests are typed" typed python/tests stored.py conftest.py test_*.py
+else
+  skipped mypy
+fi
+
+if python=$(python_with pytest hypothesis); then
+  tests() {
+    (cd python && "$python" -m pytest -q) >"$work/tests" 2>&1
+    local status=$?
+    [ "$status" -eq 0 ] || tail -n 40 "$work/tests" >&2
+    tail -n 1 "$work/tests"
+    return "$status"
+  }
+  is_so "the tests pass" tests
+else
+  skipped "pytest or hypothesis"
+fi
+
+# On a busy machine an example gets more time than it asks for itself, so that it shows something.
+shows() { # example, what it prints, its words..
+  local name=$1 wanted=$2
+  shift 2
+  PYTHONPATH=python "$python" "python/examples/$name.py" "$@" >"$work/shown" 2>&1
+  local status=$?
+  if [ "$status" -eq 0 ] && grep -q "$wanted" "$work/shown"; then return; fi
+  head -n 20 "$work/shown" >&2
+  false
+}
+if python=$(python_with); then
+  is_so "explore counts outcomes" shows explore "^interleavings: [1-9]" --seconds 300
+  is_so "and none that one memory hasn't" [ "$(grep -Ec '^  (........|not validated)  ' "$work/shown")" = "$(grep -Ec '^  00000(102|201|202)  ' "$work/shown")" ]
+  is_so "the adversary's trace is legal" shows adversary "the committed trace is legal"
+else
+  skipped "Python 3.9"
+fi
+if python=$(python_with hypothesis); then
+  is_so "fuzz finds nothing" shows fuzz "^10 lists of events .* every recovery point is a consistent cut" --seconds 300
+else
+  skipped hypothesis
+fi
+
+if python=$(python_with venv ensurepip setuptools wheel); then
+  # The new environment sees the setuptools of the system, since nothing is fetched; the package is built from a copy, which leaves the folder clean.
+  installs() {
+    cp -r python "$work/source" && "$python" -m venv --system-site-packages "$work/fresh" &&
+      "$work/fresh/bin/python" -m pip install -q --no-index --no-build-isolation "$work/source"
+  }
+  says() {
+    (cd "$work" && ./fresh/bin/python -c "
+import pathlib, safetynet
+assert pathlib.Path(safetynet.__file__).with_name('py.typed').exists() and 'fresh' in safetynet.__file__, safetynet.__file__
+print(safetynet.Machine([0x73]).step(0).name)")
+  }
+  is_so "pip installs it" is_silent_but_success installs
+  is_so "and it is used from there" [ "$(says)" = retired ]
+else
+  skipped "venv, setuptools or wheel"
+fi
+
+told python
