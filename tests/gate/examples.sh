@@ -1,8 +1,9 @@
 #!/usr/bin/env bash
 # Runs each example by the README's first command and compares console, report and status with the files beside it: the first
-# program once as hexadecimal words and once as an ELF file, and those of examples/shared, examples/asm, examples/traces and
-# examples/roll by the words that their scripts, traces and control files begin with. What a replay shows as its trace is to be
-# legal, and a file may be empty. Then runs programs, scripts and words that are refused, and compares the status and its word.
+# program once as hexadecimal words and once as an ELF file, and those of examples/shared, examples/asm, examples/lessons,
+# examples/traces and examples/roll by the words that their scripts, traces and control files begin with. What a replay shows as
+# its trace is to be legal, and a file may be empty. Then runs programs, scripts and words that are refused, and compares the
+# status and its word.
 set -u
 cd "$(dirname "$0")/../.." || exit 1
 failed=0 passed=0
@@ -33,7 +34,7 @@ for script in examples/first/*.script; do
     shows "$script" replay --nodes 1 "$program"
   done
 done
-for file in examples/shared/*.script examples/asm/*.script examples/traces/*.trace; do
+for file in examples/{shared,asm,lessons}/*.script examples/traces/*.trace; do
   read -r _ line <"$file"
   read -ra words <<<"$line"
   last=$((${#words[@]} - 1))
@@ -49,7 +50,7 @@ for control in examples/roll/*.control; do
 done
 
 # What a replay shows as its trace is judged legal, with as many records as its summary says.
-for script in examples/shared/*.script examples/asm/*.script; do
+for script in examples/{shared,asm,lessons}/*.script; do
   read -r _ line <"$script"
   read -ra words <<<"$line"
   last=$((${#words[@]} - 1)) nodes=()
@@ -226,8 +227,8 @@ else
   echo "a listing of examples/first/a.elf: status $status, or another listing of what it is assembled to" >&2
   failed=$((failed + 1))
 fi
-# Each text in examples/asm has the words of the file beside it.
-for text in examples/asm/*.s; do
+# Each text in examples/asm and examples/lessons has the words of the file beside it.
+for text in examples/{asm,lessons}/*.s; do
   if ./safetynet asm "$text" 2>"$work/report" | cmp -s - "${text%.s}.hex" && [ ! -s "$work/report" ]; then
     passed=$((passed + 1))
   else
