@@ -29,40 +29,46 @@ END
 "$chmod" +x "$work/apt-get"
 : >"$work/HAS"
 
-# bash-completion's file has a place of its own, where it is or isn't: what is said of it is left out here.
+# A package that has no command is there or isn't, whatever the path is: what is said of it is left out here.
+filed='\(bash-completion\|fonts-dejavu-core\|python3-[a-z]*\)'
 packages() { # what it shows, the lines
   : >"$work/calls"
   PATH=$bin "$BASH" tools/packages >"$work/out" 2>&1
-  is_so "$1: $(cat "$work/out")" diff <(printf '%s\n' "$2") <(sed '/install\(ed\)\? bash-completion$/d; s/ bash-completion$//' "$work/out")
+  is_so "$1: $(cat "$work/out")" diff <(printf '%s\n' "$2") <(sed "/install\(ed\)\? $filed\$/d; s/\( $filed\)*\$//" "$work/out")
 }
-packages "without apt-get" "# packages: lacking: man-db groff-base mandoc shellcheck mypy
+packages "without apt-get" "# packages: lacking: man-db groff-base mandoc shellcheck mypy chromium chromium-driver gcc-riscv64-unknown-elf
 # packages: apt-get isn't there; nothing was installed"
 ln -s "$work/apt-get" "$bin/apt-get"
 if [ "$(id -u)" = 0 ]; then
-  packages "without a network" "# packages: lacking: man-db groff-base mandoc shellcheck mypy
+  packages "without a network" "# packages: lacking: man-db groff-base mandoc shellcheck mypy chromium chromium-driver gcc-riscv64-unknown-elf
 # packages: the lists of packages can't be fetched; those that are here serve
 # packages: can't install man-db
 # packages: can't install groff-base
 # packages: can't install mandoc
 # packages: can't install shellcheck
-# packages: can't install mypy"
+# packages: can't install mypy
+# packages: can't install chromium
+# packages: can't install chromium-driver
+# packages: can't install gcc-riscv64-unknown-elf"
   : >"$work/LISTS"
   printf '%s\n' "man-db man" "groff-base groff" "mypy other" "shellcheck shellcheck" >"$work/HAS"
-  lays mandoc
-  packages "what lacks is installed, each by itself" "# packages: lacking: man-db groff-base shellcheck mypy
+  lays mandoc chromium riscv64-unknown-elf-gcc
+  packages "what lacks is installed, each by itself" "# packages: lacking: man-db groff-base shellcheck mypy chromium-driver
 # packages: installed man-db
 # packages: installed groff-base
 # packages: installed shellcheck
-# packages: can't install mypy"
-  is_so "by these calls" diff <(grep -v bash-completion "$work/calls") - <<'END'
+# packages: can't install mypy
+# packages: can't install chromium-driver"
+  is_so "by these calls" diff <(grep -v " $filed\$" "$work/calls") - <<'END'
 update
 install --no-install-recommends man-db
 install --no-install-recommends groff-base
 install --no-install-recommends shellcheck
 install --no-install-recommends mypy
+install --no-install-recommends chromium-driver
 END
 else
-  packages "without the right to install" "# packages: lacking: man-db groff-base mandoc shellcheck mypy
+  packages "without the right to install" "# packages: lacking: man-db groff-base mandoc shellcheck mypy chromium chromium-driver gcc-riscv64-unknown-elf
 # packages: only root may install them; nothing was installed"
   is_so "apt-get isn't called" [ ! -s "$work/calls" ]
 fi
