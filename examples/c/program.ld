@@ -23,6 +23,8 @@ SECTIONS
         *(.sdata .sdata.*)
     } :data
     .bss : {
+        /* The meadow of shared.h stands below all that is written, since a cache that needs a frame gives up its least block. */
+        *(.bss.meadow)
         *(.sbss .sbss.*)
         *(.bss .bss.* COMMON)
     } :data

@@ -40,7 +40,8 @@ fi
 if command -v mypy >/dev/null; then
   is_so "the package is typed" typed python safetynet
   is_so "the examples are typed" typed python/examples schedules.py explore.py adversary.py fuzz.py
-  is_so "the tests are typed" typed python/tests stored.py conftest.py test_*.py
+  mapfile -t tests < <(cd python/tests && printf '%s\n' *.py)
+  is_so "the tests are typed" typed python/tests "${tests[@]}"
 else
   skipped mypy
 fi
