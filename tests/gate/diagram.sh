@@ -5,8 +5,8 @@ set -u
 cd "$(dirname "$0")/../.." || exit 1
 . tests/gate/lib/checks.sh
 export PYTHONDONTWRITEBYTECODE=1
-export SAFETYNET=${SAFETYNET:-./safetynet}
-if [ "$SAFETYNET" = ./safetynet ]; then
+export SAFETYNET=${SAFETYNET:-$PWD/safetynet}
+if [ "$SAFETYNET" = "$PWD/safetynet" ]; then
   ./safetynet --build || { echo "the program was not built" >&2; exit 1; }
 fi
 
