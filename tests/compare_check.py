@@ -20,6 +20,7 @@ from pathlib import Path
 
 sys.path.insert(0, str(Path(__file__).resolve().parent))
 from compare_replay import hexadecimal_image, program
+from outcomes import without_reason
 from served_program import ServedProgram, built_server
 
 # How many traces are judged of one run, and how many seconds one may take.
@@ -121,7 +122,7 @@ def main():
             Path(folder, "records.trace").write_text(text, newline="")
             given = ["check", *judged(choose, nodes), "program", "records.trace"]
             found, expected = judge.run(given), other.run(given)
-            if found != expected:
+            if without_reason(found) != expected:
                 print(f"case {case}, {' '.join(given)}: {found} and not {expected}")
                 print(Path(folder, "program").read_text(), text)
                 return 1

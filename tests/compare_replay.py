@@ -21,6 +21,8 @@ import sys
 import tempfile
 from pathlib import Path
 
+from outcomes import without_reason
+
 ECALL = 0x73
 
 START = 0x80000000
@@ -225,7 +227,7 @@ def watched(choose):
 
 def run(command, words, folder):
     done = subprocess.run([*command, "replay", *words], cwd=folder, capture_output=True)
-    return done.returncode, done.stdout, done.stderr
+    return without_reason((done.returncode, done.stdout, done.stderr))
 
 
 def main():

@@ -17,6 +17,7 @@ from pathlib import Path
 import subprocess
 
 import compare_replay
+from outcomes import without_reason
 
 # The most control messages in flight.
 MOST_MESSAGES = 64
@@ -117,7 +118,7 @@ def words(choose, nodes):
 
 def run(command, words, folder):
     done = subprocess.run([*command, "roll", *words], cwd=folder, capture_output=True)
-    return done.returncode, done.stdout, done.stderr
+    return without_reason((done.returncode, done.stdout, done.stderr))
 
 
 def main():

@@ -16,6 +16,7 @@ import tempfile
 from pathlib import Path
 
 from compare_replay import hexadecimal_image, program
+from outcomes import without_reason
 
 # Status 0, and those of a budget that is spent, of nodes that are cut off and of a trap.
 ENDS = {0: "exited", 6: "budget", 8: "cut off", 10: "trapped"}
@@ -23,7 +24,8 @@ ENDS = {0: "exited", 6: "budget", 8: "cut off", 10: "trapped"}
 
 def call(command, words, folder):
     done = subprocess.run([*command, *words], cwd=folder, capture_output=True)
-    return done.returncode, done.stdout, done.stderr.decode().splitlines()
+    status, console, report = without_reason((done.returncode, done.stdout, done.stderr))
+    return status, console, report.decode().splitlines()
 
 
 def sizes(choose, nodes):

@@ -7,8 +7,8 @@ PROGRAM is the built program, SIMULATOR a reference simulator; it takes the same
 as the program does and to have its probe. Each of the COUNT (20,000) lines has a command with its files, and some of its options in any order and in either
 form; two thirds then have something wrong: a value that is no number or out of its range, a word that is lacking, doubled, changed or
 strange, an option of another command, a file that isn't there. Console, report and exit status must be the same; of a run on several
-nodes, whose turns come in an order of their own each time, only whether it is done, or with which status it is refused. The commands are
-those that the program's own page names. Lines that it answers itself, as those for help, are left out, and so are those with words
+nodes, whose turns come in an order of their own each time, only whether it is done, or with which status it is refused. A call that
+isn't done also says why in the line above its last; the simulator has no such line. The commands are those that the program's own page names. Lines that it answers itself, as those for help, are left out, and so are those with words
 that mean something to the simulator alone.
 """
 import random
@@ -18,6 +18,8 @@ import sys
 import tempfile
 from collections import Counter
 from pathlib import Path
+
+from outcomes import is_explained, without_reason
 
 # A command's files, options with a value, and flags.
 COMMANDS = {
@@ -188,8 +190,11 @@ def main():
                 continue
             done += 1
             found, expected = run([built], words, folder), run([simulator, "--main", "--probe"], words, folder)
-            if not is_same(words, found, expected):
+            if not is_same(words, without_reason(found), expected):
                 print(f"case {case}, {words}: {found} and not {expected}")
+                return 1
+            if not is_explained(found):
+                print(f"case {case}, {words}: {found} doesn't say why")
                 return 1
             statuses[found[0]] += 1
     print(f"{count} lines of words for {', '.join(commands)}, no difference; of each status {dict(sorted(statuses.items()))}")

@@ -21,6 +21,7 @@ from pathlib import Path
 
 sys.path.insert(0, str(Path(__file__).resolve().parent))
 import compare_replay  # noqa: E402
+from outcomes import without_reason  # noqa: E402
 from served_program import ServedProgram, built_server  # noqa: E402
 
 STATUSES = {0, 1, 2, 3, 4, 5, 6, 7, 8, 9, 10, 13}
@@ -188,7 +189,8 @@ class Pair:
         found = self.program.run(words)
         others = []
         if has_one_outcome(words):
-            others += [] if is_own(words) else [("the simulator", self.other.run(words))]
+            if not is_own(words) and self.other.run(words) != without_reason(found):
+                return f"case {case}, {words}: {found}, and the simulator: {self.other.run(words)}; {files}", None
             others += [("once more", self.program.run(words))] if case % 4 == 0 else []
             others += [("started for it", started(self.built, words, self.folder))] if case % 100 == 0 else []
         if found[0] not in STATUSES:

@@ -20,6 +20,7 @@ from pathlib import Path
 
 sys.path.insert(0, str(Path(__file__).resolve().parent))
 from compare_runs import ENDS, replay_differences  # noqa: E402
+from outcomes import without_reason  # noqa: E402
 
 HERE = Path(__file__).resolve().parent
 
@@ -102,7 +103,7 @@ def run(program, words, folder, library, call=0, all_after=False):
         done = subprocess.run([program, *words], cwd=folder, capture_output=True, env=given, timeout=LONGEST)
     except subprocess.TimeoutExpired:
         return (None, b"", b"it had not ended"), None
-    return (done.returncode, done.stdout, done.stderr), read_count(folder)
+    return without_reason((done.returncode, done.stdout, done.stderr)), read_count(folder)
 
 
 def is_want(found):

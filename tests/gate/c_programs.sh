@@ -57,7 +57,7 @@ cp "$work/report" "$work/journal" && cp "$work/console" "$work/first"
 is_so "a message was lost" grep -q '^lose ' "$work/journal"
 is_so "the journal is replayed" "$safetynet" replay --nodes 4 "$work/ring-4.hex" "$work/journal" >"$work/console" 2>"$work/report"
 is_so "with the same console" cmp "$work/first" "$work/console"
-is_so "and the same summary" diff <(grep '^# ' "$work/journal" | grep -vE '^# (worker |safetynet: )' | sed 's/^# //') <(sed -n '/^events /,$p' "$work/report")
+is_so "and the same summary" diff <(grep '^# ' "$work/journal" | grep -vE '^# (worker |why: |safetynet: )' | sed 's/^# //') <(sed -n '/^events /,$p' "$work/report")
 
 # Programs for any number have one image for all; nodes beyond an image's number end at once, with their number.
 for program in lock queue sort; do

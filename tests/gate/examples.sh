@@ -127,11 +127,15 @@ else
   failed=$((failed + 1))
 fi
 
+# The report is a line that says why, and the line that names the status.
+says_why() { # status's words
+  diff <(printf '%s\n' '# why' "# safetynet: $1") <(sed 's/^# why: .*/# why/' "$work/report")
+}
 # Replays these files, or judges them, which are to be refused with this status and this word.
 refused() { # status, word, program, script, nodes, command
   ./safetynet "${6:-replay}" --nodes "${5:-1}" "$3" "$4" >"$work/console" 2>"$work/report"
   local status=$?
-  if [ "$status" -eq "$1" ] && [ ! -s "$work/console" ] && diff <(echo "# safetynet: $2") "$work/report"; then
+  if [ "$status" -eq "$1" ] && [ ! -s "$work/console" ] && says_why "$2"; then
     passed=$((passed + 1))
   else
     echo "what is refused as $2: status $status, or something else was written" >&2
@@ -179,7 +183,7 @@ refused_script 'script toolong'
 refused_control() { # word, script
   ./safetynet roll --nodes 2 examples/shared/count.hex "$2" "$work/control" >"$work/console" 2>"$work/report"
   local status=$?
-  if [ "$status" -eq 4 ] && [ ! -s "$work/console" ] && diff <(echo "# safetynet: $1") "$work/report"; then
+  if [ "$status" -eq 4 ] && [ ! -s "$work/console" ] && says_why "$1"; then
     passed=$((passed + 1))
   else
     echo "a control file that is refused as $1: status $status, or something else was written" >&2

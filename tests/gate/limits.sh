@@ -30,10 +30,10 @@ ends() { # status, last line of the report, words
   fi
 }
 
-# Runs it with words that are refused: nothing is written but the line that says so.
+# Runs it with words that are refused: nothing is written but the line that says why and the line that says so.
 refused() { # status, word, words
   ends "$1" "# safetynet: $2" "${@:3}"
-  if [ -s "$work/console" ] || [ "$(wc -l <"$work/report")" -ne 1 ]; then
+  if [ -s "$work/console" ] || [ "$(wc -l <"$work/report")" -ne 2 ] || [ "$(grep -c '^# why: ' "$work/report")" -ne 1 ]; then
     echo "${*:3}: something was written" >&2
     failed=$((failed + 1))
   fi

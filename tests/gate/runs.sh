@@ -31,7 +31,7 @@ ends() { # status, beginnings of lines, words
 replayed() { # words before the script
   cp "$work/report" "$work/journal"
   ./safetynet replay "$@" "$work/journal" >"$work/again" 2>"$work/report"
-  if cmp -s "$work/console" "$work/again" && diff <(grep '^# ' "$work/journal" | grep -vE '^# (worker |safetynet: )' | sed 's/^# //') <(sed -n '/^events /,$p' "$work/report"); then
+  if cmp -s "$work/console" "$work/again" && diff <(grep '^# ' "$work/journal" | grep -vE '^# (worker |why: |safetynet: )' | sed 's/^# //') <(sed -n '/^events /,$p' "$work/report"); then
     passed=$((passed + 1))
   else
     echo "the journal of $*, replayed, has another console or summary" >&2
@@ -39,11 +39,11 @@ replayed() { # words before the script
   fi
 }
 
-# Words that are no run's: nothing is written but the word of the status.
+# Words that are no run's: nothing is written but why, and the word of the status.
 refused() { # words
   ./safetynet run "$@" >"$work/console" 2>"$work/report"
   local status=$?
-  if [ "$status" -eq 1 ] && [ ! -s "$work/console" ] && diff <(echo "# safetynet: usage") "$work/report"; then
+  if [ "$status" -eq 1 ] && [ ! -s "$work/console" ] && diff <(printf '%s\n' '# why' '# safetynet: usage') <(sed 's/^# why: .*/# why/' "$work/report"); then
     passed=$((passed + 1))
   else
     echo "run $*: status $status, or something else was written" >&2
@@ -107,7 +107,7 @@ released 0' --nodes 1 --budget 2000 examples/shared/echo.hex
 for ((room = 200000; room >= 40000; room -= 4000)); do
   (ulimit -v "$room" && timeout 60 ./safetynet run --nodes 4 "$count" >"$work/console" 2>"$work/report")
   status=$?
-  if [ "$status" -eq 0 ] || { [ "$status" -eq 7 ] && diff <(echo "# safetynet: memory") "$work/report"; }; then
+  if [ "$status" -eq 0 ] || { [ "$status" -eq 7 ] && diff <(echo "# safetynet: memory") <(grep -v '^# why: ' "$work/report"); }; then
     passed=$((passed + 1))
   else
     echo "run in $room KiB: status $status" >&2

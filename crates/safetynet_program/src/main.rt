@@ -2,9 +2,12 @@
 //!
 //! It makes a store over the system's files and a sink over each standard stream, the console on standard output and
 //! the report on standard error, calls `safetynet` with the words that it was given, and exits with the status's
-//! number. One probe is told the events, a tally of how often each kind came. Where the status isn't Done it is named on
-//! standard error. Calls for help or the version are its own to answer.
+//! number. One probe is told the events, a tally of how often each kind came. Where the status isn't Done a line on standard
+//! error says why, and the last one names it. Calls for help or the version are its own to answer.
 #![tactic(auto)]
+
+mod twice;
+mod why;
 
 ghost use Rattle.std.specs.Prelude.{◌≡◌, ◌≢◌, false, map, string_bytes};
 ghost use Rattle.command_words.specs.Command.{the_app};
@@ -13,7 +16,9 @@ ghost use Rattle.own_pages.specs.Texts.{text_on};
 ghost use Rattle.safetynet_main.specs.Status.{has_written};
 ghost use Rattle.sn_io.specs.Outside.{Rose, followed_by};
 
+use crate::why::write_why;
 use own_pages::{Page, page_of, show};
+use reasons::{Lack, Reason, write_lack};
 use safetynet_main::{Status, safetynet};
 use sn_io::{FileStore, OpenGate, Sink, StdSink};
 use sn_probe::{EventTally, Probe};
@@ -119,21 +124,66 @@ fn name_status(rt: &HostRuntime, status: &Status) {
     };
 }
 
+// Says a reason. Where it can't be said, the status that follows it is enough.
+fn say(rt: &HostRuntime, reason: &Reason) {
+    let _ = rt.stderr().write_all(reason.bytes());
+}
+
+// Says why a call with these words ended so, where it isn't done. Where memory is lacking for it, nothing is said.
+fn explained(rt: &HostRuntime, alloc: Global, words: &[String], status: Status) -> Status
+    ensures { result ≡ status }
+{
+    let mut reason = Reason::new(alloc);
+    if status != Status::Done && write_why(rt, alloc, words, status, &mut reason).is_ok() {
+        say(rt, &reason);
+    }
+    status
+}
+
+// Says what the system didn't give.
+fn say_lack(rt: &HostRuntime, alloc: Global, lack: Lack) {
+    let mut reason = Reason::new(alloc);
+    if write_lack(&mut reason, lack).is_ok() {
+        say(rt, &reason);
+    }
+}
+
+// Shows a page.
+fn shown(rt: &HostRuntime, alloc: Global, page: Page) -> Status {
+    let status = answer(&mut StdSink::new(rt.stdout()), page);
+    if status != Status::Done {
+        say_lack(rt, alloc, Lack::Output);
+    }
+    status
+}
+
+// Why there are no words: a word that isn't UTF-8 is in no command.
+fn wordless(rt: &HostRuntime, alloc: Global, kind: ErrorKind) -> Status {
+    if kind == ErrorKind::InvalidData {
+        say_lack(rt, alloc, Lack::Text);
+        Status::Usage
+    } else {
+        say_lack(rt, alloc, Lack::Memory);
+        Status::Memory
+    }
+}
+
 fn main(rt: HostRuntime) -> ExitCode {
     let alloc = rt.alloc();
     let status = match env::args(&rt) {
         Ok(given) => match given.collect::<Vec<String>>(alloc) {
-            Ok(words) => {
-                match page_asked(words.as_slice()) {
-                    Some(page) => answer(&mut StdSink::new(rt.stdout()), page),
-                    None => perform(&rt, alloc, words.as_slice(), rt.stdout(), rt.stderr()),
-                }
-            }
-            Err(_) => Status::Memory,
+            Ok(words) => match page_asked(words.as_slice()) {
+                Some(page) => shown(&rt, alloc, page),
+                None => explained(
+                    &rt,
+                    alloc,
+                    words.as_slice(),
+                    perform(&rt, alloc, words.as_slice(), rt.stdout(), rt.stderr()),
+                ),
+            },
+            Err(_) => wordless(&rt, alloc, ErrorKind::OutOfMemory),
         },
-        // A word that isn't UTF-8 is in no command.
-        Err(error) if error.kind() == ErrorKind::InvalidData => Status::Usage,
-        Err(_) => Status::Memory,
+        Err(error) => wordless(&rt, alloc, error.kind()),
     };
     if status != Status::Done {
         name_status(&rt, &status);

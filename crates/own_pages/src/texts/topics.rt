@@ -66,7 +66,8 @@ docs/FORMATS.md has every format, with an example and each refusal.
 
 pub const STATUSES: &str = "\
 How a call ends: the exit status, and the word with which the last line on
-standard error names it (`# safetynet: WORD`).
+standard error names it (`# safetynet: WORD`). The line above it says why
+(`# why: ..`), with the file, its line, and what stands there.
 
    0  (none)         all is done
    1  usage          the words aren't a command, or a value isn't in its range
@@ -89,5 +90,5 @@ standard error names it (`# safetynet: WORD`).
                      nowhere (nolabel)
 
 Where the words or a file are refused (1 to 4, 13), or memory is lacking (7),
-nothing was written before that line.
+nothing was written before these two lines.
 ";

@@ -1,0 +1,5 @@
+pub mod Found
+pub mod Files
+pub mod Blame
+pub mod Verdict
+pub mod Reason

@@ -1,0 +1,16 @@
+//! Why a call ended as it did, said of its request, its status and the files that it named.
+//!
+//! When a call of `safetynet` has ended otherwise than done, its files are fetched once more, and one line says what was found
+//! and where: `write_reason`. What the line says stands in `reasons`; which file is blamed stands here. Of words that are no
+//! request and of files that can't be fetched others speak. Nothing here writes to a stream.
+#![tactic(auto)]
+
+mod blame;
+mod content;
+mod lines;
+mod programs;
+mod reason;
+mod verdict;
+
+pub use blame::file_of;
+pub use reason::write_reason;

@@ -1,0 +1,76 @@
+//! The line of a call: by its status.
+ghost use Rattle.std.specs.Prelude.{◌≡◌, ℕ, List, Option, Some, OnOk, true};
+ghost use Rattle.command_words.specs.Request.{as_request, request_fits};
+ghost use Rattle.call_reasons.specs.Blame.{budget_of};
+ghost use Rattle.call_reasons.specs.Reason.{of_budget, IsOfRecord, IsReason};
+
+use crate::blame::budget_of;
+use crate::lines::write_lines;
+use crate::programs::{write_assembly_of, write_program_of};
+use crate::verdict::write_verdict;
+use command_words::Request;
+use reasons::{Lack, Reason, write_cut_off, write_lack, write_spent, write_trapped};
+use safetynet_main::Status;
+use sn_base::Memory;
+use sn_io::Store;
+use std::alloc::Global;
+
+// Why a run ended at its budget.
+fn write_budget(reason: &mut Reason, request: &Request) -> Result<(), Memory>
+    ensures { OnOk result (reason.new ≡ of_budget reason.old (budget_of (as_request request.now))) }
+{
+    match budget_of(request) {
+        Some(budget) => write_spent(reason, budget),
+        None => Ok(()),
+    }
+}
+
+// Which record of a trace is no step.
+fn write_record<S: Store>(
+    alloc: Global,
+    store: &mut S,
+    reason: &mut Reason,
+    request: &Request,
+    place: u64,
+) -> Result<(), Memory>
+    requires fits { request_fits (as_request request.now) ≡ true }
+    ensures told { (held : List ℕ → Option (List ℕ)) → S.sure store.old → S.files store.old ≡ Some held → OnOk result
+        (IsOfRecord held (as_request request.now) place reason.old reason.new) }
+    ensures files { S.files store.new ≡ S.files store.old }
+    ensures stays_sure { S.sure store.old → S.sure store.new }
+{
+    match request {
+        Request::Check(asked) => write_verdict(alloc, store, reason, asked, place),
+        _ => Ok(()),
+    }
+}
+
+/// Puts to a reason the line that says why a call with this request ended in this status, and fetches what it has to show
+/// once more from the store. Nothing is put for a call that is done, for words that are no request, and where a file
+/// couldn't be fetched. After `Memory` the text is of no use.
+pub fn write_reason<S: Store>(
+    alloc: Global,
+    store: &mut S,
+    request: &Request,
+    status: Status,
+    reason: &mut Reason,
+) -> Result<(), Memory>
+    requires fits { request_fits (as_request request.now) ≡ true }
+    ensures told { (held : List ℕ → Option (List ℕ)) → S.sure store.old → S.files store.old ≡ Some held → OnOk result
+        (IsReason held (as_request request.now) status reason.old reason.new) }
+    ensures files { S.files store.new ≡ S.files store.old }
+    ensures stays_sure { S.sure store.old → S.sure store.new }
+{
+    match status {
+        Status::Done | Status::Usage | Status::StoreFault => Ok(()),
+        Status::BadProgram(cause) => write_program_of(alloc, store, reason, request, cause),
+        Status::BadScript(cause) => write_lines(alloc, store, reason, request, cause),
+        Status::BadAsm(cause) => write_assembly_of(alloc, store, reason, request, cause),
+        Status::SinkFault => write_lack(reason, Lack::Output),
+        Status::Budget => write_budget(reason, request),
+        Status::Memory => write_lack(reason, Lack::Memory),
+        Status::CutOff(a, b) => write_cut_off(reason, a, b),
+        Status::Refused(place) => write_record(alloc, store, reason, request, place),
+        Status::Trapped(node, cause) => write_trapped(reason, node, cause),
+    }
+}

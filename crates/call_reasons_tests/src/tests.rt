@@ -1,0 +1,275 @@
+//! Each row has a call's words, the files as they are now, the status in which it ended, and the line that says why.
+ghost use Rattle.std.specs.Prelude.{◌≡◌, IfOk, true};
+ghost use Rattle.command_words.specs.Request.{as_request, request_fits};
+
+use call_reasons::{file_of, write_reason};
+use command_words::{Request, read_words};
+use elf_load::LoadCause;
+use reasons::Reason;
+use rv_asm::AsmCause;
+use rv_core::Cause;
+use safetynet_main::{ProgramCause, Status};
+use sn_base::{Memory, NodeId};
+use sn_io::MemStore;
+use sn_text::ScriptCause;
+use std::alloc::Global;
+use std::process::Abort;
+use std::test::Fail;
+
+/// A file's name and its bytes.
+type Held = (&'static str, &'static [u8]);
+
+/// A call: its words, the files, how it ended, and the line.
+#[derive(Clone, Copy)]
+struct Row {
+    words: &'static str,
+    files: &'static [Held],
+    status: Status,
+    line: &'static str,
+}
+
+fn request_of(rt: &impl Abort, alloc: Global, text: &str) -> Result<Request, Memory>
+    ensures { IfOk result (λ request. request_fits (as_request request) ≡ true) }
+{
+    let mut words = Vec::new(alloc);
+    for word in text.split_whitespace() {
+        words.push(String::from_str(alloc, word)?)?;
+    }
+    Ok(read_words(alloc, words.as_slice()).expect(rt, "a command"))
+}
+
+fn store_of(alloc: Global, files: &[Held]) -> Result<MemStore, Memory> {
+    let mut store = MemStore::new(alloc);
+    for (name, bytes) in files {
+        store.add(name, bytes)?;
+    }
+    Ok(store)
+}
+
+fn reason_of(rt: &impl Abort, alloc: Global, row: &Row) -> Result<Reason, Memory> {
+    let request = request_of(rt, alloc, row.words)?;
+    let mut store = store_of(alloc, row.files)?;
+    let mut reason = Reason::new(alloc);
+    write_reason(alloc, &mut store, &request, row.status, &mut reason)?;
+    Ok(reason)
+}
+
+fn says(rt: &impl Abort, alloc: Global, row: &Row) -> Result<(), Memory> {
+    let reason = reason_of(rt, alloc, row)?;
+    assert!(rt; reason.bytes() == row.line.as_bytes(), "{}", row.line);
+    Ok(())
+}
+
+fn program_rows() -> [Row; 4] {
+    [
+        Row {
+            words: "safetynet replay a.hex a.script",
+            files: &[("a.hex", b"04100513\nxyz\n")],
+            status: Status::BadProgram(ProgramCause::Load(LoadCause::BadHexLine(2))),
+            line: "# why: a.hex:2: \"xyz\" isn't eight hexadecimal digits\n",
+        },
+        Row {
+            words: "safetynet dis gone.hex",
+            files: &[],
+            status: Status::BadProgram(ProgramCause::Load(LoadCause::BadHexLine(2))),
+            line: "# why: gone.hex:2: this line isn't eight hexadecimal digits\n",
+        },
+        Row {
+            words: "safetynet run a.hex",
+            files: &[],
+            status: Status::BadProgram(ProgramCause::TooLong),
+            line: "# why: a.hex: more than 16777216 bytes\n",
+        },
+        Row {
+            words: "safetynet asm a.s",
+            files: &[("a.s", b"addi x5, x0, 7\nbad\n")],
+            status: Status::BadAsm(AsmCause::BadLine(2)),
+            line: "# why: a.s:2: this line is no instruction: \"bad\"\n",
+        },
+    ]
+}
+
+const SCRIPT: &[u8] = b"step 0\nstepp 0\n";
+
+fn line_rows() -> [Row; 4] {
+    [
+        Row {
+            words: "safetynet replay a.hex a.script",
+            files: &[("a.script", SCRIPT)],
+            status: Status::BadScript(ScriptCause::BadLine(2)),
+            line: "# why: a.script:2: this line is no event: \"stepp 0\"; did you mean step?\n",
+        },
+        Row {
+            words: "safetynet check --nodes 2 a.hex a.trace",
+            files: &[("a.trace", b"2 00000000 0\n")],
+            status: Status::BadScript(ScriptCause::OutOfRange(1)),
+            line: "# why: a.trace:1: a machine of 2 nodes has no such core: \"2 00000000 0\"\n",
+        },
+        Row {
+            words: "safetynet roll a.hex a.script a.control",
+            files: &[("a.script", SCRIPT), ("a.control", b"order 0\nordr 0\n")],
+            status: Status::BadScript(ScriptCause::BadLine(2)),
+            line: "# why: a.script:2: this line is no event: \"stepp 0\"; did you mean step?\n",
+        },
+        Row {
+            words: "safetynet roll a.hex a.script a.control",
+            files: &[
+                ("a.script", b"step 0\n"),
+                ("a.control", b"order 0\nordr 0\n"),
+            ],
+            status: Status::BadScript(ScriptCause::BadLine(2)),
+            line: "# why: a.control:2: this line is no control: \"ordr 0\"; did you mean order?\n",
+        },
+    ]
+}
+
+/// Each core adds 1 to the word at 80001000.
+const COUNT: &[u8] = b"800012b7\n00100313\n0062a3af\n05d00893\n00000073\n";
+
+fn trace_rows() -> [Row; 3] {
+    [
+        Row {
+            words: "safetynet check a.hex a.trace",
+            files: &[
+                ("a.hex", COUNT),
+                (
+                    "a.trace",
+                    b"# one core\n0 00000000 0\n0 00000000 0\n0 00000001 0\n",
+                ),
+            ],
+            status: Status::Refused(3),
+            line: "# why: record 3 (line 4): core 0 saw 00000001, and the memory has 00000000\n",
+        },
+        Row {
+            words: "safetynet check a.hex a.trace",
+            files: &[("a.hex", COUNT), ("a.trace", b"1 00000000 1\n")],
+            status: Status::Refused(1),
+            line: "# why: record 1 (line 1): core 1 saw 00000000, and the flat machine has no such step\n",
+        },
+        Row {
+            words: "safetynet check a.hex a.trace",
+            files: &[],
+            status: Status::Refused(3),
+            line: "# why: record 3: the flat machine has no such step\n",
+        },
+    ]
+}
+
+fn other_rows() -> [Row; 5] {
+    [
+        Row {
+            words: "safetynet run --budget 50 a.hex",
+            files: &[],
+            status: Status::Budget,
+            line: "# why: the run has 50 events, which is its budget, and its cores haven't all ended\n",
+        },
+        Row {
+            words: "safetynet demo 5",
+            files: &[],
+            status: Status::SinkFault,
+            line: "# why: not all of the output could be written\n",
+        },
+        Row {
+            words: "safetynet demo 5",
+            files: &[],
+            status: Status::Memory,
+            line: "# why: there wasn't enough memory\n",
+        },
+        Row {
+            words: "safetynet replay a.hex a.script",
+            files: &[],
+            status: Status::StoreFault,
+            line: "",
+        },
+        Row {
+            words: "safetynet demo 5",
+            files: &[],
+            status: Status::Done,
+            line: "",
+        },
+    ]
+}
+
+#[test]
+fn each_refusal_shows_its_place(rt: HostRuntime) -> Result<(), Fail> {
+    for row in &program_rows() {
+        says(&rt, rt.alloc(), row)?;
+    }
+    for row in &line_rows() {
+        says(&rt, rt.alloc(), row)?;
+    }
+    for row in &trace_rows() {
+        says(&rt, rt.alloc(), row)?;
+    }
+    for row in &other_rows() {
+        says(&rt, rt.alloc(), row)?;
+    }
+    Ok(())
+}
+
+#[test]
+fn a_run_names_its_nodes(rt: HostRuntime) -> Result<(), Fail> {
+    let a = NodeId::new(0).expect(&rt, "a node");
+    let b = NodeId::new(1).expect(&rt, "a node");
+    let words = "safetynet run a.hex";
+    let cut_off = Row {
+        words,
+        files: &[],
+        status: Status::CutOff(a, b),
+        line: "# why: nodes 0 and 1 are cut off: no living switches join them\n",
+    };
+    says(&rt, rt.alloc(), &cut_off)?;
+    let trapped = Row {
+        words,
+        files: &[],
+        status: Status::Trapped(b, Cause::Break),
+        line: "# why: core 1 trapped: it met ebreak\n",
+    };
+    says(&rt, rt.alloc(), &trapped)?;
+    Ok(())
+}
+
+/// A call's words, and the names of the files that it fetches.
+type Fetched = (
+    &'static str,
+    Option<&'static str>,
+    Option<&'static str>,
+    Option<&'static str>,
+);
+
+const FETCHED: &[Fetched] = &[
+    (
+        "safetynet replay a.hex b.script",
+        Some("a.hex"),
+        Some("b.script"),
+        None,
+    ),
+    (
+        "safetynet roll a.hex b.script c.control",
+        Some("a.hex"),
+        Some("b.script"),
+        Some("c.control"),
+    ),
+    ("safetynet run a.hex", Some("a.hex"), None, None),
+    (
+        "safetynet check a.hex b.trace",
+        Some("a.hex"),
+        Some("b.trace"),
+        None,
+    ),
+    ("safetynet demo 5", None, None, None),
+    ("safetynet asm a.s", Some("a.s"), None, None),
+    ("safetynet dis a.hex", Some("a.hex"), None, None),
+];
+
+#[test]
+fn files_stand_in_their_order(rt: HostRuntime) -> Result<(), Fail> {
+    for (words, first, second, third) in FETCHED {
+        let request = request_of(&rt, rt.alloc(), words)?;
+        assert!(&rt; file_of(&request, 0) == *first, "{words}");
+        assert!(&rt; file_of(&request, 1) == *second, "{words}");
+        assert!(&rt; file_of(&request, 2) == *third, "{words}");
+        assert!(&rt; file_of(&request, 3).is_none(), "{words}");
+    }
+    Ok(())
+}

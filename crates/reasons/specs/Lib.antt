@@ -1,0 +1,10 @@
+pub mod Reason
+pub mod Places
+pub mod Near
+pub mod Hints
+pub mod Headers
+pub mod Programs
+pub mod Scripts
+pub mod Assembly
+pub mod Verdicts
+pub mod Ends

@@ -1,0 +1,228 @@
+//! The commands, and what each takes: its files in their order, its options with a value, and its flags.
+//!
+//! This is the one place of them here. `command_words` has the same table in the form that clap wants.
+ghost use Rattle.std.specs.Prelude.{◌≡◌, true, map};
+ghost use Rattle.sn_base.specs.Config.{lies_in};
+ghost use Rattle.usage_reasons.specs.Table.{command_names, command_by, name_of, files_of, options_of, flags_of};
+ghost use Rattle.usage_reasons.specs.Table.{quantity_by, key_of, quantity_name, key_name, rule_of};
+
+use option_values::{BUDGET, INTERVAL, LOG, LOSE_EVERY, NODES, NumberRule, SEED, SETS, WAIT, WAYS};
+
+#[derive(Clone, Copy, PartialEq, Eq, Debug)]
+pub(crate) enum Command {
+    Replay,
+    Roll,
+    Run,
+    Check,
+    Demo,
+    Asm,
+    Dis,
+}
+
+/// What a number stands for.
+#[derive(Clone, Copy, PartialEq, Eq, Debug)]
+pub(crate) enum Quantity {
+    Nodes,
+    Sets,
+    Ways,
+    Log,
+    Interval,
+    Wait,
+    LoseEvery,
+    Budget,
+    Seed,
+}
+
+/// What the value of an option is.
+#[derive(Clone, Copy, PartialEq, Eq, Debug)]
+pub(crate) enum Key {
+    Number(Quantity),
+    /// The address of a word.
+    Watch,
+    /// A switch that dies.
+    Kill,
+}
+
+const NONE: &[&str] = &[];
+
+const COMMANDS: &[&str] = &["replay", "roll", "run", "check", "demo", "asm", "dis"];
+
+const PROGRAM: &[&str] = &["PROGRAM"];
+
+const PROGRAM_AND_SCRIPT: &[&str] = &["PROGRAM", "SCRIPT"];
+
+const PROGRAM_AND_CONTROL: &[&str] = &["PROGRAM", "SCRIPT", "CONTROL"];
+
+const PROGRAM_AND_TRACE: &[&str] = &["PROGRAM", "TRACE"];
+
+const SIZE: &[&str] = &["SIZE"];
+
+const TEXT: &[&str] = &["TEXT"];
+
+const NODES_ALONE: &[&str] = &["--nodes"];
+
+const SIZES: &[&str] = &["--nodes", "--sets", "--ways", "--log", "--watch"];
+
+const TRACE: &[&str] = &["--trace"];
+
+const TRACE_OR_JOURNAL: &[&str] = &["--trace", "--journal"];
+
+const RUN_OPTIONS: &[&str] = &[
+    "--nodes",
+    "--sets",
+    "--ways",
+    "--log",
+    "--watch",
+    "--interval",
+    "--wait",
+    "--lose-every",
+    "--kill",
+    "--budget",
+    "--seed",
+];
+
+pub(crate) fn command_names() -> &'static [&'static str]
+    ensures { map (λ name. name.now) result.now ≡ command_names }
+{
+    COMMANDS
+}
+
+pub(crate) fn command_by(word: &str) -> Option<Command>
+    ensures { result ≡ command_by word.now }
+{
+    match word {
+        "replay" => Some(Command::Replay),
+        "roll" => Some(Command::Roll),
+        "run" => Some(Command::Run),
+        "check" => Some(Command::Check),
+        "demo" => Some(Command::Demo),
+        "asm" => Some(Command::Asm),
+        "dis" => Some(Command::Dis),
+        _ => None,
+    }
+}
+
+#[tactic(auto, unfolding(crate::specs::Table::name_of))]
+pub(crate) fn name_of(command: Command) -> &'static str
+    ensures { result.now ≡ name_of command }
+{
+    match command {
+        Command::Replay => "replay",
+        Command::Roll => "roll",
+        Command::Run => "run",
+        Command::Check => "check",
+        Command::Demo => "demo",
+        Command::Asm => "asm",
+        Command::Dis => "dis",
+    }
+}
+
+/// The words that must be there, as the command's page names them.
+pub(crate) fn files_of(command: Command) -> &'static [&'static str]
+    ensures { map (λ name. name.now) result.now ≡ files_of command }
+{
+    match command {
+        Command::Replay => PROGRAM_AND_SCRIPT,
+        Command::Roll => PROGRAM_AND_CONTROL,
+        Command::Run | Command::Dis => PROGRAM,
+        Command::Check => PROGRAM_AND_TRACE,
+        Command::Demo => SIZE,
+        Command::Asm => TEXT,
+    }
+}
+
+/// The options that take a value.
+pub(crate) fn options_of(command: Command) -> &'static [&'static str]
+    ensures { map (λ name. name.now) result.now ≡ options_of command }
+{
+    match command {
+        Command::Replay | Command::Roll => SIZES,
+        Command::Run => RUN_OPTIONS,
+        Command::Check => NODES_ALONE,
+        Command::Demo | Command::Asm | Command::Dis => NONE,
+    }
+}
+
+/// The options that take none.
+pub(crate) fn flags_of(command: Command) -> &'static [&'static str]
+    ensures { map (λ name. name.now) result.now ≡ flags_of command }
+{
+    match command {
+        Command::Replay => TRACE,
+        Command::Run => TRACE_OR_JOURNAL,
+        Command::Roll | Command::Check | Command::Demo | Command::Asm | Command::Dis => NONE,
+    }
+}
+
+fn quantity_by(option: &str) -> Option<Quantity>
+    ensures { result ≡ quantity_by option.now }
+{
+    match option {
+        "--nodes" => Some(Quantity::Nodes),
+        "--sets" => Some(Quantity::Sets),
+        "--ways" => Some(Quantity::Ways),
+        "--log" => Some(Quantity::Log),
+        "--interval" => Some(Quantity::Interval),
+        "--wait" => Some(Quantity::Wait),
+        "--lose-every" => Some(Quantity::LoseEvery),
+        "--budget" => Some(Quantity::Budget),
+        "--seed" => Some(Quantity::Seed),
+        _ => None,
+    }
+}
+
+pub(crate) fn key_of(option: &str) -> Option<Key>
+    ensures { result ≡ key_of option.now }
+{
+    match option {
+        "--watch" => Some(Key::Watch),
+        "--kill" => Some(Key::Kill),
+        _ => Some(Key::Number(quantity_by(option)?)),
+    }
+}
+
+#[tactic(auto, unfolding(crate::specs::Table::quantity_name))]
+pub(crate) fn quantity_name(quantity: Quantity) -> &'static str
+    ensures { result.now ≡ quantity_name quantity }
+{
+    match quantity {
+        Quantity::Nodes => "--nodes",
+        Quantity::Sets => "--sets",
+        Quantity::Ways => "--ways",
+        Quantity::Log => "--log",
+        Quantity::Interval => "--interval",
+        Quantity::Wait => "--wait",
+        Quantity::LoseEvery => "--lose-every",
+        Quantity::Budget => "--budget",
+        Quantity::Seed => "--seed",
+    }
+}
+
+#[tactic(auto, unfolding(crate::specs::Table::key_name))]
+pub(crate) fn key_name(key: Key) -> &'static str
+    ensures { result.now ≡ key_name key }
+{
+    match key {
+        Key::Number(quantity) => quantity_name(quantity),
+        Key::Watch => "--watch",
+        Key::Kill => "--kill",
+    }
+}
+
+/// The range of a number.
+pub(crate) fn rule_of(quantity: Quantity) -> NumberRule
+    ensures rule { result ≡ rule_of quantity }
+    ensures default { lies_in result.least result.greatest result.default ≡ true }
+{
+    match quantity {
+        Quantity::Nodes => NODES,
+        Quantity::Sets => SETS,
+        Quantity::Ways => WAYS,
+        Quantity::Log => LOG,
+        Quantity::Interval => INTERVAL,
+        Quantity::Wait => WAIT,
+        Quantity::LoseEvery => LOSE_EVERY,
+        Quantity::Budget => BUDGET,
+        Quantity::Seed => SEED,
+    }
+}

@@ -1,0 +1,565 @@
+//! Each row has the words of a line that are no command's, and what the line of their reason says behind `# why: `. The last
+//! test compares with `command_words` on all lines of three words of a list.
+use command_words::{WordsFault, read_words};
+use reasons::Reason;
+use sn_base::Memory;
+use std::alloc::{AllocError, Global};
+use std::process::Abort;
+use std::test::Fail;
+use usage_reasons::write_usage;
+
+/// The words of a line, after the program's name; '' is an empty word, as in a shell.
+fn words_of(alloc: Global, line: &str) -> Result<Vec<String>, AllocError> {
+    let mut words = Vec::new(alloc);
+    words.push(String::from_str(alloc, "safetynet")?)?;
+    for word in line.split_whitespace() {
+        let word = if word == "''" { "" } else { word };
+        words.push(String::from_str(alloc, word)?)?;
+    }
+    Ok(words)
+}
+
+/// Whether the words are no command's.
+fn are_refused(alloc: Global, words: &[String]) -> bool {
+    match read_words(alloc, words) {
+        Ok(_) | Err(WordsFault::Memory) => false,
+        Err(WordsFault::Usage) => true,
+    }
+}
+
+/// The line that is due.
+fn line_of(alloc: Global, wanted: &str) -> Result<String, AllocError> {
+    format!(in alloc; "# why: {wanted}\n")
+}
+
+fn reason_of(alloc: Global, words: &[String]) -> Result<Reason, Memory> {
+    let mut reason = Reason::new(alloc);
+    write_usage(&mut reason, words)?;
+    Ok(reason)
+}
+
+/// The words are refused, and the reason is the one that is wanted.
+fn says(rt: &impl Abort, alloc: Global, line: &str, wanted: &str) -> Result<(), Memory> {
+    let words = words_of(alloc, line)?;
+    let reason = reason_of(alloc, words.as_slice())?;
+    let due = line_of(alloc, wanted)?;
+    assert!(rt;
+        are_refused(alloc, words.as_slice()),
+        "{line} is a command's"
+    );
+    assert!(rt; reason.bytes() == due.as_bytes(), "{line}: {wanted}");
+    Ok(())
+}
+
+fn all_say(rt: &impl Abort, alloc: Global, rows: &[(&str, &str)]) -> Result<(), Memory> {
+    for (line, wanted) in rows {
+        says(rt, alloc, line, wanted)?;
+    }
+    Ok(())
+}
+
+const COMMANDS: &[(&str, &str)] = &[
+    ("", "a command is lacking; see safetynet --help"),
+    ("fly", "fly: there is no such command; see safetynet --help"),
+    (
+        "reply",
+        "reply: there is no such command; did you mean replay?",
+    ),
+    (
+        "repla p s",
+        "repla: there is no such command; did you mean replay?",
+    ),
+    (
+        "Replay p s",
+        "Replay: there is no such command; did you mean replay?",
+    ),
+    ("''", "\"\": there is no such command; see safetynet --help"),
+    (
+        "fl\"y",
+        "fl\\x22y: there is no such command; see safetynet --help",
+    ),
+    (
+        "012345678901234567890123456789012345678901234567890123456789",
+        "012345678901234567890123456789012345678901234567890123456789: \
+            there is no such command; see safetynet --help",
+    ),
+    (
+        "0123456789012345678901234567890123456789012345678901234567890",
+        "012345678901234567890123456789012345678901234567890123456789..: \
+            there is no such command; see safetynet --help",
+    ),
+    (
+        "--version",
+        "--version: the command comes first; see safetynet --help",
+    ),
+    ("-V", "-V: the command comes first; see safetynet --help"),
+    ("--", "--: the command comes first; see safetynet --help"),
+    (
+        "-- replay p s",
+        "--: the command comes first; see safetynet --help",
+    ),
+    (
+        "--nodes 4 replay p s",
+        "--nodes: the command comes first; see safetynet --help",
+    ),
+    (
+        "help fly",
+        "help: a call for help is a command and --help, as safetynet run --help",
+    ),
+    (
+        "--help",
+        "--help: a call for help is a command and --help, as safetynet run --help",
+    ),
+    (
+        "-h",
+        "-h: a call for help is a command and --help, as safetynet run --help",
+    ),
+    (
+        "help",
+        "help: a call for help is a command and --help, as safetynet run --help",
+    ),
+];
+
+#[test]
+fn a_word_that_is_no_command_is_named(rt: HostRuntime) -> Result<(), Fail> {
+    all_say(&rt, rt.alloc(), COMMANDS)?;
+    Ok(())
+}
+
+const FILES: &[(&str, &str)] = &[
+    (
+        "replay",
+        "replay: PROGRAM is lacking; see safetynet replay --help",
+    ),
+    (
+        "replay p",
+        "replay: SCRIPT is lacking; see safetynet replay --help",
+    ),
+    (
+        "replay help",
+        "replay: SCRIPT is lacking; see safetynet replay --help",
+    ),
+    (
+        "replay p --nodes 4",
+        "replay: SCRIPT is lacking; see safetynet replay --help",
+    ),
+    (
+        "replay -- --nodes",
+        "replay: SCRIPT is lacking; see safetynet replay --help",
+    ),
+    (
+        "replay --nodes 4 -- --nodes",
+        "replay: SCRIPT is lacking; see safetynet replay --help",
+    ),
+    (
+        "roll p s",
+        "roll: CONTROL is lacking; see safetynet roll --help",
+    ),
+    ("run", "run: PROGRAM is lacking; see safetynet run --help"),
+    (
+        "check p",
+        "check: TRACE is lacking; see safetynet check --help",
+    ),
+    ("demo", "demo: SIZE is lacking; see safetynet demo --help"),
+    ("asm", "asm: TEXT is lacking; see safetynet asm --help"),
+    ("dis", "dis: PROGRAM is lacking; see safetynet dis --help"),
+    (
+        "replay p s c.script",
+        "c.script: replay takes no more files; see safetynet replay --help",
+    ),
+    (
+        "roll p s c -",
+        "-: roll takes no more files; see safetynet roll --help",
+    ),
+    (
+        "run p -- -x",
+        "-x: run takes no more files; see safetynet run --help",
+    ),
+    (
+        "run p s",
+        "s: run takes no more files; see safetynet run --help",
+    ),
+    (
+        "demo 1 2",
+        "2: demo takes no more files; see safetynet demo --help",
+    ),
+    (
+        "replay p s t",
+        "t: replay takes no more files; see safetynet replay --help",
+    ),
+];
+
+#[test]
+fn a_file_that_is_lacking_or_one_too_many_is_named(rt: HostRuntime) -> Result<(), Fail> {
+    all_say(&rt, rt.alloc(), FILES)?;
+    Ok(())
+}
+
+const OPTIONS: &[(&str, &str)] = &[
+    (
+        "replay p s --node 4",
+        "--node: replay has no such option; did you mean --nodes?",
+    ),
+    (
+        "replay p s --node=4",
+        "--node: replay has no such option; did you mean --nodes?",
+    ),
+    (
+        "replay p s --Nodes 4",
+        "--Nodes: replay has no such option; did you mean --nodes?",
+    ),
+    (
+        "replay p s --trade",
+        "--trade: replay has no such option; did you mean --trace?",
+    ),
+    (
+        "replay p s -x",
+        "-x: replay has no such option; see safetynet replay --help",
+    ),
+    (
+        "replay p s --=x",
+        "--: replay has no such option; see safetynet replay --help",
+    ),
+    (
+        "replay p s --version",
+        "--version: replay has no such option; see safetynet replay --help",
+    ),
+    (
+        "replay p s --journal",
+        "--journal: replay has no such option; see safetynet replay --help",
+    ),
+    (
+        "replay p s --seed 4",
+        "--seed: replay has no such option; see safetynet replay --help",
+    ),
+    (
+        "run p --script s",
+        "--script: run has no such option; see safetynet run --help",
+    ),
+    (
+        "run p --loseevery 4",
+        "--loseevery: run has no such option; did you mean --lose-every?",
+    ),
+    (
+        "run p --lose_every 4",
+        "--lose_every: run has no such option; did you mean --lose-every?",
+    ),
+    (
+        "check p t --kill a0@0",
+        "--kill: check has no such option; see safetynet check --help",
+    ),
+    (
+        "check p t --sets 4",
+        "--sets: check has no such option; see safetynet check --help",
+    ),
+    (
+        "demo -5",
+        "-5: demo has no such option; see safetynet demo --help",
+    ),
+    (
+        "replay p s --help",
+        "--help: a call for help is a command and --help, as safetynet run --help",
+    ),
+    (
+        "replay --help",
+        "--help: a call for help is a command and --help, as safetynet run --help",
+    ),
+    (
+        "replay p s -h",
+        "-h: a call for help is a command and --help, as safetynet run --help",
+    ),
+    ("replay p s --nodes", "--nodes: a value is lacking"),
+    ("replay p s --nodes --trace", "--nodes: a value is lacking"),
+    ("replay --watch -- p s", "--watch: a value is lacking"),
+    ("run p --kill", "--kill: a value is lacking"),
+    (
+        "replay p s --trace=x",
+        "--trace=x: this option takes no value",
+    ),
+    (
+        "replay p s --trace=",
+        "--trace=: this option takes no value",
+    ),
+    (
+        "replay p s --trace=true",
+        "--trace=true: this option takes no value",
+    ),
+    (
+        "run p --journal=x",
+        "--journal=x: this option takes no value",
+    ),
+    ("replay p s --nodes 4 --nodes 4", "--nodes: it stands twice"),
+    ("replay p s --nodes=4 --nodes=5", "--nodes: it stands twice"),
+    ("replay p s --nodes=4 --nodes", "--nodes: it stands twice"),
+    ("run p --kill a0@0 --kill b0@0", "--kill: it stands twice"),
+    ("replay p s --trace --trace", "--trace: it stands twice"),
+    ("run p --journal --journal", "--journal: it stands twice"),
+    (
+        "run --trace --journal p",
+        "--trace and --journal don't stand together",
+    ),
+    (
+        "run --journal p --trace",
+        "--trace and --journal don't stand together",
+    ),
+];
+
+#[test]
+fn an_option_that_does_not_stand_as_it_should_is_named(rt: HostRuntime) -> Result<(), Fail> {
+    all_say(&rt, rt.alloc(), OPTIONS)?;
+    Ok(())
+}
+
+const NUMBERS: &[(&str, &str)] = &[
+    (
+        "replay p s --nodes 17",
+        "--nodes 17: a machine has 1 to 16 nodes",
+    ),
+    (
+        "check p t --nodes 0",
+        "--nodes 0: a machine has 1 to 16 nodes",
+    ),
+    (
+        "replay p s --nodes=",
+        "--nodes \"\": a machine has 1 to 16 nodes",
+    ),
+    (
+        "replay p s --nodes ''",
+        "--nodes \"\": a machine has 1 to 16 nodes",
+    ),
+    (
+        "replay p s --nodes -1",
+        "--nodes -1: a machine has 1 to 16 nodes",
+    ),
+    (
+        "replay p s --nodes -",
+        "--nodes -: a machine has 1 to 16 nodes",
+    ),
+    (
+        "replay p s --nodes=+4",
+        "--nodes +4: a machine has 1 to 16 nodes",
+    ),
+    (
+        "replay p s --nodes 000000000000000000004",
+        "--nodes 000000000000000000004: a machine has 1 to 16 nodes",
+    ),
+    ("replay p s --sets 0", "--sets 0: a cache has 1 to 256 sets"),
+    (
+        "replay p s --sets 257",
+        "--sets 257: a cache has 1 to 256 sets",
+    ),
+    ("roll p s c --ways 0", "--ways 0: a set has 1 to 16 lines"),
+    ("replay p s --ways 17", "--ways 17: a set has 1 to 16 lines"),
+    (
+        "replay p s --log 3",
+        "--log 3: a node's log has 4 to 4096 entries",
+    ),
+    (
+        "replay p s --log 4097",
+        "--log 4097: a node's log has 4 to 4096 entries",
+    ),
+    (
+        "run p --interval 0",
+        "--interval 0: between two checkpoints a node does 1 to 1000000 instructions",
+    ),
+    (
+        "run p --wait 1000001",
+        "--wait 1000001: a recovery comes after 1 to 1000000 events without a validation",
+    ),
+    (
+        "run p --lose-every=-1",
+        "--lose-every -1: one is lost of 0 to 1000000 moves of messages, and with 0 none",
+    ),
+    (
+        "run p --budget 0",
+        "--budget 0: a run has 1 to 1000000 events",
+    ),
+    (
+        "run p --seed 18446744073709551616",
+        "--seed 18446744073709551616: a seed is a number from 0 to 18446744073709551615",
+    ),
+    (
+        "replay p s --nodes 0",
+        "--nodes 0: a machine has 1 to 16 nodes",
+    ),
+    (
+        "run p --nodes 17",
+        "--nodes 17: a machine has 1 to 16 nodes",
+    ),
+    (
+        "check p t --nodes 17",
+        "--nodes 17: a machine has 1 to 16 nodes",
+    ),
+    ("replay p s --ways 0", "--ways 0: a set has 1 to 16 lines"),
+    (
+        "run p --interval 1000001",
+        "--interval 1000001: between two checkpoints a node does 1 to 1000000 instructions",
+    ),
+    (
+        "run p --wait 0",
+        "--wait 0: a recovery comes after 1 to 1000000 events without a validation",
+    ),
+    (
+        "run p --lose-every 1000001",
+        "--lose-every 1000001: one is lost of 0 to 1000000 moves of messages, and with 0 none",
+    ),
+    (
+        "run p --budget 1000001",
+        "--budget 1000001: a run has 1 to 1000000 events",
+    ),
+    (
+        "run p --seed=-1",
+        "--seed -1: a seed is a number from 0 to 18446744073709551615",
+    ),
+];
+
+#[test]
+fn a_number_that_does_not_fit_is_shown_with_its_range(rt: HostRuntime) -> Result<(), Fail> {
+    all_say(&rt, rt.alloc(), NUMBERS)?;
+    Ok(())
+}
+
+const VALUES: &[(&str, &str)] = &[
+    (
+        "replay p s --watch 1234",
+        "--watch 1234: the address of a word of memory is eight hexadecimal digits, \
+            80000000 to 803ffffc, a multiple of 4",
+    ),
+    (
+        "run p --watch=80400000",
+        "--watch 80400000: the address of a word of memory is eight hexadecimal digits, \
+            80000000 to 803ffffc, a multiple of 4",
+    ),
+    (
+        "run --kill c0@5 p",
+        "--kill c0@5: a switch that dies is a or b, its node below 4, @, and a number of events up to 1000000",
+    ),
+    (
+        "run p --nodes 1 --kill b1@0",
+        "--kill b1@0: a switch that dies is a or b, its node below 1, @, and a number of events up to 1000000",
+    ),
+    (
+        "run p --kill=a8@0 --nodes=8",
+        "--kill a8@0: a switch that dies is a or b, its node below 8, @, and a number of events up to 1000000",
+    ),
+    (
+        "run p --kill a0@1000001",
+        "--kill a0@1000001: a switch that dies is a or b, its node below 4, @, and a number of events up to 1000000",
+    ),
+    (
+        "run p --kill=",
+        "--kill \"\": a switch that dies is a or b, its node below 4, @, and a number of events up to 1000000",
+    ),
+    (
+        "run --kill c0@5 p --nodes 17",
+        "--nodes 17: a machine has 1 to 16 nodes",
+    ),
+    ("demo 0", "demo 0: a demonstration has 1 to 1000000 events"),
+    (
+        "demo 1000001",
+        "demo 1000001: a demonstration has 1 to 1000000 events",
+    ),
+    (
+        "replay p s --watch 80000001",
+        "--watch 80000001: the address of a word of memory is eight hexadecimal digits, 80000000 to 803ffffc, a multiple of 4",
+    ),
+    (
+        "replay p s --watch 80400000",
+        "--watch 80400000: the address of a word of memory is eight hexadecimal digits, 80000000 to 803ffffc, a multiple of 4",
+    ),
+    (
+        "replay p s --watch 8000000",
+        "--watch 8000000: the address of a word of memory is eight hexadecimal digits, 80000000 to 803ffffc, a multiple of 4",
+    ),
+    (
+        "run p --watch 80400000",
+        "--watch 80400000: the address of a word of memory is eight hexadecimal digits, 80000000 to 803ffffc, a multiple of 4",
+    ),
+    (
+        "run p --kill a4@0",
+        "--kill a4@0: a switch that dies is a or b, its node below 4, @, and a number of events up to 1000000",
+    ),
+    (
+        "run p --kill a00@0",
+        "--kill a00@0: a switch that dies is a or b, its node below 4, @, and a number of events up to 1000000",
+    ),
+    (
+        "run p --kill a0",
+        "--kill a0: a switch that dies is a or b, its node below 4, @, and a number of events up to 1000000",
+    ),
+];
+
+#[test]
+fn another_value_that_does_not_fit_is_shown_with_its_rule(rt: HostRuntime) -> Result<(), Fail> {
+    all_say(&rt, rt.alloc(), VALUES)?;
+    Ok(())
+}
+
+/// What is said of the words of a command.
+const NOTHING: &str = "# why: the words are no command's; see safetynet --help\n";
+
+/// Words of each kind. The lines that are tried are made of them.
+const WORDS: &[&str] = &[
+    "p",
+    "4",
+    "17",
+    "-",
+    "",
+    "-1",
+    "-h",
+    "help",
+    "--",
+    "--=1",
+    "--nodes",
+    "--nodes=2",
+    "--nodes=",
+    "--node",
+    "--watch",
+    "80000000",
+    "--kill",
+    "--kill=b3@5",
+    "a1@0",
+    "--seed",
+    "--trace",
+    "--trace=x",
+    "--journal",
+    "--help",
+];
+
+fn listed(alloc: Global, line: &[&str]) -> Result<Vec<String>, AllocError> {
+    let mut words = Vec::new(alloc);
+    for word in line {
+        words.push(String::from_str(alloc, word)?)?;
+    }
+    Ok(words)
+}
+
+/// Something is said of the words where they are refused, and only there.
+fn agree(rt: &impl Abort, alloc: Global, line: &[&str]) -> Result<(), Memory> {
+    let words = listed(alloc, line)?;
+    let reason = reason_of(alloc, words.as_slice())?;
+    let is_said = reason.bytes() != NOTHING.as_bytes();
+    assert!(rt; are_refused(alloc, words.as_slice()) == is_said, "{line:?}");
+    Ok(())
+}
+
+fn all_agree(rt: &impl Abort, alloc: Global, command: &str) -> Result<(), Memory> {
+    for first in WORDS {
+        for second in WORDS {
+            for third in WORDS {
+                agree(rt, alloc, &["safetynet", command, *first, *second, *third])?;
+            }
+        }
+    }
+    Ok(())
+}
+
+#[test]
+fn something_is_said_of_all_words_that_are_refused_and_of_no_others(
+    rt: HostRuntime,
+) -> Result<(), Fail> {
+    for command in ["replay", "roll", "run", "check", "demo", "asm", "dis"] {
+        all_agree(&rt, rt.alloc(), command)?;
+    }
+    Ok(())
+}

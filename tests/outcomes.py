@@ -1,0 +1,18 @@
+"""What a call of the program comes to: its status, what it wrote to standard output, and what to standard error."""
+import re
+
+# The line that says why a call isn't done. The reference simulator has none.
+REASON = re.compile(rb"^# why: [^\n]*\n", re.MULTILINE)
+
+
+def without_reason(outcome):
+    """The outcome, without the line that says why."""
+    status, console, report = outcome
+    return status, console, REASON.sub(b"", report)
+
+
+def is_explained(outcome):
+    """Whether the report of a call that isn't done says why once, in the line above its last; that of another call never does."""
+    status, _, report = outcome
+    places = [place for place, line in enumerate(report.splitlines(keepends=True)) if REASON.fullmatch(line)]
+    return places == ([] if status == 0 else [report.count(b"\n") - 2])
