@@ -1,0 +1,98 @@
+#!/usr/bin/env bash
+# Shows why each kind of call ends as it does: one line `# why: ` above the line that names the status, and nothing else of what is
+# refused. What can't be read twice, as a pipe, makes the line say less. crates/reasons_tests, usage_reasons_tests and
+# call_reasons_tests have a row for each cause; here the files and streams are real.
+set -u
+cd "$(dirname "$0")/../.." || exit 1
+. tests/gate/lib/checks.sh
+./safetynet --build || { echo "the program was not built" >&2; exit 1; }
+
+program=$PWD/build/safetynet first=$PWD/examples/first/a.hex elf=$PWD/examples/first/a.elf count=$PWD/examples/shared/count.hex
+cd "$work" || exit 1
+
+# The call ends so, and its report ends with these two lines; why stands in it once.
+ends() { # status, its words, why, the call's words
+  local want=$1 words=$2 why=$3 status
+  shift 3
+  "$program" "$@" >console 2>report
+  status=$?
+  is_so "$* ends with $want" [ "$status" -eq "$want" ]
+  is_so "$* says why" diff <(printf '%s\n' "# why: $why" "# safetynet: $words") <(tail -n 2 report)
+  is_so "$* says it once" [ "$(grep -c '^# why: ' report)" -eq 1 ]
+}
+# The same of a call that puts nothing else.
+says() { # status, its words, why, the call's words
+  ends "$@"
+  is_so "${*:4} puts nothing else" [ ! -s console ] && is_so "${*:4} reports nothing else" [ "$(wc -l <report)" -eq 2 ]
+}
+
+# Words.
+says 1 usage 'fly: there is no such command; see safetynet --help' fly
+says 1 usage 'reply: there is no such command; did you mean replay?' reply
+says 1 usage '--nodes 17: a machine has 1 to 16 nodes' replay --nodes 17 "$first" a.script
+says 1 usage '--node: replay has no such option; did you mean --nodes?' replay --node 2 "$first" a.script
+says 1 usage '--trace and --journal don'\''t stand together' run --trace --journal "$first"
+says 1 usage 'replay: SCRIPT is lacking; see safetynet replay --help' replay "$first"
+says 1 usage 'a word isn'\''t UTF-8' replay $'\xff'
+
+# Files that can't be read.
+mkdir folder
+says 2 store 'missing.hex: no such file' dis missing.hex
+says 2 store 'folder: it is a directory' dis folder
+says 2 store 'missing.script: no such file' replay "$first" missing.script
+says 2 store 'missing.control: no such file' roll "$first" /dev/null missing.control
+says 2 store 'a\x0ab: no such file' dis $'a\nb'
+
+# Programs.
+printf '04100513\n\n0410051\n' >count.hex
+says 3 'program badhexline' 'count.hex:3: "0410051" isn'\''t eight hexadecimal digits' dis count.hex
+printf '# put out\n\nstart:\naddi x5, x0, 7\n' >text.hex
+says 3 'program badhexline' 'text.hex:3: this is assembler; safetynet asm turns it into words' dis text.hex
+head -c 40 "$elf" >short.elf
+says 3 'program truncated' 'short.elf: the file ends after 40 bytes, and 52 are needed' dis short.elf
+{ head -c 4 "$elf"; printf '\2'; tail -c +6 "$elf"; } >class.elf
+says 3 'program wrongfield' 'class.elf: the class is 00000002, and a program for this machine has 00000001' dis class.elf
+
+# Scripts, control files and traces.
+printf 'step 0\n# a comment\nstepp 0\n' >wrong.script
+says 4 'script badline' 'wrong.script:3: this line is no event: "stepp 0"; did you mean step?' replay "$first" wrong.script
+printf 'step 0 \n' >blank.script
+says 4 'script badline' 'blank.script:1: this line is no event: "step 0 "; a blank stands at its end' replay "$first" blank.script
+printf 'step 2\n' >node.script
+says 4 'script outofrange' 'node.script:1: a machine of 2 nodes has no such node, block or switch: "step 2"' replay --nodes 2 "$first" node.script
+printf 'order 0\nordr 1\n' >wrong.control
+says 4 'script badline' 'wrong.control:2: this line is no control: "ordr 1"; did you mean order?' roll "$first" /dev/null wrong.control
+says 4 'script badline' 'wrong.script:3: this line is no event: "stepp 0"; did you mean step?' roll "$first" wrong.script wrong.control
+printf '0 00000000 0\n' >a.trace
+says 4 'script badline' 'a.trace:1: this line is no event: "0 00000000 0"; it is a trace'\''s, which check takes' replay "$first" a.trace
+{ printf 'step '; head -c 1000 /dev/zero | tr '\0' '7'; echo; } >long.script
+says 4 'script badline' "long.script:1: this line is no event: \"step $(head -c 55 /dev/zero | tr '\0' '7')\".." replay "$first" long.script
+printf '# a\n0 00000000 0\n0 00000000 0\n0 00000001 0\n' >one.trace
+ends 9 'refused 3' 'record 3 (line 4): core 0 saw 00000001, and the memory has 00000000' check "$count" one.trace
+
+# What comes through a pipe can't be shown once more, and isn't waited for.
+mkfifo pipe
+printf 'step 0\nstepp 0\n' >pipe &
+says 4 'script badline' 'pipe:2: this line is no event' replay "$first" pipe
+wait
+
+# Assembler.
+printf 'addi x5, x0, 1\n\nli x5, 7\n' >spin.s
+says 13 'asm badline' 'spin.s:3: li is a pseudoinstruction, which this assembler leaves out; write addi x5, x0, 7' asm spin.s
+
+# Runs.
+printf '00000000\n' >trap.hex
+ends 10 'trapped 0 illegal' 'core 0 trapped: its next word is no instruction' run --nodes 1 trap.hex
+printf '0000006f\n' >spin.hex
+ends 6 budget 'the run has 50 events, which is its budget, and its cores haven'\''t all ended' run --nodes 1 --budget 50 spin.hex
+ends 8 'cutoff 0 1' 'nodes 0 and 1 are cut off: no living switches join them' run --nodes 2 --kill a0@0 "$count"
+
+# What the system doesn't give.
+"$program" dis "$first" >/dev/full 2>report
+is_so "a full console is named" diff <(printf '%s\n' '# why: not all of the output could be written' '# safetynet: sink') report
+"$program" --help >/dev/full 2>report
+is_so "and so of a page" diff <(printf '%s\n' '# why: not all of the output could be written' '# safetynet: sink') report
+"$program" demo 10 >console 2>report
+is_so "what is done says nothing" [ "$(grep -c '^# ' report)" -eq 0 ]
+
+told reasons
