@@ -72,7 +72,7 @@ refuses() { # status, what the last line has, words..
   shift 2
   tools/diagram "$@" >"$work/out" 2>"$work/err"
   found=$?
-  [ "$found" -eq "$status" ] && [ ! -s "$work/out" ] && tail -n 1 "$work/err" | grep -qF -- "$line" && [ "$(wc -l <"$work/err")" -le 2 ]
+  [ "$found" -eq "$status" ] && [ ! -s "$work/out" ] && tail -n 1 "$work/err" | grep -qF -- "$line" && [ "$(wc -l <"$work/err")" -le 3 ]
 }
 hex=examples/shared/count.hex
 script=examples/shared/lost_transfer.script
