@@ -252,6 +252,8 @@ class Module:
                 type_name = path.split(".")[-2]
                 if type_name not in ("Option", "Result"):
                     self.names[local] = ("variant", type_name, name)
+            elif path.startswith("declared.") and path.endswith(".TheConstants"):
+                self.names[local] = ("constant", crate, name)
             elif (crate, path) != self.key:
                 self.names[local] = ("import", (crate, path), name)
 
@@ -288,6 +290,8 @@ class Module:
         if name in self.clauses:
             return self.function(name)
         entry = self.names.get(name)
+        if entry and entry[0] == "constant":
+            return self.world.constants[entry[1], entry[2]]
         if entry and entry[0] == "import" and entry[1] in self.world.modules:
             return self.world.modules[entry[1]].lookup(entry[2])
         original = entry[2] if entry else name
@@ -441,10 +445,11 @@ class World:
     """All definitions of the crates."""
 
     def __init__(self, root, crates):
-        self.modules, self.carried = {}, {}
+        self.modules, self.carried, self.constants = {}, {}, {}
         for crate in crates:
             for source in sorted((root / "crates" / crate / "src").glob("*.rt")):
                 self.enums(source.read_text())
+                self.numbers(crate, source.read_text())
             for source in sorted((root / "crates" / crate / "specs").glob("*.antt")):
                 key = (crate, source.stem)
                 self.modules[key] = Module(self, key, source.read_text())
@@ -455,6 +460,18 @@ class World:
             for variant, parts in re.findall(r"(\w+)(\([^)]*\)|\s*\{[^}]*\})?,", body):
                 count = 0 if not parts else parts.count(",") + 1 if parts.startswith("(") else parts.count(":")
                 self.carried[name, variant] = count
+
+    def numbers(self, crate, text):
+        """The constants of a source file: numbers, and sums and products of earlier ones."""
+        for name, value in re.findall(r"^pub const (\w+): [iu]\w+ = ([\w +*-]+);", text, re.M):
+            parts = [part if part in "+-*" else self.number(crate, part) for part in value.split()]
+            if None not in parts:
+                self.constants[crate, name] = eval(" ".join(map(str, parts)))
+
+    def number(self, crate, word):
+        """The number that a word of such a constant is, or None."""
+        digits = word.replace("_", "")
+        return int(digits, 0) if re.fullmatch(r"0x[0-9a-fA-F]+|\d+", digits) else self.constants.get((crate, word))
 
     def variant(self, type_name, name):
         full = f"{type_name}.{name}"
