@@ -95,4 +95,39 @@ is_so "and so of a page" diff <(printf '%s\n' '# why: not all of the output coul
 "$program" demo 10 >console 2>report
 is_so "what is done says nothing" [ "$(grep -c '^# ' report)" -eq 0 ]
 
+# Notes: a terminal gets them behind the report, and a file gets none.
+noted() { # what is noted, the words of a replay
+  local what=$1
+  shift
+  python3 - "$program" replay "$@" >shown <<'END'
+import os, pty, subprocess, sys
+
+master, slave = pty.openpty()
+done = subprocess.run(sys.argv[1:], stdin=subprocess.DEVNULL, stdout=subprocess.DEVNULL, stderr=slave, check=False)
+os.close(slave)
+report = b""
+while True:
+    try:
+        part = os.read(master, 65536)
+    except OSError:
+        break
+    if not part:
+        break
+    report += part
+sys.stdout.buffer.write(report.replace(b"\r\n", b"\n"))
+sys.exit(done.returncode)
+END
+  is_so "$*, on a terminal, is done" [ $? -eq 0 ]
+  "$program" replay "$@" >console 2>report
+  is_so "$*, on a terminal, notes $what" diff <(cat report; [ -z "$what" ] || printf '%s\n' "$what") shown
+}
+printf 'step 0\ndeliver 6\nvalidate\n' >guess.script
+noted '# note: 2 of 3 events were refused, the first is 2 deliver 6: nomessage' --nodes 2 "$count" guess.script
+noted $'# note: 2 of 3 events were refused, the first is 2 deliver 6: nomessage\n# note: --nodes wasn\'t given: 4 nodes' "$count" guess.script
+printf 'step 0\nedge 3\n' >good.script
+noted '' "$count" good.script
+noted '' --nodes=8 "$count" good.script
+printf 'step 0\n' >few.script
+noted "# note: --nodes wasn't given: 4 nodes" --trace "$count" few.script
+
 told reasons

@@ -3,3 +3,5 @@ pub mod Files
 pub mod Blame
 pub mod Verdict
 pub mod Reason
+pub mod Notes
+pub mod Noted

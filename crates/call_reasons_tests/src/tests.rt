@@ -2,7 +2,7 @@
 ghost use Rattle.std.specs.Prelude.{◌≡◌, IfOk, true};
 ghost use Rattle.command_words.specs.Request.{as_request, request_fits};
 
-use call_reasons::{file_of, write_reason};
+use call_reasons::{file_of, write_notes, write_reason};
 use command_words::{Request, read_words};
 use elf_load::LoadCause;
 use reasons::Reason;
@@ -270,6 +270,48 @@ fn files_stand_in_their_order(rt: HostRuntime) -> Result<(), Fail> {
         assert!(&rt; file_of(&request, 1) == *second, "{words}");
         assert!(&rt; file_of(&request, 2) == *third, "{words}");
         assert!(&rt; file_of(&request, 3).is_none(), "{words}");
+    }
+    Ok(())
+}
+
+/// A script, whether the words give the number of nodes, and the notes on its replay on four.
+const NOTED: &[(&[u8], bool, &str)] = &[
+    (
+        b"step 0\ndeliver 6\nvalidate\n",
+        true,
+        "# note: 2 of 3 events were refused, the first is 2 deliver 6: nomessage\n",
+    ),
+    (
+        b"step 0\nedge 2\n",
+        false,
+        "# note: --nodes wasn't given: 4 nodes\n",
+    ),
+    (
+        b"hop 1\n",
+        false,
+        "# note: 1 of 1 events were refused, the first is 1 hop 1: nomessage\n\
+        # note: --nodes wasn't given: 4 nodes\n",
+    ),
+    (b"step 3\n", false, ""),
+    (b"step 0\n", true, ""),
+    (b"stepp\n", false, ""),
+];
+
+fn notes_of(rt: &impl Abort, alloc: Global, script: &[u8], gives: bool) -> Result<Reason, Memory> {
+    let request = request_of(rt, alloc, "safetynet replay a.hex a.script")?;
+    let mut store = MemStore::new(alloc);
+    store.add("a.hex", COUNT)?;
+    store.add("a.script", script)?;
+    let mut note = Reason::new(alloc);
+    write_notes(alloc, &mut store, &request, gives, &mut note)?;
+    Ok(note)
+}
+
+#[test]
+fn a_replay_is_noted(rt: HostRuntime) -> Result<(), Fail> {
+    for (script, gives, wanted) in NOTED {
+        let note = notes_of(&rt, rt.alloc(), script, *gives)?;
+        assert!(&rt; note.bytes() == wanted.as_bytes(), "{wanted}");
     }
     Ok(())
 }

@@ -3,7 +3,8 @@
 //! It makes a store over the system's files and a sink over each standard stream, the console on standard output and
 //! the report on standard error, calls `safetynet` with the words that it was given, and exits with the status's
 //! number. One probe is told the events, a tally of how often each kind came. Where the status isn't Done a line on standard
-//! error says why, and the last one names it. Calls for help or the version are its own to answer.
+//! error says why, and the last one names it; of a replay that is done a terminal gets notes. Calls for help or the version are
+//! its own to answer.
 #![tactic(auto)]
 
 mod twice;
@@ -16,10 +17,11 @@ ghost use Rattle.own_pages.specs.Texts.{text_on};
 ghost use Rattle.safetynet_main.specs.Status.{has_written};
 ghost use Rattle.sn_io.specs.Outside.{Rose, followed_by};
 
-use crate::why::write_why;
+use crate::why::{write_notes_on, write_why};
 use own_pages::{Page, page_of, show};
 use reasons::{Lack, Reason, write_lack};
 use safetynet_main::{Status, safetynet};
+use sn_base::Memory;
 use sn_io::{FileStore, OpenGate, Sink, StdSink};
 use sn_probe::{EventTally, Probe};
 use sn_text::trap_name;
@@ -129,12 +131,29 @@ fn say(rt: &HostRuntime, reason: &Reason) {
     let _ = rt.stderr().write_all(reason.bytes());
 }
 
-// Says why a call with these words ended so, where it isn't done. Where memory is lacking for it, nothing is said.
+// Puts to a reason what there is to say of a call with these words that ended so.
+fn write_end(
+    rt: &HostRuntime,
+    alloc: Global,
+    words: &[String],
+    status: Status,
+    reason: &mut Reason,
+) -> Result<(), Memory> {
+    if status != Status::Done {
+        write_why(rt, alloc, words, status, reason)
+    } else if rt.stderr().is_terminal() {
+        write_notes_on(rt, alloc, words, reason)
+    } else {
+        Ok(())
+    }
+}
+
+// Says why a call ended so, or the notes on one that is done. Where memory is lacking for it, nothing is said.
 fn explained(rt: &HostRuntime, alloc: Global, words: &[String], status: Status) -> Status
     ensures { result ≡ status }
 {
     let mut reason = Reason::new(alloc);
-    if status != Status::Done && write_why(rt, alloc, words, status, &mut reason).is_ok() {
+    if write_end(rt, alloc, words, status, &mut reason).is_ok() {
         say(rt, &reason);
     }
     status

@@ -1,6 +1,6 @@
-//! Why a call ended as it did, said in one line on standard error above the status.
+//! Why a call ended as it did, said in one line on standard error above the status, and notes on one that is done.
 use crate::twice::{FilesAgain, unread_of};
-use call_reasons::{file_of, write_reason};
+use call_reasons::{file_of, write_notes, write_reason};
 use command_words::{Request, WordsFault, read_words};
 use reasons::{Lack, Reason, write_lack, write_unread};
 use safetynet_main::Status;
@@ -39,5 +39,27 @@ pub fn write_why<T: Files>(
         Ok(request) => write_reason(alloc, &mut FilesAgain::new(rt), &request, status, reason),
         Err(WordsFault::Usage) => write_usage(reason, words),
         Err(WordsFault::Memory) => write_lack(reason, Lack::Memory),
+    }
+}
+
+// Whether the words give the number of nodes.
+fn gives_nodes(words: &[String]) -> bool {
+    words.iter().any(|word| word.as_str() == "--nodes" || word.as_str().starts_with("--nodes="))
+}
+
+/// The notes on a call with these words that is done.
+pub fn write_notes_on<T: Files>(
+    rt: &T,
+    alloc: Global,
+    words: &[String],
+    note: &mut Reason,
+) -> Result<(), Memory> {
+    match read_words(alloc, words) {
+        Ok(request) => {
+            let mut files = FilesAgain::new(rt);
+            write_notes(alloc, &mut files, &request, gives_nodes(words), note)
+        }
+        Err(WordsFault::Usage) => Ok(()),
+        Err(WordsFault::Memory) => Err(Memory),
     }
 }
