@@ -153,7 +153,8 @@ fn explained(rt: &HostRuntime, alloc: Global, words: &[String], status: Status) 
     ensures { result ≡ status }
 {
     let mut reason = Reason::new(alloc);
-    if write_end(rt, alloc, words, status, &mut reason).is_ok() {
+    let ended = status;
+    if write_end(rt, alloc, words, ended, &mut reason).is_ok() {
         say(rt, &reason);
     }
     status
