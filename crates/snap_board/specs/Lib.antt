@@ -1,0 +1,4 @@
+pub mod Fronts
+pub mod Keeps
+pub mod Snap
+pub mod Watching
