@@ -1,5 +1,5 @@
 -- The line that says why a call ended as it did, over the files that are there.
-use Rattle.std.specs.Prelude.{◌≡◌, ℕ, List, ◌++◌, Option, Some, None, IfSome}
+use Rattle.std.specs.Prelude.{◌≡◌, ℕ, List, ◌++◌, Option, Some, None}
 use Rattle.sn_io.specs.Outside.{found_in}
 use Rattle.reasons.specs.Reason.{of_file, too_long, begun, ended}
 use Rattle.reasons.specs.Ends.{lacked, spent, cut_off, trapped}
@@ -19,7 +19,7 @@ use Rattle.safetynet_main.specs.declared.status.Status.TheVariants.{Done, Usage,
 use Rattle.safetynet_main.specs.declared.status.Status.TheVariants.{Memory, CutOff, Refused, Trapped}
 use Rattle.call_reasons.specs.Files.{bytes_in, records_in}
 use Rattle.call_reasons.specs.Blame.{Files, Blamed, program_of, assembly_of, budget_of, blamed_of}
-use Rattle.call_reasons.specs.Verdict.{record_at, IsMissed}
+use Rattle.call_reasons.specs.Verdict.{record_at, IsFound}
 
 -- the bytes of a file as it is now, if it isn't longer than may be
 abbrev pub held_bytes : Files → List ℕ → ℕ → List ℕ
@@ -56,7 +56,7 @@ of_record text nodes trace place word =
 abbrev pub IsOfRecord : Files → Request → ℕ → List ℕ → List ℕ → Type 0
 IsOfRecord held (Check nodes program trace) place text new =
     (word : Option ℕ)
-    × IfSome word (IsMissed (held_bytes held program 16777216) nodes (records_in nodes (held_bytes held trace 33554432)) place)
+    × IsFound (held_bytes held program 16777216) nodes (records_in nodes (held_bytes held trace 33554432)) place word
     × (new ≡ of_record text nodes (held_bytes held trace 33554432) place word)
 IsOfRecord held ask place text new = new ≡ text
 

@@ -1,13 +1,13 @@
 //! Why a trace is no execution: what the flat machine has at the place of its first record without a step.
-ghost use Rattle.std.specs.Prelude.{◌≡◌, ◌≢◌, ◌+◌, ◌-◌, ◌<◌, ◌≤◌, ◌^◌, ℕ, List, Option, Some, Ok, IfOk, IfSome, OnOk, length, take, option_map, true};
+ghost use Rattle.std.specs.Prelude.{◌≡◌, ◌≢◌, ◌+◌, ◌-◌, ◌<◌, ◌≤◌, ◌^◌, ◌↔◌, ℕ, List, Option, Some, Ok, IfOk, OnOk, length, take, option_map, true};
 ghost use Rattle.sn_base.specs.Config.{lies_in};
 ghost use Rattle.rv_core.specs.Wanted.{IsInside};
 ghost use Rattle.rv_core.specs.Step.{want_of};
 ghost use Rattle.rv_core.specs.Flat.{flat_start, core_at};
-ghost use Rattle.rv_core.specs.Execution.{state_after};
+ghost use Rattle.rv_core.specs.Execution.{Executes, state_after};
 ghost use Rattle.command_words.specs.Request.{as_check};
 ghost use Rattle.elf_load.specs.Loading.{image_of};
-ghost use Rattle.call_reasons.specs.Verdict.{record_at, word_for, word_read, IsMissed};
+ghost use Rattle.call_reasons.specs.Verdict.{record_at, word_for, word_read, IsFound};
 ghost use Rattle.call_reasons.specs.Reason.{IsOfRecord};
 
 use crate::content::{PROGRAM_LIMIT, SCRIPT_LIMIT, fetch, records_in};
@@ -46,7 +46,7 @@ fn word_for(flat: &Flat, want: Want) -> Option<u32>
 // What the core of a record reads in memory, where it runs.
 fn word_read(flat: &Flat, image: &Image, taken: &Record) -> Option<u32>
     requires there { taken.now.core < length flat.now.cores }
-    ensures { IfSome result (λ word. word_read image.now flat.now taken.now ≡ Some word) }
+    ensures { result ≡ word_read image.now flat.now taken.now }
 {
     let core = flat.core(taken.core);
     if core.is_running() {
@@ -57,9 +57,10 @@ fn word_read(flat: &Flat, image: &Image, taken: &Record) -> Option<u32>
 }
 
 // The flat machine after these records, as far as each is a step.
-#[tactic(auto, using(crate::proofs::Runs::run_next, crate::proofs::Runs::run_last))]
+#[tactic(auto, using(crate::proofs::Runs::run_next, crate::proofs::Runs::run_last, crate::proofs::Runs::steps_next, crate::proofs::Runs::steps_last, crate::proofs::Runs::steps_stop))]
 fn run_through(flat: &mut Flat, image: &Image, records: &[Record]) -> bool
     ensures state { result ≡ true → flat.new ≡ state_after image.now flat.old records.now }
+    ensures steps { (result ≡ true) ↔ Executes image.now flat.old records.now }
     ensures nodes { length flat.new.cores ≡ length flat.old.cores }
 {
     'records: for taken in records {
@@ -80,7 +81,7 @@ fn missed_word(
 ) -> Result<Option<u32>, Memory>
     requires some { 1 ≤ nodes }
     requires few { nodes ≤ 16 }
-    ensures { IfOk result (λ found. IfSome found (IsMissed program.now nodes records.now place)) }
+    ensures { IfOk result (IsFound program.now nodes records.now place) }
 {
     let Some(taken) = record_at(records, place) else {
         return Ok(None);
