@@ -3,7 +3,7 @@ ghost use Rattle.std.specs.Prelude.{◌≡◌, ◌<◌, ◌≤◌, IfOk};
 ghost use Rattle.sn_model.specs.Machine.{start_of};
 
 use elf_load::load;
-use sn_base::{Config, Event, Memory, NodeId, Rules};
+use sn_base::{Config, Event, NodeId, Rules};
 use sn_driver::{Driver, Turn};
 use sn_machine::Machine;
 use sn_monitor::{Monitored, Published, Snap, Watcher};
@@ -24,7 +24,7 @@ const ADDS: &str = "800012b7\n00100313\n0062a3af\n05d00893\n00000073\n";
 /// Each core jumps to itself.
 const LOOPS: &str = "0000006f\n";
 
-/// A run: its program, its nodes, how many records an interval has at most, and the word that is watched.
+/// A run: its program, its nodes, after how many instructions an edge is due, and the word that is watched.
 #[derive(Clone, Copy)]
 struct Run {
     program: &'static str,
