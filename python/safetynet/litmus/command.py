@@ -57,7 +57,7 @@ def run_test(runner: Runner, runs: int, seed: int, losses: bool = False, limit: 
     tally = Tally(runner.test)
     begun = time.monotonic()
     for number in range(runs):
-        if time.monotonic() - begun > limit:
+        if time.monotonic() - begun >= limit:
             tally.unfinished += runs - number
             break
         state = runner.run(random.Random(f"{seed} {runner.test.name} {number}"), losses, begun + limit)

@@ -206,7 +206,7 @@ class Finish:
 
 
 class Schedule:
-    """The events of one run, call by call: one or two calls that guess, and then those that finish."""
+    """The events of one run, call by call: one to three calls that guess, and then those that finish."""
 
     def __init__(self, runner: Runner, drawn: random.Random, losses: bool) -> None:
         self.runner = runner
@@ -214,7 +214,7 @@ class Schedule:
         self.losses = losses
         self.nodes = runner.nodes
         self.finish = Finish(runner.nodes, runner.hops)
-        self.guesses = drawn.choice((1, 2)) if len(runner.test.threads) > 1 else 1
+        self.guesses = drawn.choice((1, 2, 2, 3)) if len(runner.test.threads) > 1 else 1
         self.blocks = [(address - ENTRY) // 64 for address in runner.test.addresses.values()] or [(DATA - ENTRY) // 64]
 
     def events(self, progress: Progress, number: int) -> List[Event]:
@@ -232,11 +232,9 @@ class Schedule:
         going = [node for node in range(self.nodes) if node not in progress.ended]
         for _ in range(2 + number % 3):
             self.drawn.shuffle(going)
-            for place, node in enumerate(going):
+            for node in going:
                 events += [Step(node)] * 3
-                # of three nodes and more every second one goes on before its messages are taken: this is half of what a run costs
-                if self.nodes == 2 or place % 2 or place == len(going) - 1:
-                    events += self.finish.all_moves(progress, AHEAD)
+                events += self.finish.all_moves(progress, AHEAD)
         return [*events, *self.finish.checkpoint(progress.at([top] * self.nodes))]
 
     # What is guessed.
