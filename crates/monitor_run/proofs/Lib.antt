@@ -1,0 +1,10 @@
+pub mod Beginnings
+pub mod Generators
+pub mod Going
+pub mod Leaving
+pub mod MarkLaws
+pub mod Outcomes
+pub mod Published
+pub mod Rounds
+pub mod Seen
+pub mod Some

@@ -1,0 +1,12 @@
+use Rattle.std.proofs.Common.{◌<◌, ◌≤◌, take, length, All, vec_capacity}
+use Rattle.monitor_run.specs.declared.marks.Mark.{Mark}
+use Rattle.monitor_run.specs.Seen.{IsSomeOf}
+use Rattle.monitor_run.proofs.marks.take_looked.Given as goal
+
+abbrev pub invariant-marks : goal.invariant-marks
+invariant-marks l = record {
+  some : IsSomeOf l.seen.items (take l.mark-index l.published);
+  above : All (λ (m : Mark). 0 < m.point) l.seen.items;
+  few : length l.seen.items ≤ l.mark-index;
+  room : vec_capacity l.initial.seen ≤ vec_capacity l.seen;
+}

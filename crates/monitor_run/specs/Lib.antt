@@ -1,0 +1,6 @@
+pub mod Drawn
+pub mod Seen
+pub mod Stands
+pub mod Taken
+pub mod Reported
+pub mod Shown

@@ -1,0 +1,137 @@
+//! A watched run before its first turn.
+ghost use Rattle.std.specs.Prelude.{◌≡◌, ◌+◌, ◌≤◌, true, [], vec_capacity, IfOk};
+ghost use Rattle.sn_base.specs.Config.{config_fits};
+ghost use Rattle.sn_base.specs.Rules.{AreRules};
+ghost use Rattle.sn_model.specs.Machine.{start_of};
+ghost use Rattle.node_run.specs.Pieces.{begins};
+ghost use Rattle.sn_monitor.specs.Goes.{IsWatchable};
+ghost use Rattle.monitor_run.specs.Shown.{MayBegin, run_of, watched_word};
+ghost use Rattle.monitor_run.specs.Stands.{Stands, IsReady, IsNew, its_start};
+
+use crate::draws::generators;
+use crate::job::Monitor;
+use crate::marks::Mark;
+use crate::turns::{Turns, note_last};
+use sn_base::{Config, Image, Memory, RAM_START, Rules};
+use sn_driver::Driver;
+use sn_machine::Machine;
+use sn_monitor::{Monitored, Watcher};
+use std::alloc::Global;
+use std::sync::Wait;
+
+/// A run with its watcher, and all memory that they take but for the snapshots.
+pub(crate) struct Started {
+    pub monitored: Monitored,
+    pub watcher: Watcher,
+    pub turns: Turns,
+    pub looks: Vec<Mark>,
+    pub seen: Vec<Mark>,
+}
+
+// What the turns of so many workers fill.
+fn room_for(alloc: Global, seed: u64, budget: u32, workers: u8) -> Result<Turns, Memory>
+    requires { budget ≤ 1000000 }
+    ensures new { IfOk result (λ t. IsNew workers t) }
+    ensures same { IfOk result (λ t. (t.seed ≡ seed) × (t.budget ≡ budget)) }
+{
+    Ok(Turns {
+        generators: generators(alloc, seed, workers)?,
+        journal: Vec::with_capacity(alloc, budget as usize)?,
+        answers: Vec::with_capacity(alloc, budget as usize)?,
+        published: Vec::with_capacity(alloc, budget as usize + 1)?,
+        seed,
+        budget,
+    })
+}
+
+// A machine of these sizes at the start of the program, with room for the events.
+fn machine_for(
+    alloc: Global,
+    program: Image,
+    config: Config,
+    budget: u32,
+) -> Result<Machine, Memory>
+    requires sizes { config_fits config ≡ true }
+    requires few { budget ≤ 1000000 }
+    ensures program { IfOk result (λ m. (m.image ≡ program) × (m.config ≡ config)) }
+    ensures start { IfOk result (λ m. (m.applied ≡ 0) × (m.state ≡ start_of program config.nodes)) }
+    ensures room { IfOk result (λ m. budget + 1 ≤ m.spare) }
+{
+    let mut machine = Machine::new(alloc, program, config)?;
+    // One event more than the run does, so that it may always be asked for one.
+    machine.reserve(budget + 1)?;
+    Ok(machine)
+}
+
+// The watched run of a machine at its start, with the start's snapshot noted.
+fn begin(
+    rt: &impl Wait,
+    alloc: Global,
+    machine: Machine,
+    rules: Rules,
+    watch: u32,
+    turns: &mut Turns,
+) -> Result<(Monitored, Watcher), Memory>
+    requires ruled { AreRules rules machine.config.nodes }
+    requires fresh { (machine.applied ≡ 0) × (machine.state ≡ start_of machine.image machine.config.nodes) }
+    requires sizes { config_fits machine.config ≡ true }
+    requires room { turns.old.budget + 1 ≤ machine.spare }
+    requires few { turns.old.budget ≤ 1000000 }
+    requires watched { IsWatchable watch }
+    requires new { IsNew machine.config.nodes turns.old }
+    ensures stands { IfOk result (λ started. Stands started.0 turns.new × IsReady started.0 turns.new) }
+    ensures began { IfOk result (λ started. its_start started.0 turns.new ≡ record {
+      image = machine.image;
+      config = machine.config;
+      rules = rules;
+      seed = turns.old.seed;
+      budget = turns.old.budget;
+    }) }
+    ensures watch { IfOk result (λ started. started.0.watch ≡ watch) }
+{
+    let nodes = machine.config().nodes;
+    match Monitored::new(rt, alloc, machine, Driver::new(rules, nodes), watch) {
+        Ok((mut monitored, watcher)) => {
+            note_last(&mut monitored, &mut turns.published);
+            Ok((monitored, watcher))
+        }
+        Err(_) => Err(Memory),
+    }
+}
+
+/// Takes all memory of the run but for the snapshots, and publishes the start's.
+pub(crate) fn start(rt: &impl Wait, alloc: Global, job: Monitor) -> Result<Started, Memory>
+    requires { MayBegin job }
+    ensures stands { IfOk result (λ s. Stands s.monitored s.turns × IsReady s.monitored s.turns) }
+    ensures began { IfOk result (λ s. its_start s.monitored s.turns ≡ begins (run_of job)) }
+    ensures watch { IfOk result (λ s. s.monitored.watch ≡ watched_word job.watch) }
+    ensures seen { IfOk result (λ s. (s.seen.items ≡ []) × (job.budget + 1 ≤ vec_capacity s.seen)) }
+{
+    let Monitor {
+        program,
+        config,
+        rules,
+        seed,
+        budget,
+        watch,
+    } = job;
+    let looks = Vec::with_capacity(alloc, budget as usize + 1)?;
+    let seen = Vec::with_capacity(alloc, budget as usize + 1)?;
+    let mut turns = room_for(alloc, seed, budget, config.nodes)?;
+    let machine = machine_for(alloc, program, config, budget)?;
+    let (monitored, watcher) = begin(
+        rt,
+        alloc,
+        machine,
+        rules,
+        watch.unwrap_or(RAM_START),
+        &mut turns,
+    )?;
+    Ok(Started {
+        monitored,
+        watcher,
+        turns,
+        looks,
+        seen,
+    })
+}
