@@ -71,7 +71,7 @@ def find_program(command: Optional[PathLike] = None) -> Path:
     ----------
     command : path, optional
         A file, or a name on the path. Without it the environment variable ``SAFETYNET`` says it; without that it is ``safetynet`` on
-        the path, and else the file ``safetynet`` of the checkout that this package stands in.
+        the path, and else the file ``safetynet`` of the checkout that this package stands in, once the program is built there.
 
     Returns
     -------
@@ -81,7 +81,7 @@ def find_program(command: Optional[PathLike] = None) -> Path:
     Raises
     ------
     ProgramMissing
-        No such file may be executed.
+        No such file may be executed, or the checkout's program isn't built: a call would begin to build it, and wait.
     """
     named = os.fspath(command) if command is not None else os.environ.get("SAFETYNET") or None
     if named is not None:
@@ -93,6 +93,8 @@ def find_program(command: Optional[PathLike] = None) -> Path:
     found = shutil.which("safetynet") or shutil.which(str(checkout))
     if found is None:
         raise ProgramMissing("safetynet isn't on the path; name it by the environment variable SAFETYNET or by command=")
+    if Path(found) == checkout and not (checkout.parent / "build" / "safetynet").is_file():
+        raise ProgramMissing(f"the program isn't built: run {checkout} --build")
     return Path(found).absolute()
 
 

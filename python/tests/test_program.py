@@ -28,7 +28,11 @@ def test_the_program_is_looked_for_in_this_order(made: Make, monkeypatch: pytest
     assert find_program() == on_path
     monkeypatch.setenv("PATH", "")
     checkout = Path(__file__).resolve().parents[2] / "safetynet"
-    assert find_program() == checkout
+    if (checkout.parent / "build" / "safetynet").is_file():
+        assert find_program() == checkout
+    else:
+        with pytest.raises(ProgramMissing, match="isn't built: run .*/safetynet --build"):
+            find_program()
 
 
 @pytest.mark.parametrize("name", ["", "/nowhere/safetynet", "no-such-program-here"])
