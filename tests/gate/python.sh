@@ -33,8 +33,10 @@ is_silent_but_success() { # command..
 }
 top=$PWD
 
+# The built program is called by itself: the script before it looks at all sources each time, and there are thousands of calls.
 if [ "$SAFETYNET" = "$top/safetynet" ]; then
   "$SAFETYNET" --build || { echo "the program was not built" >&2; exit 1; }
+  SAFETYNET=$top/build/safetynet
 fi
 
 if command -v mypy >/dev/null; then
