@@ -15,8 +15,6 @@ from typing import List, NamedTuple, Optional
 SAID = re.compile(rb"(?:^interpreter: .*\n)?(?:^checked: .*\n)?(?:^races: .*\n)?^run=ended status=(\d+) .*proved=no\n\Z", re.M)
 # Names that `rt try` keeps for itself in the folder where it runs the program.
 TAKEN = {"program", "stdin", "stdout", "stderr"}
-# The commands of which each run on more than one node takes its turns in an order of its own.
-BY_THREADS = {"run"}
 
 
 class Answer(NamedTuple):
@@ -45,8 +43,10 @@ def nodes_in(words: List[str]) -> str:
 
 def objection(words: List[str]) -> Optional[str]:
     """Why a call has no early answer that could be compared with the proved one, if there is a reason."""
-    if words and words[0] in BY_THREADS and nodes_in(words[1:]) != "1":
+    if words and words[0] == "run" and nodes_in(words[1:]) != "1":
         return "threads decide whose turn comes next, so no two runs need be alike"
+    if words and words[0] == "monitor":
+        return "threads decide what the watcher sees, so no two runs need be alike"
     once = [it for it in words if os.path.exists(it) and not os.path.isfile(it)]
     if once:
         return f"{once[0]} is no plain file, and may be read once only"

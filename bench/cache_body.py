@@ -25,7 +25,7 @@ PROGRAM = """#![tactic(auto)]
 ghost use Rattle.std.specs.Prelude.{◌≡◌};
 
 use log_buffer::LogBuffer;
-use mosi_cache::{Cache, CacheStep, Need, Probe1};
+use mosi_cache::{Cache, CacheStep, Need, AccessProbe};
 use sn_base::{Answer, Block, BlockNo, Config, NodeId};
 use sn_msg::{Body, Message};
 use std::alloc::Global;
@@ -55,7 +55,7 @@ impl Timed {
 
     fn fill(&mut self, number: u16) -> bool {
         let block = BlockNo::new(number);
-        if self.cache.open_block().is_some() || self.cache.probe(block, Need::Read, 1, &self.log) != Probe1::Miss {
+        if self.cache.open_block().is_some() || self.cache.probe(block, Need::Read, 1, &self.log) != AccessProbe::Miss {
             return false;
         }
         let _ = self.cache.begin_miss(block, Need::Read, 1);
@@ -72,7 +72,7 @@ impl Timed {
         self.fill(new)
     }
 
-    fn probed(&self, number: u16, wanted: Probe1) -> bool {
+    fn probed(&self, number: u16, wanted: AccessProbe) -> bool {
         self.cache.open_block().is_none() && self.cache.probe(BlockNo::new(number), Need::Read, 1, &self.log) == wanted
     }
 }
@@ -94,7 +94,7 @@ fn number_of(call: u32) -> u16 {
 fn hits(timed: &Timed, lines: u16) -> u32 {
     let mut done = 0u32;
     for call in 0..CALLSu32 {
-        if lines != 0 && timed.probed(number_of(call) % lines, Probe1::Ready) {
+        if lines != 0 && timed.probed(number_of(call) % lines, AccessProbe::Ready) {
             done = done.saturating_add(1);
         }
     }
@@ -104,7 +104,7 @@ fn hits(timed: &Timed, lines: u16) -> u32 {
 fn full(timed: &Timed, lines: u16) -> u32 {
     let mut done = 0u32;
     for call in 0..CALLSu32 {
-        if timed.probed(number_of(call) | lines, Probe1::NeedsEvict) {
+        if timed.probed(number_of(call) | lines, AccessProbe::NeedsEvict) {
             done = done.saturating_add(1);
         }
     }

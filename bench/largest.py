@@ -110,6 +110,8 @@ RUNS = [
      store_image, None),
     ("the same with its journal, and lost messages", ["run", *LARGE, "--interval", "1000", "--lose-every", "5000", "--journal", "a"], store_image, None),
     ("run, 1,000,000 events of 16 nodes, a program of 16 MiB, with the trace", ["run", *LARGE, "--trace", "a"], whole_memory_elf, None),
+    ("monitor, 1,000,000 events of 16 nodes that store to all blocks, with the largest caches and logs", ["monitor", *LARGE, "--interval", "1000", "a"],
+     store_image, None),
     ("demo 1000000", ["demo", "1000000"], None, None),
     ("asm, 1,048,576 statements, a text of 16 MiB", ["asm", "a"], long_statements, None),
     ("asm, 2,396,745 labels, a text of 16 MiB", ["asm", "a"], labels, None),

@@ -7,7 +7,8 @@ PROGRAM is the built program, SIMULATOR a reference simulator; it takes the same
 as the program does and to have its probe. Each of the COUNT (20,000) lines has a command with its files, and some of its options in any order and in either
 form; two thirds then have something wrong: a value that is no number or out of its range, a word that is lacking, doubled, changed or
 strange, an option of another command, a file that isn't there. Console, report and exit status must be the same; of a run on several
-nodes, whose turns come in an order of their own each time, only whether it is done, or with which status it is refused. A call that
+nodes, whose turns come in an order of their own each time, only whether it is done, or with which status it is refused; and of what was seen of a run
+only the last line. A call that
 isn't done also says why in the line above its last; the simulator has no such line. The commands are those that the program's own page names. Lines that it answers itself, as those for help, are left out, and so are those with words
 that mean something to the simulator alone.
 """
@@ -19,13 +20,14 @@ import tempfile
 from collections import Counter
 from pathlib import Path
 
-from outcomes import is_explained, without_reason
+from outcomes import is_explained, seen_last, without_reason
 
 # A command's files, options with a value, and flags.
 COMMANDS = {
     "replay": (["program", "events.script"], ["nodes", "sets", "ways", "log", "watch"], ["trace"]),
     "roll": (["program", "events.script", "calls.control"], ["nodes", "sets", "ways", "log", "watch"], []),
     "run": (["program"], ["nodes", "sets", "ways", "log", "watch", "interval", "wait", "lose-every", "kill", "budget", "seed"], ["trace", "journal"]),
+    "monitor": (["program"], ["nodes", "sets", "ways", "log", "watch", "interval", "wait", "lose-every", "kill", "budget", "seed"], []),
     "check": (["program", "records.trace"], ["nodes"], []),
     "demo": (["20"], [], []),
     "asm": (["text.s"], [], []),
@@ -103,7 +105,7 @@ def option(choose, name):
 def good(choose, command):
     """The words of a command, whose values alone may be wrong."""
     files, options, flags = COMMANDS[command]
-    chosen = [name for name in options if choose.random() < (OFTEN.get(name, 0.4) if command == "run" else 0.4)]
+    chosen = [name for name in options if choose.random() < (OFTEN.get(name, 0.4) if command in ("run", "monitor") else 0.4)]
     parts = [option(choose, name) for name in chosen] + [[f"--{flag}"] for flag in flags if choose.random() < 0.3]
     choose.shuffle(parts)
     files = [number(choose, "size")] if command == "demo" and choose.random() < 0.5 else files
@@ -162,7 +164,9 @@ def is_left_out(words, commands):
 
 
 def is_same(words, found, expected):
-    """Whether both came to the same: where both are done that is enough of a run on several nodes."""
+    """Whether both came to the same: where both are done that is enough of a run on several nodes; and of what was seen the last line is."""
+    if words[0] == "monitor":
+        return seen_last(found) == seen_last(expected)
     has_turns = words[0] == "run" and all(done[0] in ENDS and b"core 1 " in done[2] for done in (found, expected))
     return has_turns or found == expected
 

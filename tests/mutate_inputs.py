@@ -5,8 +5,9 @@
 
 PROGRAM is the built program, SIMULATOR a reference simulator. Each case takes a good input of a command and spoils one or a few of
 its parts: bytes changed, cut, doubled or moved, numbers at their greatest, lines of other kinds. The program must end by itself,
-with a status that its page names; a second run must give the same bytes; and where the simulator has the command, console, report
-and status must be the simulator's. COUNT cases are shared among PROCESSES processes. The first difference of each is shown.
+with a status that its page names; a second run must give the same bytes, but for the cuts that a watcher saw before the last; and where
+the simulator has the command, console, report and status must be the simulator's, but for these. COUNT cases are shared among PROCESSES
+processes. The first difference of each is shown.
 
 Both programs are started once and forked for each run, before their main (served_program.py), which needs cc; every hundredth case is run
 in the ordinary way too, with the same bytes.
@@ -21,7 +22,7 @@ from pathlib import Path
 
 sys.path.insert(0, str(Path(__file__).resolve().parent))
 import compare_replay  # noqa: E402
-from outcomes import without_reason  # noqa: E402
+from outcomes import seen_last, without_reason  # noqa: E402
 from served_program import ServedProgram, built_server  # noqa: E402
 
 STATUSES = {0, 1, 2, 3, 4, 5, 6, 7, 8, 9, 10, 13}
@@ -30,7 +31,7 @@ STATUSES = {0, 1, 2, 3, 4, 5, 6, 7, 8, 9, 10, 13}
 SECONDS = 60
 
 # How often each command comes, of those that the program's page names.
-SHARES = {"replay": 50, "roll": 15, "check": 20, "asm": 12, "dis": 14, "demo": 4, "run": 10}
+SHARES = {"replay": 50, "roll": 15, "check": 20, "asm": 12, "dis": 14, "demo": 4, "run": 10, "monitor": 8}
 
 LETTERS = b" \t\r\n#0123456789abcdefABCDEF-=@xx" + bytes([0, 0x7F, 0x80, 0xEF, 0xBB, 0xBF, 0xFF])
 
@@ -99,19 +100,19 @@ def spoiled_words(choose, words):
         elif kind == 1 and words:
             del words[min(place, len(words) - 1)]
         elif kind == 2 and words:
-            words[min(place, len(words) - 1)] = choose.choice(["replay", "roll", "check", "asm", "dis", "demo", "fly", "a", "nowhere", "1", "é"])
+            words[min(place, len(words) - 1)] = choose.choice(["replay", "roll", "monitor", "check", "asm", "dis", "demo", "fly", "a", "nowhere", "1", "é"])
         elif words:
             words.insert(place, words[min(place, len(words) - 1)])
     return words
 
 
-def run_words(choose):
-    """A run with one worker, which is the same each time."""
-    words = ["run", "--nodes", "1", f"--budget={choose.choice([1, 7, 100, 400])}"]
+def run_words(choose, command):
+    """A run with one worker, which is the same each time but for what was seen of it, if it is watched."""
+    words = [command, "--nodes", "1", f"--budget={choose.choice([1, 7, 100, 400])}"]
     for name, values in {"interval": [1, 5, 100], "wait": [1, 50, 20000], "lose-every": [0, 1, 9], "seed": [0, 1, 2**64 - 1], "kill": ["a0@0", "b0@30"]}.items():
         if choose.random() < 0.4:
             words.append(f"--{name}={choose.choice(values)}")
-    return [*words, *choose.choice([[], [], ["--journal"], ["--trace"]]), "a"]
+    return [*words, *(choose.choice([[], [], ["--journal"], ["--trace"]]) if command == "run" else []), "a"]
 
 
 def case_of(choose, commands):
@@ -135,8 +136,8 @@ def case_of(choose, commands):
         files["a"] = maybe_changed(choose, lines(choose, STATEMENTS, 12), chance)
     elif kind == "demo":
         words = [kind, choose.choice(["0", "1", "50", "007", "1000001", "x", ""])]
-    elif kind == "run":
-        words = run_words(choose)
+    elif kind in ("run", "monitor"):
+        words = run_words(choose, kind)
     return spoiled_words(choose, words), files
 
 
@@ -189,14 +190,14 @@ class Pair:
         found = self.program.run(words)
         others = []
         if has_one_outcome(words):
-            if not is_own(words) and self.other.run(words) != without_reason(found):
+            if not is_own(words) and seen_last(self.other.run(words)) != seen_last(without_reason(found)):
                 return f"case {case}, {words}: {found}, and the simulator: {self.other.run(words)}; {files}", None
             others += [("once more", self.program.run(words))] if case % 4 == 0 else []
             others += [("started for it", started(self.built, words, self.folder))] if case % 100 == 0 else []
         if found[0] not in STATUSES:
             return f"case {case}, {words}: status {found[0]}; {found}; {files}", None
         for name, other in others:
-            if other != found:
+            if seen_last(other) != seen_last(found):
                 return f"case {case}, {words}: {found}, and {name}: {other}; {files}", None
         return None, found[0]
 

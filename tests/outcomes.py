@@ -11,6 +11,13 @@ def without_reason(outcome):
     return status, console, REASON.sub(b"", report)
 
 
+def seen_last(outcome):
+    """The outcome of a run that was watched, with the last line alone of what was seen: which cuts are seen before it is left to the threads."""
+    status, console, report = outcome
+    seen = [line for line in report.splitlines(keepends=True) if line.startswith(b"seen ")]
+    return status, console, b"".join(seen[-1:]) + report[sum(map(len, seen)):]
+
+
 def is_explained(outcome):
     """Whether the report of a call that isn't done says why once, in the line above its last; that of another call never does."""
     status, _, report = outcome

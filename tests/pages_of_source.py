@@ -1,5 +1,5 @@
 #!/usr/bin/env python3
-"""Holds the texts of crates/own_pages against the pages beside the program's source, without a build.
+"""Holds the texts of crates/help_pages against the pages beside the program's source, without a build.
 
 The gate compares these pages with what the built program says; this tells at once where a text was changed and its page wasn't. Names what
 differs, and ends with status 1 then.
@@ -10,7 +10,7 @@ from pathlib import Path
 from typing import Dict
 
 HERE = Path(__file__).resolve().parent.parent
-TEXTS = HERE / "crates/own_pages/src/texts"
+TEXTS = HERE / "crates/help_pages/src/texts"
 PAGES = HERE / "crates/safetynet_program/pages"
 CONSTANT = re.compile(r'^pub const ([A-Z]+): &str = "((?:[^"\\]|\\.)*)";$', re.M | re.S)
 
@@ -31,7 +31,7 @@ def main() -> int:
     beside = {it.stem: it.read_text(encoding="ascii") for it in PAGES.glob("*.txt")}
     differing = sorted(it for it in {*in_source, *beside} if in_source.get(it) != beside.get(it))
     for name in differing:
-        print(f"the page {name}: {PAGES.relative_to(HERE)}/{name}.txt isn't the text of crates/own_pages", file=sys.stderr)
+        print(f"the page {name}: {PAGES.relative_to(HERE)}/{name}.txt isn't the text of crates/help_pages", file=sys.stderr)
     return 1 if differing or not in_source else 0
 
 

@@ -7,7 +7,8 @@ PROGRAM is the built program. For each command on its own small input the run is
 of the allocator, and then once for each of these calls with that one refused, and once with that one and all after it refused. It
 must end with the status of want of memory and the one line that says so, with nothing on standard output; or it must be as with
 all memory, byte for byte. A run of the command `run` on several nodes isn't the same bytes twice, so its status must then be one in
-which a run ends, and its journal, replayed, must give its console and its summary. MOST is the greatest number of calls that are refused one by one, evenly spread; without it all are.
+which a run ends, and its journal, replayed, must give its console and its summary; and of what was seen of a run that is watched the last
+line alone is the same each time. MOST is the greatest number of calls that are refused one by one, evenly spread; without it all are.
 The library that refuses is built by cc from tests/refuse_memory/refuse.c.
 """
 import os
@@ -20,7 +21,7 @@ from pathlib import Path
 
 sys.path.insert(0, str(Path(__file__).resolve().parent))
 from compare_runs import ENDS, replay_differences  # noqa: E402
-from outcomes import without_reason  # noqa: E402
+from outcomes import seen_last, without_reason  # noqa: E402
 
 HERE = Path(__file__).resolve().parent
 
@@ -66,6 +67,8 @@ RUNS = [
     ("run, two nodes", ["run", "--nodes", "2", "--journal", "program"], {"program": COUNTING}),
     ("run, four nodes and lost messages", [*FOUR_NODES, "--lose-every", "60", "--seed", "7", "--journal", "program"], {"program": COUNTING}),
     ("run, four nodes, more lost messages and recoveries", [*FOUR_NODES, "--lose-every", "30", "--wait", "200", "--journal", "program"], {"program": COUNTING}),
+    ("run that is watched", ["monitor", "--nodes", "1", "a"], {"a": LETTER}),
+    ("the same, two nodes and recoveries", ["monitor", "--nodes", "2", "--interval", "2", "--lose-every", "13", "--wait", "400", "a"], {"a": COUNTING}),
     ("demo", ["demo", "100"], {}),
     ("asm", ["asm", "a"], {"a": TEXT}),
     ("dis", ["dis", "a"], {"a": COUNTING}),
@@ -114,7 +117,7 @@ def is_want(found):
 def is_whole(program, words, folder, found, ample):
     """Whether a run was as with all memory, or as it may be then where it has several workers."""
     if words[:2] != ["run", "--nodes"] or words[2] == "1":
-        return found == ample
+        return seen_last(found) == seen_last(ample)
     status, console, report = found
     shown = words[1:5] if words[3] == "--watch" else words[1:3]
     return status in ENDS and not replay_differences([program], shown, console, report.decode().splitlines(), folder)

@@ -22,7 +22,7 @@ SPECS = Path("crates/sn_model/specs")
 WRONG = {
     "noted_once": (
         "the old content is noted only once since the start", "Access.antt",
-        "log = noted node.log node.now block", "log = noted node.log 0 block"),
+        "log = log_with_note node.log node.now block", "log = log_with_note node.log 0 block"),
     "tag_ignored": (
         "a delivery ignores the message's tag", "NetEvents.antt",
         "nat_lt (node_at s f.message.to).now f.message.tag then", "nat_lt (node_at s f.message.to).now 0 then"),

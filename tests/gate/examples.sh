@@ -1,8 +1,8 @@
 #!/usr/bin/env bash
 # Runs each example by the README's first command and compares console, report and status with the files beside it: the first
 # program once as hexadecimal words and once as an ELF file, and those of examples/shared, examples/asm, examples/lessons,
-# examples/traces and examples/roll by the words that their scripts, traces and control files begin with. What a replay shows as
-# its trace is to be legal, and a file may be empty. Then runs programs, scripts and words that are refused, and compares the
+# examples/traces and examples/roll by the words that their scripts, traces and control files begin with. Of runs that are watched the
+# last cut that was seen is compared. What a replay shows as its trace is to be legal, and a file may be empty. Then runs programs, scripts and words that are refused, and compares the
 # status and its word.
 set -u
 cd "$(dirname "$0")/../.." || exit 1
@@ -48,6 +48,28 @@ for control in examples/roll/*.control; do
   last=$((${#words[@]} - 1))
   shows "$control" "${words[@]:0:last-1}" "${control%/*}/${words[last-1]}" "${control%/*}/${words[last]}"
 done
+
+# A run that is watched: its report begins with what was seen. Which cuts those are before the last is left to the threads, but their points
+# grow, from above 0.
+watched() { # name of the example, status, the command's words
+  local example=examples/monitor/$1 want=$2 console=examples/monitor/$1.console status
+  shift 2
+  [ -e "$console" ] || console=/dev/null
+  ./safetynet monitor "$@" >"$work/console" 2>"$work/report"
+  status=$?
+  { grep '^seen ' "$work/report" | tail -n 1; grep -v '^seen ' "$work/report"; } >"$work/text"
+  if [ "$status" -eq "$want" ] && cmp -s "$work/console" "$console" && diff "$example.report" "$work/text" &&
+    awk '$1 == "seen" { if ($2 <= last) exit 1; last = $2 }' "$work/report"; then
+    passed=$((passed + 1))
+  else
+    echo "example $example: status $status, or another console or report, or points that don't grow" >&2
+    failed=$((failed + 1))
+  fi
+}
+watched output 0 --nodes 1 examples/first/a.hex
+watched additions 0 --nodes 4 --watch 80001000 examples/shared/count.hex
+watched losses 0 --nodes 4 --watch 80001000 --lose-every 13 --wait 400 examples/shared/count.hex
+watched budget 6 --nodes 1 --budget 50 examples/monitor/round.hex
 
 # What a replay shows as its trace is judged legal, with as many records as its summary says.
 for script in examples/{shared,asm,lessons}/*.script; do

@@ -172,7 +172,7 @@ printf slow >"$FAILS.try"
 early "a proof that ends first is not waited for" 7 "ninth:replay x" replay x
 is_so "and no rt is left behind" bash -c "! pgrep -f '$work/[b]in/rt try' >/dev/null"
 rm "$FAILS.try"
-for words in "run a" "run --nodes 2 a" "run --nodes=3 a"; do
+for words in "run a" "run --nodes 2 a" "run --nodes=3 a" "monitor a" "monitor --nodes 1 a"; do
   change low "tenth, $words"
   early "threads have no answer that could be compared" 7 "tenth, $words:$words" $words
   says "which is said" "# no answer before the proof: threads decide"
@@ -251,7 +251,7 @@ for words in '' --help -h help; do
   check "the overview that '$words' asks for needs no build" 0 "$(./safetynet --help)" 0 $words
 done
 page_calls=("events=help events" "formats=help formats" "statuses=help statuses" "version=--version")
-for command in replay roll run check demo asm dis; do
+for command in replay roll run monitor check demo asm dis; do
   page_calls+=("$command=$command --help" "$command=$command -h" "$command=$command help" "$command=help $command" "version=$command --version")
 done
 for call in "${page_calls[@]}"; do

@@ -80,6 +80,9 @@ echo 0000006f >"$work/spin"
 yes '0 00000000 0' | head -n 1000000 >"$work/trace"
 ends 0 'legal 1000000' check --nodes 1 "$work/spin" "$work/trace"
 ends 9 '# safetynet: refused 6' check --nodes 2 "$count" "$work/trace"
+# As many turns as a run may have, with a watcher beside them.
+ends 6 '# safetynet: budget' monitor --nodes 1 "$work/spin"
+has 1 '^events 1000000$'
 
 # Files at their limits, and the words of memory.
 bytes 33554432 '#' >"$work/script"
@@ -144,11 +147,13 @@ replayed=(replay --nodes 1 "$first" examples/first/a.script)
 broken /dev/full "$work/report" "${replayed[@]}"
 has 1 '^# safetynet: sink$'
 broken /dev/full "$work/report" run --nodes 1 "$first"
+broken /dev/full "$work/report" monitor --nodes 1 "$first"
 broken /dev/full "$work/report" asm examples/asm/counter.s
 broken /dev/full "$work/report" dis "$first"
 broken "$work/console" /dev/full "${replayed[@]}"
 broken "$work/console" /dev/full replay --trace "${replayed[@]:1}"
 broken "$work/console" /dev/full run --nodes 1 "$first"
+broken "$work/console" /dev/full monitor --nodes 1 "$first"
 broken "$work/console" /dev/full run --nodes 1 --trace "$first"
 broken "$work/console" /dev/full run --nodes 1 --journal "$first"
 broken "$work/console" /dev/full check --nodes 1 "$first" "$work/trace"

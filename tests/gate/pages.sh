@@ -8,7 +8,7 @@ export PYTHONDONTWRITEBYTECODE=1
 pages=crates/safetynet_program/pages
 
 # The texts of the source are the pages, a file each, which the script shows before anything is built.
-is_so "the texts of own_pages are the pages" python3 tests/pages_of_source.py
+is_so "the texts of help_pages are the pages" python3 tests/pages_of_source.py
 mapfile -t calls < <(python3 tools/pages.py)
 for call in "${calls[@]}"; do
   IFS=, read -ra words <<<"${call#*=}"

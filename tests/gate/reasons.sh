@@ -35,6 +35,8 @@ says 1 usage '--trace and --journal don'\''t stand together' run --trace --journ
 says 1 usage 'replay: SCRIPT is lacking; see safetynet replay --help' replay "$first"
 says 1 usage 'a word isn'\''t UTF-8' replay $'\xff'
 
+says 1 usage '--trace: monitor has no such option; see safetynet monitor --help' monitor --trace "$first"
+
 # Files that can't be read.
 mkdir folder
 says 2 store 'missing.hex: no such file' dis missing.hex
@@ -86,6 +88,8 @@ ends 10 'trapped 0 illegal' 'core 0 trapped: its next word is no instruction' ru
 printf '0000006f\n' >spin.hex
 ends 6 budget 'the run has 50 events, which is its budget, and its cores haven'\''t all ended' run --nodes 1 --budget 50 spin.hex
 ends 8 'cutoff 0 1' 'nodes 0 and 1 are cut off: no living switches join them' run --nodes 2 --kill a0@0 "$count"
+ends 6 budget 'the run has 50 events, which is its budget, and its cores haven'\''t all ended' monitor --nodes 1 --budget 50 spin.hex
+ends 10 'trapped 0 illegal' 'core 0 trapped: its next word is no instruction' monitor --nodes 1 trap.hex
 
 # What the system doesn't give.
 "$program" dis "$first" >/dev/full 2>report
@@ -96,14 +100,13 @@ is_so "and so of a page" diff <(printf '%s\n' '# why: not all of the output coul
 is_so "what is done says nothing" [ "$(grep -c '^# ' report)" -eq 0 ]
 
 # Notes: a terminal gets them behind the report, and a file gets none.
-noted() { # what is noted, the words of a replay
-  local what=$1
-  shift
-  python3 - "$program" replay "$@" >shown <<'END'
+on_terminal() { # whether it has the console too, the words of a call
+  python3 - "$1" "$program" "${@:2}" <<'END'
 import os, pty, subprocess, sys
 
 master, slave = pty.openpty()
-done = subprocess.run(sys.argv[1:], stdin=subprocess.DEVNULL, stdout=subprocess.DEVNULL, stderr=slave, check=False)
+console = slave if sys.argv[1] == "both" else subprocess.DEVNULL
+done = subprocess.run(sys.argv[2:], stdin=subprocess.DEVNULL, stdout=console, stderr=slave, check=False)
 os.close(slave)
 report = b""
 while True:
@@ -117,6 +120,11 @@ while True:
 sys.stdout.buffer.write(report.replace(b"\r\n", b"\n"))
 sys.exit(done.returncode)
 END
+}
+noted() { # what is noted, the words of a replay
+  local what=$1
+  shift
+  on_terminal report replay "$@" >shown
   is_so "$*, on a terminal, is done" [ $? -eq 0 ]
   "$program" replay "$@" >console 2>report
   is_so "$*, on a terminal, notes $what" diff <(cat report; [ -z "$what" ] || printf '%s\n' "$what") shown
@@ -129,5 +137,22 @@ noted '' "$count" good.script
 noted '' --nodes=8 "$count" good.script
 printf 'step 0\n' >few.script
 noted "# note: --nodes wasn't given: 4 nodes" --trace "$count" few.script
+
+# A terminal that shows both: a line of the console that isn't ended is ended before the report goes on, and at the end.
+apart() { # the console's bytes, the words of a call
+  local bytes=$1
+  shift
+  on_terminal both "$@" >shown
+  is_so "$*, on one terminal, is done" [ $? -eq 0 ]
+  "$program" "$@" >console 2>report
+  is_so "$* puts $bytes and no line's end" [ "$(cat console; echo .)" = "$bytes." ]
+  is_so "$*, on one terminal, has it on a line of its own" diff <(cat report; echo "$bytes") <(grep -vx "$bytes" shown; grep -x "$bytes" shown)
+}
+apart A replay --nodes 1 "$first" "${first%.hex}.script"
+apart A run --nodes 1 --interval 2 "$first"
+lock=${first%first/a.hex}asm/lock.s
+"$program" asm "$lock" >console 2>report
+on_terminal both asm "$lock" >shown
+is_so "a console that ends its lines stays as it is on a terminal" diff console shown
 
 told reasons

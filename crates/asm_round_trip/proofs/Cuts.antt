@@ -4,7 +4,7 @@ use Rattle.std.proofs.Common.{None, refl, ap, ◌∙◌, arith, add-one}
 use Rattle.std.proofs.lemmas.Bool.{and_parts, not-true, lt-ltb, le-ltb}
 use Rattle.std.proofs.lemmas.List.{length-append, reverse-reverse, take_at}
 use Rattle.std.specs.List.{position, position_or_len}
-use Rattle.rv_statement.specs.Lines.{is_blank, skipped, trimmed, cut, cut_at}
+use Rattle.rv_statement.specs.Lines.{is_blank, without_blanks, trimmed, cut, cut_at}
 use Rattle.asm_round_trip.proofs.Bytes.{all, none, is_solid, Begins, Ends, solid-begins, solid-ends}
 
 found-at : (test : ℕ → Bool) (front rest : List ℕ) (byte : ℕ) → none test front ≡ true → test byte ≡ true →
@@ -49,7 +49,7 @@ pub cut-nowhere : (test : ℕ → Bool) (text : List ℕ) → none test text ≡
 unfolding cut
 cut-nowhere test text h = rw (found-nowhere test text h, le-ltb (length text) (length text) (omega arith)) refl
 
-skipped-none : (text : List ℕ) → is_blank (get_or text 0 0) ≡ false → skipped text ≡ text
+skipped-none : (text : List ℕ) → is_blank (get_or text 0 0) ≡ false → without_blanks text ≡ text
 skipped-none [] h = refl
 skipped-none (x ∷ text) h = rw h refl
 

@@ -13,10 +13,10 @@ use Rattle.rv_decode.specs.Codes.{is_shift}
 use Rattle.rv_decode.specs.Table.{word_of, instr_fits, is_signed, is_target, is_operand, is_register, is_upper}
 use Rattle.rv_statement.specs.Lines.{is_blank}
 use Rattle.rv_statement.specs.Names.{mnemonic}
-use Rattle.rv_statement.specs.Forms.{chained}
+use Rattle.rv_statement.specs.Forms.{and_then}
 use Rattle.rv_statement.specs.Reading.{Named, whole, fixed, read_of, coded, upper, target, at_number, named_as, operation_of, on_parts}
 use Rattle.rv_statement.specs.Reading.{instruction_of}
-use Rattle.rv_asm.specs.Text.{register_text, listed, address_text, place_text, operands_text, instr_text}
+use Rattle.rv_asm.specs.Text.{register_text, with_comma, address_text, place_text, operands_text, instr_text}
 use Rattle.asm_round_trip.proofs.Bytes.{all, all-append, all-weaker, is_solid, is_inner, solid-inner, solid-unblank, begins-append}
 use Rattle.asm_round_trip.proofs.Bytes.{ends-append, ends-after, solid-begins, solid-ends}
 use Rattle.asm_round_trip.proofs.Cuts.{cut-at, cut-nowhere, trimmed-none}
@@ -95,21 +95,21 @@ target-is make z small = ap (at_number make (signed_decimal z)) (signed-read z s
 
 -- the operands, without the blank before them
 abbrev bare_operands : Instr → List ℕ
-bare_operands (Lui rd imm) = listed (register_text rd) (decimal (imm / 4096))
-bare_operands (Auipc rd imm) = listed (register_text rd) (decimal (imm / 4096))
-bare_operands (Jal rd offset) = listed (register_text rd) (signed_decimal offset)
-bare_operands (Jalr rd rs1 imm) = listed (register_text rd) (place_text imm rs1)
-bare_operands (Branch o rs1 rs2 offset) = listed (register_text rs1) (listed (register_text rs2) (signed_decimal offset))
-bare_operands (Load o rd rs1 imm) = listed (register_text rd) (place_text imm rs1)
-bare_operands (Store o rs1 rs2 imm) = listed (register_text rs2) (place_text imm rs1)
-bare_operands (OpImm o rd rs1 imm) = listed (register_text rd) (listed (register_text rs1) (signed_decimal imm))
-bare_operands (Op o rd rs1 rs2) = listed (register_text rd) (listed (register_text rs1) (register_text rs2))
+bare_operands (Lui rd imm) = with_comma (register_text rd) (decimal (imm / 4096))
+bare_operands (Auipc rd imm) = with_comma (register_text rd) (decimal (imm / 4096))
+bare_operands (Jal rd offset) = with_comma (register_text rd) (signed_decimal offset)
+bare_operands (Jalr rd rs1 imm) = with_comma (register_text rd) (place_text imm rs1)
+bare_operands (Branch o rs1 rs2 offset) = with_comma (register_text rs1) (with_comma (register_text rs2) (signed_decimal offset))
+bare_operands (Load o rd rs1 imm) = with_comma (register_text rd) (place_text imm rs1)
+bare_operands (Store o rs1 rs2 imm) = with_comma (register_text rs2) (place_text imm rs1)
+bare_operands (OpImm o rd rs1 imm) = with_comma (register_text rd) (with_comma (register_text rs1) (signed_decimal imm))
+bare_operands (Op o rd rs1 rs2) = with_comma (register_text rd) (with_comma (register_text rs1) (register_text rs2))
 bare_operands Fence = []
 bare_operands Ecall = []
 bare_operands Ebreak = []
-bare_operands (Lr rd rs1) = listed (register_text rd) (address_text rs1)
-bare_operands (Sc rd rs1 rs2) = listed (register_text rd) (listed (register_text rs2) (address_text rs1))
-bare_operands (Amo o rd rs1 rs2) = listed (register_text rd) (listed (register_text rs2) (address_text rs1))
+bare_operands (Lr rd rs1) = with_comma (register_text rd) (address_text rs1)
+bare_operands (Sc rd rs1 rs2) = with_comma (register_text rd) (with_comma (register_text rs2) (address_text rs1))
+bare_operands (Amo o rd rs1 rs2) = with_comma (register_text rd) (with_comma (register_text rs2) (address_text rs1))
 
 operands-read : (instr : Instr) → instr_fits instr ≡ true → named_as instr (bare_operands instr) ≡ right instr
 unfolding named_as
@@ -123,7 +123,7 @@ operands-read (Auipc rd imm) h =
     ∙ ap Some (upper-is (Auipc rd) imm f.two)
 operands-read (Jal rd offset) h =
     let f = two _ _ h in let small = target-small 1048576 offset (omega arith) f.two in
-    ap (λ o. chained o (λ a. target (Jal a.0) a.1))
+    ap (λ o. and_then o (λ a. target (Jal a.0) a.1))
     (then-read rd (signed_decimal offset) (is_register-lt rd f.one) (signed-stands offset small)) ∙ target-is (Jal rd) offset small
 operands-read (Jalr rd rs1 imm) h =
     let f = three _ _ _ h in
@@ -131,7 +131,7 @@ operands-read (Jalr rd rs1 imm) h =
     (placed-read rd imm rs1 (is_register-lt rd f.one) (signed-small imm f.three) (is_register-lt rs1 f.two))
 operands-read (Branch o rs1 rs2 offset) h =
     let f = three _ _ _ h in let small = target-small 4096 offset (omega arith) f.three in
-    ap (λ c. chained c (λ a. target (Branch o a.0 a.1) a.2))
+    ap (λ c. and_then c (λ a. target (Branch o a.0 a.1) a.2))
     (compared-read rs1 rs2 (signed_decimal offset) (is_register-lt rs1 f.one) (is_register-lt rs2 f.two) (signed-stands offset small))
     ∙ target-is (Branch o rs1 rs2) offset small
 operands-read (Load o rd rs1 imm) h =
@@ -226,21 +226,21 @@ without-operands instr h e b =
     })
 
 numbered-stands : (a b : ℕ) (z : ℤ) → a < 32 → b < 32 → mag z < 2 ^ 31 →
-    Stands (listed (register_text a) (listed (register_text b) (signed_decimal z)))
+    Stands (with_comma (register_text a) (with_comma (register_text b) (signed_decimal z)))
 numbered-stands a b z la lb lz =
-    listed-stands (register_text a) (listed (register_text b) (signed_decimal z)) (register-stands a la)
+    listed-stands (register_text a) (with_comma (register_text b) (signed_decimal z)) (register-stands a la)
     (listed-stands (register_text b) (signed_decimal z) (register-stands b lb) (signed-stands z lz))
 
-placed-stands : (a : ℕ) (z : ℤ) (base : ℕ) → a < 32 → mag z < 2 ^ 31 → base < 32 → Stands (listed (register_text a) (place_text z base))
+placed-stands : (a : ℕ) (z : ℤ) (base : ℕ) → a < 32 → mag z < 2 ^ 31 → base < 32 → Stands (with_comma (register_text a) (place_text z base))
 placed-stands a z base la lz lb = listed-stands (register_text a) (place_text z base) (register-stands a la) (place-stands z base lz lb)
 
 atomic-stands : (a b base : ℕ) → a < 32 → b < 32 → base < 32 →
-    Stands (listed (register_text a) (listed (register_text b) (address_text base)))
+    Stands (with_comma (register_text a) (with_comma (register_text b) (address_text base)))
 atomic-stands a b base la lb lc =
-    listed-stands (register_text a) (listed (register_text b) (address_text base)) (register-stands a la)
+    listed-stands (register_text a) (with_comma (register_text b) (address_text base)) (register-stands a la)
     (listed-stands (register_text b) (address_text base) (register-stands b lb) (address-stands base lc))
 
-upper-stands : (rd imm : ℕ) → is_register rd ≡ true → is_upper imm ≡ true → Stands (listed (register_text rd) (decimal (imm / 4096)))
+upper-stands : (rd imm : ℕ) → is_register rd ≡ true → is_upper imm ≡ true → Stands (with_comma (register_text rd) (decimal (imm / 4096)))
 upper-stands rd imm r u =
     listed-stands (register_text rd) (decimal (imm / 4096)) (register-stands rd (is_register-lt rd r))
     (decimal-stands (imm / 4096) (omega (arith, (upper-small imm u).0)))
@@ -276,7 +276,7 @@ line-read (OpImm o rd rs1 imm) h =
 line-read (Op o rd rs1 rs2) h =
     let f = three _ _ _ h in
     with-operands (Op o rd rs1 rs2) h refl
-    (listed-stands (register_text rd) (listed (register_text rs1) (register_text rs2)) (register-stands rd (is_register-lt rd f.one))
+    (listed-stands (register_text rd) (with_comma (register_text rs1) (register_text rs2)) (register-stands rd (is_register-lt rd f.one))
     (listed-stands (register_text rs1) (register_text rs2) (register-stands rs1 (is_register-lt rs1 f.two))
     (register-stands rs2 (is_register-lt rs2 f.three))))
 line-read Fence h = without-operands Fence h refl refl

@@ -3,7 +3,7 @@ use Rattle.std.specs.Prelude.{ℕ, ◌+◌, ◌-◌, ◌*◌, Bool, true, false,
 use Rattle.std.specs.List.{flat_map, range_with_len}
 use Rattle.std.specs.Option.{is_some}
 use Rattle.sn_base.specs.Blocks.{ram_start}
-use Rattle.sn_base.specs.Image.{SegmentData, fetched}
+use Rattle.sn_base.specs.Image.{SegmentData, word_fetched}
 use Rattle.text_lines.specs.Hex.{hex_word}
 use Rattle.rv_asm.specs.Text.{word_text}
 
@@ -28,7 +28,7 @@ lines_at is_next address (Some word) = heading is_next address ++ word_text word
 -- the lines of a place of memory, counted in words: its four bytes are a word where all of them are executable
 abbrev pub place_lines : List SegmentData → ℕ → List ℕ
 place_lines segments place =
-    lines_at (is_some (fetched segments (ram_start + 4 * place - 4))) (ram_start + 4 * place) (fetched segments (ram_start + 4 * place))
+    lines_at (is_some (word_fetched segments (ram_start + 4 * place - 4))) (ram_start + 4 * place) (word_fetched segments (ram_start + 4 * place))
 
 -- the lines of the first places of memory, in order
 unfoldable pub first_lines : List SegmentData → ℕ → List ℕ

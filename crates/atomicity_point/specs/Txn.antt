@@ -12,12 +12,12 @@ abbrev pub issued_at : ℕ → ℕ → Txn
 issued_at block interval = record { block = block; issued = interval; fixed = None; acks_due = 0; acks_in = 0 }
 
 -- the answer has come: the interval of atomicity is fixed, and it is known how many acknowledgements are due
-abbrev pub answered : Txn → ℕ → ℕ → Txn
-answered t interval due = record t { fixed = Some interval; acks_due = due }
+abbrev pub txn_with_answer : Txn → ℕ → ℕ → Txn
+txn_with_answer t interval due = record t { fixed = Some interval; acks_due = due }
 
 -- one more acknowledgement is in
-abbrev pub acknowledged : Txn → Txn
-acknowledged t = record t { acks_in = t.acks_in + 1 }
+abbrev pub txn_with_ack : Txn → Txn
+txn_with_ack t = record t { acks_in = t.acks_in + 1 }
 
 -- whether the point of atomicity is fixed and all acknowledgements are in
 abbrev pub is_complete : Txn → Bool

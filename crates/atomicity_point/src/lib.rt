@@ -10,7 +10,7 @@
 
 ghost use Rattle.std.specs.Prelude.{◌≡◌, ◌+◌, ◌<◌, ◌≤◌, IsSome, IsNone, IfSome, IsTrue, Option, Some, None, option_copied};
 ghost use Rattle.std.specs.Option.{option_map};
-ghost use Rattle.atomicity_point.specs.Txn.{Open, issued_at, answered, acknowledged, is_complete, least_issued};
+ghost use Rattle.atomicity_point.specs.Txn.{Open, issued_at, txn_with_answer, txn_with_ack, is_complete, least_issued};
 
 use sn_base::{BlockNo, Interval};
 use std::marker::Model;
@@ -92,7 +92,7 @@ impl TxnTable {
     pub fn answer(&mut self, fixed: Interval, acks_due: u8) -> bool
         requires open { IsSome self.old.miss }
         requires first { IfSome self.old.miss (λ t. IsNone t.fixed) }
-        ensures miss { self.new ≡ record self.old { miss = option_map (λ t. answered t fixed acks_due) self.old.miss } }
+        ensures miss { self.new ≡ record self.old { miss = option_map (λ t. txn_with_answer t fixed acks_due) self.old.miss } }
         ensures complete { IfSome self.new.miss (λ t. result ≡ is_complete t) }
     {
         let Some(miss) = &mut self.miss else {
@@ -107,7 +107,7 @@ impl TxnTable {
     pub fn ack(&mut self) -> bool
         requires open { IsSome self.old.miss }
         requires few { IfSome self.old.miss (λ t. t.acks_in < 15) }
-        ensures miss { self.new ≡ record self.old { miss = option_map acknowledged self.old.miss } }
+        ensures miss { self.new ≡ record self.old { miss = option_map txn_with_ack self.old.miss } }
         ensures complete { IfSome self.new.miss (λ t. result ≡ is_complete t) }
     {
         let Some(miss) = &mut self.miss else {

@@ -9,7 +9,7 @@ use Rattle.std.proofs.lemmas.Bool.Decides.{nat_tests}
 use Rattle.std.proofs.lemmas.List.{get_or_past}
 use Rattle.std.proofs.lemmas.List.Quantifiers.{position-Some}
 use Rattle.std.proofs.lemmas.Option.{none-some, same_Some}
-use Rattle.cache_array.specs.Slots.{FrameSlots, AreSlots, block_at, first_of, IsOfSet, is_of, frame_of, ways_of, taken, freed}
+use Rattle.cache_array.specs.Slots.{FrameSlots, AreSlots, block_at, first_of, IsOfSet, is_of, frame_of, ways_of, slots_with_block, slots_without_block}
 use Rattle.cache_array.proofs.Places.{position-None, get_or-range, length-range}
 
 -- the frames of a set
@@ -157,10 +157,10 @@ set_at xs f g o l =
 
 -- a block in a frame that was free
 
-at_taken : (d : FrameSlots) (f b g : ℕ) → f < length d.slots → block_at (taken d f b) g ≡ cond (nat_eq f g) (Some b) (block_at d g)
+at_taken : (d : FrameSlots) (f b g : ℕ) → f < length d.slots → block_at (slots_with_block d f b) g ≡ cond (nat_eq f g) (Some b) (block_at d g)
 at_taken d f b g l = set_at d.slots f g (Some b) l
 
-at_freed : (d : FrameSlots) (f g : ℕ) → f < length d.slots → block_at (freed d f) g ≡ cond (nat_eq f g) None (block_at d g)
+at_freed : (d : FrameSlots) (f g : ℕ) → f < length d.slots → block_at (slots_without_block d f) g ≡ cond (nat_eq f g) None (block_at d g)
 at_freed d f g l = set_at d.slots f g None l
 
 -- what a slot that was set has: what was put there, or what it had
@@ -180,26 +180,26 @@ still f g x o p e h =
     (λ (i : f ≡ g → ⊥). let t : nat_eq f g ≡ false = grind (arith, nat_tests) in (i, sym (rw t at e) ∙ h))
     (cases_eq f g)
 
-taken_placed : (d : FrameSlots) (f b g x : ℕ) → AreSlots d → IsOfSet d f b → block_at (taken d f b) g ≡ Some x → IsOfSet d g x
+taken_placed : (d : FrameSlots) (f b g x : ℕ) → AreSlots d → IsOfSet d f b → block_at (slots_with_block d f b) g ≡ Some x → IsOfSet d g x
 taken_placed d f b g x h i e =
-    either f g b x (block_at (taken d f b) g) (block_at d g) (IsOfSet d g x) (at_taken d f b g (frame-inside d f b h i)) e
+    either f g b x (block_at (slots_with_block d f b) g) (block_at d g) (IsOfSet d g x) (at_taken d f b g (frame-inside d f b h i)) e
     (λ p q. subst (λ (m : ℕ). IsOfSet d m x) p (subst (λ (m : ℕ). IsOfSet d f m) q i))
     (λ _ q. h.placed g x q)
 
-taken_apart : (d : FrameSlots) (f b g k x : ℕ) → AreSlots d → frame_of d b ≡ None → IsOfSet d f b → block_at (taken d f b) g ≡ Some x →
-    block_at (taken d f b) k ≡ Some x → g ≡ k
+taken_apart : (d : FrameSlots) (f b g k x : ℕ) → AreSlots d → frame_of d b ≡ None → IsOfSet d f b → block_at (slots_with_block d f b) g ≡ Some x →
+    block_at (slots_with_block d f b) k ≡ Some x → g ≡ k
 taken_apart d f b g k x h n i e u =
     let l = frame-inside d f b h i in
-    either f g b x (block_at (taken d f b) g) (block_at d g) (g ≡ k) (at_taken d f b g l) e
-    (λ p q. either f k b x (block_at (taken d f b) k) (block_at d k) (g ≡ k) (at_taken d f b k l) u
+    either f g b x (block_at (slots_with_block d f b) g) (block_at d g) (g ≡ k) (at_taken d f b g l) e
+    (λ p q. either f k b x (block_at (slots_with_block d f b) k) (block_at d k) (g ≡ k) (at_taken d f b k l) u
     (λ r _. sym p ∙ r)
     (λ _ r. absurd (none-at d k b n (subst (λ (m : ℕ). block_at d k ≡ Some m) (sym q) r))))
-    (λ _ q. either f k b x (block_at (taken d f b) k) (block_at d k) (g ≡ k) (at_taken d f b k l) u
+    (λ _ q. either f k b x (block_at (slots_with_block d f b) k) (block_at d k) (g ≡ k) (at_taken d f b k l) u
     (λ _ r. absurd (none-at d g b n (subst (λ (m : ℕ). block_at d g ≡ Some m) (sym r) q)))
     (λ _ r. h.apart g k x q r))
 
 -- a block in a free frame of its set
-pub slots-taken : (d : FrameSlots) (f b : ℕ) → AreSlots d → frame_of d b ≡ None → IsOfSet d f b → AreSlots (taken d f b)
+pub slots-taken : (d : FrameSlots) (f b : ℕ) → AreSlots d → frame_of d b ≡ None → IsOfSet d f b → AreSlots (slots_with_block d f b)
 slots-taken d f b h n i = record {
   some = h.some;
   whole = length-set d.slots f (Some b) ∙ h.whole;
@@ -208,14 +208,14 @@ slots-taken d f b h n i = record {
 }
 
 -- a frame that is free now
-pub slots-freed : (d : FrameSlots) (f : ℕ) → AreSlots d → f < length d.slots → AreSlots (freed d f)
+pub slots-freed : (d : FrameSlots) (f : ℕ) → AreSlots d → f < length d.slots → AreSlots (slots_without_block d f)
 slots-freed d f h l = record {
   some = h.some;
   whole = length-set d.slots f None ∙ h.whole;
-  placed = λ g x e. h.placed g x (still f g x (block_at (freed d f) g) (block_at d g) (at_freed d f g l) e).1;
+  placed = λ g x e. h.placed g x (still f g x (block_at (slots_without_block d f) g) (block_at d g) (at_freed d f g l) e).1;
   apart =
-      λ g k x e u. h.apart g k x (still f g x (block_at (freed d f) g) (block_at d g) (at_freed d f g l) e).1
-      (still f k x (block_at (freed d f) k) (block_at d k) (at_freed d f k l) u).1;
+      λ g k x e u. h.apart g k x (still f g x (block_at (slots_without_block d f) g) (block_at d g) (at_freed d f g l) e).1
+      (still f k x (block_at (slots_without_block d f) k) (block_at d k) (at_freed d f k l) u).1;
 }
 
 -- which frame is found afterwards
@@ -233,17 +233,17 @@ differs d f g x n e =
     (cases_eq f g)
 
 pub frame-taken : (d : FrameSlots) (f b x : ℕ) → AreSlots d → frame_of d b ≡ None → block_at d f ≡ None → IsOfSet d f b →
-    frame_of (taken d f b) x ≡ cond (nat_eq b x) (Some f) (frame_of d x)
+    frame_of (slots_with_block d f b) x ≡ cond (nat_eq b x) (Some f) (frame_of d x)
 frame-taken d f b x h n z i =
     let l = frame-inside d f b h i in
     let k = slots-taken d f b h n i in
     ⊎_elim
     (λ (e : b ≡ x). let t : nat_eq b x ≡ true = grind (arith, nat_tests) in
-    rw (t, ← e) (frame-found (taken d f b) f b k (get_or-set_same d.slots f (Some b) None l)))
+    rw (t, ← e) (frame-found (slots_with_block d f b) f b k (get_or-set_same d.slots f (Some b) None l)))
     (λ (e : b ≡ x → ⊥). let t : nat_eq b x ≡ false = grind (arith, nat_tests) in
-    rw t (other_found d (taken d f b) x (frame_of d x) k
+    rw t (other_found d (slots_with_block d f b) x (frame_of d x) k
     (λ g u. at_taken d f b g l ∙ rw (differs d f g x z u) u)
-    (λ g u. either f g b x (block_at (taken d f b) g) (block_at d g) (block_at d g ≡ Some x) (at_taken d f b g l) u (λ _ q. absurd (e q))
+    (λ g u. either f g b x (block_at (slots_with_block d f b) g) (block_at d g) (block_at d g ≡ Some x) (at_taken d f b g l) u (λ _ q. absurd (e q))
     (λ _ q. q))
     refl))
     (cases_eq b x)
@@ -256,19 +256,19 @@ parted f g b x o p h i s e =
     (cases_eq f g)
 
 pub frame-freed : (d : FrameSlots) (f b x : ℕ) → AreSlots d → frame_of d b ≡ Some f →
-    frame_of (freed d f) x ≡ cond (nat_eq b x) None (frame_of d x)
+    frame_of (slots_without_block d f) x ≡ cond (nat_eq b x) None (frame_of d x)
 frame-freed d f b x h i =
     let a = found-at d f b i in
     let l = at-inside d f b a in
     let k = slots-freed d f h l in
     ⊎_elim
     (λ (e : b ≡ x). let t : nat_eq b x ≡ true = grind (arith, nat_tests) in
-    rw t (frame-none (freed d f) x (λ g u.
-    let s = still f g x (block_at (freed d f) g) (block_at d g) (at_freed d f g l) u in
+    rw t (frame-none (slots_without_block d f) x (λ g u.
+    let s = still f g x (block_at (slots_without_block d f) g) (block_at d g) (at_freed d f g l) u in
     s.0 (h.apart f g b a (s.1 ∙ ap (λ (n : ℕ). let o : Option ℕ = Some n in o) (sym e))))))
     (λ (e : b ≡ x → ⊥). let t : nat_eq b x ≡ false = grind (arith, nat_tests) in
-    rw t (other_found d (freed d f) x (frame_of d x) k
+    rw t (other_found d (slots_without_block d f) x (frame_of d x) k
     (λ g u. at_freed d f g l ∙ rw (parted f g b x (block_at d f) (block_at d g) a u (ap (block_at d)) e) u)
-    (λ g u. (still f g x (block_at (freed d f) g) (block_at d g) (at_freed d f g l) u).1)
+    (λ g u. (still f g x (block_at (slots_without_block d f) g) (block_at d g) (at_freed d f g l) u).1)
     refl))
     (cases_eq b x)

@@ -46,8 +46,8 @@ abbrev pub is_full : FrameSlots → ℕ → Bool
 is_full d block = list_all is_some (ways_of d block)
 
 -- the slots with a block in a frame, and with a frame that is free
-abbrev pub taken : FrameSlots → ℕ → ℕ → FrameSlots
-taken d frame block = record d { slots = slice_set d.slots frame (Some block) }
+abbrev pub slots_with_block : FrameSlots → ℕ → ℕ → FrameSlots
+slots_with_block d frame block = record d { slots = slice_set d.slots frame (Some block) }
 
-abbrev pub freed : FrameSlots → ℕ → FrameSlots
-freed d frame = record d { slots = slice_set d.slots frame None }
+abbrev pub slots_without_block : FrameSlots → ℕ → FrameSlots
+slots_without_block d frame = record d { slots = slice_set d.slots frame None }

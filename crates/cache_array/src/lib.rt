@@ -7,7 +7,7 @@
 
 ghost use Rattle.std.specs.Prelude.{◌≡◌, ℕ, ◌+◌, ◌*◌, ◌<◌, ◌≤◌, ◌≢◌, ◌^◌, false, IfOk, IfSome, IsSome, None, replicate, is_some, is_none};
 ghost use Rattle.std.specs.List.{position, list_all};
-ghost use Rattle.cache_array.specs.Slots.{AreSlots, block_at, first_of, IsOfSet, is_of, frame_of, ways_of, is_full, taken, freed};
+ghost use Rattle.cache_array.specs.Slots.{AreSlots, block_at, first_of, IsOfSet, is_of, frame_of, ways_of, is_full, slots_with_block, slots_without_block};
 
 #[cfg(test)]
 mod tests;
@@ -109,7 +109,7 @@ impl Frames {
         ensures own { IsOfSet self.old result block }
         ensures free { block_at self.old result ≡ None }
         ensures least { (frame : ℕ) → IsOfSet self.old frame block → frame < result → block_at self.old frame ≢ None }
-        ensures slots { self.new ≡ taken self.old result block }
+        ensures slots { self.new ≡ slots_with_block self.old result block }
         ensures good { AreSlots self.new }
     {
         let way = free_way_of(self.ways_of(block)).unwrap();
@@ -121,7 +121,7 @@ impl Frames {
     /// Frees the frame of the block, which has one.
     pub fn drop_frame(&mut self, block: BlockNo)
         requires { IsSome (frame_of self.old block) }
-        ensures slots { IfSome (frame_of self.old block) (λ frame. self.new ≡ freed self.old frame) }
+        ensures slots { IfSome (frame_of self.old block) (λ frame. self.new ≡ slots_without_block self.old frame) }
         ensures good { AreSlots self.new }
     {
         let frame = self.find(block).unwrap();

@@ -3,7 +3,7 @@ use Rattle.std.specs.Prelude.{ℕ, zero, suc, if◌then◌else◌, List, Option,
 use Rattle.sn_io.specs.Outside.{found_in}
 use Rattle.reasons.specs.declared.hints.TextKind.{TextKind}
 use Rattle.reasons.specs.declared.hints.TextKind.TheVariants as kind
-use Rattle.command_words.specs.Request.{Request, Replay, Roll, Run, Check, Demo, Assemble, Disassemble}
+use Rattle.command_words.specs.Request.{Request, Replay, Roll, Run, Monitor, Check, Demo, Assemble, Disassemble}
 use Rattle.call_reasons.specs.Files.{is_refused}
 
 -- the files that are there, by their names
@@ -15,6 +15,7 @@ abbrev pub program_of : Request → Option (List ℕ)
 program_of (Replay config trace watch program script) = Some program
 program_of (Roll config watch program script control) = Some program
 program_of (Run config rules report watch program) = Some program
+program_of (Monitor config rules watch program) = Some program
 program_of (Check nodes program trace) = Some program
 program_of (Demo size) = None
 program_of (Assemble text) = None
@@ -30,6 +31,7 @@ abbrev pub first_of : Request → Option (List ℕ)
 first_of (Replay config trace watch program script) = Some program
 first_of (Roll config watch program script control) = Some program
 first_of (Run config rules report watch program) = Some program
+first_of (Monitor config rules watch program) = Some program
 first_of (Check nodes program trace) = Some program
 first_of (Demo size) = None
 first_of (Assemble text) = Some text
@@ -51,9 +53,10 @@ file_of ask (suc zero) = second_of ask
 file_of ask (suc (suc zero)) = third_of ask
 file_of ask (suc (suc (suc _))) = None
 
--- how many events a run may have
+-- how many events a run may have, also one that is watched
 abbrev pub budget_of : Request → Option ℕ
 budget_of (Run config rules report watch program) = Some rules.budget
+budget_of (Monitor config rules watch program) = Some rules.budget
 budget_of _ = None
 
 -- a file of lines that is blamed: what its lines say, for how many nodes, and its name

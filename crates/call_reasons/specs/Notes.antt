@@ -12,7 +12,7 @@ use Rattle.sn_model.specs.Refusals.{is_refusal}
 use Rattle.sn_machine.specs.Machine.{MachineData, next_of}
 use Rattle.script_replay.specs.Played.{after_event}
 use Rattle.sn_text.specs.Text.{event_line}
-use Rattle.reasons.specs.Reason.{shown, ended}
+use Rattle.reasons.specs.Reason.{escaped_text, ended}
 use Rattle.call_reasons.specs.declared.refusals.Refused.{Refused}
 use Rattle.call_reasons.specs.declared.refusals.Refusals.{Refusals}
 
@@ -46,7 +46,7 @@ line_of f = take (length (event_line f.place f.event f.answer) - 1) (event_line 
 -- a text, and then how many of so many events were refused, and which was the first
 unfoldable pub refused_note : List ℕ → ℕ → ℕ → Refused → List ℕ
 refused_note text events count f =
-    ended (text ++ codes "# note: " ++ decimal count ++ codes " of " ++ decimal events ++ codes " events were refused, the first is " ++ shown (line_of f))
+    ended (text ++ codes "# note: " ++ decimal count ++ codes " of " ++ decimal events ++ codes " events were refused, the first is " ++ escaped_text (line_of f))
 
 -- the same, where there is a first
 abbrev pub first_refused : List ℕ → ℕ → ℕ → Option Refused → List ℕ

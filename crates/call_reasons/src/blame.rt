@@ -13,6 +13,7 @@ pub fn program_of(request: &Request) -> Option<&str>
         Request::Replay(asked) => Some(asked.program.as_str()),
         Request::Roll(asked) => Some(asked.program.as_str()),
         Request::Run(asked) => Some(asked.program.as_str()),
+        Request::Monitor(asked) => Some(asked.program.as_str()),
         Request::Check(asked) => Some(asked.program.as_str()),
         Request::Disassemble(program) => Some(program.as_str()),
         Request::Demo(_) | Request::Assemble(_) => None,
@@ -29,12 +30,13 @@ pub fn assembly_of(request: &Request) -> Option<&str>
     }
 }
 
-/// How many events a run may have.
+/// How many events a run may have, also one that is watched.
 pub fn budget_of(request: &Request) -> Option<u32>
     ensures { result ≡ budget_of (as_request request.now) }
 {
     match request {
         Request::Run(asked) => Some(asked.rules.budget),
+        Request::Monitor(asked) => Some(asked.rules.budget),
         _ => None,
     }
 }

@@ -6,6 +6,7 @@ ghost use Rattle.sn_base.specs.Config.{config_fits};
 ghost use Rattle.command_words.specs.Request.{as_request, as_replay, request_fits};
 ghost use Rattle.call_reasons.specs.Notes.{names_fewer, refused_note, first_refused, default_note};
 ghost use Rattle.call_reasons.specs.Noted.{notes_on, notes_of};
+ghost use Rattle.sn_base.specs.declared.limits.TheConstants.{EVENTS};
 
 use crate::content::{PROGRAM_LIMIT, SCRIPT_LIMIT, fetch};
 use crate::refusals::{Refusals, Refused, refusals_of};
@@ -83,7 +84,7 @@ fn write_on(
 ) -> Result<(), Memory>
     requires sizes { config_fits config ≡ true }
     requires fit { All (λ event. event_fits config.nodes event ≡ true) events.now }
-    requires few { length events.now ≤ 1000000 }
+    requires few { length events.now ≤ EVENTS }
     ensures { OnOk result (note.new ≡ notes_on note.old image config events.now gives_nodes) }
 {
     let mut machine = Machine::new(alloc, image, config)?;

@@ -4,6 +4,7 @@ ghost use Rattle.std.specs.List.{All};
 ghost use Rattle.sn_base.specs.Events.{event_fits};
 ghost use Rattle.sn_model.specs.Refusals.{is_refusal};
 ghost use Rattle.call_reasons.specs.Notes.{none_refused, with_answer, refusals_from};
+ghost use Rattle.sn_base.specs.declared.limits.TheConstants.{EVENTS};
 
 use sn_base::{Answer, Event};
 use sn_machine::Machine;
@@ -86,7 +87,7 @@ impl Refusals {
 /// Applies events to a machine, and says which it refused.
 pub fn refusals_of(machine: &mut Machine, events: &[Event]) -> Refusals
     requires fit { All (λ event. event_fits machine.old.config.nodes event ≡ true) events.now }
-    requires few { length events.now ≤ 1000000 }
+    requires few { length events.now ≤ EVENTS }
     requires room { length events.now ≤ machine.old.spare }
     ensures { result ≡ refusals_from machine.old 1 none_refused events.now }
 {

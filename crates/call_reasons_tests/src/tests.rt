@@ -155,10 +155,16 @@ fn trace_rows() -> [Row; 3] {
     ]
 }
 
-fn other_rows() -> [Row; 5] {
+fn other_rows() -> [Row; 6] {
     [
         Row {
             words: "safetynet run --budget 50 a.hex",
+            files: &[],
+            status: Status::Budget,
+            line: "# why: the run has 50 events, which is its budget, and its cores haven't all ended\n",
+        },
+        Row {
+            words: "safetynet monitor --budget 50 a.hex",
             files: &[],
             status: Status::Budget,
             line: "# why: the run has 50 events, which is its budget, and its cores haven't all ended\n",
@@ -251,6 +257,7 @@ const FETCHED: &[Fetched] = &[
         Some("c.control"),
     ),
     ("safetynet run a.hex", Some("a.hex"), None, None),
+    ("safetynet monitor a.hex", Some("a.hex"), None, None),
     (
         "safetynet check a.hex b.trace",
         Some("a.hex"),

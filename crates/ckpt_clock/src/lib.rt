@@ -12,7 +12,7 @@
 ghost use Rattle.std.specs.Prelude.{◌≡◌, ◌+◌, ◌<◌, ◌≤◌, ◌^◌, ◌↔◌, max, nat_lt, IfOk, IsErr, OnErr};
 ghost use Rattle.ckpt_clock.specs.Clock.{ClockData, IsClock, most_ahead};
 
-use sn_base::Interval;
+use sn_base::{CHECKPOINTS, Interval};
 use std::marker::Model;
 
 /// The node has as many checkpoints above the recovery point that it knows as it may have: four.
@@ -71,7 +71,7 @@ impl Clock {
         ensures begun { IfOk result (λ k. self.new ≡ record self.old { interval = k }) }
         ensures unchanged { OnErr result (self.new ≡ self.old) }
     {
-        if self.interval - self.known == 4 {
+        if self.interval - self.known == CHECKPOINTS {
             return Err(CheckpointsFull);
         }
         self.interval += 1;

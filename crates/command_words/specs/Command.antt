@@ -26,10 +26,17 @@ abbrev pub roll_app : App
 roll_app = command_app (codes "roll") (codes "program" ∷ codes "script" ∷ codes "control" ∷ [])
     (codes "nodes" ∷ codes "sets" ∷ codes "ways" ∷ codes "log" ∷ codes "watch" ∷ []) []
 
+-- the options of a machine that picks its own events
+abbrev pub run_options : List Text
+run_options =
+    codes "nodes" ∷ codes "sets" ∷ codes "ways" ∷ codes "log" ∷ codes "watch"
+    ∷ codes "interval" ∷ codes "wait" ∷ codes "lose-every" ∷ codes "kill" ∷ codes "budget" ∷ codes "seed" ∷ []
+
 abbrev pub run_app : App
-run_app = command_app (codes "run") (codes "program" ∷ [])
-    (codes "nodes" ∷ codes "sets" ∷ codes "ways" ∷ codes "log" ∷ codes "watch"
-    ∷ codes "interval" ∷ codes "wait" ∷ codes "lose-every" ∷ codes "kill" ∷ codes "budget" ∷ codes "seed" ∷ []) (codes "trace" ∷ codes "journal" ∷ [])
+run_app = command_app (codes "run") (codes "program" ∷ []) run_options (codes "trace" ∷ codes "journal" ∷ [])
+
+abbrev pub monitor_app : App
+monitor_app = command_app (codes "monitor") (codes "program" ∷ []) run_options []
 
 abbrev pub check_app : App
 check_app = command_app (codes "check") (codes "program" ∷ codes "trace" ∷ []) (codes "nodes" ∷ []) []
@@ -53,4 +60,5 @@ abbrev pub with_command : App → App → App
 with_command app command = with_subcommand app command.top
 
 abbrev pub the_app : App
-the_app = fold with_command named_app (replay_app ∷ roll_app ∷ run_app ∷ check_app ∷ demo_app ∷ asm_app ∷ dis_app ∷ [])
+the_app =
+    fold with_command named_app (replay_app ∷ roll_app ∷ run_app ∷ monitor_app ∷ check_app ∷ demo_app ∷ asm_app ∷ dis_app ∷ [])

@@ -12,11 +12,13 @@ use Rattle.command_words.specs.Command.{the_app}
 use Rattle.command_words.specs.declared.request.Replay as code_replay
 use Rattle.command_words.specs.declared.request.Roll as code_roll
 use Rattle.command_words.specs.declared.request.Run as code_run
-use Rattle.command_words.specs.declared.request.RunReport.{RunReport}
-use Rattle.command_words.specs.declared.request.RunReport.TheVariants as shown
+use Rattle.command_words.specs.declared.request.Monitor as code_monitor
+use Rattle.sn_base.specs.declared.report.RunReport.{RunReport}
+use Rattle.sn_base.specs.declared.report.RunReport.TheVariants as shown
 use Rattle.command_words.specs.declared.request.Check as code_check
 use Rattle.command_words.specs.declared.request.Request as code_request
 use Rattle.command_words.specs.declared.request.Request.TheVariants as asked
+use Rattle.sn_base.specs.declared.limits.TheConstants.{EVENTS}
 
 -- the sizes, the rules of a run, whether the trace is to be shown or what else of a run is, which word is to be watched, and the
 -- names of files: of the program and of the script, the control or the trace, or of the text
@@ -24,6 +26,7 @@ pub data Request : Type 0 where
   Replay : Config → Bool → Option ℕ → Text → Text → Request
   Roll : Config → Option ℕ → Text → Text → Text → Request
   Run : Config → RunRules → RunReport → Option ℕ → Text → Request
+  Monitor : Config → RunRules → Option ℕ → Text → Request
   Check : ℕ → Text → Text → Request
   Demo : ℕ → Request
   Assemble : Text → Request
@@ -73,6 +76,13 @@ run_of entries =
     (first_of (codes "program") entries)) (watch_by (first_of (codes "watch") entries))) (run_report_of entries)) (run_rules_of config.nodes entries))
     (config_of entries)
 
+abbrev pub monitor_of : List Row → Option Request
+monitor_of entries =
+    option_and_then (λ config. option_and_then (λ rules. option_and_then (λ watch. option_map (λ program.
+    Monitor config rules watch program)
+    (first_of (codes "program") entries)) (watch_by (first_of (codes "watch") entries))) (run_rules_of config.nodes entries))
+    (config_of entries)
+
 abbrev pub check_of : List Row → Option Request
 check_of entries =
     option_and_then (λ nodes. option_and_then (λ program. option_map (λ trace. Check nodes program trace)
@@ -87,6 +97,7 @@ request_of command entries =
     if bytes_eq command (codes "replay") then replay_of entries else
     if bytes_eq command (codes "roll") then roll_of entries else
     if bytes_eq command (codes "run") then run_of entries else
+    if bytes_eq command (codes "monitor") then monitor_of entries else
     if bytes_eq command (codes "check") then check_of entries else
     if bytes_eq command (codes "demo") then option_map (λ size. Demo size) (demo_of entries) else
     if bytes_eq command (codes "asm") then option_map (λ text. Assemble text) (first_of (codes "text") entries) else
@@ -107,6 +118,9 @@ as_roll r = Roll r.config r.watch (string_bytes r.program) (string_bytes r.scrip
 abbrev pub as_run : code_run.Run → Request
 as_run r = Run r.config r.rules r.report r.watch (string_bytes r.program)
 
+abbrev pub as_monitor : code_monitor.Monitor → Request
+as_monitor m = Monitor m.config m.rules m.watch (string_bytes m.program)
+
 abbrev pub as_check : code_check.Check → Request
 as_check c = Check c.nodes (string_bytes c.program) (string_bytes c.trace)
 
@@ -114,6 +128,7 @@ abbrev pub as_request : code_request.Request → Request
 as_request (asked.Replay r) = as_replay r
 as_request (asked.Roll r) = as_roll r
 as_request (asked.Run r) = as_run r
+as_request (asked.Monitor m) = as_monitor m
 as_request (asked.Check c) = as_check c
 as_request (asked.Demo size) = Demo size
 as_request (asked.Assemble text) = Assemble (string_bytes text)
@@ -128,6 +143,7 @@ abbrev pub request_fits : Request → Bool
 request_fits (Replay config trace watch program script) = config_fits config && watch_fits watch
 request_fits (Roll config watch program script control) = config_fits config && watch_fits watch
 request_fits (Run config rules report watch program) = config_fits config && (run_rules_fit config.nodes rules && watch_fits watch)
+request_fits (Monitor config rules watch program) = config_fits config && (run_rules_fit config.nodes rules && watch_fits watch)
 request_fits (Check nodes program trace) = lies_in 1 16 nodes
-request_fits (Demo size) = lies_in 1 1000000 size
+request_fits (Demo size) = lies_in 1 EVENTS size
 request_fits _ = true

@@ -4,15 +4,16 @@ ghost use Rattle.sn_base.specs.Config.{lies_in, config_fits};
 ghost use Rattle.option_values.specs.Runs.{run_rules_fit};
 ghost use Rattle.clap.specs.Words.{found_of, rows_of, first_of};
 ghost use Rattle.command_words.specs.Request.{ask_of, as_request, request_of, config_of, replay_of, roll_of, run_rules_of, run_report_of};
-ghost use Rattle.command_words.specs.Request.{run_of, check_of, demo_of, as_replay, as_roll, as_run, as_check};
+ghost use Rattle.command_words.specs.Request.{run_of, monitor_of, check_of, demo_of, as_replay, as_roll, as_run, as_monitor, as_check};
 ghost use Rattle.command_words.specs.Request.{watch_fits, request_fits};
+ghost use Rattle.sn_base.specs.declared.limits.TheConstants.{EVENTS};
 
 use crate::command::entries_of;
 use crate::entries::{command_of, has_flag, text_of};
-use crate::request::{Check, Replay, Request, Roll, Run, RunReport, WordsFault};
+use crate::request::{Check, Monitor, Replay, Request, Roll, Run, WordsFault};
 use clap::ArgMatches;
 use option_values::{RunRules, RunWords, SizeWords, read_demo_size, read_nodes, read_watch};
-use sn_base::Config;
+use sn_base::{Config, RunReport};
 use std::alloc::Global;
 
 // The name of a file.
@@ -119,6 +120,22 @@ fn run(alloc: Global, entries: &ArgMatches<'_>) -> Result<Run, WordsFault>
     })
 }
 
+fn monitor(alloc: Global, entries: &ArgMatches<'_>) -> Result<Monitor, WordsFault>
+    ensures ok { IfOk result (λ monitor. monitor_of (rows_of (found_of entries.now)) ≡ Some (as_monitor monitor)) }
+    ensures usage { result ≡ Err WordsFault.Usage → monitor_of (rows_of (found_of entries.now)) ≡ None }
+    ensures fits { IfOk result (λ monitor. config_fits monitor.config ≡ true) }
+    ensures ruled { IfOk result (λ monitor. run_rules_fit monitor.config.nodes monitor.rules ≡ true) }
+    ensures watched { IfOk result (λ monitor. watch_fits monitor.watch ≡ true) }
+{
+    let config = config(entries)?;
+    Ok(Monitor {
+        config,
+        rules: rules(entries, config.nodes)?,
+        watch: read_watch(text_of(entries, "watch")).ok_or(WordsFault::Usage)?,
+        program: name(alloc, entries, "program")?,
+    })
+}
+
 fn check(alloc: Global, entries: &ArgMatches<'_>) -> Result<Check, WordsFault>
     ensures ok { IfOk result (λ check. check_of (rows_of (found_of entries.now)) ≡ Some (as_check check)) }
     ensures usage { result ≡ Err WordsFault.Usage → check_of (rows_of (found_of entries.now)) ≡ None }
@@ -134,7 +151,7 @@ fn check(alloc: Global, entries: &ArgMatches<'_>) -> Result<Check, WordsFault>
 fn demo(entries: &ArgMatches<'_>) -> Result<u32, WordsFault>
     ensures ok { IfOk result (λ size. demo_of (rows_of (found_of entries.now)) ≡ Some size) }
     ensures usage { result ≡ Err WordsFault.Usage → demo_of (rows_of (found_of entries.now)) ≡ None }
-    ensures fits { IfOk result (λ size. lies_in 1 1000000 size ≡ true) }
+    ensures fits { IfOk result (λ size. lies_in 1 EVENTS size ≡ true) }
 {
     let size = text_of(entries, "size").ok_or(WordsFault::Usage)?;
     read_demo_size(size).ok_or(WordsFault::Usage)
@@ -149,6 +166,7 @@ fn request(alloc: Global, command: &str, entries: &ArgMatches<'_>) -> Result<Req
         "replay" => Ok(Request::Replay(replay(alloc, entries)?)),
         "roll" => Ok(Request::Roll(roll(alloc, entries)?)),
         "run" => Ok(Request::Run(run(alloc, entries)?)),
+        "monitor" => Ok(Request::Monitor(monitor(alloc, entries)?)),
         "check" => Ok(Request::Check(check(alloc, entries)?)),
         "demo" => Ok(Request::Demo(demo(entries)?)),
         "asm" => Ok(Request::Assemble(name(alloc, entries, "text")?)),

@@ -2,7 +2,7 @@
 ghost use Rattle.std.specs.Prelude.{◌≡◌};
 
 use option_values::RunRules;
-use sn_base::Config;
+use sn_base::{Config, RunReport};
 use std::alloc::AllocError;
 
 /// The sizes, what is shown, and the names of the files.
@@ -29,17 +29,6 @@ pub struct Roll {
     pub control: String,
 }
 
-/// What a run shows before its summary.
-#[derive(Clone, Copy, PartialEq, Eq, Debug)]
-pub enum RunReport {
-    /// Nothing.
-    Summary,
-    /// The committed trace.
-    Trace,
-    /// Each event, and the worker in whose turn it was applied.
-    Journal,
-}
-
 /// The sizes, what the run goes by, what is shown, and the name of the program's file.
 #[derive(Drop)]
 pub struct Run {
@@ -47,6 +36,16 @@ pub struct Run {
     pub rules: RunRules,
     pub report: RunReport,
     /// The address of the word that is shown in the summary.
+    pub watch: Option<u32>,
+    pub program: String,
+}
+
+/// The sizes, what the watched run goes by, what is shown, and the name of the program's file.
+#[derive(Drop)]
+pub struct Monitor {
+    pub config: Config,
+    pub rules: RunRules,
+    /// The address of the word that each snapshot has, and that is shown in the summary.
     pub watch: Option<u32>,
     pub program: String,
 }
@@ -65,6 +64,7 @@ pub enum Request {
     Replay(Replay),
     Roll(Roll),
     Run(Run),
+    Monitor(Monitor),
     Check(Check),
     /// How many events the demonstration has.
     Demo(u32),

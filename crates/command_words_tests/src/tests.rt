@@ -1,6 +1,7 @@
 //! Each row has the words of a line, and the request that they are, as text.
 use command_words::{Request, WordsFault, read_words};
-use sn_base::Memory;
+use option_values::RunRules;
+use sn_base::{Config, Memory};
 use std::alloc::{AllocError, Global};
 use std::test::Fail;
 
@@ -13,6 +14,26 @@ fn words_of(alloc: Global, line: &str) -> Result<Vec<String>, AllocError> {
         words.push(String::from_str(alloc, word)?)?;
     }
     Ok(words)
+}
+
+/// The sizes, and what a machine that picks its own events goes by.
+fn rules_shown(
+    alloc: Global,
+    c: &Config,
+    given: &RunRules,
+    watch: Option<u32>,
+) -> Result<String, AllocError> {
+    let rules = &given.rules;
+    let kill = match rules.kill {
+        Some((switch, events)) => Some((switch.number(), events)),
+        None => None,
+    };
+    let (interval, wait, lose_every) = (rules.interval, rules.wait, rules.lose_every);
+    let (budget, seed) = (given.budget, given.seed);
+    format!(in alloc;
+        "({} nodes, {} sets, {} ways, log {}) interval {interval} wait {wait} lose {lose_every} kill {kill:?} budget {budget} seed {seed} {watch:?}",
+        c.nodes, c.sets, c.ways, c.log
+    )
 }
 
 fn shown(alloc: Global, request: &Request) -> Result<String, AllocError> {
@@ -34,18 +55,13 @@ fn shown(alloc: Global, request: &Request) -> Result<String, AllocError> {
             )
         }
         Request::Run(r) => {
-            let (c, rules) = (&r.config, &r.rules.rules);
-            let (watch, report) = (r.watch, r.report);
-            let kill = match rules.kill {
-                Some((switch, events)) => Some((switch.number(), events)),
-                None => None,
-            };
-            let (interval, wait, lose_every) = (rules.interval, rules.wait, rules.lose_every);
-            let (budget, seed) = (r.rules.budget, r.rules.seed);
-            format!(in alloc;
-                "run {} ({} nodes, {} sets, {} ways, log {}) interval {interval} wait {wait} lose {lose_every} kill {kill:?} budget {budget} seed {seed} {watch:?} {report:?}",
-                r.program, c.nodes, c.sets, c.ways, c.log
-            )
+            let rules = rules_shown(alloc, &r.config, &r.rules, r.watch)?;
+            let report = r.report;
+            format!(in alloc; "run {} {rules} {report:?}", r.program)
+        }
+        Request::Monitor(r) => {
+            let rules = rules_shown(alloc, &r.config, &r.rules, r.watch)?;
+            format!(in alloc; "monitor {} {rules}", r.program)
         }
         Request::Check(c) => format!(in alloc;
             "check {} {} ({} nodes)",
@@ -172,6 +188,14 @@ const REQUESTS: &[(&str, &str)] = &[
         "run run",
         "run run (4 nodes, 16 sets, 4 ways, log 256) interval 100 wait 20000 lose 0 kill None budget 1000000 seed 1 None Summary",
     ),
+    (
+        "monitor p",
+        "monitor p (4 nodes, 16 sets, 4 ways, log 256) interval 100 wait 20000 lose 0 kill None budget 1000000 seed 1 None",
+    ),
+    (
+        "monitor --nodes 2 --sets 3 --ways 5 --log 7 --watch 80000004 --interval 8 --wait 9 --lose-every 10 --kill b1@11 --budget 12 --seed 13 p",
+        "monitor p (2 nodes, 3 sets, 5 ways, log 7) interval 8 wait 9 lose 10 kill Some((3, 11)) budget 12 seed 13 Some(2147483652)",
+    ),
     ("check p t", "check p t (4 nodes)"),
     ("check p t --nodes 7", "check p t (7 nodes)"),
     (
@@ -268,6 +292,12 @@ const USAGE: &[&str] = &[
     "run p --lose_every 4",
     "run p --watch 80400000",
     "run p --nodes 17",
+    "monitor",
+    "monitor p s",
+    "monitor p --trace",
+    "monitor p --journal",
+    "monitor p --budget 0",
+    "monitor p --nodes 1 --kill b1@0",
     "replay p s --journal",
     "replay p s --seed 4",
     "check p t --kill a0@0",

@@ -16,11 +16,11 @@ use Rattle.sn_model.specs.declared.cache.Need.{Need}
 use Rattle.sn_model.specs.Caches.{line_of, is_present, puts_on, frames_taken}
 use Rattle.sn_model.specs.CacheRows.{CacheReply, send}
 use Rattle.sn_model.specs.HomeRows.{HomeReply}
-use Rattle.sn_model.specs.Fabric.{Fabric, Node, Net, Flight, Moved, first_node, node_at, with_node, with_home, with_net, refused, answered}
-use Rattle.sn_model.specs.Net.{sending, is_full, flight_of, without_flight, moved, routes_of, is_there, next_switch}
-use Rattle.sn_model.specs.Access.{accessed, missed, missing, stored, with_write, has_miss, serves, lacks_room}
-use Rattle.sn_model.specs.NodeEvents.{reported, ready_of}
-use Rattle.sn_model.specs.NetEvents.{hopped, hops, lost, loses, killed, node_after, home_after}
+use Rattle.sn_model.specs.Fabric.{Fabric, Node, Net, Flight, FabricStep, first_node, node_at, with_node, with_home, with_net, step_refused, step_with_answer}
+use Rattle.sn_model.specs.Net.{sending, is_full, flight_of, without_flight, net_with_flight_in, routes_of, is_there, next_switch}
+use Rattle.sn_model.specs.Access.{step_of_access, step_of_miss, missing, fabric_with_write, with_write, has_miss, serves, lacks_room}
+use Rattle.sn_model.specs.NodeEvents.{step_of_report, ready_of}
+use Rattle.sn_model.specs.NetEvents.{step_of_hop, hops, step_of_loss, loses, step_of_kill, node_after, home_after}
 
 -- the same clocks
 pub record IsSameClocks (s t : Fabric) : Type 0 where
@@ -84,31 +84,31 @@ same_then s t u a b = record {
 }
 
 -- an event that leaves the clocks, and of which nobody hears
-pub record IsQuiet (s : Fabric) (moved : Moved) : Type 0 where
-  pub clocks : IsSameClocks s moved.fabric
-  pub told : moved.told ≡ None
+pub record IsQuiet (s : Fabric) (step : FabricStep) : Type 0 where
+  pub clocks : IsSameClocks s step.fabric
+  pub told : step.told ≡ None
 
-quiet : (s : Fabric) (answer : Answer) → IsQuiet s (refused s answer)
+quiet : (s : Fabric) (answer : Answer) → IsQuiet s (step_refused s answer)
 quiet s answer = record { clocks = same_clocks s; told = refl }
 
 -- an access that isn't served, by the tests in their order
-pub same_accessed : (config : Config) (s : Fabric) (n block : ℕ) (need : Need) → IsQuiet s (accessed config s n block need)
+pub same_accessed : (config : Config) (s : Fabric) (n block : ℕ) (need : Need) → IsQuiet s (step_of_access config s n block need)
 same_accessed config s n block need =
     go (has_miss (node_at s n).cache.miss) (puts_on (node_at s n).cache.put block) (serves need (line_of (node_at s n).cache block).state)
     (lacks_room config (node_at s n) block need)
     (not (is_present (line_of (node_at s n).cache block).state) && nat_le config.ways (frames_taken (node_at s n).cache config.sets block))
     (is_full s 1)
   where
-    begun : IsSameClocks s (missed s n block need).fabric
+    begun : IsSameClocks s (step_of_miss s n block need).fabric
     begun =
-        same_then s (with_node s n (missing (node_at s n) block need)) (missed s n block need).fabric
+        same_then s (with_node s n (missing (node_at s n) block need)) (step_of_miss s n block need).fabric
         (same_with_node s n (missing (node_at s n) block need) refl refl)
-        (same_nodes (with_node s n (missing (node_at s n) block need)) (missed s n block need).fabric refl refl)
+        (same_nodes (with_node s n (missing (node_at s n) block need)) (step_of_miss s n block need).fabric refl refl)
 
     go : (a b c d e f : Bool) →
-        IsQuiet s (if a then refused s Waits else if b then refused s Waits
-        else if c then (if d then refused s LogFull else answered s Retired) else if e then refused s NeedsEvict
-        else if f then refused s NetFull else missed s n block need)
+        IsQuiet s (if a then step_refused s Waits else if b then step_refused s Waits
+        else if c then (if d then step_refused s LogFull else step_with_answer s Retired) else if e then step_refused s NeedsEvict
+        else if f then step_refused s NetFull else step_of_miss s n block need)
     go true b c d e f = quiet s Waits
     go false true c d e f = quiet s Waits
     go false false true true e f = quiet s LogFull
@@ -118,15 +118,15 @@ same_accessed config s n block need =
     go false false false d false false = record { clocks = begun; told = refl }
 
 -- a write that is served
-pub same_stored : (s : Fabric) (n : ℕ) (w : Write) → IsSameClocks s (stored s n w)
+pub same_stored : (s : Fabric) (n : ℕ) (w : Write) → IsSameClocks s (fabric_with_write s n w)
 same_stored s n w = same_with_node s n (with_write (node_at s n) w) refl refl
 
 -- a report
-pub same_reported : (s : Fabric) (n : ℕ) → IsQuiet s (reported s n)
+pub same_reported : (s : Fabric) (n : ℕ) → IsQuiet s (step_of_report s n)
 same_reported s n = go (is_full s 1)
   where
     go : (a : Bool) → IsQuiet s
-        (if a then refused s NetFull else sending s n 0 (send 0 (Ready (ready_of s n)) ∷ []) (Reported (ready_of s n)))
+        (if a then step_refused s NetFull else sending s n 0 (send 0 (Ready (ready_of s n)) ∷ []) (Reported (ready_of s n)))
     go true = quiet s NetFull
     go false =
         record {
@@ -136,35 +136,35 @@ same_reported s n = go (is_full s 1)
 
 -- what the network does
 module _ (s : Fabric) where
-  with_other_net : (net : Net) (answer : Answer) → IsQuiet s (answered (with_net s net) answer)
+  with_other_net : (net : Net) (answer : Answer) → IsQuiet s (step_with_answer (with_net s net) answer)
   with_other_net net answer = record { clocks = same_nodes s (with_net s net) refl refl; told = refl }
 
   hopping : (f : Flight) (a b : Bool) →
-      IsQuiet s (if a then refused s Arrived else if b then answered (with_net s (without_flight s.net f.message.id)) LostInDead
-      else answered (with_net s (moved s.net f.message.id (next_switch (routes_of s) f))) Hopped)
+      IsQuiet s (if a then step_refused s Arrived else if b then step_with_answer (with_net s (without_flight s.net f.message.id)) LostInDead
+      else step_with_answer (with_net s (net_with_flight_in s.net f.message.id (next_switch (routes_of s) f))) Hopped)
   hopping f true b = quiet s Arrived
   hopping f false true = with_other_net (without_flight s.net f.message.id) LostInDead
-  hopping f false false = with_other_net (moved s.net f.message.id (next_switch (routes_of s) f)) Hopped
+  hopping f false false = with_other_net (net_with_flight_in s.net f.message.id (next_switch (routes_of s) f)) Hopped
 
   same_hops : (found : Option Flight) → IsQuiet s (hops s found)
   same_hops None = quiet s NoMessage
   same_hops (Some f) = hopping f (is_there f) (is_dead s.net.dead (next_switch (routes_of s) f))
 
-  pub same_hopped : (id : ℕ) → IsQuiet s (hopped s id)
+  pub same_hopped : (id : ℕ) → IsQuiet s (step_of_hop s id)
   same_hopped id = same_hops (flight_of s.net.flights id)
 
   same_loses : (found : Option Flight) → IsQuiet s (loses s found)
   same_loses None = quiet s NoMessage
   same_loses (Some f) = with_other_net (without_flight s.net f.message.id) Lost
 
-  pub same_lost : (id : ℕ) → IsQuiet s (lost s id)
+  pub same_lost : (id : ℕ) → IsQuiet s (step_of_loss s id)
   same_lost id = same_loses (flight_of s.net.flights id)
 
-  killing : (a : Bool) (net : Net) → IsQuiet s (if a then refused s AlreadyDead else answered (with_net s net) Killed)
+  killing : (a : Bool) (net : Net) → IsQuiet s (if a then step_refused s AlreadyDead else step_with_answer (with_net s net) Killed)
   killing true net = quiet s AlreadyDead
   killing false net = with_other_net net Killed
 
-  pub same_killed : (switch : ℕ) → IsQuiet s (killed s switch)
+  pub same_killed : (switch : ℕ) → IsQuiet s (step_of_kill s switch)
   same_killed switch = killing (is_dead s.net.dead switch) _
 
 -- what a row of a cache and of a home leaves

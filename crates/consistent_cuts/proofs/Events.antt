@@ -15,19 +15,19 @@ use Rattle.rv_core.specs.Core.{block_of, is_reserved}
 use Rattle.rv_core.specs.Execution.{end_of}
 use Rattle.rv_core.specs.Step.{want_of}
 use Rattle.route_plan.specs.Routes.{first_cut_off}
-use Rattle.sn_model.specs.Fabric.{Fabric, Moved, node_at, with_node, refused, answered}
+use Rattle.sn_model.specs.Fabric.{Fabric, FabricStep, node_at, with_node, step_refused, step_with_answer}
 use Rattle.sn_model.specs.Net.{flight_of, is_full, sending}
-use Rattle.sn_model.specs.Access.{accessed}
-use Rattle.sn_model.specs.NodeEvents.{evicted, after_edge, reported, checkpoint_limit}
-use Rattle.sn_model.specs.NetEvents.{hopped, lost, killed, delivered}
+use Rattle.sn_model.specs.Access.{step_of_access}
+use Rattle.sn_model.specs.NodeEvents.{step_of_eviction, after_edge, step_of_report, checkpoint_limit}
+use Rattle.sn_model.specs.NetEvents.{step_of_hop, step_of_loss, step_of_kill, step_of_delivery}
 use Rattle.sn_model.specs.PointEvents.{advances, recovers, living_switches}
 use Rattle.sn_model.specs.Machine.{State, Processor, processor_at, with_processor, first_processor}
-use Rattle.sn_model.specs.Instructions.{Stepped, carried, retired, stepped, found_at, found_by, next_with}
+use Rattle.sn_model.specs.Instructions.{MachineStep, machine_step_of, step_of_retirement, step_of_instruction, found_at, found_by, next_with}
 use Rattle.sn_model.specs.Instructions as step
-use Rattle.sn_model.specs.MachineEvents.{hearing, edges, with_checkpoint, validates, commits, unready_node, restores, given}
+use Rattle.sn_model.specs.MachineEvents.{machine_step_with_news, edges, with_checkpoint, validates, commits, unready_node, restores, step_of_input}
 use Rattle.sn_model.specs.Step.{step_of}
 use Rattle.sn_model.specs.RecoveryPoint.{IsRestored}
-use Rattle.sn_model.specs.Trace.{TraceEntry, entry_at, traced}
+use Rattle.sn_model.specs.Trace.{TraceEntry, entry_at, trace_after_event}
 use Rattle.sn_coherence.specs.Records.{Records}
 use Rattle.sn_consistency.specs.Entries.{Entry}
 use Rattle.sn_consistency.specs.Committed.{Begins}
@@ -35,7 +35,7 @@ use Rattle.sn_consistency.specs.Laws.{own_reservation}
 use Rattle.sn_consistency.proofs.CoreLaws.{next_reservation}
 use Rattle.fabric_coherence.specs.Coherent.{NothingUnfinished}
 use Rattle.consistent_cuts.specs.Headline.{IsStepOfRun, IsUntouched, MayUnreserve, Reserving}
-use Rattle.consistent_cuts.specs.Joined.{IsJoined}
+use Rattle.consistent_cuts.specs.RunInvariant.{RunInvariant}
 use Rattle.consistent_cuts.specs.Lists.{retirement_of}
 use Rattle.consistent_cuts.specs.Runs.{EventFits}
 use Rattle.consistent_cuts.proofs.Clocks.{part_set}
@@ -56,10 +56,10 @@ no_recovery a undo e is = true≢false (sym (ap is_point_answer is) ∙ e)
 -- an answer that leaves the retirements isn't TraceEntry
 leaves_unretired : (image : ImageData) (s : State) (n : ℕ) (a : Answer) → LeavesTrace image s n a → a ≡ answer.Retired → ⊥
 leaves_unretired image s n a leaves is =
-    let h : traced image s (event.Step n) answer.Retired [] ≡ [] = subst (λ x. traced image s (event.Step n) x [] ≡ []) is (leaves.1 []) in
+    let h : trace_after_event image s (event.Step n) answer.Retired [] ≡ [] = subst (λ x. trace_after_event image s (event.Step n) x [] ≡ []) is (leaves.1 []) in
     cc
 
-module _ (half : FabricHalf) (image : ImageData) (config : Config) (s : State) (r : ℕ → Records) (list : ℕ → List Entry) (trace : List TraceEntry) (j : IsJoined image s r list trace) (count : length s.fabric.nodes ≡ config.nodes) where
+module _ (half : FabricHalf) (image : ImageData) (config : Config) (s : State) (r : ℕ → Records) (list : ℕ → List Entry) (trace : List TraceEntry) (j : RunInvariant image s r list trace) (count : length s.fabric.nodes ≡ config.nodes) where
   abbrev N : ℕ
   N = length s.fabric.nodes
 
@@ -70,17 +70,17 @@ module _ (half : FabricHalf) (image : ImageData) (config : Config) (s : State) (
       (entry_at image s n).did.sc_done ≡ is_reserved (processor_at s n).core.reservation (block_of address)
   conditional_is n address e = ap (λ w. (found_by s n w).sc_done) e
 
-  abbrev Retires : Event → Stepped → Type 0
+  abbrev Retires : Event → MachineStep → Type 0
   Retires e x =
       (n : ℕ) → e ≡ event.Step n → x.answer ≡ answer.Retired → x.state.pending ≡ s.pending ++ retirement_of (entry_at image s n) ∷ []
 
-  abbrev Unreserves : Event → Stepped → Type 0
+  abbrev Unreserves : Event → MachineStep → Type 0
   Unreserves e x =
       (n block : ℕ) → n < config.nodes → is_reserved (processor_at s n).core.reservation block ≡ true →
       is_reserved (processor_at x.state n).core.reservation block ≡ false → MayUnreserve image config s n block e
 
   -- an event that neither moves the point nor goes back to it
-  ordinary : (e : Event) (x : Stepped) → IsOrdinary s x → Retires e x → Unreserves e x → IsStepOfRun image config s e x
+  ordinary : (e : Event) (x : MachineStep) → IsOrdinary s x → Retires e x → Unreserves e x → IsStepOfRun image config s e x
   ordinary e x o retires unreserves = record {
     validated = λ k is. absurd (no_validation x.answer k o.no_point is);
     grows = λ k is. absurd (no_validation x.answer k o.no_point is);
@@ -114,7 +114,7 @@ module _ (half : FabricHalf) (image : ImageData) (config : Config) (s : State) (
   lost_by m block (want.Amo address) e a b = absurd (true≢false (sym a ∙ b))
 
   own_unreserved : (n block : ℕ) → n < config.nodes → is_reserved (processor_at s n).core.reservation block ≡ true →
-      is_reserved (processor_at (retired image s n).state n).core.reservation block ≡ false → Reserving image s n
+      is_reserved (processor_at (step_of_retirement image s n).state n).core.reservation block ≡ false → Reserving image s n
   own_unreserved n block l a b =
       lost_by n block (want_of image (processor_at s n).core) refl a
       (ap (λ x. is_reserved x block)
@@ -124,28 +124,28 @@ module _ (half : FabricHalf) (image : ImageData) (config : Config) (s : State) (
       ∙ b)
 
   unreserved_by : (m n block : ℕ) → n < config.nodes → is_reserved (processor_at s n).core.reservation block ≡ true →
-      is_reserved (processor_at (retired image s m).state n).core.reservation block ≡ false → (m ≡ n) × Reserving image s n
+      is_reserved (processor_at (step_of_retirement image s m).state n).core.reservation block ≡ false → (m ≡ n) × Reserving image s n
   unreserved_by m n block l a b = go (nat_eq n m) refl
     where
       go : (p : Bool) → nat_eq n m ≡ p → (m ≡ n) × Reserving image s n
       go false i =
           let d : n ≢ m = grind (arith, nat_tests) in
-          absurd (kept n block (processor_at (retired image s m).state n)
+          absurd (kept n block (processor_at (step_of_retirement image s m).state n)
           (ap (λ p. p.core) (get_or-set_other s.processors m n (next m) (first_processor 0 0) d)) a b)
       go true i =
           let same : m ≡ n = grind (arith, nat_tests) in (
             same,
             own_unreserved n block l a
-                (subst (λ x. is_reserved (processor_at (retired image s x).state n).core.reservation block ≡ false) same b),
+                (subst (λ x. is_reserved (processor_at (step_of_retirement image s x).state n).core.reservation block ≡ false) same b),
           )
 
-  step_of_run : (n : ℕ) → n < N → IsStepOfRun image config s (event.Step n) (stepped image config s n)
+  step_of_run : (n : ℕ) → n < N → IsStepOfRun image config s (event.Step n) (step_of_instruction image config s n)
   step_of_run n l = stepped_cases image config s n l (IsStepOfRun image config s (event.Step n))
-      (λ can. ordinary (event.Step n) (retired image s n) (ordinary_retired image s n)
+      (λ can. ordinary (event.Step n) (step_of_retirement image s n) (ordinary_retired image s n)
       (λ m same is. ap (λ x. s.pending ++ retirement_of (entry_at image s x) ∷ []) (node_same n m same))
       (λ m block lm a b. unreserved_by n m block lm a b))
-      (λ block access low leaves. ordinary_step (carried s (accessed config s.fabric n block access))
-      (ordinary_carried s (accessed config s.fabric n block access) leaves.0) leaves (λ m b lm x y. kept m b (processor_at s m) refl x y))
+      (λ block access low leaves. ordinary_step (machine_step_of s (step_of_access config s.fabric n block access))
+      (ordinary_carried s (step_of_access config s.fabric n block access) leaves.0) leaves (λ m b lm x y. kept m b (processor_at s m) refl x y))
       (λ a leaves. ordinary_step (step.refused s a)
       (record { no_point = leaves.0; committed = refl; released = refl; given = λ m. begins_same (processor_at s m).given }) leaves
       (λ m b lm x y. kept m b (processor_at s m) refl x y))
@@ -153,7 +153,7 @@ module _ (half : FabricHalf) (image : ImageData) (config : Config) (s : State) (
       node_same : (n m : ℕ) → event.Step n ≡ event.Step m → n ≡ m
       node_same n m e = cc
 
-      ordinary_step : (x : Stepped) → IsOrdinary s x → LeavesTrace image s n x.answer →
+      ordinary_step : (x : MachineStep) → IsOrdinary s x → LeavesTrace image s n x.answer →
           ((m b : ℕ) → m < config.nodes → is_reserved (processor_at s m).core.reservation b ≡ true →
           is_reserved (processor_at x.state m).core.reservation b ≡ false → ⊥) → IsStepOfRun image config s (event.Step n) x
       ordinary_step x o leaves never =
@@ -162,33 +162,33 @@ module _ (half : FabricHalf) (image : ImageData) (config : Config) (s : State) (
 
   -- the other events of a node, and of the network
 
-  abbrev same_cores : Event → Stepped → Type 0
+  abbrev same_cores : Event → MachineStep → Type 0
   same_cores e x = (n : ℕ) → (processor_at x.state n).core ≡ (processor_at s n).core
 
-  kept_all : (e : Event) (x : Stepped) → same_cores e x → Unreserves e x
+  kept_all : (e : Event) (x : MachineStep) → same_cores e x → Unreserves e x
   kept_all e x same n block l a b = absurd (kept n block (processor_at x.state n) (same n) a b)
 
-  abbrev Says : Event → Stepped → Type 0
+  abbrev Says : Event → MachineStep → Type 0
   Says e x = IsStepOfRun image config s e x
 
-  carried_says : (e : Event) (moved : Moved) → ((n : ℕ) → e ≡ event.Step n → ⊥) → is_point_answer moved.answer ≡ false →
-      Says e (carried s moved)
+  carried_says : (e : Event) (moved : FabricStep) → ((n : ℕ) → e ≡ event.Step n → ⊥) → is_point_answer moved.answer ≡ false →
+      Says e (machine_step_of s moved)
   carried_says e moved other calm =
-      ordinary e (carried s moved) (ordinary_carried s moved calm) (λ n same is. absurd (other n same))
-      (kept_all e (carried s moved) (λ n. refl))
+      ordinary e (machine_step_of s moved) (ordinary_carried s moved calm) (λ n same is. absurd (other n same))
+      (kept_all e (machine_step_of s moved) (λ n. refl))
 
-  evicted_says : (n block : ℕ) → Says (event.Evict n block) (hearing s (evicted s.fabric n block))
+  evicted_says : (n block : ℕ) → Says (event.Evict n block) (machine_step_with_news s (step_of_eviction s.fabric n block))
   evicted_says n block =
-      ordinary (event.Evict n block) (hearing s (evicted s.fabric n block))
-      (ordinary_hearing s (evicted s.fabric n block) (ordinary_evicted s.fabric n block)) (λ m same is. absurd (let x = same in cc))
-      (λ m b l x y. unreserved_told s (evicted s.fabric n block).told m b (there m l) x y)
+      ordinary (event.Evict n block) (machine_step_with_news s (step_of_eviction s.fabric n block))
+      (ordinary_hearing s (step_of_eviction s.fabric n block) (ordinary_evicted s.fabric n block)) (λ m same is. absurd (let x = same in cc))
+      (λ m b l x y. unreserved_told s (step_of_eviction s.fabric n block).told m b (there m l) x y)
 
-  delivered_says : (id : ℕ) → Says (event.Deliver id) (hearing s (delivered config s.fabric id))
+  delivered_says : (id : ℕ) → Says (event.Deliver id) (machine_step_with_news s (step_of_delivery config s.fabric id))
   delivered_says id =
-      ordinary (event.Deliver id) (hearing s (delivered config s.fabric id))
-      (ordinary_hearing s (delivered config s.fabric id) (ordinary_flight config s.fabric (flight_of s.fabric.net.flights id)))
+      ordinary (event.Deliver id) (machine_step_with_news s (step_of_delivery config s.fabric id))
+      (ordinary_hearing s (step_of_delivery config s.fabric id) (ordinary_flight config s.fabric (flight_of s.fabric.net.flights id)))
       (λ m same is. absurd (let x = same in cc))
-      (λ m b l x y. unreserved_told s (delivered config s.fabric id).told m b (there m l) x y)
+      (λ m b l x y. unreserved_told s (step_of_delivery config s.fabric id).told m b (there m l) x y)
 
   -- a clock edge
   edge_unreserves : (n : ℕ) (fabric : Fabric) (m block : ℕ) → is_reserved (processor_at s m).core.reservation block ≡ true →
@@ -204,8 +204,8 @@ module _ (half : FabricHalf) (image : ImageData) (config : Config) (s : State) (
 
   edging : (n : ℕ) (full : Bool) →
       Says (event.Edge n) (edges s n
-      (if full then refused s.fabric answer.CheckpointsFull
-      else answered (with_node s.fabric n (after_edge (node_at s.fabric n))) (answer.Edged ((node_at s.fabric n).now + 1))))
+      (if full then step_refused s.fabric answer.CheckpointsFull
+      else step_with_answer (with_node s.fabric n (after_edge (node_at s.fabric n))) (answer.Edged ((node_at s.fabric n).now + 1))))
   edging n true =
       ordinary (event.Edge n) (step.refused s answer.CheckpointsFull)
       (record { no_point = refl; committed = refl; released = refl; given = λ m. begins_same (processor_at s m).given })
@@ -221,8 +221,8 @@ module _ (half : FabricHalf) (image : ImageData) (config : Config) (s : State) (
       (λ m same is. absurd (let x = same in cc))
       (λ m b l x y. edge_unreserves n s.fabric m b x y)
     where
-      after : Stepped
-      after = edges s n (answered (with_node s.fabric n (after_edge (node_at s.fabric n))) (answer.Edged ((node_at s.fabric n).now + 1)))
+      after : MachineStep
+      after = edges s n (step_with_answer (with_node s.fabric n (after_edge (node_at s.fabric n))) (answer.Edged ((node_at s.fabric n).now + 1)))
 
       given_same : (m : ℕ) → (processor_at (with_processor s n (with_checkpoint (processor_at s n))) m).given ≡ (processor_at s m).given
       given_same m = part_set (λ p. p.given) s.processors n m (with_checkpoint (processor_at s n)) (first_processor 0 0) refl
@@ -251,11 +251,11 @@ module _ (half : FabricHalf) (image : ImageData) (config : Config) (s : State) (
           (ap (λ p. p.given) (sym (get_or-set_same s.processors n (more n byte) (first_processor 0 0) l)))
           (record { more = byte ∷ []; is = refl }))
 
-  input_says : (n byte : ℕ) → n < length s.processors → Says (event.Input n byte) (given s n byte)
+  input_says : (n byte : ℕ) → n < length s.processors → Says (event.Input n byte) (step_of_input s n byte)
   input_says n byte l =
-      ordinary (event.Input n byte) (given s n byte) (record { no_point = refl; committed = refl; released = refl; given = grown n byte l })
+      ordinary (event.Input n byte) (step_of_input s n byte) (record { no_point = refl; committed = refl; released = refl; given = grown n byte l })
       (λ m same is. absurd (let x = same in cc))
-      (kept_all (event.Input n byte) (given s n byte) (core_same n byte))
+      (kept_all (event.Input n byte) (step_of_input s n byte) (core_same n byte))
 
   -- a validation
 
@@ -265,14 +265,14 @@ module _ (half : FabricHalf) (image : ImageData) (config : Config) (s : State) (
       (record { no_point = calm; committed = refl; released = refl; given = λ m. begins_same (processor_at s m).given })
       (λ n same is. absurd (other n same)) (kept_all e (step.refused s a) (λ n. refl))
 
-  abbrev committed : Stepped
+  abbrev committed : MachineStep
   committed =
       commits s (sending (record s.fabric { point = s.fabric.point + 1 }) 0 0 (advances (s.fabric.point + 1) 0 s.fabric.nodes)
       (answer.Validated (s.fabric.point + 1)))
 
   committing : (none : unready_node s ≡ None) (full : Bool) →
       Says event.Validate (commits s
-      (if full then refused s.fabric answer.NetFull
+      (if full then step_refused s.fabric answer.NetFull
       else sending (record s.fabric { point = s.fabric.point + 1 }) 0 0 (advances (s.fabric.point + 1) 0 s.fabric.nodes)
       (answer.Validated (s.fabric.point + 1))))
   committing none true = refusal_says event.Validate answer.NetFull (λ n e. cc) refl
@@ -328,12 +328,12 @@ module _ (half : FabricHalf) (image : ImageData) (config : Config) (s : State) (
   event_says (event.Evict n block) fits = evicted_says n block
   event_says (event.Edge n) fits = edging n (nat_eq ((node_at s.fabric n).now - (node_at s.fabric n).known) checkpoint_limit)
   event_says (event.Hop id) fits =
-      carried_says (event.Hop id) (hopped s.fabric id) (λ n e. cc) (ordinary_hops s.fabric (flight_of s.fabric.net.flights id))
+      carried_says (event.Hop id) (step_of_hop s.fabric id) (λ n e. cc) (ordinary_hops s.fabric (flight_of s.fabric.net.flights id))
   event_says (event.Deliver id) fits = delivered_says id
   event_says (event.Lose id) fits =
-      carried_says (event.Lose id) (lost s.fabric id) (λ n e. cc) (ordinary_loses s.fabric (flight_of s.fabric.net.flights id))
-  event_says (event.Kill switch) fits = carried_says (event.Kill switch) (killed s.fabric switch) (λ n e. cc) (grind arith)
-  event_says (event.Report n) fits = carried_says (event.Report n) (reported s.fabric n) (λ m e. cc) (grind arith)
+      carried_says (event.Lose id) (step_of_loss s.fabric id) (λ n e. cc) (ordinary_loses s.fabric (flight_of s.fabric.net.flights id))
+  event_says (event.Kill switch) fits = carried_says (event.Kill switch) (step_of_kill s.fabric switch) (λ n e. cc) (grind arith)
+  event_says (event.Report n) fits = carried_says (event.Report n) (step_of_report s.fabric n) (λ m e. cc) (grind arith)
   event_says event.Validate fits = validating (unready_node s) refl
   event_says event.Recover fits = restoring (first_cut_off (living_switches s.fabric))
   event_says (event.Input n byte) fits = input_says n byte (there n (grind (arith, nat_tests, fits.numbers)))

@@ -10,17 +10,17 @@ use Rattle.rv_core.specs.Step.{want_of}
 use Rattle.rv_core.specs.Wanted.{WriteFits, writes_memory, wanted_address}
 use Rattle.rv_core.proofs.CoreLaws.{write_fits}
 use Rattle.sn_model.specs.declared.cache.Need.TheVariants as need
-use Rattle.sn_model.specs.Access.{stored, written_in}
+use Rattle.sn_model.specs.Access.{fabric_with_write, written_in}
 use Rattle.sn_model.specs.Caches.{block_count, line_of, is_present}
 use Rattle.sn_model.specs.Fabric.{Fabric, Flight, node_at, first_fabric, initial_block, line_of_node}
 use Rattle.sn_model.specs.Net.{flight_of}
 use Rattle.sn_model.specs.Cuts.{is_unfinished}
 use Rattle.sn_model.specs.FabricEvents.{FabricEvent, moved_by}
 use Rattle.sn_model.specs.Machine.{State, processor_at}
-use Rattle.sn_model.specs.Instructions.{found_at, found_by, written_by, retired}
+use Rattle.sn_model.specs.Instructions.{found_at, found_by, written_by, step_of_retirement}
 use Rattle.sn_coherence.specs.Records.{Records, no_records, loads, loads_reserved, stores, stores_conditional, unreserves}
 use Rattle.sn_consistency.specs.Words.{write_block}
-use Rattle.consistent_cuts.specs.Outlined.{Agrees}
+use Rattle.consistent_cuts.specs.Outlines.{Agrees}
 use Rattle.consistent_cuts.specs.Accesses.{write_of, CanServe, CanServeWant, CanRetire, records_wanting, records_after}
 use Rattle.fabric_coherence.specs.Events.{CanUse, CanWrite}
 use Rattle.fabric_coherence.specs.Recorded.{KeepsRecords, MayBeRecorded, recorded_by, at_block}
@@ -41,11 +41,11 @@ pub record FabricHalf : Type 0 where
       is_present (line_of (node_at s n).cache b).state ≡ true
       → KeepsRecords s (at_block b (loads_reserved (r b) n (node_at s n).now) (λ o. unreserves (r o) n))
   pub store : (s : Fabric) (r : ℕ → Records) (n : ℕ) (w : Write) → KeepsRecords s r → CanWrite s n w
-      → KeepsRecords (stored s n w) (at_block (block_of w.address)
+      → KeepsRecords (fabric_with_write s n w) (at_block (block_of w.address)
       (stores (r (block_of w.address)) n (node_at s n).now (written_in (line_of (node_at s n).cache (block_of w.address)).content w)) r)
   pub store_conditional : (s : Fabric) (r : ℕ → Records) (n : ℕ) (w : Write) → KeepsRecords s r → CanWrite s n w →
       (r (block_of w.address)).reserved n ≡ true
-      → KeepsRecords (stored s n w) (at_block (block_of w.address)
+      → KeepsRecords (fabric_with_write s n w) (at_block (block_of w.address)
       (stores_conditional (r (block_of w.address)) n (node_at s n).now
       (written_in (line_of (node_at s n).cache (block_of w.address)).content w)) (λ o. unreserves (r o) n))
   pub undone : (s : Fabric) (r : ℕ → Records) (n : ℕ) → KeepsRecords s r → n < length s.nodes → KeepsRecords s (λ o. unreserves (r o) n)
@@ -116,7 +116,7 @@ module _ (keep : FabricHalf) (config : Config) (s : State) (r : ℕ → Records)
       agrees.reserved (block_of a) n can.block can.node ∙ sym (ap (λ w. (found_by s n w).sc_done) e) ∙ is ∙ q
 
   pub fabric_keeps : (image : ImageData) → Agrees s r → CanRetire image config s n →
-      KeepsRecords (retired image s n).state.fabric (records_after image s r n)
+      KeepsRecords (step_of_retirement image s n).state.fabric (records_after image s r n)
   fabric_keeps image agrees can =
       kept_want (want_of image (processor_at s n).core) (found_at image s n).sc_done (write_of image s n)
       (write_fits image (processor_at s n).core (found_at image s n).seen (found_at image s n).sc_done (found_at image s n).read) can.served

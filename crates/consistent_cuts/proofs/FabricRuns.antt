@@ -15,33 +15,33 @@ use Rattle.rv_core.specs.Step.{want_of}
 use Rattle.rv_core.specs.Wanted.{WriteFits}
 use Rattle.rv_core.proofs.CoreLaws.{write_fits}
 use Rattle.sn_model.specs.declared.cache.Need.TheVariants as need
-use Rattle.sn_model.specs.Access.{stored}
+use Rattle.sn_model.specs.Access.{fabric_with_write}
 use Rattle.sn_model.specs.Caches.{block_count}
 use Rattle.sn_model.specs.Fabric.{Fabric, first_fabric}
 use Rattle.sn_model.specs.FabricEvents.{FabricEvent, moved_by}
 use Rattle.sn_model.specs.FabricEvents as fabric
 use Rattle.sn_model.specs.Machine.{State, start_of, processor_at}
-use Rattle.sn_model.specs.Instructions.{found_at, retired, stepped, written_by}
+use Rattle.sn_model.specs.Instructions.{found_at, step_of_retirement, step_of_instruction, written_by}
 use Rattle.sn_model.specs.MachineEvents.{validates, unready_node}
 use Rattle.sn_model.specs.Step.{step_of, state_after}
-use Rattle.sn_model.specs.Trace.{TraceEntry, traced}
+use Rattle.sn_model.specs.Trace.{TraceEntry, trace_after_event}
 use Rattle.sn_coherence.specs.Records.{Records}
 use Rattle.sn_consistency.specs.Entries.{Entry}
 use Rattle.fabric_coherence.specs.Events.{MayBe, CanUse}
 use Rattle.fabric_coherence.specs.Runs.{IsFabricRun, fabric_after}
-use Rattle.fabric_coherence.specs.Start.{first_beside}
+use Rattle.fabric_coherence.specs.Start.{first_ghost}
 use Rattle.fabric_coherence.proofs.KeptStart.{start-kept}
 use Rattle.fabric_bounds.specs.Bounds.{HasLogRoom, IsServedRun, KeepsBounds}
 use Rattle.fabric_bounds.specs.Counts.{CountsTo}
 use Rattle.fabric_bounds.proofs.Runs.{start_bounded, run_keeps_bounds}
 use Rattle.fabric_bounds.proofs.Numbers.{start_counts, counts_from_the_start}
 use Rattle.consistent_cuts.specs.Accesses.{CanServe, CanServeWant, CanRetire, write_of}
-use Rattle.consistent_cuts.specs.Joined.{IsJoined, Holds}
+use Rattle.consistent_cuts.specs.RunInvariant.{RunInvariant, Holds}
 use Rattle.consistent_cuts.specs.OfFabric.{GoesBy}
 use Rattle.consistent_cuts.specs.Runs.{EventFits, AllFit}
 use Rattle.consistent_cuts.proofs.EachEvent.{all_reported}
 use Rattle.consistent_cuts.proofs.Half.{half}
-use Rattle.consistent_cuts.specs.Headline.{IsRun as HeadRun, reached}
+use Rattle.consistent_cuts.specs.Headline.{IsRun as HeadRun, state_of_run}
 use Rattle.consistent_cuts.proofs.Run.{step_holds, start_holds}
 use Rattle.consistent_cuts.proofs.SteppedCases.{stepped_cases}
 
@@ -77,7 +77,7 @@ pub served_run : (config : Config) (s : Fabric) (es : List FabricEvent) → IsSe
 served_run config s [] r = tt
 served_run config s (e ∷ es) r = (r.0.0, served_run config (moved_by config s e).fabric es r.1)
 
-module _ (image : ImageData) (config : Config) (s : State) (r : ℕ → Records) (list : ℕ → List Entry) (trace : List TraceEntry) (j : IsJoined image s r list trace) where
+module _ (image : ImageData) (config : Config) (s : State) (r : ℕ → Records) (list : ℕ → List Entry) (trace : List TraceEntry) (j : RunInvariant image s r list trace) where
   abbrev N : ℕ
   N = length s.fabric.nodes
 
@@ -86,7 +86,7 @@ module _ (image : ImageData) (config : Config) (s : State) (r : ℕ → Records)
 
   -- what an instruction writes
   module _ (n : ℕ) where
-    writes : (a : ℕ) (w : Write) → w.address ≡ a → CanServe config s.fabric n (block_of a) need.Write → Goes (stored s.fabric n w)
+    writes : (a : ℕ) (w : Write) → w.address ≡ a → CanServe config s.fabric n (block_of a) need.Write → Goes (fabric_with_write s.fabric n w)
     unfolding moved_by
     writes a w e can =
         goes config s.fabric (fabric.Write n w)
@@ -104,12 +104,12 @@ module _ (image : ImageData) (config : Config) (s : State) (r : ℕ → Records)
     writes_wanting (Sc a) true (Some x) fits can = writes a x fits.1 can
     writes_wanting (Sc a) false (Some x) fits can = absurd (let h = fits.0 in cc)
 
-    retired_goes : CanRetire image config s n → Goes (retired image s n).state.fabric
+    retired_goes : CanRetire image config s n → Goes (step_of_retirement image s n).state.fabric
     retired_goes can = writes_wanting (want_of image (processor_at s n).core) (found_at image s n).sc_done (write_of image s n)
         (write_fits image (processor_at s n).core (found_at image s n).seen (found_at image s n).sc_done
         (found_at image s n).read) can.served
 
-    stepped_goes : n < N → Goes (stepped image config s n).state.fabric
+    stepped_goes : n < N → Goes (step_of_instruction image config s n).state.fabric
     unfolding moved_by
     stepped_goes l = stepped_cases image config s n l (λ x. Goes x.state.fabric) retired_goes
         (λ block access low leaves. goes config s.fabric (fabric.Access n block access) (l, low) tt) (λ a leaves. stays config s.fabric)
@@ -148,7 +148,7 @@ run_goes image config nodes s trace (e ∷ events) h fits =
     goes_then config s.fabric (step_of image config s e).state.fabric
     (state_after image config (step_of image config s e).state events).fabric 1 (length events) (suc (length events))
     (first h fits.0) (run_goes image config nodes (step_of image config s e).state
-    (traced image s e (step_of image config s e).answer trace) events (step_holds image config nodes s trace e h fits.0) fits.1)
+    (trace_after_event image s e (step_of image config s e).answer trace) events (step_holds image config nodes s trace e h fits.0) fits.1)
     (omega arith)
   where
     first : Holds image nodes s trace → EventFits nodes e → GoesBy config s.fabric (step_of image config s e).state.fabric 1
@@ -162,15 +162,15 @@ module _ (image : ImageData) (config : Config) (events : List Event) (run : Head
   few : config_fits config ≡ true → config.nodes ≤ 16
   few fits = grind (arith, nat_tests)
 
-  pub reached_goes : GoesBy config (first_fabric image config.nodes) (reached image config events).fabric (length events)
+  pub reached_goes : GoesBy config (first_fabric image config.nodes) (state_of_run image config events).fabric (length events)
   reached_goes =
       run_goes image config config.nodes (start_of image config.nodes) [] events
       (start_holds image config.nodes (some run.fits) (few run.fits)) run.events_fit
 
-  pub reached_bounded : KeepsBounds config (reached image config events).fabric
+  pub reached_bounded : KeepsBounds config (state_of_run image config events).fabric
   reached_bounded = subst (KeepsBounds config) reached_goes.after
       (run_keeps_bounds config (first_fabric image config.nodes) reached_goes.events (
-        first_beside,
+        first_ghost,
         start-kept image config.nodes (some run.fits) (few run.fits),
         start_bounded image config config.nodes,
       ) reached_goes.served)
@@ -182,9 +182,9 @@ module _ (image : ImageData) (config : Config) (events : List Event) (run : Head
     point = let a = c.point in omega (arith, a, l);
   }
 
-  pub reached_counts : CountsTo (length events) (reached image config events).fabric
-  reached_counts = more (reached image config events).fabric (length reached_goes.events) (length events) reached_goes.few
+  pub reached_counts : CountsTo (length events) (state_of_run image config events).fabric
+  reached_counts = more (state_of_run image config events).fabric (length reached_goes.events) (length events) reached_goes.few
       (subst (CountsTo (length reached_goes.events)) reached_goes.after
       (counts_from_the_start config (first_fabric image config.nodes) reached_goes.events
-      (first_beside, start-kept image config.nodes (some run.fits) (few run.fits)) (start_counts image config.nodes)
+      (first_ghost, start-kept image config.nodes (some run.fits) (few run.fits)) (start_counts image config.nodes)
       (served_run config (first_fabric image config.nodes) reached_goes.events reached_goes.served)))

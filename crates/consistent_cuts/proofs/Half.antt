@@ -6,7 +6,7 @@ use Rattle.fabric_coherence.proofs.KeptStart.{start-kept, start-recorded}
 use Rattle.fabric_coherence.proofs.Finished.{reported_finished, point_finished}
 use Rattle.fabric_coherence.proofs.InFlight.{in_flight}
 use Rattle.fabric_coherence.proofs.NodesStay.{nodes_same}
-use Rattle.fabric_coherence.specs.Start.{first_beside}
+use Rattle.fabric_coherence.specs.Start.{first_ghost}
 use Rattle.consistent_cuts.proofs.FabricAfter.{FabricHalf}
 
 pub half : FabricHalf
@@ -19,7 +19,7 @@ half = record {
   store_conditional =
       λ s r n w k can reserved. (k.0, stored_kept s k.0 k.1 n w can, store_conditional_recorded s k.0 k.1 n w can r k.2 reserved);
   undone = λ s r n k l. (k.0, k.1, undone s k.0 r k.1 k.2 n l);
-  start = λ image nodes some few. (first_beside, start-kept image nodes some few, start-recorded image nodes some few);
+  start = λ image nodes some few. (first_ghost, start-kept image nodes some few, start-recorded image nodes some few);
   finished = λ s r k above. reported_finished s k.0 k.1 r k.2 above;
   flight = in_flight;
   none_unfinished = λ s r k. (point_finished s k.0 k.1).none;

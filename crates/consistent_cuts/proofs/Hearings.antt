@@ -13,20 +13,20 @@ use Rattle.sn_msg.specs.declared.Body.TheVariants.{PutReq}
 use Rattle.sn_model.specs.declared.cache.LineState.{LineState}
 use Rattle.sn_model.specs.declared.cache.LineState.TheVariants as line
 use Rattle.sn_model.specs.declared.cache.Out.{Out}
-use Rattle.sn_model.specs.declared.net.Told.{Told}
-use Rattle.sn_model.specs.declared.net.Told.TheVariants as told
+use Rattle.sn_model.specs.declared.net.News.{News}
+use Rattle.sn_model.specs.declared.net.News.TheVariants as told
 use Rattle.sn_model.specs.Caches.{line_of, misses_on}
 use Rattle.sn_model.specs.CacheRows.{CacheReply, send}
 use Rattle.sn_model.specs.HomeRows.{HomeReply}
-use Rattle.sn_model.specs.Fabric.{Fabric, Flight, Moved, first_node, node_at, with_node, with_net, home_node, refused}
+use Rattle.sn_model.specs.Fabric.{Fabric, Flight, FabricStep, first_node, node_at, with_node, with_net, home_node, step_refused}
 use Rattle.sn_model.specs.Net.{net_limit, sending, is_full, flight_of, without_flight, is_there}
-use Rattle.sn_model.specs.NodeEvents.{evicted, evicts, begins_put, has_put, with_put, without_copy}
-use Rattle.sn_model.specs.NetEvents.{delivered, delivers, delivers_flight, fits_in, outcome_of, learned, node_after}
+use Rattle.sn_model.specs.NodeEvents.{step_of_eviction, evicts, begins_put, has_put, with_put, without_copy}
+use Rattle.sn_model.specs.NetEvents.{step_of_delivery, delivers, delivers_flight, fits_in, outcome_of, node_after_news, node_after}
 use Rattle.sn_model.specs.NetEvents.{home_after, Outcome, AtCache, AtHome, copy_lost}
 use Rattle.sn_coherence.specs.Block as block
-use Rattle.fabric_coherence.specs.View.{Beside, block_seen, message_seen}
+use Rattle.fabric_coherence.specs.View.{GhostState, block_seen, message_seen}
 use Rattle.fabric_coherence.specs.Steps.{IsInFlight}
-use Rattle.fabric_coherence.specs.Coherent.{IsKept}
+use Rattle.fabric_coherence.specs.Coherent.{FabricInvariant}
 use Rattle.fabric_coherence.proofs.EachOutcome.{each_outcome}
 use Rattle.consistent_cuts.proofs.Clocks.{IsSameClocks, same_clocks, part_set, same_with_node, same_nodes, same_then, cache_clocks}
 use Rattle.consistent_cuts.proofs.Clocks.{home_clocks}
@@ -39,7 +39,7 @@ pub record IsNews (s t : Fabric) (n k : ℕ) : Type 0 where
   pub known : (m : ℕ) → (node_at t m).known ≡ cond (m == n) (max (node_at s m).known k) (node_at s m).known
 
 -- what is told with this fabric is right
-abbrev pub Rightly : Fabric → Fabric → Option Told → Type 0
+abbrev pub Rightly : Fabric → Fabric → Option News → Type 0
 Rightly s t None = IsSameClocks s t
 Rightly s t (Some (told.LostCopy n b)) = (n < length s.nodes) × IsSameClocks s t
 Rightly s t (Some (told.Ready n k)) = (n < length s.nodes) × IsSameClocks s t
@@ -48,9 +48,9 @@ Rightly s t (Some (told.Advance n k)) = (n < length s.nodes) × (k ≤ s.point) 
 -- an eviction
 module _ (s : Fabric) (n block : ℕ) (l : n < length s.nodes) where
   rightly_begins : (a b : Bool) →
-      Rightly s (if a then refused s PutOpen else if b then refused s NetFull
+      Rightly s (if a then step_refused s PutOpen else if b then step_refused s NetFull
       else sending (with_node s n (with_put (node_at s n) block)) n block (send (home_node s block) PutReq ∷ []) PutBegun).fabric
-      (if a then refused s PutOpen else if b then refused s NetFull
+      (if a then step_refused s PutOpen else if b then step_refused s NetFull
       else sending (with_node s n (with_put (node_at s n) block)) n block (send (home_node s block) PutReq ∷ []) PutBegun).told
   rightly_begins true b = same_clocks s
   rightly_begins false true = same_clocks s
@@ -70,16 +70,16 @@ module _ (s : Fabric) (n block : ℕ) (l : n < length s.nodes) where
   rightly_evicts line.Exclusive = rightly_put
 
   rightly_evicting : (a : Bool) →
-      Rightly s (if a then refused s MissOpen else evicts s n block (line_of (node_at s n).cache block).state).fabric
-      (if a then refused s MissOpen else evicts s n block (line_of (node_at s n).cache block).state).told
+      Rightly s (if a then step_refused s MissOpen else evicts s n block (line_of (node_at s n).cache block).state).fabric
+      (if a then step_refused s MissOpen else evicts s n block (line_of (node_at s n).cache block).state).told
   rightly_evicting true = same_clocks s
   rightly_evicting false = rightly_evicts (line_of (node_at s n).cache block).state
 
-  pub rightly_evicted : Rightly s (evicted s n block).fabric (evicted s n block).told
+  pub rightly_evicted : Rightly s (step_of_eviction s n block).fabric (step_of_eviction s n block).told
   rightly_evicted = rightly_evicting (misses_on (node_at s n).cache.miss block)
 
 -- a delivery
-module _ (config : Config) (s : Fabric) (t : Beside) (m : Message) (kept : IsKept s t) (flight : IsInFlight s m) where
+module _ (config : Config) (s : Fabric) (t : GhostState) (m : Message) (kept : FabricInvariant s t) (flight : IsInFlight s m) where
   abbrev Comes : Outcome → Type 0
   Comes x = Rightly s (delivers config s m x).fabric (delivers config s m x).told
 
@@ -88,14 +88,14 @@ module _ (config : Config) (s : Fabric) (t : Beside) (m : Message) (kept : IsKep
   rightly_copy done None h = h
   rightly_copy done (Some b) h = (flight.to, h)
 
-  rightly_room : (done : Moved) (a b : Bool) → Rightly s done.fabric done.told →
-      Rightly s (if a then refused s LogFull else if b then refused s NetFull else done).fabric
-      (if a then refused s LogFull else if b then refused s NetFull else done).told
+  rightly_room : (done : FabricStep) (a b : Bool) → Rightly s done.fabric done.told →
+      Rightly s (if a then step_refused s LogFull else if b then step_refused s NetFull else done).fabric
+      (if a then step_refused s LogFull else if b then step_refused s NetFull else done).told
   rightly_room done true b h = same_clocks s
   rightly_room done false true h = same_clocks s
   rightly_room done false false h = h
 
-  in_room : (log : List LogEntry) (sends : List Out) (done : Moved) → Rightly s done.fabric done.told →
+  in_room : (log : List LogEntry) (sends : List Out) (done : FabricStep) → Rightly s done.fabric done.told →
       Rightly s (fits_in config s log sends done).fabric (fits_in config s log sends done).told
   in_room log sends done h =
       rightly_room done (nat_lt config.log (length log)) (nat_lt (net_limit + 1) (length s.net.flights + length sends)) h
@@ -123,16 +123,16 @@ module _ (config : Config) (s : Fabric) (t : Beside) (m : Message) (kept : IsKep
       let bound : ((block_seen s t m.block).net m.id).number ≤ s.point = (kept.blocks m.block flight.block).clocks.advance_point m.id named in
       omega (arith, number, bound)
 
-  news : (k : ℕ) → IsNews s (with_net (with_node s m.to (learned (node_at s m.to) k)) (without_flight s.net m.id)) m.to k
+  news : (k : ℕ) → IsNews s (with_net (with_node s m.to (node_after_news (node_at s m.to) k)) (without_flight s.net m.id)) m.to k
   news k = record {
-    count = length-set s.nodes m.to (learned (node_at s m.to) k);
+    count = length-set s.nodes m.to (node_after_news (node_at s m.to) k);
     point = refl;
-    now = λ n. part_set (λ x. x.now) s.nodes m.to n (learned (node_at s m.to) k) first_node refl;
+    now = λ n. part_set (λ x. x.now) s.nodes m.to n (node_after_news (node_at s m.to) k) first_node refl;
     known = λ n. known_after n;
   }
     where
       known_after : (n : ℕ) →
-          (slice_index_or (slice_set s.nodes m.to (learned (node_at s m.to) k)) n first_node).known
+          (slice_index_or (slice_set s.nodes m.to (node_after_news (node_at s m.to) k)) n first_node).known
           ≡ cond (n == m.to) (max (node_at s n).known k) (node_at s n).known
       known_after n = let l = flight.to in grind (arith, nat_tests, get_or-set_same, get_or-set_other)
 
@@ -142,11 +142,11 @@ module _ (config : Config) (s : Fabric) (t : Beside) (m : Message) (kept : IsKep
       (λ k. (flight.from, same_nodes s (with_net s (without_flight s.net m.id)) refl refl)) (λ k is. (flight.to, low k is, news k))
 
 -- a message that may be in flight; `there` is that a message which is found is in flight
-module _ (config : Config) (s : Fabric) (t : Beside) (kept : IsKept s t) (id : ℕ) (there : (f : Flight) → flight_of s.net.flights id ≡ Some f → IsInFlight s f.message) where
+module _ (config : Config) (s : Fabric) (t : GhostState) (kept : FabricInvariant s t) (id : ℕ) (there : (f : Flight) → flight_of s.net.flights id ≡ Some f → IsInFlight s f.message) where
   arriving : (f : Flight) → IsInFlight s f.message → (a b : Bool) →
-      Rightly s (if not a then refused s NotArrived else if b then refused s Held
+      Rightly s (if not a then step_refused s NotArrived else if b then step_refused s Held
       else delivers config s f.message (outcome_of s f.message f.message.body)).fabric
-      (if not a then refused s NotArrived else if b then refused s Held
+      (if not a then step_refused s NotArrived else if b then step_refused s Held
       else delivers config s f.message (outcome_of s f.message f.message.body)).told
   arriving f flight false b = same_clocks s
   arriving f flight true true = same_clocks s
@@ -157,5 +157,5 @@ module _ (config : Config) (s : Fabric) (t : Beside) (kept : IsKept s t) (id : �
   found None e = same_clocks s
   found (Some f) e = arriving f (there f e) (is_there f) (nat_lt (node_at s f.message.to).now f.message.tag)
 
-  pub rightly_delivered : Rightly s (delivered config s id).fabric (delivered config s id).told
+  pub rightly_delivered : Rightly s (step_of_delivery config s id).fabric (step_of_delivery config s id).told
   rightly_delivered = found (flight_of s.net.flights id) refl

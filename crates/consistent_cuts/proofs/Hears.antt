@@ -8,27 +8,27 @@ use Rattle.std.proofs.lemmas.List.{get_or_default}
 use Rattle.sn_base.specs.Image.{ImageData}
 use Rattle.rv_core.specs.declared.state.CoreState.{CoreState}
 use Rattle.rv_core.specs.Core.{bare, is_reserved}
-use Rattle.sn_model.specs.declared.net.Told.{Told}
-use Rattle.sn_model.specs.declared.net.Told.TheVariants as told
+use Rattle.sn_model.specs.declared.net.News.{News}
+use Rattle.sn_model.specs.declared.net.News.TheVariants as told
 use Rattle.sn_model.specs.Caches.{block_count}
 use Rattle.sn_model.specs.Fabric.{Fabric, node_at}
 use Rattle.sn_model.specs.Machine.{State, Processor, processor_at, with_processor, first_processor}
-use Rattle.sn_model.specs.MachineEvents.{heard, unreserved, without_reservation, freed, checkpoint_of}
+use Rattle.sn_model.specs.MachineEvents.{state_after_news, core_without_reservation, without_reservation, processor_with_freed, checkpoint_of}
 use Rattle.sn_model.specs.Trace.{TraceEntry}
 use Rattle.sn_coherence.specs.Records.{Records, unreserves, hears}
 use Rattle.sn_consistency.specs.Entries.{Entry}
-use Rattle.sn_consistency.specs.Kept as sorted
+use Rattle.sn_consistency.specs.Outline as sorted
 use Rattle.fabric_coherence.specs.Recorded.{KeepsRecords, heard_by}
-use Rattle.consistent_cuts.specs.Outlined.{outline_of, interval_of, start_places}
-use Rattle.consistent_cuts.specs.Joined.{IsJoined}
+use Rattle.consistent_cuts.specs.Outlines.{outline_of, interval_of, start_places}
+use Rattle.consistent_cuts.specs.RunInvariant.{RunInvariant}
 use Rattle.consistent_cuts.proofs.Clocks.{IsSameClocks}
 use Rattle.consistent_cuts.proofs.Hearings.{IsNews, Rightly}
 use Rattle.consistent_cuts.proofs.Outlines.{IsSameHistory, same_history, less_keeps, news_keeps}
 use Rattle.consistent_cuts.proofs.Traced.{traced_same}
 
 -- the machine with this fabric, of which the rest has heard this
-abbrev pub hearing_of : State → Fabric → Option Told → State
-hearing_of s fabric told = record (heard s told) { fabric = fabric }
+abbrev pub hearing_of : State → Fabric → Option News → State
+hearing_of s fabric told = record (state_after_news s told) { fabric = fabric }
 
 -- a processor in its place
 module _ (s : State) (n : ℕ) (processor : Processor) (l : n < length s.processors) where
@@ -49,15 +49,15 @@ module _ (s : State) (n : ℕ) (processor : Processor) (l : n < length s.process
       go false e = let d : m ≢ n = grind (arith, nat_tests) in subst (P m) (sym (at_other m d)) (there m d)
 
 -- a core without its reservation on a block
-pub unreserved_bare : (core : CoreState) (block : ℕ) → bare (unreserved core block) ≡ bare core
+pub unreserved_bare : (core : CoreState) (block : ℕ) → bare (core_without_reservation core block) ≡ bare core
 unreserved_bare core block = grind arith
 
 pub unreserved_is : (core : CoreState) (block b : ℕ) →
-    is_reserved (unreserved core block).reservation b ≡ cond (nat_eq b block) false (is_reserved core.reservation b)
+    is_reserved (core_without_reservation core block).reservation b ≡ cond (nat_eq b block) false (is_reserved core.reservation b)
 unreserved_is core block b = go core.reservation refl
   where
     go : (x : Option ℕ) → core.reservation ≡ x →
-        is_reserved (unreserved core block).reservation b ≡ cond (nat_eq b block) false (is_reserved core.reservation b)
+        is_reserved (core_without_reservation core block).reservation b ≡ cond (nat_eq b block) false (is_reserved core.reservation b)
     go None i = grind (arith, nat_tests)
     go (Some r) i = grind (arith, nat_tests)
 
@@ -95,7 +95,7 @@ heard_lost r n block = record {
     access_same b m true = refl
     access_same b m false = refl
 
-module _ (image : ImageData) (s : State) (r : ℕ → Records) (list : ℕ → List Entry) (trace : List TraceEntry) (j : IsJoined image s r list trace) (f : Fabric) where
+module _ (image : ImageData) (s : State) (r : ℕ → Records) (list : ℕ → List Entry) (trace : List TraceEntry) (j : RunInvariant image s r list trace) (f : Fabric) where
   abbrev N : ℕ
   N = length s.fabric.nodes
 
@@ -104,7 +104,7 @@ module _ (image : ImageData) (s : State) (r : ℕ → Records) (list : ℕ → L
 
   -- nothing is heard
   module _ (c : IsSameClocks s.fabric f) (k : KeepsRecords f (λ b. heard_by None b (r b))) where
-    nothing_heard : IsJoined image (hearing_of s f None) (λ b. heard_by None b (r b)) list trace
+    nothing_heard : RunInvariant image (hearing_of s f None) (λ b. heard_by None b (r b)) list trace
     nothing_heard = record {
       fabric = k;
       shape = record {
@@ -145,7 +145,7 @@ module _ (image : ImageData) (s : State) (r : ℕ → Records) (list : ℕ → L
     kept_each : (m : ℕ) → (processor_at without m).checkpoints ≡ (processor_at s m).checkpoints
     kept_each = each (λ m p. p.checkpoints ≡ (processor_at s m).checkpoints) refl (λ m d. refl)
 
-    fewer_here : (b : ℕ) → is_reserved (unreserved (processor_at s e).core block).reservation b ≡ true →
+    fewer_here : (b : ℕ) → is_reserved (core_without_reservation (processor_at s e).core block).reservation b ≡ true →
         is_reserved (processor_at s e).core.reservation b ≡ true
     fewer_here b h = let a = unreserved_is (processor_at s e).core block b in grind (arith, nat_tests)
 
@@ -160,8 +160,8 @@ module _ (image : ImageData) (s : State) (r : ℕ → Records) (list : ℕ → L
     checkpoint_each =
         each (λ m p. (i : ℕ) → (node_at s.fabric m).known ≤ i → i ≤ interval_of s.fabric m →
         checkpoint_of p (node_at f m).known i ≡ checkpoint_of (processor_at s m) (node_at s.fabric m).known i)
-        (λ i low up. ap (λ x. get_or (processor_at s e).checkpoints (i - x) (unreserved (processor_at s e).core block)) (c.known e)
-        ∙ kept_checkpoint (processor_at s e).checkpoints (i - (node_at s.fabric e).known) (unreserved (processor_at s e).core block)
+        (λ i low up. ap (λ x. get_or (processor_at s e).checkpoints (i - x) (core_without_reservation (processor_at s e).core block)) (c.known e)
+        ∙ kept_checkpoint (processor_at s e).checkpoints (i - (node_at s.fabric e).known) (core_without_reservation (processor_at s e).core block)
         (processor_at s e).core (inside i low up))
         (λ m d i low up. ap (λ x. checkpoint_of (processor_at s m) x i) (c.known m))
       where
@@ -173,11 +173,11 @@ module _ (image : ImageData) (s : State) (r : ℕ → Records) (list : ℕ → L
         inside i low up = let a = j.shape.checkpoints e l in let b = interval in omega (arith, a, b, low, up)
 
     reserved_here : (b : ℕ) → b < block_count →
-        (heard_by (Some (told.LostCopy e block)) b (r b)).reserved e ≡ is_reserved (unreserved (processor_at s e).core block).reservation b
+        (heard_by (Some (told.LostCopy e block)) b (r b)).reserved e ≡ is_reserved (core_without_reservation (processor_at s e).core block).reservation b
     reserved_here b lb = go (nat_eq b block) refl
       where
         go : (q : Bool) → nat_eq b block ≡ q →
-            (if q then unreserves (r b) e else r b).reserved e ≡ is_reserved (unreserved (processor_at s e).core block).reservation b
+            (if q then unreserves (r b) e else r b).reserved e ≡ is_reserved (core_without_reservation (processor_at s e).core block).reservation b
         go true i = let a = unreserved_is (processor_at s e).core block b in grind (arith, nat_tests)
         go false i = let a = unreserved_is (processor_at s e).core block b in let d = j.agrees.reserved b e lb l in grind (arith, nat_tests)
 
@@ -189,7 +189,7 @@ module _ (image : ImageData) (s : State) (r : ℕ → Records) (list : ℕ → L
     reported_same b m true = refl
     reported_same b m false = refl
 
-    copy_lost : IsJoined image without (λ b. heard_by (Some (told.LostCopy e block)) b (r b)) list trace
+    copy_lost : RunInvariant image without (λ b. heard_by (Some (told.LostCopy e block)) b (r b)) list trace
     copy_lost = record {
       fabric = k;
       shape = record {
@@ -229,7 +229,7 @@ module _ (image : ImageData) (s : State) (r : ℕ → Records) (list : ℕ → L
         let a = j.agrees.reported b n lb ln in let g = j.agrees.reported b e lb l in let h = j.shape.reported in
         grind (arith, nat_tests, get_or-set_same, get_or-set_other)
 
-    report_heard : IsJoined image with_report (λ b. heard_by (Some (told.Ready e k)) b (r b)) list trace
+    report_heard : RunInvariant image with_report (λ b. heard_by (Some (told.Ready e k)) b (r b)) list trace
     report_heard = record {
       fabric = kept;
       shape = record {
@@ -259,7 +259,7 @@ module _ (image : ImageData) (s : State) (r : ℕ → Records) (list : ℕ → L
     with_news = hearing_of s f (Some (told.Advance e k))
 
     abbrev less : Processor
-    less = freed (processor_at s e) (node_at s.fabric e).known k
+    less = processor_with_freed (processor_at s e) (node_at s.fabric e).known k
 
     abbrev each_news : (P : ℕ → Processor → Type 0) → P e less → ((m : ℕ) → m ≢ e → P m (processor_at s m)) → (m : ℕ) →
         P m (processor_at with_news m)
@@ -302,10 +302,10 @@ module _ (image : ImageData) (s : State) (r : ℕ → Records) (list : ℕ → L
     interval_same : (n : ℕ) → interval_of f n ≡ interval_of s.fabric n
     interval_same n = let a = c.count in let b = c.now n in let d = c.point in grind arith
 
-    known_same : (n : ℕ) → (node_at f n).known ≡ (sorted.learned (outline_of s r list) e k).known n
+    known_same : (n : ℕ) → (node_at f n).known ≡ (sorted.outline_after_news (outline_of s r list) e k).known n
     known_same n = let a = c.known n in grind (arith, nat_tests)
 
-    news_heard : IsJoined image with_news (λ b. heard_by (Some (told.Advance e k)) b (r b)) list trace
+    news_heard : RunInvariant image with_news (λ b. heard_by (Some (told.Advance e k)) b (r b)) list trace
     news_heard = record {
       fabric = kept;
       shape = record {
@@ -328,8 +328,8 @@ module _ (image : ImageData) (s : State) (r : ℕ → Records) (list : ℕ → L
     }
 
   -- whatever is heard
-  pub hearing_joins : (x : Option Told) → Rightly s.fabric f x → KeepsRecords f (λ b. heard_by x b (r b)) →
-      IsJoined image (hearing_of s f x) (λ b. heard_by x b (r b)) list trace
+  pub hearing_joins : (x : Option News) → Rightly s.fabric f x → KeepsRecords f (λ b. heard_by x b (r b)) →
+      RunInvariant image (hearing_of s f x) (λ b. heard_by x b (r b)) list trace
   hearing_joins None right k = nothing_heard right k
   hearing_joins (Some (told.LostCopy e block)) right k = copy_lost e block right.0 right.1 k
   hearing_joins (Some (told.Ready e n)) right k = report_heard e n right.0 right.1 k

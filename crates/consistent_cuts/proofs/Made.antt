@@ -10,8 +10,8 @@ use Rattle.rv_core.specs.Execution.{in_of}
 use Rattle.sn_consistency.specs.Words.{puts}
 use Rattle.sn_consistency.specs.Entries.{Entry}
 use Rattle.sn_consistency.specs.Shows.{records, outs}
-use Rattle.sn_consistency.specs.Sorted.{retire, cut_off, below as below_cut}
-use Rattle.sn_consistency.specs.Committed.{committed, released}
+use Rattle.sn_consistency.specs.Sorted.{retire, entries_below_cut, below as below_cut}
+use Rattle.sn_consistency.specs.Committed.{records_committed, released}
 use Rattle.sn_consistency.proofs.CommittedPart.{records-append, outs-append, in_of-append}
 use Rattle.sn_model.specs.Machine.{Retirement}
 use Rattle.sn_model.specs.Instructions.{records_of}
@@ -68,11 +68,11 @@ module _ (image : ImageData) (list : ℕ → List Entry) (trace : List TraceEntr
     out_kept x true i = made.out x ∙ ap (filter_map (λ (y : TraceEntry). y.out)) (sym (before_same k x (grind (arith, nat_tests)) trace))
     out_kept x false i = ap (filter_map (λ (y : TraceEntry). y.out)) (sym (before_none k x (grind (arith, nat_tests)) trace))
 
-    pub made_recovered : IsSortedFrom image (cut_off list k) (before k trace)
+    pub made_recovered : IsSortedFrom image (entries_below_cut list k) (before k trace)
     made_recovered = record { did = λ x. did_kept x (nat_lt x k) refl; out = λ x. out_kept x (nat_lt x k) refl }
 
   -- what is committed and released is that of the sorted list
-  pub committed_sorted : (k : ℕ) → committed list k ≡ committed_trace trace k
+  pub committed_sorted : (k : ℕ) → records_committed list k ≡ committed_trace trace k
   unfolding below_cut
   committed_sorted zero = refl
   committed_sorted (suc k) =

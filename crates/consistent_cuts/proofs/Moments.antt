@@ -15,14 +15,14 @@ use Rattle.sn_model.specs.Trace.{TraceEntry}
 use Rattle.sn_coherence.specs.Records.{Records}
 use Rattle.sn_consistency.specs.Words as words
 use Rattle.sn_consistency.specs.Entries.{Entry}
-use Rattle.sn_consistency.specs.Committed.{committed, Begins}
+use Rattle.sn_consistency.specs.Committed.{records_committed, Begins}
 use Rattle.sn_consistency.specs.Shows.{Shows}
 use Rattle.sn_consistency.proofs.CommittedPart.{committed_execution, committed_out}
-use Rattle.sn_consistency.proofs.Kept.{end_content, end_core, given_begins}
+use Rattle.sn_consistency.proofs.Outline.{end_content, end_core, given_begins}
 use Rattle.sn_consistency.proofs.Start.{start_shows}
 use Rattle.fabric_coherence.specs.Coherent.{NothingUnfinished}
-use Rattle.consistent_cuts.specs.Outlined.{outline_of, start_places}
-use Rattle.consistent_cuts.specs.Joined.{IsJoined}
+use Rattle.consistent_cuts.specs.Outlines.{outline_of, start_places}
+use Rattle.consistent_cuts.specs.RunInvariant.{RunInvariant}
 use Rattle.consistent_cuts.specs.Headline.{IsConsistent}
 use Rattle.consistent_cuts.proofs.FabricAfter.{FabricHalf}
 use Rattle.consistent_cuts.proofs.Made.{committed_sorted, released_sorted}
@@ -38,7 +38,7 @@ got [] i d l = absurd (omega (arith, l))
 got (x ∷ xs) zero d l = refl
 got (x ∷ xs) (suc i) d l = got xs i d (omega (arith, l))
 
-module _ (half : FabricHalf) (image : ImageData) (s : State) (r : ℕ → Records) (list : ℕ → List Entry) (trace : List TraceEntry) (j : IsJoined image s r list trace) where
+module _ (half : FabricHalf) (image : ImageData) (s : State) (r : ℕ → Records) (list : ℕ → List Entry) (trace : List TraceEntry) (j : RunInvariant image s r list trace) where
   abbrev N : ℕ
   N = length s.fabric.nodes
 
@@ -49,7 +49,7 @@ module _ (half : FabricHalf) (image : ImageData) (s : State) (r : ℕ → Record
   shows = start_shows image N
 
   -- the committed records are those of the sorted list
-  pub committed_is : committed list point ≡ s.committed
+  pub committed_is : records_committed list point ≡ s.committed
   committed_is = committed_sorted image list trace j.made point ∙ sym j.traced.committed
 
   pub executes : IsExecution image N s.committed

@@ -10,11 +10,11 @@ use Rattle.sn_model.specs.Instructions.{taken_by}
 use Rattle.sn_model.specs.MachineEvents.{checkpoint_of}
 use Rattle.sn_coherence.specs.Records.{Records, rolls_back}
 use Rattle.sn_consistency.specs.Entries.{Entry, Places}
-use Rattle.sn_consistency.specs.Sorted.{at_cut, cut_off}
-use Rattle.sn_consistency.specs.Kept.{Outline, Keeps, IsSameOutline, edged, lost_to, learned, given_to, validated, recovered, others_reach}
-use Rattle.sn_consistency.proofs.Kept.{same_keeps, edged_keeps, lost_keeps, learned_keeps, given_keeps, validated_keeps, recovered_keeps}
+use Rattle.sn_consistency.specs.Sorted.{at_cut, entries_below_cut}
+use Rattle.sn_consistency.specs.Outline.{Outline, Keeps, IsSameOutline, outline_after_edge, lost_to, outline_after_news, given_to, outline_after_validation, outline_after_recovery, others_reach}
+use Rattle.sn_consistency.proofs.Outline.{same_keeps, edged_keeps, lost_keeps, learned_keeps, given_keeps, validated_keeps, recovered_keeps}
 use Rattle.sn_consistency.proofs.Others.{exchanged_keeps, others_keep}
-use Rattle.consistent_cuts.specs.Outlined.{outline_of, interval_of}
+use Rattle.consistent_cuts.specs.Outlines.{outline_of, interval_of}
 use Rattle.consistent_cuts.proofs.Clocks.{IsSameClocks}
 
 -- two outlines that are the same where it counts: register checkpoints count while they are kept
@@ -107,16 +107,16 @@ module _ (image : ImageData) (N : ℕ) (F : Places) (s t : State) (r q : ℕ →
 
   -- an edge of node e
   module _ (e : ℕ) (rest : IsSameRest s t) where
-    pub edge_keeps : t.fabric.point ≡ s.fabric.point → ((n : ℕ) → interval_of t.fabric n ≡ (edged (outline_of s r list) e).interval n) →
+    pub edge_keeps : t.fabric.point ≡ s.fabric.point → ((n : ℕ) → interval_of t.fabric n ≡ (outline_after_edge (outline_of s r list) e).interval n) →
         ((n : ℕ) → (node_at t.fabric n).known ≡ (node_at s.fabric n).known) →
-        ((n b : ℕ) → (edged (outline_of s r list) e).reserved n b ≡ is_reserved (processor_at t n).core.reservation b) →
+        ((n b : ℕ) → (outline_after_edge (outline_of s r list) e).reserved n b ≡ is_reserved (processor_at t n).core.reservation b) →
         ((n k : ℕ) → (node_at s.fabric n).known ≤ k → k ≤ interval_of t.fabric n →
-        checkpoint_of (processor_at t n) (node_at t.fabric n).known k ≡ (edged (outline_of s r list) e).checkpoint n k) →
+        checkpoint_of (processor_at t n) (node_at t.fabric n).known k ≡ (outline_after_edge (outline_of s r list) e).checkpoint n k) →
         Keeps image N F (outline_of t q list)
     edge_keeps point interval known reserved checkpoint =
-        same_kept image N F (edged (outline_of s r list) e) (outline_of t q list) same (edged_keeps image N F (outline_of s r list) kept e)
+        same_kept image N F (outline_after_edge (outline_of s r list) e) (outline_of t q list) same (edged_keeps image N F (outline_of s r list) kept e)
       where
-        same : IsSameKept (edged (outline_of s r list) e) (outline_of t q list)
+        same : IsSameKept (outline_after_edge (outline_of s r list) e) (outline_of t q list)
         same = record {
           point = sym point;
           interval = λ n. sym (interval n);
@@ -136,16 +136,16 @@ module _ (image : ImageData) (N : ℕ) (F : Places) (s t : State) (r q : ℕ →
   -- node e hears of recovery point k
   module _ (e k : ℕ) (rest : IsSameRest s t) where
     pub news_keeps : k ≤ s.fabric.point → t.fabric.point ≡ s.fabric.point → ((n : ℕ) → interval_of t.fabric n ≡ interval_of s.fabric n) →
-        ((n : ℕ) → (node_at t.fabric n).known ≡ (learned (outline_of s r list) e k).known n) →
+        ((n : ℕ) → (node_at t.fabric n).known ≡ (outline_after_news (outline_of s r list) e k).known n) →
         ((n b : ℕ) → is_reserved (processor_at s n).core.reservation b ≡ is_reserved (processor_at t n).core.reservation b) →
         ((n j : ℕ) → (node_at t.fabric n).known ≤ j → j ≤ interval_of s.fabric n →
         checkpoint_of (processor_at t n) (node_at t.fabric n).known j ≡ checkpoint_of (processor_at s n) (node_at s.fabric n).known j) →
         Keeps image N F (outline_of t q list)
     news_keeps low point interval known reserved checkpoint =
-        same_kept image N F (learned (outline_of s r list) e k) (outline_of t q list) same
+        same_kept image N F (outline_after_news (outline_of s r list) e k) (outline_of t q list) same
         (learned_keeps image N F (outline_of s r list) kept e k low)
       where
-        same : IsSameKept (learned (outline_of s r list) e k) (outline_of t q list)
+        same : IsSameKept (outline_after_news (outline_of s r list) e k) (outline_of t q list)
         same = record {
           point = sym point;
           interval = λ n. sym (interval n);
@@ -210,7 +210,7 @@ module _ (image : ImageData) (N : ℕ) (F : Places) (s t : State) (r q : ℕ →
         ≡ checkpoint_of (processor_at s n) (node_at s.fabric n).known k) →
         Keeps image N F (outline_of t q list)
     validation_keeps same_count point reached now known reserved checkpoint =
-        same_kept image N F (validated others) (outline_of t q list) same
+        same_kept image N F (outline_after_validation others) (outline_of t q list) same
         (validated_keeps image N F others (others_keep image N F (outline_of s r list) kept (suc s.fabric.point)) high)
       where
         others : Outline
@@ -233,7 +233,7 @@ module _ (image : ImageData) (N : ℕ) (F : Places) (s t : State) (r q : ℕ →
             let l : N ≤ n = grind (arith, nat_tests) in
             ap (λ j. checkpoint_of (processor_at t n) j k) (nobody n k l).0 ∙ (nobody n k l).1
 
-        same : IsSameKept (validated others) (outline_of t q list)
+        same : IsSameKept (outline_after_validation others) (outline_of t q list)
         same = record {
           point = sym point;
           interval = interval;
@@ -263,16 +263,16 @@ module _ (image : ImageData) (N : ℕ) (F : Places) (s t : State) (r : ℕ → R
       ≡ checkpoint_of (processor_at s n) (node_at s.fabric n).known s.fabric.point) →
       ((n : ℕ) → (processor_at s n).given ≡ (processor_at t n).given) →
       ((n : ℕ) → (processor_at s n).given ≡ (at_cut image F list s.fabric.point).taken n ++ drop (taken_by t n) (processor_at t n).given) →
-      Keeps image N F (outline_of t back (cut_off list s.fabric.point))
+      Keeps image N F (outline_of t back (entries_below_cut list s.fabric.point))
   recovery_keeps count same_count point now known core reserved checkpoint given left =
-      same_kept image N F others (outline_of t back (cut_off list s.fabric.point)) same
+      same_kept image N F others (outline_of t back (entries_below_cut list s.fabric.point)) same
       (others_keep image N F gone (recovered_keeps image N F (outline_of s r list) kept waiting left) 0)
     where
       waiting : ℕ → List ℕ
       waiting n = drop (taken_by t n) (processor_at t n).given
 
       gone : Outline
-      gone = recovered (outline_of s r list) waiting
+      gone = outline_after_recovery (outline_of s r list) waiting
 
       others : Outline
       others = others_reach N F gone 0
@@ -294,7 +294,7 @@ module _ (image : ImageData) (N : ℕ) (F : Places) (s t : State) (r : ℕ → R
           let h : N ≤ n = grind (arith, nat_tests) in
           ap (λ j. checkpoint_of (processor_at t n) j k) (nobody n k h).0 ∙ (nobody n k h).1
 
-      same : IsSameKept others (outline_of t back (cut_off list s.fabric.point))
+      same : IsSameKept others (outline_of t back (entries_below_cut list s.fabric.point))
       same = record {
         point = sym point;
         interval = interval;

@@ -10,8 +10,8 @@ use Rattle.rv_core.specs.Execution.{in_of}
 use Rattle.sn_model.specs.Fabric.{Fabric, Node, node_at, first_node}
 use Rattle.sn_model.specs.Machine.{State, Processor, Retirement, processor_at, first_processor}
 use Rattle.sn_model.specs.Access.{with_write}
-use Rattle.sn_model.specs.Instructions.{found_at, next_with, record_with, records_of, written_by, retired, taken_by}
-use Rattle.consistent_cuts.specs.Outlined.{interval_of}
+use Rattle.sn_model.specs.Instructions.{found_at, next_with, record_with, records_of, written_by, step_of_retirement, taken_by}
+use Rattle.consistent_cuts.specs.Outlines.{interval_of}
 
 -- the fabric's nodes keep their number, their intervals and the points that they know
 
@@ -53,7 +53,7 @@ in_of_one_more m (q ∷ ps) p = ap (λ l. (if nat_eq q.did.core m then option_to
 
 module _ (image : ImageData) (s : State) (n : ℕ) where
   abbrev pub after : State
-  after = (retired image s n).state
+  after = (step_of_retirement image s n).state
 
   pub taken_after : (m : ℕ) → taken_by after m ≡ taken_by s m + length (if nat_eq n m then option_to_list (found_at image s n).read else [])
   taken_after m =

@@ -19,15 +19,15 @@ use Rattle.sn_model.specs.PointEvents.{restored, restored_node, restored_homes, 
 use Rattle.sn_model.specs.Trace.{TraceEntry}
 use Rattle.sn_coherence.specs.Records.{Records, rolls_back}
 use Rattle.sn_consistency.specs.Entries.{Entry}
-use Rattle.sn_consistency.specs.Sorted.{at_cut, cut_off}
-use Rattle.sn_consistency.specs.Committed.{committed}
+use Rattle.sn_consistency.specs.Sorted.{at_cut, entries_below_cut}
+use Rattle.sn_consistency.specs.Committed.{records_committed}
 use Rattle.sn_consistency.proofs.CommittedPart.{in_of-append, committed_reads}
-use Rattle.sn_consistency.proofs.Kept.{given_begins}
+use Rattle.sn_consistency.proofs.Outline.{given_begins}
 use Rattle.sn_consistency.proofs.Others.{cut_bare}
 use Rattle.sn_consistency.proofs.Start.{start_shows}
 use Rattle.fabric_coherence.specs.Recorded.{KeepsRecords}
-use Rattle.consistent_cuts.specs.Outlined.{outline_of, start_places}
-use Rattle.consistent_cuts.specs.Joined.{IsJoined}
+use Rattle.consistent_cuts.specs.Outlines.{outline_of, start_places}
+use Rattle.consistent_cuts.specs.RunInvariant.{RunInvariant}
 use Rattle.consistent_cuts.proofs.Hears.{recount}
 use Rattle.consistent_cuts.proofs.Made.{made_recovered, committed_sorted, reads_parted}
 use Rattle.consistent_cuts.proofs.Outlines.{same_history, validation_keeps, recovery_keeps}
@@ -55,7 +55,7 @@ module _ (image : ImageData) (u : State) (N n k : ℕ) (high : N ≤ n) (nodes :
     ap (λ p. checkpoint_of p 0 k) nobodys_processor ∙ one_checkpoint (k - 0) ∙ ap bare (sym nobodys_core),
   )
 
-module _ (image : ImageData) (s : State) (r : ℕ → Records) (list : ℕ → List Entry) (trace : List TraceEntry) (j : IsJoined image s r list trace) where
+module _ (image : ImageData) (s : State) (r : ℕ → Records) (list : ℕ → List Entry) (trace : List TraceEntry) (j : RunInvariant image s r list trace) where
   abbrev N : ℕ
   N = length s.fabric.nodes
 
@@ -83,7 +83,7 @@ module _ (image : ImageData) (s : State) (r : ℕ → Records) (list : ℕ → L
         let b = reads_parted n s.fabric.point s.pending in
         omega (arith, a, b)
 
-    pub validation_joins : KeepsRecords f r → IsJoined image next r list trace
+    pub validation_joins : KeepsRecords f r → RunInvariant image next r list trace
     validation_joins k = record {
       fabric = k;
       shape = record {
@@ -149,7 +149,7 @@ pub restored_is : (s : State) → record (restored_rest s) { fabric = restored s
 unfolding restored restored_rest
 restored_is s = refl
 
-module _ (image : ImageData) (s : State) (r : ℕ → Records) (list : ℕ → List Entry) (trace : List TraceEntry) (j : IsJoined image s r list trace) where
+module _ (image : ImageData) (s : State) (r : ℕ → Records) (list : ℕ → List Entry) (trace : List TraceEntry) (j : RunInvariant image s r list trace) where
   abbrev M : ℕ
   M = length s.fabric.nodes
 
@@ -232,7 +232,7 @@ module _ (image : ImageData) (s : State) (r : ℕ → Records) (list : ℕ → L
       ∙ first_of_one (node_at u.fabric n).known point (checkpoint n) (known_is n l)
 
   -- what was committed is what a node has taken
-  committed_is : committed list point ≡ s.committed
+  committed_is : records_committed list point ≡ s.committed
   committed_is = committed_sorted image list trace j.made point ∙ sym j.traced.committed
 
   pub taken_is : (n : ℕ) → taken_by u n ≡ length (in_of n s.committed)
@@ -265,7 +265,7 @@ module _ (image : ImageData) (s : State) (r : ℕ → Records) (list : ℕ → L
       grind (arith, nat_tests)
 
   pub recovery_joins : KeepsRecords u.fabric (λ b. rolls_back (r b) M point) →
-      IsJoined image u (λ b. rolls_back (r b) M point) (cut_off list point) (before point trace)
+      RunInvariant image u (λ b. rolls_back (r b) M point) (entries_below_cut list point) (before point trace)
   recovery_joins k = record {
     fabric = k;
     shape = record {
@@ -278,7 +278,7 @@ module _ (image : ImageData) (s : State) (r : ℕ → Records) (list : ℕ → L
       reserved = λ b n lb l. sym (free n b);
       reported = λ b n lb l. reported_is b n (omega (arith, l, count_nodes));
     };
-    sorted = recount image M (length u.fabric.nodes) (outline_of u (λ b. rolls_back (r b) M point) (cut_off list point)) count_nodes
+    sorted = recount image M (length u.fabric.nodes) (outline_of u (λ b. rolls_back (r b) M point) (entries_below_cut list point)) count_nodes
         (recovery_keeps image M (start_places image M) s u r list j.sorted
         (λ n i h.
         nobodys image u M n i h count_nodes count_processors) refl count_nodes refl now_is known_is core_is free checkpoint_is given_is left);

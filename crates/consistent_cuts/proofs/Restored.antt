@@ -13,7 +13,7 @@ use Rattle.sn_model.specs.Trace.{TraceEntry}
 use Rattle.sn_coherence.specs.Records.{Records}
 use Rattle.sn_consistency.specs.Entries.{Entry}
 use Rattle.consistent_cuts.specs.Headline.{IsUntouched}
-use Rattle.consistent_cuts.specs.Joined.{IsJoined}
+use Rattle.consistent_cuts.specs.RunInvariant.{RunInvariant}
 use Rattle.consistent_cuts.proofs.FabricAfter.{FabricHalf}
 use Rattle.consistent_cuts.proofs.Moments.{end_block, end_register}
 use Rattle.consistent_cuts.proofs.Points.{restored_state, restored_is, node_is, processor_is, count_nodes, given_is, taken_is}
@@ -31,7 +31,7 @@ none_open s k i [] b = refl
 none_open s k i (h ∷ homes) zero = refl
 none_open s k i (h ∷ homes) (suc b) = none_open s k (i + 1) homes b
 
-module _ (half : FabricHalf) (image : ImageData) (s : State) (r : ℕ → Records) (list : ℕ → List Entry) (trace : List TraceEntry) (j : IsJoined image s r list trace) where
+module _ (half : FabricHalf) (image : ImageData) (s : State) (r : ℕ → Records) (list : ℕ → List Entry) (trace : List TraceEntry) (j : RunInvariant image s r list trace) where
   abbrev N : ℕ
   N = length s.fabric.nodes
 

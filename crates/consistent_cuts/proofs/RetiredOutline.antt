@@ -15,11 +15,11 @@ use Rattle.sn_coherence.specs.Records.{Records}
 use Rattle.sn_consistency.specs.Words.{Content, next, content_after, kind_of, address_of, writes, write_block}
 use Rattle.sn_consistency.specs.Entries.{Entry, Places, own}
 use Rattle.sn_consistency.specs.Sorted.{retire}
-use Rattle.sn_consistency.specs.Kept.{Outline, IsSameOutline, Keeps, retired}
+use Rattle.sn_consistency.specs.Outline.{Outline, IsSameOutline, Keeps, outline_after_retirement}
 use Rattle.sn_consistency.proofs.StepLaws.{kind_bare, block_bare, after_bare, written_bare, next_held}
-use Rattle.sn_consistency.proofs.Kept.{retired_keeps, same_keeps}
+use Rattle.sn_consistency.proofs.Outline.{retired_keeps, same_keeps}
 use Rattle.sn_consistency.proofs.Others.{exchanged_keeps}
-use Rattle.consistent_cuts.specs.Outlined.{outline_of, interval_of, IsRestShaped, Agrees}
+use Rattle.consistent_cuts.specs.Outlines.{outline_of, interval_of, IsRestShaped, Agrees}
 use Rattle.consistent_cuts.specs.Accesses.{entry_of, write_of, content_left, records_after, MayRetire}
 use Rattle.consistent_cuts.proofs.Told.{IsToldBy, told_by}
 use Rattle.consistent_cuts.proofs.Finds.{taken_within, wanted, kind_is, block_is}
@@ -71,20 +71,20 @@ module _ (image : ImageData) (s : State) (r : ℕ → Records) (list : ℕ → L
       rw (kind_bare image (processor_at s n).core, block_bare image (processor_at s n).core)
       (sym (next_held image (processor_at s n).core e.did b))
 
-  core_is : (m : ℕ) → (retired image before e).core m ≡ bare (processor_at (after image s n) m).core
+  core_is : (m : ℕ) → (outline_after_retirement image before e).core m ≡ bare (processor_at (after image s n) m).core
   core_is =
-      at_each_processor image s n (λ m p. (retired image before e).core m ≡ bare p.core) there (grind (arith, nat_tests, next_is))
+      at_each_processor image s n (λ m p. (outline_after_retirement image before e).core m ≡ bare p.core) there (grind (arith, nat_tests, next_is))
       (λ m o. grind (arith, nat_tests))
 
-  reserved_is : (m b : ℕ) → (retired image before e).reserved m b ≡ is_reserved (processor_at (after image s n) m).core.reservation b
+  reserved_is : (m b : ℕ) → (outline_after_retirement image before e).reserved m b ≡ is_reserved (processor_at (after image s n) m).core.reservation b
   reserved_is m b =
-      at_each_processor image s n (λ m p. (retired image before e).reserved m b ≡ is_reserved p.core.reservation b) there
+      at_each_processor image s n (λ m p. (outline_after_retirement image before e).reserved m b ≡ is_reserved p.core.reservation b) there
       (grind (arith, nat_tests, held_is b)) (λ m o. grind (arith, nat_tests)) m
 
   pub given_is : (m : ℕ) → (processor_at s m).given ≡ (processor_at (after image s n) m).given
   given_is = at_each_processor image s n (λ m p. (processor_at s m).given ≡ p.given) there refl (λ m o. refl)
 
-  waiting_is : (m : ℕ) → (retired image before e).waiting m ≡ drop (taken_by (after image s n) m) (processor_at (after image s n) m).given
+  waiting_is : (m : ℕ) → (outline_after_retirement image before e).waiting m ≡ drop (taken_by (after image s n) m) (processor_at (after image s n) m).given
   waiting_is m = rw (← given_is m) (sym (drop_after image s n m (processor_at s m).given))
 
   -- the blocks
@@ -96,25 +96,25 @@ module _ (image : ImageData) (s : State) (r : ℕ → Records) (list : ℕ → L
       (written_there image s r n shape agrees may (written image s r n shape agrees may ∙ w)).read.content
       ∙ sym (written_bare image (processor_at s n).core e.did (r at).value)
 
-  value_is : (b : ℕ) → (retired image before e).value b ≡ (records_after image s r n b).value
+  value_is : (b : ℕ) → (outline_after_retirement image before e).value b ≡ (records_after image s r n b).value
   value_is b =
       rw (kind_is image s n, block_is image s n)
       (settle wants b at (content_left image s n at) (λ o. content_after image e.found e.did (r o).value) (r b).value left_is)
       ∙ sym (told.value b)
 
-  below_is : (b j : ℕ) → (retired image before e).content b j ≡ (records_after image s r n b).below j
+  below_is : (b j : ℕ) → (outline_after_retirement image before e).content b j ≡ (records_after image s r n b).below j
   below_is b j =
       rw (kind_is image s n, block_is image s n, interval_is s n may.node)
       (settle_late wants (nat_lt (node_at s.fabric n).now j) b at (content_left image s n at)
       (λ o. content_after image e.found e.did (r o).value) ((r b).below j) left_is) ∙ sym (told.below b j)
 
-  last_write_is : (b : ℕ) → (retired image before e).last_write b ≡ (records_after image s r n b).last_write
+  last_write_is : (b : ℕ) → (outline_after_retirement image before e).last_write b ≡ (records_after image s r n b).last_write
   last_write_is b = rw (kind_is image s n, block_is image s n, interval_is s n may.node) (sym (told.last_write b))
 
-  last_access_is : (b m : ℕ) → (retired image before e).last_access b m ≡ (records_after image s r n b).last_access m
+  last_access_is : (b m : ℕ) → (outline_after_retirement image before e).last_access b m ≡ (records_after image s r n b).last_access m
   last_access_is b m = rw (kind_is image s n, block_is image s n, interval_is s n may.node) (sym (told.last_access b m))
 
-  list_is : (x : ℕ) → (retired image before e).list x ≡ list_after x
+  list_is : (x : ℕ) → (outline_after_retirement image before e).list x ≡ list_after x
   list_is x = rw (interval_is s n may.node) refl
 
   -- but for the register checkpoints, which stand where they count
@@ -122,7 +122,7 @@ module _ (image : ImageData) (s : State) (r : ℕ → Records) (list : ℕ → L
   abbrev pub checkpoint_after : ℕ → ℕ → CoreState
   checkpoint_after = (outline_of (after image s n) (records_after image s r n) list_after).checkpoint
 
-  pub same_outline : IsSameOutline (record (retired image before e) { checkpoint = checkpoint_after })
+  pub same_outline : IsSameOutline (record (outline_after_retirement image before e) { checkpoint = checkpoint_after })
       (outline_of (after image s n) (records_after image s r n) list_after)
   same_outline = record {
     point = sym (same_point s.fabric n (write_of image s n));
@@ -163,7 +163,7 @@ module _ (image : ImageData) (s : State) (r : ℕ → Records) (list : ℕ → L
       subst (λ N. Keeps image N F (outline_of (after image s n) (records_after image s r n) list_after))
       (sym (same_length s.fabric n (write_of image s n)))
       (same_keeps image (length s.fabric.nodes) F _ (outline_of (after image s n) (records_after image s r n) list_after) same_outline
-      (exchanged_keeps image (length s.fabric.nodes) F (retired image before e)
+      (exchanged_keeps image (length s.fabric.nodes) F (outline_after_retirement image before e)
       (retired_keeps image (length s.fabric.nodes) F before keeps e
       (retires image s r n shape agrees may list)) checkpoint_after checkpoints_are))
 

@@ -12,9 +12,9 @@ use Rattle.sn_model.specs.Machine.{State, processor_at, first_processor}
 use Rattle.sn_model.specs.Instructions.{found_at}
 use Rattle.sn_coherence.specs.Records.{Records}
 use Rattle.sn_consistency.specs.Words.{kind, block, place, kind_of, address_of, reads, writes, block_word}
-use Rattle.sn_consistency.specs.Entries.{Entry, Fits, wrote, touches}
-use Rattle.sn_consistency.specs.Kept.{Retires}
-use Rattle.consistent_cuts.specs.Outlined.{outline_of, interval_of, IsRestShaped, Agrees}
+use Rattle.sn_consistency.specs.Entries.{Entry, Fits, is_writer, touches}
+use Rattle.sn_consistency.specs.Outline.{Retires}
+use Rattle.consistent_cuts.specs.Outlines.{outline_of, interval_of, IsRestShaped, Agrees}
 use Rattle.consistent_cuts.specs.Accesses.{entry_of, IsReadable, IsWritable, MayRetire}
 use Rattle.consistent_cuts.proofs.Finds.{unseen_by, done_sc_by, done_by, byte_by, takes_by, read_by, written_by, word_by, wanted, kind_is}
 use Rattle.consistent_cuts.proofs.Finds.{block_is, place_is}
@@ -37,13 +37,13 @@ module _ (image : ImageData) (s : State) (r : ℕ → Records) (n : ℕ) (shape 
   pub touched : touches image (entry_of image s n) ≡ (reads (kind_of (wanted image s n)) || writes (kind_of (wanted image s n)) done)
   touched = ap (λ k. reads k || writes k done) (kind_is image s n)
 
-  pub written : wrote image (entry_of image s n) ≡ writes (kind_of (wanted image s n)) done
+  pub written : is_writer image (entry_of image s n) ≡ writes (kind_of (wanted image s n)) done
   written = ap (λ k. writes k done) (kind_is image s n)
 
   pub read_there : touches image (entry_of image s n) ≡ true → IsReadable s.fabric r n at
   read_there e = read_by s r n (wanted image s n) done may.served (sym touched ∙ e)
 
-  pub written_there : wrote image (entry_of image s n) ≡ true → IsWritable s.fabric r n at
+  pub written_there : is_writer image (entry_of image s n) ≡ true → IsWritable s.fabric r n at
   written_there e = written_by s r n (wanted image s n) done may.served (sym written ∙ e)
 
   fits : Fits image (length s.fabric.nodes) (entry_of image s n)
@@ -64,7 +64,7 @@ module _ (image : ImageData) (s : State) (r : ℕ → Records) (n : ℕ) (shape 
       ∙ ap (λ v. block_word v ((address_of (wanted image s n) - ram_start) % 64 / 4 * 4))
       (read_by s r n (wanted image s n) done may.served (grind arith)).content)
 
-  lost : wrote image (entry_of image s n) ≡ true → (m : ℕ) → m ≢ n → is_reserved (processor_at s m).core.reservation at ≡ false
+  lost : is_writer image (entry_of image s n) ≡ true → (m : ℕ) → m ≢ n → is_reserved (processor_at s m).core.reservation at ≡ false
   lost e m other = go (cases_lt m (length s.fabric.nodes))
     where
       go : (m < length s.fabric.nodes) ⊎ (length s.fabric.nodes ≤ m) → is_reserved (processor_at s m).core.reservation at ≡ false

@@ -9,10 +9,10 @@ use Rattle.std.proofs.lemmas.List.{length-replicate}
 use Rattle.sn_model.specs.Fabric.{first_node}
 use Rattle.sn_model.specs.Machine.{State, start_of}
 use Rattle.sn_model.specs.Step.{step_of, state_after}
-use Rattle.sn_model.specs.Trace.{TraceEntry, traced, trace_after}
-use Rattle.consistent_cuts.specs.Joined.{Holds}
+use Rattle.sn_model.specs.Trace.{TraceEntry, trace_after_event, trace_after}
+use Rattle.consistent_cuts.specs.RunInvariant.{Holds}
 use Rattle.consistent_cuts.specs.Runs.{EventFits, AllFit}
-use Rattle.consistent_cuts.specs.Headline.{IsRun, IsConsistent, IsStepOfRun, reached, retirements}
+use Rattle.consistent_cuts.specs.Headline.{IsRun, IsConsistent, IsStepOfRun, state_of_run, retirements}
 use Rattle.consistent_cuts.proofs.EachEvent.{event_joins}
 use Rattle.consistent_cuts.proofs.Events.{event_says}
 use Rattle.consistent_cuts.proofs.Half.{half}
@@ -22,7 +22,7 @@ use Rattle.consistent_cuts.proofs.Start.{start_joins}
 
 module _ (image : ImageData) (config : Config) (nodes : ℕ) where
   pub step_holds : (s : State) (trace : List TraceEntry) (event : Event) → Holds image nodes s trace → EventFits nodes event →
-      Holds image nodes (step_of image config s event).state (traced image s event (step_of image config s event).answer trace)
+      Holds image nodes (step_of image config s event).state (trace_after_event image s event (step_of image config s event).answer trace)
   step_holds s trace event (count, (r, list, j)) fits = (
     step_count image config s event
         ∙ count,
@@ -33,7 +33,7 @@ module _ (image : ImageData) (config : Config) (nodes : ℕ) where
       Holds image nodes (state_after image config s events) (trace_after image config s events trace)
   run_holds s trace [] fits h = h
   run_holds s trace (event ∷ events) fits h =
-      run_holds (step_of image config s event).state (traced image s event (step_of image config s event).answer trace) events fits.1
+      run_holds (step_of image config s event).state (trace_after_event image s event (step_of image config s event).answer trace) events fits.1
       (step_holds s trace event h fits.0)
 
 pub start_holds : (image : ImageData) (nodes : ℕ) → 1 ≤ nodes → nodes ≤ 16 → Holds image nodes (start_of image nodes) []
@@ -55,14 +55,14 @@ module _ (image : ImageData) (config : Config) (events : List Event) (run : IsRu
   few : (fits : config_fits config ≡ true) → config.nodes ≤ 16
   few fits = grind (arith, nat_tests)
 
-  reached_holds : Holds image config.nodes (reached image config events) (retirements image config events)
+  reached_holds : Holds image config.nodes (state_of_run image config events) (retirements image config events)
   reached_holds =
       run_holds image config config.nodes (start_of image config.nodes) [] events run.events_fit
       (start_holds image config.nodes (some run.fits) (few run.fits))
 
-  pub reached_consistent : IsConsistent image config.nodes (reached image config events) (retirements image config events)
-  reached_consistent = holds_consistent image config.nodes (reached image config events) (retirements image config events) reached_holds
+  pub reached_consistent : IsConsistent image config.nodes (state_of_run image config events) (retirements image config events)
+  reached_consistent = holds_consistent image config.nodes (state_of_run image config events) (retirements image config events) reached_holds
 
   pub reached_next : (event : Event) → EventFits config.nodes event →
-      IsStepOfRun image config (reached image config events) event (step_of image config (reached image config events) event)
-  reached_next event fits = holds_next image config (reached image config events) (retirements image config events) event reached_holds fits
+      IsStepOfRun image config (state_of_run image config events) event (step_of image config (state_of_run image config events) event)
+  reached_next event fits = holds_next image config (state_of_run image config events) (retirements image config events) event reached_holds fits

@@ -16,16 +16,16 @@ use Rattle.sn_model.specs.Fabric.{first_node, node_at, initial_block}
 use Rattle.sn_model.specs.Machine.{State, Processor, processor_at, first_processor, first_processors}
 use Rattle.sn_model.specs.Machine as machine
 use Rattle.sn_model.specs.MachineEvents.{checkpoint_of}
-use Rattle.sn_coherence.specs.KeptRecords.{KeptRecords}
+use Rattle.sn_coherence.specs.RecordsInvariant.{RecordsInvariant}
 use Rattle.sn_coherence.specs.Records.{Records, no_records}
 use Rattle.sn_consistency.specs.Entries.{Places}
-use Rattle.sn_consistency.specs.Kept.{begun}
+use Rattle.sn_consistency.specs.Outline.{first_outline}
 use Rattle.sn_consistency.specs.Words.{block_in}
-use Rattle.sn_consistency.proofs.Kept.{begun_keeps}
+use Rattle.sn_consistency.proofs.Outline.{begun_keeps}
 use Rattle.fabric_coherence.specs.View.{block_seen}
 use Rattle.fabric_coherence.specs.Recorded.{KeepsRecords}
-use Rattle.consistent_cuts.specs.Outlined.{outline_of, start_places}
-use Rattle.consistent_cuts.specs.Joined.{Joins}
+use Rattle.consistent_cuts.specs.Outlines.{outline_of, start_places}
+use Rattle.consistent_cuts.specs.RunInvariant.{Joins}
 use Rattle.consistent_cuts.proofs.FabricAfter.{FabricHalf}
 use Rattle.consistent_cuts.proofs.Hears.{recount}
 use Rattle.consistent_cuts.proofs.Outlines.{IsSameKept, same_kept}
@@ -148,7 +148,7 @@ module _ (half : FabricHalf) (image : ImageData) (nodes : ℕ) (some : 1 ≤ nod
   free : (n b : ℕ) → is_reserved (processor_at s n).core.reservation b ≡ false
   free = by_processor (λ n p c. (b : ℕ) → is_reserved p.core.reservation b ≡ false) (λ n b. refl) (λ n b. refl)
 
-  same_start : IsSameKept (begun F) (outline_of s r (λ x. []))
+  same_start : IsSameKept (first_outline F) (outline_of s r (λ x. []))
   same_start = record {
     point = refl;
     interval = λ n. let a = ap (λ x. x.now) (node_is n) in grind arith;
@@ -172,7 +172,7 @@ module _ (half : FabricHalf) (image : ImageData) (nodes : ℕ) (some : 1 ≤ nod
 
   kept : KeepsRecords s.fabric r
   kept = let k = half.start image nodes some few in
-      (k.0, k.1, λ b l. subst (λ v. KeptRecords (block_seen s.fabric k.0 b) (no_records v)) (sym (initial_is image b l)) (k.2 b l))
+      (k.0, k.1, λ b l. subst (λ v. RecordsInvariant (block_seen s.fabric k.0 b) (no_records v)) (sym (initial_is image b l)) (k.2 b l))
 
   pub start_joins : Joins image s []
   start_joins = (
@@ -194,7 +194,7 @@ module _ (half : FabricHalf) (image : ImageData) (nodes : ℕ) (some : 1 ≤ nod
       };
       sorted =
           recount image nodes (length s.fabric.nodes) (outline_of s r (λ x. [])) count
-          (same_kept image nodes F (begun F) (outline_of s r (λ x. [])) same_start (begun_keeps image nodes F (λ n. refl)));
+          (same_kept image nodes F (first_outline F) (outline_of s r (λ x. [])) same_start (begun_keeps image nodes F (λ n. refl)));
       traced = record { pending = refl; committed = refl; held = refl; released = refl };
       made = record { did = λ x. refl; out = λ x. refl };
     },

@@ -16,15 +16,15 @@ use Rattle.rv_core.specs.Wanted.{IsAddress, IsInside}
 use Rattle.rv_core.proofs.CoreLaws.{want_inside}
 use Rattle.sn_model.specs.declared.cache.Need.{Need}
 use Rattle.sn_model.specs.declared.cache.Need.TheVariants as need
-use Rattle.sn_model.specs.Access.{accessed, missed, has_miss, serves, lacks_room}
+use Rattle.sn_model.specs.Access.{step_of_access, step_of_miss, has_miss, serves, lacks_room}
 use Rattle.sn_model.specs.Caches.{block_count, line_of, is_present, puts_on, frames_taken}
 use Rattle.sn_model.specs.Fabric.{Fabric, node_at, line_of_node}
 use Rattle.sn_model.specs.Fabric as fabric
 use Rattle.sn_model.specs.Net.{is_full}
 use Rattle.sn_model.specs.Machine.{State, processor_at}
-use Rattle.sn_model.specs.Instructions.{Stepped, found_by, refused, carried, retired, stepped, step_wanting, accessing, is_retired}
+use Rattle.sn_model.specs.Instructions.{MachineStep, found_by, refused, machine_step_of, step_of_retirement, step_of_instruction, step_wanting, accessing, is_retired}
 use Rattle.sn_model.specs.Instructions.{takes_input, next_byte, taken_by}
-use Rattle.sn_model.specs.Trace.{TraceEntry, traced}
+use Rattle.sn_model.specs.Trace.{TraceEntry, trace_after_event}
 use Rattle.consistent_cuts.specs.Accesses.{CanServe, CanServeWant, CanRetire}
 
 -- a choice by a test
@@ -37,9 +37,9 @@ by_test P false a b f g = g refl
 module _ (config : Config) (s : Fabric) (n b : ℕ) (l : n < length s.nodes) (low : b < block_count) (need : Need) where
   served : (a p c d e f : Bool) → has_miss (node_at s n).cache.miss ≡ a → puts_on (node_at s n).cache.put b ≡ p →
       serves need (line_of_node s n b).state ≡ c → lacks_room config (node_at s n) b need ≡ d →
-      is_retired (if a then fabric.refused s Waits else if p then fabric.refused s Waits
-      else if c then (if d then fabric.refused s LogFull else fabric.answered s Retired) else if e then fabric.refused s NeedsEvict
-      else if f then fabric.refused s NetFull else missed s n b need).answer ≡ true →
+      is_retired (if a then fabric.step_refused s Waits else if p then fabric.step_refused s Waits
+      else if c then (if d then fabric.step_refused s LogFull else fabric.step_with_answer s Retired) else if e then fabric.step_refused s NeedsEvict
+      else if f then fabric.step_refused s NetFull else step_of_miss s n b need).answer ≡ true →
       CanServe config s n b need
   served true p c d e f h i j k is = cc
   served false true c d e f h i j k is = cc
@@ -50,7 +50,7 @@ module _ (config : Config) (s : Fabric) (n b : ℕ) (l : n < length s.nodes) (lo
   served false false false d false true h i j k is = cc
   served false false false d false false h i j k is = cc
 
-  pub served_by_line : is_retired (accessed config s n b need).answer ≡ true → CanServe config s n b need
+  pub served_by_line : is_retired (step_of_access config s n b need).answer ≡ true → CanServe config s n b need
   served_by_line is =
       served (has_miss (node_at s n).cache.miss) (puts_on (node_at s n).cache.put b) (serves need (line_of (node_at s n).cache b).state)
       (lacks_room config (node_at s n) b need)
@@ -65,16 +65,16 @@ is_point_answer _ = false
 
 -- no answer of an access or a refusal of a step takes a retirement away, and none but Retired adds one
 abbrev pub LeavesTrace : ImageData → State → ℕ → Answer → Type 0
-LeavesTrace image s n answer = (is_point_answer answer ≡ false) × ((trace : List TraceEntry) → traced image s (Step n) answer trace ≡ trace)
+LeavesTrace image s n answer = (is_point_answer answer ≡ false) × ((trace : List TraceEntry) → trace_after_event image s (Step n) answer trace ≡ trace)
 
 access_leaves : (image : ImageData) (s : State) (n b : ℕ) (access : Need) (a p c d e f : Bool) →
-    is_retired (if a then fabric.refused s.fabric Waits else if p then fabric.refused s.fabric Waits
-    else if c then (if d then fabric.refused s.fabric LogFull else fabric.answered s.fabric Retired)
-    else if e then fabric.refused s.fabric NeedsEvict else if f then fabric.refused s.fabric NetFull else missed s.fabric n b access).answer
+    is_retired (if a then fabric.step_refused s.fabric Waits else if p then fabric.step_refused s.fabric Waits
+    else if c then (if d then fabric.step_refused s.fabric LogFull else fabric.step_with_answer s.fabric Retired)
+    else if e then fabric.step_refused s.fabric NeedsEvict else if f then fabric.step_refused s.fabric NetFull else step_of_miss s.fabric n b access).answer
     ≡ false →
-    LeavesTrace image s n (if a then fabric.refused s.fabric Waits else if p then fabric.refused s.fabric Waits
-    else if c then (if d then fabric.refused s.fabric LogFull else fabric.answered s.fabric Retired)
-    else if e then fabric.refused s.fabric NeedsEvict else if f then fabric.refused s.fabric NetFull else missed s.fabric n b access).answer
+    LeavesTrace image s n (if a then fabric.step_refused s.fabric Waits else if p then fabric.step_refused s.fabric Waits
+    else if c then (if d then fabric.step_refused s.fabric LogFull else fabric.step_with_answer s.fabric Retired)
+    else if e then fabric.step_refused s.fabric NeedsEvict else if f then fabric.step_refused s.fabric NetFull else step_of_miss s.fabric n b access).answer
 access_leaves image s n b access true p c d e f is = (refl, λ trace. refl)
 access_leaves image s n b access false true c d e f is = (refl, λ trace. refl)
 access_leaves image s n b access false false true true e f is = (refl, λ trace. refl)
@@ -84,7 +84,7 @@ access_leaves image s n b access false false false d false true is = (refl, λ t
 access_leaves image s n b access false false false d false false is = (refl, λ trace. refl)
 
 accessed_leaves : (image : ImageData) (config : Config) (s : State) (n b : ℕ) (access : Need) →
-    is_retired (accessed config s.fabric n b access).answer ≡ false → LeavesTrace image s n (accessed config s.fabric n b access).answer
+    is_retired (step_of_access config s.fabric n b access).answer ≡ false → LeavesTrace image s n (step_of_access config s.fabric n b access).answer
 accessed_leaves image config s n b access is =
     access_leaves image s n b access (has_miss (node_at s.fabric n).cache.miss) (puts_on (node_at s.fabric n).cache.put b)
     (serves access (line_of (node_at s.fabric n).cache b).state) (lacks_room config (node_at s.fabric n) b access)
@@ -93,25 +93,25 @@ accessed_leaves image config s n b access is =
 
 -- whatever holds of a retirement that can be, of an access of the fabric alone, and of a refusal holds of a step
 
-module _ (image : ImageData) (config : Config) (s : State) (n : ℕ) (l : n < length s.fabric.nodes) (P : Stepped → Type 0)
-    (retires : CanRetire image config s n → P (retired image s n))
-    (goes_on : (block : ℕ) (access : Need) → block < block_count → LeavesTrace image s n (accessed config s.fabric n block access).answer →
-    P (carried s (accessed config s.fabric n block access)))
+module _ (image : ImageData) (config : Config) (s : State) (n : ℕ) (l : n < length s.fabric.nodes) (P : MachineStep → Type 0)
+    (retires : CanRetire image config s n → P (step_of_retirement image s n))
+    (goes_on : (block : ℕ) (access : Need) → block < block_count → LeavesTrace image s n (step_of_access config s.fabric n block access).answer →
+    P (machine_step_of s (step_of_access config s.fabric n block access)))
     (stays : (answer : Answer) → LeavesTrace image s n answer → P (refused s answer)) where
   block_low : (address : ℕ) → IsAddress address → block_of address < block_count
   block_low address inside = omega (arith, inside.0, inside.1)
 
   accessing_cases : (address : ℕ) (access : Need) → IsAddress address →
-      (CanServe config s.fabric n (block_of address) access → P (retired image s n)) → P (accessing image config s n address access)
+      (CanServe config s.fabric n (block_of address) access → P (step_of_retirement image s n)) → P (accessing image config s n address access)
   accessing_cases address access inside done =
-      by_test P (is_retired (accessed config s.fabric n (block_of address) access).answer) (retired image s n)
-      (carried s (accessed config s.fabric n (block_of address) access))
+      by_test P (is_retired (step_of_access config s.fabric n (block_of address) access).answer) (step_of_retirement image s n)
+      (machine_step_of s (step_of_access config s.fabric n (block_of address) access))
       (λ is. done (served_by_line config s.fabric n (block_of address) l (block_low address inside) access is))
       (λ is. goes_on (block_of address) access (block_low address inside) (accessed_leaves image config s n (block_of address) access is))
 
   module _ (running : is_running (processor_at s n).core.end ≡ true) (no_miss : has_miss (node_at s.fabric n).cache.miss ≡ false) where
     retires_wanting : (w : Want) → want_of image (processor_at s n).core ≡ w → CanServeWant w (found_by s n w).sc_done config s n →
-        P (retired image s n)
+        P (step_of_retirement image s n)
     retires_wanting w e served =
         retires (record {
           node = l;
@@ -139,13 +139,13 @@ module _ (image : ImageData) (config : Config) (s : State) (n : ℕ) (l : n < le
     wanting_cases (want.Amo address) e inside = accessing_cases address need.Write inside (retires_wanting (want.Amo address) e)
     wanting_cases (want.Sc address) e inside =
         by_test P (is_reserved (processor_at s n).core.reservation (block_of address)) (accessing image config s n address need.Write)
-        (retired image s n)
+        (step_of_retirement image s n)
         (λ q. accessing_cases address need.Write inside
         (λ served. retires_wanting (want.Sc address) e
         (subst (λ (done : Bool). CanServeWant (want.Sc address) done config s n) (sym q) served)))
         (λ q. retires_wanting (want.Sc address) e (subst (λ (done : Bool). CanServeWant (want.Sc address) done config s n) (sym q) tt))
 
-  pub stepped_cases : P (stepped image config s n)
+  pub stepped_cases : P (step_of_instruction image config s n)
   stepped_cases =
       by_test P (not (is_running (processor_at s n).core.end)) (refused s Ended) _ (λ q. stays Ended (refl, λ trace. refl))
       (λ q. by_test P (has_miss (node_at s.fabric n).cache.miss) (refused s Waits)

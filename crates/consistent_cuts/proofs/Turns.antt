@@ -16,16 +16,16 @@ use Rattle.sn_model.specs.MachineEvents.{with_checkpoint, checkpoint_of}
 use Rattle.sn_model.specs.Trace.{TraceEntry}
 use Rattle.sn_coherence.specs.Records.{Records, unreserves}
 use Rattle.sn_consistency.specs.Entries.{Entry}
-use Rattle.sn_consistency.specs.Kept as sorted
+use Rattle.sn_consistency.specs.Outline as sorted
 use Rattle.fabric_coherence.specs.Recorded.{KeepsRecords}
-use Rattle.consistent_cuts.specs.Outlined.{outline_of, interval_of, start_places}
-use Rattle.consistent_cuts.specs.Joined.{IsJoined}
+use Rattle.consistent_cuts.specs.Outlines.{outline_of, interval_of, start_places}
+use Rattle.consistent_cuts.specs.RunInvariant.{RunInvariant}
 use Rattle.consistent_cuts.proofs.Clocks.{same_clocks, part_set}
 use Rattle.consistent_cuts.proofs.Hears.{at_each, kept_checkpoint, recount}
 use Rattle.consistent_cuts.proofs.Outlines.{same_history, edge_keeps, input_keeps}
 use Rattle.consistent_cuts.proofs.Traced.{traced_same}
 
-module _ (image : ImageData) (s : State) (r : ℕ → Records) (list : ℕ → List Entry) (trace : List TraceEntry) (j : IsJoined image s r list trace) (e : ℕ) (l : e < length s.fabric.nodes) where
+module _ (image : ImageData) (s : State) (r : ℕ → Records) (list : ℕ → List Entry) (trace : List TraceEntry) (j : RunInvariant image s r list trace) (e : ℕ) (l : e < length s.fabric.nodes) where
   abbrev N : ℕ
   N = length s.fabric.nodes
 
@@ -64,21 +64,21 @@ module _ (image : ImageData) (s : State) (r : ℕ → Records) (list : ℕ → L
   interval_here : interval_of s.fabric e ≡ (node_at s.fabric e).now
   interval_here = grind (arith, nat_tests)
 
-  interval_each : (m : ℕ) → interval_of later m ≡ (sorted.edged (outline_of s r list) e).interval m
+  interval_each : (m : ℕ) → interval_of later m ≡ (sorted.outline_after_edge (outline_of s r list) e).interval m
   interval_each m = go (nat_eq m e) refl
     where
-      go : (q : Bool) → nat_eq m e ≡ q → interval_of later m ≡ (sorted.edged (outline_of s r list) e).interval m
+      go : (q : Bool) → nat_eq m e ≡ q → interval_of later m ≡ (sorted.outline_after_edge (outline_of s r list) e).interval m
       go true i =
           let d : m ≡ e = grind (arith, nat_tests) in
-          subst (λ x. interval_of later x ≡ (sorted.edged (outline_of s r list) e).interval x) (sym d)
+          subst (λ x. interval_of later x ≡ (sorted.outline_after_edge (outline_of s r list) e).interval x) (sym d)
           (let a = now_here in let b = count in let g = interval_here in grind (arith, nat_tests))
       go false i =
           let d : m ≢ e = grind (arith, nat_tests) in
           let a = now_there m d in let b = count in grind (arith, nat_tests)
 
-  reserved_each : (m b : ℕ) → (sorted.edged (outline_of s r list) e).reserved m b ≡ is_reserved (processor_at edged m).core.reservation b
+  reserved_each : (m b : ℕ) → (sorted.outline_after_edge (outline_of s r list) e).reserved m b ≡ is_reserved (processor_at edged m).core.reservation b
   reserved_each =
-      each (λ m p. (b : ℕ) → (sorted.edged (outline_of s r list) e).reserved m b ≡ is_reserved p.core.reservation b)
+      each (λ m p. (b : ℕ) → (sorted.outline_after_edge (outline_of s r list) e).reserved m b ≡ is_reserved p.core.reservation b)
       (λ b. grind (arith, nat_tests)) (λ m d b. grind (arith, nat_tests))
 
   count_here : (node_at s.fabric e).known + length (processor_at s e).checkpoints ≡ (node_at s.fabric e).now + 1
@@ -89,14 +89,14 @@ module _ (image : ImageData) (s : State) (r : ℕ → Records) (list : ℕ → L
 
   checkpoint_here : (k : ℕ) → (node_at s.fabric e).known ≤ k → k ≤ (node_at s.fabric e).now + 1 →
       get_or taken_checkpoints (k - (node_at later e).known) (bare (processor_at s e).core)
-      ≡ (sorted.edged (outline_of s r list) e).checkpoint e k
+      ≡ (sorted.outline_after_edge (outline_of s r list) e).checkpoint e k
   checkpoint_here k low up =
       ap (λ x. get_or taken_checkpoints (k - x) (bare (processor_at s e).core)) (known_each e)
       ∙ go (nat_eq k (suc (node_at s.fabric e).now)) refl
     where
       go : (q : Bool) → nat_eq k (suc (node_at s.fabric e).now) ≡ q →
           get_or taken_checkpoints (k - (node_at s.fabric e).known) (bare (processor_at s e).core)
-          ≡ (sorted.edged (outline_of s r list) e).checkpoint e k
+          ≡ (sorted.outline_after_edge (outline_of s r list) e).checkpoint e k
       go true i =
           let a = count_here in
           let d : length (processor_at s e).checkpoints ≤ k - (node_at s.fabric e).known = grind (arith, nat_tests) in
@@ -116,10 +116,10 @@ module _ (image : ImageData) (s : State) (r : ℕ → Records) (list : ℕ → L
           h ∙ q ∙ grind (arith, nat_tests)
 
   checkpoint_each : (m k : ℕ) → (node_at s.fabric m).known ≤ k → k ≤ interval_of later m →
-      checkpoint_of (processor_at edged m) (node_at later m).known k ≡ (sorted.edged (outline_of s r list) e).checkpoint m k
+      checkpoint_of (processor_at edged m) (node_at later m).known k ≡ (sorted.outline_after_edge (outline_of s r list) e).checkpoint m k
   checkpoint_each =
       each (λ m p. (k : ℕ) → (node_at s.fabric m).known ≤ k → k ≤ interval_of later m →
-      checkpoint_of p (node_at later m).known k ≡ (sorted.edged (outline_of s r list) e).checkpoint m k)
+      checkpoint_of p (node_at later m).known k ≡ (sorted.outline_after_edge (outline_of s r list) e).checkpoint m k)
       (λ k low up. checkpoint_here k low (let a = interval_each e in let b = interval_here in grind (arith, nat_tests)))
       (λ m d k low up. ap (λ x. checkpoint_of (processor_at s m) x k) (known_each m) ∙ grind (arith, nat_tests))
 
@@ -134,7 +134,7 @@ module _ (image : ImageData) (s : State) (r : ℕ → Records) (list : ℕ → L
   unreserved_each b lb = each (λ n p. n < N → (unreserves (r b) e).reserved n ≡ is_reserved p.core.reservation b)
       (λ ln. grind (arith, nat_tests)) (λ m d ln. let a = j.agrees.reserved b m lb ln in grind (arith, nat_tests))
 
-  pub edge_joins : KeepsRecords later (λ b. unreserves (r b) e) → IsJoined image edged (λ b. unreserves (r b) e) list trace
+  pub edge_joins : KeepsRecords later (λ b. unreserves (r b) e) → RunInvariant image edged (λ b. unreserves (r b) e) list trace
   edge_joins k = record {
     fabric = k;
     shape = record {
@@ -195,7 +195,7 @@ module _ (image : ImageData) (s : State) (r : ℕ → Records) (list : ℕ → L
         (λ ln. let a = j.shape.taken e l in let g = length-append (processor_at s e).given (byte ∷ []) in omega (arith, a, g))
         (λ m d ln. j.shape.taken m ln)
 
-    pub input_joins : IsJoined image given r list trace
+    pub input_joins : RunInvariant image given r list trace
     input_joins = record {
       fabric = j.fabric;
       shape = record {

@@ -20,7 +20,7 @@ use Rattle.log_buffer.specs.Log.{old_at}
 use Rattle.sn_base.specs.declared.log.LogEntry.{LogEntry}
 use Rattle.sn_model.specs.Machine.{State}
 use Rattle.sn_model.specs.Step.{step_of, state_after}
-use Rattle.sn_model.specs.Trace.{TraceEntry, traced, trace_after}
+use Rattle.sn_model.specs.Trace.{TraceEntry, trace_after_event, trace_after}
 use Rattle.consistent_cuts.specs.Runs.{AllFit, block_fits}
 use Rattle.fabric_coherence.proofs.KeptStart.{first_homes_at, length-first_homes}
 
@@ -34,7 +34,7 @@ module _ (image : ImageData) (config : Config) where
   pub record Leads (a : Moment) (event : Event) (answer : Answer) (b : Moment) : Type 0 where
     pub answers : (step_of image config a.state event).answer ≡ answer
     pub state : (step_of image config a.state event).state ≡ b.state
-    pub trace : traced image a.state event answer a.trace ≡ b.trace
+    pub trace : trace_after_event image a.state event answer a.trace ≡ b.trace
 
   -- and so do events in order
   pub record Comes (a : Moment) (events : List Event) (b : Moment) : Type 0 where
@@ -50,8 +50,8 @@ module _ (image : ImageData) (config : Config) where
     state = ap (λ (s : State). state_after image config s events) h.state ∙ k.state;
     trace =
         ap (λ (x : Answer). trace_after image config (step_of image config a.state event).state events
-        (traced image a.state event x a.trace)) h.answers
-        ∙ ap (λ (s : State). trace_after image config s events (traced image a.state event answer a.trace)) h.state
+        (trace_after_event image a.state event x a.trace)) h.answers
+        ∙ ap (λ (s : State). trace_after image config s events (trace_after_event image a.state event answer a.trace)) h.state
         ∙ ap (λ (es : List TraceEntry). trace_after image config b.state events es) h.trace
         ∙ k.trace;
   }

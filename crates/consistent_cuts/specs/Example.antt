@@ -13,7 +13,7 @@ use Rattle.sn_model.specs.Fabric.{node_at}
 use Rattle.sn_model.specs.Net.{flight_of}
 use Rattle.sn_model.specs.Step.{step_of}
 use Rattle.sn_model.specs.Trace.{TraceEntry}
-use Rattle.consistent_cuts.specs.Headline.{reached, retirements}
+use Rattle.consistent_cuts.specs.Headline.{state_of_run, retirements}
 
 -- addi x6, x0, 1 · lui x5, 0x80001 · sw x6, 0(x5): a store to block 64, whose home is node 0
 abbrev pub storing : ImageData
@@ -63,26 +63,26 @@ stored_block = 1 ∷ replicate 63 0
 
 -- a cache's line of block 64 after these events
 abbrev pub line_after : List Event → ℕ → Line
-line_after events n = line_of (node_at (reached storing small events).fabric n).cache 64
+line_after events n = line_of (node_at (state_of_run storing small events).fabric n).cache 64
 
 -- So it goes: the block is on its way with its ownership, and then neither cache has it, nor any message; the recovery
 -- gives it back to node 0 with what it had stored, and takes back what node 1 did in interval 1; what the nodes did in
 -- interval 0 is committed.
 pub record IsLostAndRecovered : Type 0 where
-  pub transfer : flight_of (reached storing small moving).fabric.net.flights 10
+  pub transfer : flight_of (state_of_run storing small moving).fabric.net.flights 10
       ≡ Some (record { message = record { id = 10; from = 0; to = 1; tag = 1; block = 64; body = DataM stored_block 0 }; place = 0 })
-  pub lost : flight_of (reached storing small losing).fabric.net.flights 10 ≡ None
+  pub lost : flight_of (state_of_run storing small losing).fabric.net.flights 10 ≡ None
   pub nowhere : ((line_after losing 0).state ≡ Absent) × ((line_after losing 1).state ≡ Absent)
-  pub validated : (step_of storing small (reached storing small reporting) Validate).answer ≡ Validated 1
-  pub recovered : (step_of storing small (reached storing small losing) Recover).answer
+  pub validated : (step_of storing small (state_of_run storing small reporting) Validate).answer ≡ Validated 1
+  pub recovered : (step_of storing small (state_of_run storing small losing) Recover).answer
       ≡ Recovered (record { to = 1; undone = 1; dropped = 2 })
   pub back : line_after recovering 0 ≡ record { state = Modified; content = stored_block }
   pub before : retirements storing small losing
       ≡ retirement 0 0 ∷ retirement 0 0 ∷ retirement 0 0 ∷ retirement 1 0 ∷ retirement 1 1 ∷ []
   pub after : retirements storing small recovering ≡ retirement 0 0 ∷ retirement 0 0 ∷ retirement 0 0 ∷ retirement 1 0 ∷ []
-  pub committed : (reached storing small recovering).committed ≡ plain 0 ∷ plain 0 ∷ plain 0 ∷ plain 1 ∷ []
-  pub point : (reached storing small recovering).fabric.point ≡ 1
-  pub pending : (reached storing small recovering).pending ≡ []
+  pub committed : (state_of_run storing small recovering).committed ≡ plain 0 ∷ plain 0 ∷ plain 0 ∷ plain 1 ∷ []
+  pub point : (state_of_run storing small recovering).fabric.point ≡ 1
+  pub pending : (state_of_run storing small recovering).pending ≡ []
 
 -- Node 1's clock ticks first: it retires its instruction in interval 1, and then node 0 retires its own in interval 0. Both
 -- report checkpoint 2, and two validations come.
@@ -94,6 +94,6 @@ validating =
 -- The committed trace goes by intervals, and not by the order of retirement.
 pub record IsCommittedByIntervals : Type 0 where
   pub order : retirements storing small validating ≡ retirement 1 1 ∷ retirement 0 0 ∷ []
-  pub committed : (reached storing small validating).committed ≡ plain 0 ∷ plain 1 ∷ []
-  pub point : (reached storing small validating).fabric.point ≡ 2
-  pub pending : (reached storing small validating).pending ≡ []
+  pub committed : (state_of_run storing small validating).committed ≡ plain 0 ∷ plain 1 ∷ []
+  pub point : (state_of_run storing small validating).fabric.point ≡ 2
+  pub pending : (state_of_run storing small validating).pending ≡ []

@@ -12,13 +12,13 @@ use Rattle.rv_core.specs.declared.step.Want.TheVariants.{Lr, Sc}
 use Rattle.rv_core.specs.Core.{block_of, is_reserved}
 use Rattle.rv_core.specs.Execution.{IsExecution, end_of, in_of, out_of}
 use Rattle.rv_core.specs.Step.{want_of}
-use Rattle.sn_model.specs.declared.net.Told.TheVariants.{LostCopy}
+use Rattle.sn_model.specs.declared.net.News.TheVariants.{LostCopy}
 use Rattle.sn_model.specs.Caches.{block_count, line_of, is_present}
 use Rattle.sn_model.specs.Fabric.{node_at}
-use Rattle.sn_model.specs.NodeEvents.{evicted}
-use Rattle.sn_model.specs.NetEvents.{delivered}
+use Rattle.sn_model.specs.NodeEvents.{step_of_eviction}
+use Rattle.sn_model.specs.NetEvents.{step_of_delivery}
 use Rattle.sn_model.specs.Machine.{State, start_of, processor_at}
-use Rattle.sn_model.specs.Instructions.{Stepped, records_of}
+use Rattle.sn_model.specs.Instructions.{MachineStep, records_of}
 use Rattle.sn_model.specs.MachineEvents.{bytes_of}
 use Rattle.sn_model.specs.RecoveryPoint.{IsCut, IsRestored}
 use Rattle.sn_model.specs.Step.{state_after}
@@ -35,8 +35,8 @@ pub record IsRun (config : Config) (events : List Event) : Type 0 where
   pub events_fit : AllFit config.nodes events
 
 -- the machine after the events, and the instructions that have retired and were not taken back
-abbrev pub reached : ImageData → Config → List Event → State
-reached image config events = state_after image config (start_of image config.nodes) events
+abbrev pub state_of_run : ImageData → Config → List Event → State
+state_of_run image config events = state_after image config (start_of image config.nodes) events
 
 abbrev pub retirements : ImageData → Config → List Event → List TraceEntry
 retirements image config events = trace_after image config (start_of image config.nodes) events []
@@ -82,13 +82,13 @@ Reserving image s n =
 abbrev pub MayUnreserve : ImageData → Config → State → ℕ → ℕ → Event → Type 0
 MayUnreserve image config s n block (Step m) = (m ≡ n) × Reserving image s n
 MayUnreserve image config s n block (Edge m) = m ≡ n
-MayUnreserve image config s n block (Evict m b) = (evicted s.fabric m b).told ≡ Some (LostCopy n block)
-MayUnreserve image config s n block (Deliver id) = (delivered config s.fabric id).told ≡ Some (LostCopy n block)
+MayUnreserve image config s n block (Evict m b) = (step_of_eviction s.fabric m b).told ≡ Some (LostCopy n block)
+MayUnreserve image config s n block (Deliver id) = (step_of_delivery config s.fabric id).told ≡ Some (LostCopy n block)
 MayUnreserve image config s n block Recover = Unit {0}
 MayUnreserve image config s n block _ = ⊥
 
 -- what each event does to a machine after a run
-pub record IsStepOfRun (image : ImageData) (config : Config) (s : State) (event : Event) (next : Stepped) : Type 0 where
+pub record IsStepOfRun (image : ImageData) (config : Config) (s : State) (event : Event) (next : MachineStep) : Type 0 where
   -- a validation comes only where nothing before its checkpoint is unfinished, and commits just the interval before it
   pub validated : (k : ℕ) → next.answer ≡ Validated k → (k ≡ s.fabric.point + 1) × NothingUnfinished s.fabric k
   pub grows : (k : ℕ) → next.answer ≡ Validated k → LeavesBehind s next.state

@@ -1,6 +1,6 @@
-pub mod Outlined
+pub mod Outlines
 pub mod Lists
-pub mod Joined
+pub mod RunInvariant
 pub mod Accesses
 pub mod Runs
 pub mod Headline

@@ -6,7 +6,7 @@ ghost use Rattle.sn_base.specs.declared.event.Event.{Event};
 ghost use Rattle.sn_model.specs.Fabric.{first_fabric};
 ghost use Rattle.fabric_bounds.specs.Bounds.{KeepsBounds};
 ghost use Rattle.fabric_bounds.specs.Counts.{CountsTo};
-ghost use Rattle.consistent_cuts.specs.Headline.{IsRun, reached};
+ghost use Rattle.consistent_cuts.specs.Headline.{IsRun, state_of_run};
 ghost use Rattle.consistent_cuts.specs.OfFabric.{GoesBy};
 
 /// Each event of the machine is one event of its fabric at most, which can happen there. So a run of the machine is one of
@@ -14,9 +14,9 @@ ghost use Rattle.consistent_cuts.specs.OfFabric.{GoesBy};
 /// never fuller than they may be, and what a recovery puts back fits the sets.
 pub fn every_run_is_one_of_the_fabric()
     ensures goes { (image : ImageData) (config : Config) (events : List Event) → IsRun config events
-        → GoesBy config (first_fabric image config.nodes) (reached image config events).fabric (length events) }
+        → GoesBy config (first_fabric image config.nodes) (state_of_run image config events).fabric (length events) }
     ensures bounded { (image : ImageData) (config : Config) (events : List Event) → IsRun config events
-        → KeepsBounds config (reached image config events).fabric }
+        → KeepsBounds config (state_of_run image config events).fabric }
     ensures counts { (image : ImageData) (config : Config) (events : List Event) → IsRun config events
-        → CountsTo (length events) (reached image config events).fabric }
+        → CountsTo (length events) (state_of_run image config events).fabric }
 {}

@@ -6,14 +6,14 @@ ghost use Rattle.sn_base.specs.declared.event.Event.{Event};
 ghost use Rattle.rv_core.specs.Core.{is_reserved};
 ghost use Rattle.sn_model.specs.Machine.{State, start_of, processor_at};
 ghost use Rattle.sn_model.specs.Step.{step_of};
-ghost use Rattle.sn_model.specs.Trace.{TraceEntry, traced};
+ghost use Rattle.sn_model.specs.Trace.{TraceEntry, trace_after_event};
 ghost use Rattle.sn_coherence.specs.Records.{Records};
 ghost use Rattle.sn_consistency.specs.Entries.{Entry as Sorted};
 ghost use Rattle.sn_consistency.specs.Sorted.{at_cut};
-ghost use Rattle.sn_consistency.specs.Kept.{AllPlaced};
+ghost use Rattle.sn_consistency.specs.Outline.{AllPlaced};
 ghost use Rattle.consistent_cuts.specs.Headline.{IsConsistent, IsStepOfRun};
-ghost use Rattle.consistent_cuts.specs.Joined.{IsJoined, Holds};
-ghost use Rattle.consistent_cuts.specs.Outlined.{start_places, interval_of};
+ghost use Rattle.consistent_cuts.specs.RunInvariant.{RunInvariant, Holds};
+ghost use Rattle.consistent_cuts.specs.Outlines.{start_places, interval_of};
 ghost use Rattle.consistent_cuts.specs.Runs.{EventFits};
 
 /// A program's start has what is joined, with nothing retired.
@@ -25,7 +25,7 @@ pub fn start_is_joined()
 pub fn each_event_joins()
     ensures { (image : ImageData) (config : Config) (nodes : ℕ) (s : State) (trace : List TraceEntry) (event : Event) →
         Holds image nodes s trace → EventFits nodes event
-        → Holds image nodes (step_of image config s event).state (traced image s event (step_of image config s event).answer trace) }
+        → Holds image nodes (step_of image config s event).state (trace_after_event image s event (step_of image config s event).answer trace) }
 {}
 
 /// And what is joined is consistent, now and with whatever event comes next.
@@ -42,13 +42,13 @@ pub fn joined_is_consistent()
 /// later write of another core has broken.
 pub fn records_are_of_the_list()
     ensures content { (image : ImageData) (s : State) (r : ℕ → Records) (list : ℕ → List Sorted) (trace : List TraceEntry) →
-        IsJoined image s r list trace
+        RunInvariant image s r list trace
         → (b k : ℕ) → s.fabric.point ≤ k → (at_cut image (start_places image (length s.fabric.nodes)) list k).content b ≡ (r b).below k }
     ensures accesses { (image : ImageData) (s : State) (r : ℕ → Records) (list : ℕ → List Sorted) (trace : List TraceEntry) →
-        IsJoined image s r list trace
+        RunInvariant image s r list trace
         → (x : ℕ) → AllPlaced image (interval_of s.fabric) (λ b. (r b).last_write) (λ b n. (r b).last_access n) x (list x) }
     ensures reserved { (image : ImageData) (s : State) (r : ℕ → Records) (list : ℕ → List Sorted) (trace : List TraceEntry) →
-        IsJoined image s r list trace
+        RunInvariant image s r list trace
         → (n b k : ℕ) → interval_of s.fabric n < k → is_reserved (processor_at s n).core.reservation b ≡ true
         → (at_cut image (start_places image (length s.fabric.nodes)) list k).held n b ≡ true }
 {}

@@ -4,7 +4,7 @@ ghost use Rattle.sn_base.specs.Image.{ImageData};
 ghost use Rattle.sn_base.specs.declared.config.Config.{Config};
 ghost use Rattle.sn_base.specs.declared.event.Event.{Event};
 ghost use Rattle.sn_model.specs.Step.{step_of};
-ghost use Rattle.consistent_cuts.specs.Headline.{IsRun, IsConsistent, IsStepOfRun, reached, retirements};
+ghost use Rattle.consistent_cuts.specs.Headline.{IsRun, IsConsistent, IsStepOfRun, state_of_run, retirements};
 ghost use Rattle.consistent_cuts.specs.Runs.{EventFits};
 
 /// For every program, every fitting configuration and every list of events, in whatever order: the committed trace is an
@@ -13,7 +13,7 @@ ghost use Rattle.consistent_cuts.specs.Runs.{EventFits};
 /// a run, since the first events of a run are a run.
 pub fn every_moment_is_consistent()
     ensures { (image : ImageData) (config : Config) (events : List Event) → IsRun config events
-        → IsConsistent image config.nodes (reached image config events) (retirements image config events) }
+        → IsConsistent image config.nodes (state_of_run image config events) (retirements image config events) }
 {}
 
 /// And whatever comes next: a validation comes only where nothing before its checkpoint is unfinished, and commits just the
@@ -21,5 +21,5 @@ pub fn every_moment_is_consistent()
 pub fn every_event_is_consistent()
     ensures { (image : ImageData) (config : Config) (events : List Event) (event : Event) → IsRun config events →
         EventFits config.nodes event
-        → IsStepOfRun image config (reached image config events) event (step_of image config (reached image config events) event) }
+        → IsStepOfRun image config (state_of_run image config events) event (step_of image config (state_of_run image config events) event) }
 {}

@@ -8,7 +8,7 @@ use Rattle.std.specs.Prelude.{ℤ, pos, negsuc, slice_index}
 use Rattle.std.proofs.lemmas.Bool.{cases_order}
 use Rattle.std.proofs.lemmas.List.{get_or-set_same, get_or-set_other, get_or-map, get_or_append_left, length-map}
 use Rattle.sn_base.specs.Blocks.{ram_start}
-use Rattle.sn_base.specs.Image.{fetched}
+use Rattle.sn_base.specs.Image.{word_fetched}
 use Rattle.sn_base.specs.declared.block.Width.TheVariants.{Word}
 use Rattle.sn_base.specs.declared.block.Write.{Write}
 use Rattle.rv_decode.specs.declared.instr.Instr.{Instr}
@@ -55,7 +55,7 @@ pub record IsCounting (core : CoreState) : Type 0 where
 -- the instruction of each word
 
 abbrev IsAt : ℕ → Instr → Type 0
-IsAt pc i = instruction_of (fetched counting_image.segments pc) ≡ Ok i
+IsAt pc i = instruction_of (word_fetched counting_image.segments pc) ≡ Ok i
 
 is_start : IsAt 0x80000000 (Lui 5 0x80001000)
 unfolding decoded
@@ -93,7 +93,7 @@ next-is : (core : CoreState) (seen : ℕ) (done : Bool) (read : Option ℕ) (pc 
     next_of counting_image core seen done read ≡ does counting_image i core seen done read
 unfolding next_of
 next-is core seen done read pc i h e =
-    ap (λ p. does_next counting_image (instruction_of (fetched counting_image.segments p)) core seen done read) h
+    ap (λ p. does_next counting_image (instruction_of (word_fetched counting_image.segments p)) core seen done read) h
     ∙ ap (λ r. does_next counting_image r core seen done read) e
 
 -- one step

@@ -16,9 +16,9 @@ use Rattle.sn_model.specs.Fabric.{Flight}
 use Rattle.sn_model.specs.Machine.{State, processor_at}
 use Rattle.sn_machine.specs.Looks.{wanted_block}
 use Rattle.due_events.specs.Numbers.{Numbers}
-use Rattle.due_events.specs.Lists.{foreseen, needs_evict, event_if, delivery, hop, leaves_for, least_to_leave, own_places, places_of}
+use Rattle.due_events.specs.Lists.{answer_foreseen, needs_evict, event_if, delivery, hop, leaves_for, least_to_leave, own_places, places_of}
 use Rattle.due_events.specs.Lists.{list_of}
-use Rattle.due_events.specs.Due.{is_over, killing, picked, first_picked, loses_next, loss_of, or_loss, listed, next_due, due_of}
+use Rattle.due_events.specs.Due.{is_over, killing, event_picked, first_picked, loses_next, loss_of, or_loss, event_of_lists, next_due, due_of}
 
 -- it holds of each event that a driver with these rules can make for so many nodes
 pub record HoldsOfEach (rules : Rules) (nodes : ℕ) (P : Event → Type 0) : Type 0 where
@@ -113,7 +113,7 @@ module _ (rules : Rules) (image : ImageData) (config : Config) (s : State) (x : 
 
   own_places-hold : (n : ℕ) → n < config.nodes → HoldsOfPlaces P (own_places rules image config s x n)
   own_places-hold n h = (
-    of_where P (needs_evict (foreseen image config s (Step n))) _
+    of_where P (needs_evict (answer_foreseen image config s (Step n))) _
         (of_eviction n (least_to_leave image config s n) h (least_to_leave-below n)),
     (
       of_test P _ (Edge n) (each.edge n h),
@@ -132,7 +132,7 @@ module _ (rules : Rules) (image : ImageData) (config : Config) (s : State) (x : 
   first_picked-holds : (pick left n : ℕ) → n < config.nodes → Holds P (first_picked rules image config s x pick left n)
   first_picked-holds pick zero n h = tt
   first_picked-holds pick (suc left) n h =
-      of_or P (picked pick (list_of rules image config s x n)) _
+      of_or P (event_picked pick (list_of rules image config s x n)) _
       (of_get P (list_of rules image config s x n) _ (list_of-holds n h))
       (first_picked-holds pick left ((n + 1) % config.nodes) (mod_below (n + 1) config.nodes (omega (arith, h))))
 
@@ -159,7 +159,7 @@ module _ (rules : Rules) (image : ImageData) (config : Config) (s : State) (x : 
   lost-holds None h = tt
   lost-holds (Some event) h = or_loss-holds (loses_next rules x) event h
 
-  listed-holds : (worker pick : ℕ) → worker < config.nodes → Holds P (listed rules image config s x worker pick)
+  listed-holds : (worker pick : ℕ) → worker < config.nodes → Holds P (event_of_lists rules image config s x worker pick)
   listed-holds worker pick h = of_unless P _ _ (lost-holds _ (first_picked-holds pick config.nodes worker h))
 
   -- the switch of a rule, what the lists give, and a recovery where they give nothing
@@ -177,6 +177,6 @@ module _ (rules : Rules) (image : ImageData) (config : Config) (s : State) (x : 
   unfolding due_of
   due_of-holds worker pick event h due =
       due_of_test P (is_over image config s || is_some x.cut_off) (next_due rules image config s x worker pick) event
-      (or_recover-holds (option_or (killing s x rules.kill) (listed rules image config s x worker pick))
-      (of_or P (killing s x rules.kill) (listed rules image config s x worker pick)
+      (or_recover-holds (option_or (killing s x rules.kill) (event_of_lists rules image config s x worker pick))
+      (of_or P (killing s x rules.kill) (event_of_lists rules image config s x worker pick)
       (killing-holds rules.kill each.kill) (listed-holds worker pick h))) due

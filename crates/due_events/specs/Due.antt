@@ -24,14 +24,14 @@ killing s x None = None
 killing s x (Some rule) = event_if (nat_le rule.1 x.done && not (is_dead s.fabric.net.dead rule.0)) (Kill rule.0)
 
 -- the element p mod its length of a list; none of an empty one
-abbrev pub picked : ℕ → List Event → Option Event
-picked pick events = slice_get events (pick % length events)
+abbrev pub event_picked : ℕ → List Event → Option Event
+event_picked pick events = slice_get events (pick % length events)
 
 -- of so many nodes from node n on, round all nodes: the picked element of the first list that isn't empty
 abbrev pub first_picked : Rules → ImageData → Config → State → Numbers → ℕ → ℕ → ℕ → Option Event
 first_picked rules image config s x pick zero n = None
 first_picked rules image config s x pick (suc left) n =
-    option_or (picked pick (list_of rules image config s x n)) (first_picked rules image config s x pick left ((n + 1) % config.nodes))
+    option_or (event_picked pick (list_of rules image config s x n)) (first_picked rules image config s x pick left ((n + 1) % config.nodes))
 
 -- whether the next message that moves is lost
 abbrev pub loses_next : Rules → Numbers → Bool
@@ -47,14 +47,14 @@ abbrev pub or_loss : Rules → Numbers → Event → Event
 or_loss rules x event = if loses_next rules x then loss_of event else event
 
 -- what the lists give, unless there was no validation or recovery for too long; a recovery where they give nothing
-abbrev pub listed : Rules → ImageData → Config → State → Numbers → ℕ → ℕ → Option Event
-listed rules image config s x worker pick =
+abbrev pub event_of_lists : Rules → ImageData → Config → State → Numbers → ℕ → ℕ → Option Event
+event_of_lists rules image config s x worker pick =
     if nat_le rules.wait x.since then None else option_map (or_loss rules x) (first_picked rules image config s x pick config.nodes worker)
 
 -- the next event of a worker that draws a pick
 abbrev pub next_due : Rules → ImageData → Config → State → Numbers → ℕ → ℕ → Event
 next_due rules image config s x worker pick =
-    unwrap_or (option_or (killing s x rules.kill) (listed rules image config s x worker pick)) Recover
+    unwrap_or (option_or (killing s x rules.kill) (event_of_lists rules image config s x worker pick)) Recover
 
 -- none where the machine is over or a recovery found nodes cut off
 unfoldable pub due_of : Rules → ImageData → Config → State → Numbers → ℕ → ℕ → Option Event

@@ -24,8 +24,8 @@ use Rattle.sn_machine.specs.Looks.{wanted_block}
 use Rattle.due_events.specs.Numbers.{Numbers}
 
 -- the answer that an event would have now
-abbrev pub foreseen : ImageData → Config → State → Event → Answer
-foreseen image config s event = (step_of image config s event).answer
+abbrev pub answer_foreseen : ImageData → Config → State → Event → Answer
+answer_foreseen image config s event = (step_of image config s event).answer
 
 abbrev pub is_delivered : Answer → Bool
 is_delivered Delivered = true
@@ -52,7 +52,7 @@ event_if test event = if test then Some event else None
 -- the delivery of a message to node n, where it would be taken now
 abbrev pub delivery : ImageData → Config → State → ℕ → Flight → Option Event
 delivery image config s n f =
-    event_if (nat_eq f.message.to n && is_delivered (foreseen image config s (Deliver f.message.id))) (Deliver f.message.id)
+    event_if (nat_eq f.message.to n && is_delivered (answer_foreseen image config s (Deliver f.message.id))) (Deliver f.message.id)
 
 -- the hop of a message in a switch of node n, where it hasn't arrived
 abbrev pub hop : ℕ → Flight → Option Event
@@ -74,7 +74,7 @@ least_to_leave image config s n = least_below block_count (leaves_for config s.f
 -- its eviction, where the node's instruction waits for a frame
 abbrev pub eviction : ImageData → Config → State → ℕ → Option Event
 eviction image config s n =
-    if needs_evict (foreseen image config s (Step n)) then option_map (λ (block : ℕ). Evict n block) (least_to_leave image config s n)
+    if needs_evict (answer_foreseen image config s (Step n)) then option_map (λ (block : ℕ). Evict n block) (least_to_leave image config s n)
     else None
 
 -- whether another node is ahead of node n
@@ -84,21 +84,21 @@ is_behind s n = list_any (λ other. nat_lt (node_at s n).now other.now) s.nodes
 -- the clock edge of node n: it has retired enough instructions, or can't, or another node is ahead
 abbrev pub edge : Rules → ImageData → Config → State → Numbers → ℕ → Option Event
 edge rules image config s x n =
-    event_if (is_edged (foreseen image config s (Edge n))
+    event_if (is_edged (answer_foreseen image config s (Edge n))
     && (nat_le rules.interval (slice_index x.retired n) || not (is_running (processor_at s n).core.end) || is_behind s.fabric n)) (Edge n)
 
 -- the report of node n, where it would tell of a later checkpoint than before
 abbrev pub report : ImageData → Config → State → Numbers → ℕ → Option Event
 report image config s x n =
-    event_if (nat_lt (slice_index x.told n) (ready_of s.fabric n) && is_reported (foreseen image config s (Report n))) (Report n)
+    event_if (nat_lt (slice_index x.told n) (ready_of s.fabric n) && is_reported (answer_foreseen image config s (Report n))) (Report n)
 
 -- the validation, which is node 0's
 abbrev pub validation : ImageData → Config → State → ℕ → Option Event
-validation image config s n = event_if (nat_eq n 0 && is_validated (foreseen image config s Validate)) Validate
+validation image config s n = event_if (nat_eq n 0 && is_validated (answer_foreseen image config s Validate)) Validate
 
 -- the step of node n
 abbrev pub step : ImageData → Config → State → ℕ → Option Event
-step image config s n = event_if (goes_on (foreseen image config s (Step n))) (Step n)
+step image config s n = event_if (goes_on (answer_foreseen image config s (Step n))) (Step n)
 
 -- what node n may do itself
 abbrev pub own_places : Rules → ImageData → Config → State → Numbers → ℕ → List (Option Event)

@@ -29,8 +29,8 @@ moves_by (Deliver id) = 1
 moves_by (Lose id) = 1
 moves_by _ = 0
 
-abbrev pub counted : Numbers → Event → Numbers
-counted x event = record x { done = x.done + 1; since = x.since + 1; moves = x.moves + moves_by event }
+abbrev pub numbers_with_event : Numbers → Event → Numbers
+numbers_with_event x event = record x { done = x.done + 1; since = x.since + 1; moves = x.moves + moves_by event }
 
 -- by its answer
 
@@ -60,4 +60,4 @@ with_answer x event _ = x
 
 -- the numbers after an event
 abbrev pub numbers_after : Numbers → Event → Answer → Numbers
-numbers_after x event answer = with_answer (counted x event) event answer
+numbers_after x event answer = with_answer (numbers_with_event x event) event answer

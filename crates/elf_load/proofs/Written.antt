@@ -17,7 +17,7 @@ use Rattle.sn_base.specs.Image.{SegmentData, ImageData, IsImage, IsSegment, AreA
 use Rattle.sn_base.specs.Image.{is_unprotected, all_executable}
 use Rattle.elf_load.specs.declared.fault.LoadCause.{LoadCause}
 use Rattle.elf_load.specs.declared.program_header.ProgramHeader.{ProgramHeader}
-use Rattle.elf_load.specs.Elf.{Step, first_refusal, refuse_if, is_apart, is_inside, is_entry, elf_image, loaded, word_at, identity}
+use Rattle.elf_load.specs.Elf.{Step, first_refusal, refuse_if, is_apart, is_inside, is_entry, elf_image, image_of_step, word_at, identity}
 use Rattle.elf_load.specs.Elf.{entry_of, table_place, file_flags, header_count, header_at, first_headers, headers_of, loads, segment_of}
 use Rattle.elf_load.specs.Elf.{segments_of, shares, header_step, table_step, elf_step}
 use Rattle.elf_load.specs.Loading.{image_of}
@@ -352,7 +352,7 @@ elf_image-is : (bytes : List ℕ) (segments : List SegmentData) (entry : ℕ) �
     segments_of bytes (headers_of bytes) ≡ segments → entry_of bytes ≡ entry →
     elf_image bytes ≡ Ok (record { segments = segments; entry = entry })
 elf_image-is bytes segments entry passes same at =
-    ap (λ (s : Step). loaded s (record { segments = segments_of bytes (headers_of bytes); entry = entry_of bytes })) passes
+    ap (λ (s : Step). image_of_step s (record { segments = segments_of bytes (headers_of bytes); entry = entry_of bytes })) passes
     ∙ ap (λ (l : List SegmentData). Ok (let i : ImageData = record { segments = l; entry = entry_of bytes } in i)) same
     ∙ ap (λ (n : ℕ). Ok (let i : ImageData = record { segments = segments; entry = n } in i)) at
 

@@ -163,10 +163,10 @@ elf_step bytes =
     refuse_if (not (is_entry (segments_of bytes (headers_of bytes)) (entry_of bytes))) (BadEntry (entry_of bytes)) ∷ [])
 
 -- an image where the steps pass
-abbrev pub loaded : Step → ImageData → Result ImageData LoadCause
-loaded (Err cause) image = Err cause
-loaded (Ok passed) image = Ok image
+abbrev pub image_of_step : Step → ImageData → Result ImageData LoadCause
+image_of_step (Err cause) image = Err cause
+image_of_step (Ok passed) image = Ok image
 
 -- the image that an ELF file is
 abbrev pub elf_image : List ℕ → Result ImageData LoadCause
-elf_image bytes = loaded (elf_step bytes) (record { segments = segments_of bytes (headers_of bytes); entry = entry_of bytes })
+elf_image bytes = image_of_step (elf_step bytes) (record { segments = segments_of bytes (headers_of bytes); entry = entry_of bytes })

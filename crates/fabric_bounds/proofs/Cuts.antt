@@ -15,11 +15,11 @@ use Rattle.sn_model.specs.Cuts.{held_by, owned_content, holds_at}
 use Rattle.sn_model.specs.Fabric.{Fabric, Node, node_at}
 use Rattle.sn_model.specs.PointEvents.{restored_line, restored_lines}
 use Rattle.sn_coherence.specs.Block as block
-use Rattle.sn_coherence.specs.Log.{was_owned, told}
+use Rattle.sn_coherence.specs.Log.{was_owned, old_or_now}
 use Rattle.mosi_cache.proofs.Taken.{TakesFewer}
-use Rattle.fabric_coherence.specs.View.{Beside, block_seen, line_seen, miss_seen}
+use Rattle.fabric_coherence.specs.View.{GhostState, block_seen, line_seen, miss_seen}
 use Rattle.fabric_coherence.specs.Leads.{is_framed}
-use Rattle.fabric_coherence.specs.Coherent.{IsKept}
+use Rattle.fabric_coherence.specs.Coherent.{FabricInvariant}
 use Rattle.fabric_coherence.proofs.Recovery.{restored_line_at}
 use Rattle.fabric_bounds.specs.Bounds.{CacheFits, cache_at, EdgeFits, IsBounded}
 use Rattle.fabric_bounds.proofs.Steps.{fewer_fits}
@@ -43,7 +43,7 @@ held_then (old.Owned content) line = refl
 held_then (old.WasHome content) line = refl
 held_then (old.WasCache node) line = refl
 
-held_told : (o : Option Old) (line : Line) → is_some (held_by o line) ≡ told was_owned o (is_owned line.state)
+held_told : (o : Option Old) (line : Line) → is_some (held_by o line) ≡ old_or_now was_owned o (is_owned line.state)
 held_told None line = held_now line.state line
 held_told (Some o) line = held_then o line
 
@@ -75,7 +75,7 @@ here_seen : (o : Option Miss) (b : ℕ) → block.is_here (miss_seen b o).want �
 here_seen None b = refl
 here_seen (Some miss) b = grind (arith, nat_tests)
 
-pub framed_takes : (s : Fabric) (t : Beside) (n b : ℕ) → is_framed (block_seen s t b) n ≡ takes_frame (node_at s n).cache b
+pub framed_takes : (s : Fabric) (t : GhostState) (n b : ℕ) → is_framed (block_seen s t b) n ≡ takes_frame (node_at s n).cache b
 framed_takes s t n b =
     framed_step (line_of (node_at s n).cache b).state (is_present (line_of (node_at s n).cache b).state)
     (misses_on (node_at s n).cache.miss b) (miss_seen b (node_at s n).cache.miss).want refl (here_seen (node_at s n).cache.miss b)
@@ -95,7 +95,7 @@ line_at_cut node b k l =
     ap (λ (x : Line). is_present x.state) (restored_line_at k b node l)
     ∙ restored_present (held_by (old_at node.log false b k) (line_of node.cache b))
 
-pub takes_held : (s : Fabric) (t : Beside) (n b k : ℕ) → IsKept s t → n < length s.nodes → b < block_count →
+pub takes_held : (s : Fabric) (t : GhostState) (n b k : ℕ) → FabricInvariant s t → n < length s.nodes → b < block_count →
     takes_frame (cache_at (node_at s n) k) b ≡ is_some (holds_at s n b k)
 takes_held s t n b k kept l low =
     only_line (is_present (line_of (cache_at (node_at s n) k) b).state)
@@ -107,7 +107,7 @@ takes_none node b k l = only_line (is_present (line_of (cache_at node k) b).stat
     (get_or_past (restored_lines node.log k 0 node.cache.lines) b no_line
     (subst (λ c. c ≤ b) (sym (as_long node.log k 0 node.cache.lines)) l))
 
-module _ (config : Config) (s : Fabric) (t : Beside) (kept : IsKept s t) (bounded : IsBounded config s t) (n k : ℕ) (l : n < length s.nodes) (from : s.point ≤ k) where
+module _ (config : Config) (s : Fabric) (t : GhostState) (kept : FabricInvariant s t) (bounded : IsBounded config s t) (n k : ℕ) (l : n < length s.nodes) (from : s.point ≤ k) where
   holds_of : (b : ℕ) → b < block_count → takes_frame (cache_at (node_at s n) k) b ≡ true → (block_seen s t b).holds n k ≡ true
   holds_of b low e =
       sym (held_told (old_at (node_at s n).log false b k) (line_of (node_at s n).cache b)) ∙ (sym (takes_held s t n b k kept l low) ∙ e)

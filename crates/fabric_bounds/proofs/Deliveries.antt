@@ -8,18 +8,18 @@ use Rattle.sn_msg.specs.declared.Body.{Body}
 use Rattle.sn_msg.specs.declared.Body.TheVariants.{GetS, GetM, FwdGetS, FwdGetM, Inv, DataS, DataM, DataE, UpgOk, InvAck, Unblock, PutReq}
 use Rattle.sn_msg.specs.declared.Body.TheVariants.{PutGo, PutData, PutDone, Ready, Advance}
 use Rattle.sn_model.specs.declared.cache.Need.TheVariants as need
-use Rattle.sn_model.specs.declared.net.Told.TheVariants as told
+use Rattle.sn_model.specs.declared.net.News.TheVariants as told
 use Rattle.sn_model.specs.CacheRows.{Logged, CacheReply}
 use Rattle.sn_model.specs.HomeRows.{HomeReply, put_data, unblock}
 use Rattle.sn_model.specs.Homes.{Transaction}
-use Rattle.sn_model.specs.Fabric.{Fabric, Flight, node_at, home_of, home_node, with_node, with_net, refused}
+use Rattle.sn_model.specs.Fabric.{Fabric, Flight, node_at, home_of, home_node, with_node, with_net, step_refused}
 use Rattle.sn_model.specs.Net.{net_limit, flight_of, without_flight, is_there}
-use Rattle.sn_model.specs.NetEvents.{AtCache, AtHome, logged_at, kept_at, unless_busy, outcome_of, node_after, home_after, learned}
+use Rattle.sn_model.specs.NetEvents.{AtCache, AtHome, logged_at, kept_at, unless_busy, outcome_of, node_after, home_after, node_after_news}
 use Rattle.sn_model.specs.NetEvents.{copy_lost, delivers, delivers_flight}
 use Rattle.mosi_cache.specs.Rows.{MeetsRow}
-use Rattle.fabric_coherence.specs.View.{Beside}
+use Rattle.fabric_coherence.specs.View.{GhostState}
 use Rattle.fabric_coherence.specs.Steps.{IsInFlight, after_cache, after_home}
-use Rattle.fabric_coherence.specs.Coherent.{IsKept}
+use Rattle.fabric_coherence.specs.Coherent.{FabricInvariant}
 use Rattle.fabric_coherence.specs.CacheEvents.{comes_to_cache}
 use Rattle.fabric_coherence.proofs.InFlight.{in_flight, is_found}
 use Rattle.fabric_coherence.proofs.RowsMet.{meets_cache}
@@ -41,13 +41,13 @@ one_is_few : (k : ℕ) → k ≤ 1 → k ≤ most_sent
 one_is_few k l = omega arith
 
 -- the condition of a row of the cache
-pub meets_row : (s : Fabric) (t : Beside) (id : ℕ) (f : Flight) → IsKept s t → flight_of s.net.flights id ≡ Some f → (x : Body) →
+pub meets_row : (s : Fabric) (t : GhostState) (id : ℕ) (f : Flight) → FabricInvariant s t → flight_of s.net.flights id ≡ Some f → (x : Body) →
     f.message.body ≡ x → comes_to_cache x ≡ true → MeetsRow (logged_at s f.message.to) f.message.block x
 meets_row s t id f kept found x is c =
     subst (MeetsRow (logged_at s f.message.to) f.message.block) is
     (meets_cache s t f.message (in_flight s id f kept.shape found) kept (subst (λ y. comes_to_cache y ≡ true) (sym is) c)).0
 
-module _ (config : Config) (s : Fabric) (t : Beside) (id : ℕ) (f : Flight) (kept : IsKept s t) (found : flight_of s.net.flights id ≡ Some f) where
+module _ (config : Config) (s : Fabric) (t : GhostState) (id : ℕ) (f : Flight) (kept : FabricInvariant s t) (found : flight_of s.net.flights id ≡ Some f) where
   flight : IsInFlight s f.message
   flight = in_flight s id f kept.shape found
 
@@ -80,8 +80,8 @@ module _ (config : Config) (s : Fabric) (t : Beside) (id : ℕ) (f : Flight) (ke
         (one_is_few (length reply.sends) small.sends) (omega arith)
 
     cache_step : IsStep config s (delivers config s f.message (AtCache reply))
-    cache_step = by_test config s (nat_lt config.log (length reply.after.log)) (refused s LogFull) _ (λ e. same_step config s LogFull)
-        (λ fits. by_test config s (nat_lt (net_limit + 1) (length s.net.flights + length reply.sends)) (refused s NetFull)
+    cache_step = by_test config s (nat_lt config.log (length reply.after.log)) (step_refused s LogFull) _ (λ e. same_step config s LogFull)
+        (λ fits. by_test config s (nat_lt (net_limit + 1) (length s.net.flights + length reply.sends)) (step_refused s NetFull)
         (after_cache s f.message reply) (λ e. same_step config s NetFull)
         (λ room. cache_done (not_over config.log (length reply.after.log) fits) room))
 
@@ -97,8 +97,8 @@ module _ (config : Config) (s : Fabric) (t : Beside) (id : ℕ) (f : Flight) (ke
         (length reply.sends) room one_less) refl few (omega arith)
 
     home_step : IsStep config s (delivers config s f.message (AtHome reply))
-    home_step = by_test config s (nat_lt config.log (length reply.after.log)) (refused s LogFull) _ (λ e. same_step config s LogFull)
-        (λ fits. by_test config s (nat_lt (net_limit + 1) (length s.net.flights + length reply.sends)) (refused s NetFull)
+    home_step = by_test config s (nat_lt config.log (length reply.after.log)) (step_refused s LogFull) _ (λ e. same_step config s LogFull)
+        (λ fits. by_test config s (nat_lt (net_limit + 1) (length s.net.flights + length reply.sends)) (step_refused s NetFull)
         (after_home s f.message reply) (λ e. same_step config s NetFull)
         (λ room. home_done (not_over config.log (length reply.after.log) fits) room))
 
@@ -114,9 +114,9 @@ module _ (config : Config) (s : Fabric) (t : Beside) (id : ℕ) (f : Flight) (ke
 
   advance_step : (k : ℕ) → IsStep config s (delivers config s f.message (outcome_of s f.message (Advance k)))
   advance_step k =
-      quiet_step config s (with_net (with_node s f.message.to (learned (node_at s f.message.to) k))
+      quiet_step config s (with_net (with_node s f.message.to (node_after_news (node_at s f.message.to) k))
       (without_flight s.net f.message.id)) Delivered (Some (told.Advance f.message.to k))
-      (one_steps config s f.message.to (learned (node_at s f.message.to) k) flight.to
+      (one_steps config s f.message.to (node_after_news (node_at s f.message.to) k) flight.to
       (record {
         log = λ h. omega (arith, shorter (λ (e : LogEntry). nat_le k e.interval) (node_at s f.message.to).log);
         frames = λ h. h;
@@ -162,12 +162,12 @@ module _ (config : Config) (s : Fabric) (t : Beside) (id : ℕ) (f : Flight) (ke
   body_step (Advance k) is = advance_step k
 
   flight_step : IsStep config s (delivers_flight config s (Some f))
-  flight_step = by_test config s (not (is_there f)) (refused s NotArrived) _ (λ e. same_step config s NotArrived)
-      (λ e. by_test config s (nat_lt (node_at s f.message.to).now f.message.tag) (refused s Held)
+  flight_step = by_test config s (not (is_there f)) (step_refused s NotArrived) _ (λ e. same_step config s NotArrived)
+      (λ e. by_test config s (nat_lt (node_at s f.message.to).now f.message.tag) (step_refused s Held)
       (delivers config s f.message (outcome_of s f.message f.message.body)) (λ e. same_step config s Held)
       (λ e. body_step f.message.body refl))
 
-pub delivery_step : (config : Config) (s : Fabric) (t : Beside) (id : ℕ) (found : Option Flight) → IsKept s t →
+pub delivery_step : (config : Config) (s : Fabric) (t : GhostState) (id : ℕ) (found : Option Flight) → FabricInvariant s t →
     flight_of s.net.flights id ≡ found → IsStep config s (delivers_flight config s found)
 delivery_step config s t id None kept e = same_step config s NoMessage
 delivery_step config s t id (Some f) kept e = flight_step config s t id f kept e

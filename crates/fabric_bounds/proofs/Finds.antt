@@ -7,13 +7,13 @@ use Rattle.sn_model.specs.declared.cache.Need.TheVariants as need
 use Rattle.sn_model.specs.Caches.{takes_frame}
 use Rattle.sn_model.specs.Fabric.{Fabric, Flight, node_at}
 use Rattle.sn_model.specs.Net.{flight_of}
-use Rattle.fabric_coherence.specs.View.{Beside}
-use Rattle.fabric_coherence.specs.Coherent.{IsKept}
+use Rattle.fabric_coherence.specs.View.{GhostState}
+use Rattle.fabric_coherence.specs.Coherent.{FabricInvariant}
 use Rattle.fabric_bounds.specs.Bounds.{brings_line}
 use Rattle.fabric_bounds.proofs.Rows.{awaited_takes}
 use Rattle.fabric_bounds.proofs.Deliveries.{meets_row}
 
-module _ (s : Fabric) (t : Beside) (id : ℕ) (f : Flight) (kept : IsKept s t) (found : flight_of s.net.flights id ≡ Some f) where
+module _ (s : Fabric) (t : GhostState) (id : ℕ) (f : Flight) (kept : FabricInvariant s t) (found : flight_of s.net.flights id ≡ Some f) where
   pub answer_takes : (x : Body) → f.message.body ≡ x → brings_line x ≡ true →
       takes_frame (node_at s f.message.to).cache f.message.block ≡ true
   answer_takes (DataS content) is b =

@@ -6,14 +6,14 @@ use Rattle.sn_base.specs.Image.{ImageData}
 use Rattle.sn_base.specs.declared.block.Write.{Write as Written}
 use Rattle.sn_base.specs.declared.config.Config.{Config}
 use Rattle.rv_core.specs.Core.{block_of}
-use Rattle.sn_model.specs.Access.{prepared}
-use Rattle.sn_model.specs.Fabric.{Fabric, Node, Moved, node_at, first_node, first_fabric}
+use Rattle.sn_model.specs.Access.{node_to_write}
+use Rattle.sn_model.specs.Fabric.{Fabric, Node, FabricStep, node_at, first_node, first_fabric}
 use Rattle.sn_model.specs.FabricEvents.{FabricEvent, Access, Write, Evict, Edge, Hop, Deliver, Lose, Kill, Report, Advance, Recover}
 use Rattle.sn_model.specs.FabricEvents.{moved_by}
-use Rattle.sn_model.specs.PointEvents.{recovered, recovers, restored, living_switches}
+use Rattle.sn_model.specs.PointEvents.{step_of_recovery, recovers, restored, living_switches}
 use Rattle.route_plan.specs.Routes.{first_cut_off}
-use Rattle.fabric_coherence.specs.View.{Beside}
-use Rattle.fabric_coherence.specs.Coherent.{IsKept, Keeps}
+use Rattle.fabric_coherence.specs.View.{GhostState}
+use Rattle.fabric_coherence.specs.Coherent.{FabricInvariant, Keeps}
 use Rattle.fabric_coherence.specs.Events.{MayBe}
 use Rattle.fabric_coherence.specs.Runs.{IsFabricRun, fabric_after}
 use Rattle.fabric_coherence.proofs.KeptEvents.{each_keeps}
@@ -24,12 +24,12 @@ use Rattle.fabric_bounds.proofs.Steps.{IsStep}
 use Rattle.fabric_bounds.proofs.Events.{event_step}
 
 -- what an event makes of the numbers: each interval rises by one at most, or goes back to the recovery point
-pub record Rises (s : Fabric) (x : Moved) : Type 0 where
+pub record Rises (s : Fabric) (x : FabricStep) : Type 0 where
   pub sends : SendsFew s x
   pub nows : (n : ℕ) → n < length s.nodes → (e : ℕ) → (node_at s n).now ≤ e → s.point ≤ e → (node_at x.fabric n).now ≤ e + 1
   pub point : x.fabric.point ≤ s.point + 1
 
-rises : (config : Config) (s : Fabric) (x : Moved) → IsStep config s x → Rises s x
+rises : (config : Config) (s : Fabric) (x : FabricStep) → IsStep config s x → Rises s x
 rises config s x step = record {
   sends = step.sends;
   nows = λ n l e h g. omega (arith, (step.nodes n l).now);
@@ -38,16 +38,16 @@ rises config s x step = record {
 
 -- a write, with a log that has the room
 roomy : Config → Fabric → ℕ → Written → Config
-roomy config s n w = record config { log = length (prepared (node_at s n) (block_of w.address)).log }
+roomy config s n w = record config { log = length (node_to_write (node_at s n) (block_of w.address)).log }
 
 not_less : (k : ℕ) → nat_lt k k ≡ false
 not_less k = grind (arith, nat_tests)
 
-write_rises : (config : Config) (s : Fabric) (t : Beside) (n : ℕ) (w : Written) → IsKept s t → MayBe s (Write n w) →
+write_rises : (config : Config) (s : Fabric) (t : GhostState) (n : ℕ) (w : Written) → FabricInvariant s t → MayBe s (Write n w) →
     Rises s (moved_by config s (Write n w))
 unfolding moved_by roomy
 write_rises config s t n w kept may = rises (roomy config s n w) s (moved_by config s (Write n w))
-    (event_step (roomy config s n w) s t (Write n w) kept may (not_less (length (prepared (node_at s n) (block_of w.address)).log)) tt)
+    (event_step (roomy config s n w) s t (Write n w) kept may (not_less (length (node_to_write (node_at s n) (block_of w.address)).log)) tt)
 
 -- a recovery
 none_more : (k : ℕ) → k ≡ k + 0
@@ -76,9 +76,9 @@ recovers_rises s None = record {
 
 recover_rises : (config : Config) (s : Fabric) (k : ℕ) → k ≡ s.point → Rises s (moved_by config s (Recover k))
 unfolding moved_by
-recover_rises config s k e = subst (λ j. Rises s (recovered s j)) (sym e) (recovers_rises s (first_cut_off (living_switches s)))
+recover_rises config s k e = subst (λ j. Rises s (step_of_recovery s j)) (sym e) (recovers_rises s (first_cut_off (living_switches s)))
 
-event_rises : (config : Config) (s : Fabric) (t : Beside) (event : FabricEvent) → IsKept s t → MayBe s event →
+event_rises : (config : Config) (s : Fabric) (t : GhostState) (event : FabricEvent) → FabricInvariant s t → MayBe s event →
     Rises s (moved_by config s event)
 event_rises config s t (Write n w) kept may = write_rises config s t n w kept may
 event_rises config s t (Recover k) kept may = recover_rises config s k may
@@ -92,7 +92,7 @@ event_rises config s t (Kill switch) kept may = rises config s _ (event_step con
 event_rises config s t (Report n) kept may = rises config s _ (event_step config s t (Report n) kept may tt tt)
 event_rises config s t (Advance k) kept may = rises config s _ (event_step config s t (Advance k) kept may tt tt)
 
-pub event_sends : (config : Config) (s : Fabric) (t : Beside) (event : FabricEvent) → IsKept s t → MayBe s event →
+pub event_sends : (config : Config) (s : Fabric) (t : GhostState) (event : FabricEvent) → FabricInvariant s t → MayBe s event →
     SendsFew s (moved_by config s event)
 event_sends config s t event kept may = (event_rises config s t event kept may).sends
 
@@ -105,7 +105,7 @@ start_counts image nodes = record {
   point = omega arith;
 }
 
-one_more : (e : ℕ) (s : Fabric) (x : Moved) → length x.fabric.nodes ≡ length s.nodes → Rises s x → CountsTo e s → CountsTo (e + 1) x.fabric
+one_more : (e : ℕ) (s : Fabric) (x : FabricStep) → length x.fabric.nodes ≡ length s.nodes → Rises s x → CountsTo e s → CountsTo (e + 1) x.fabric
 one_more e s x count step counts = record {
   numbers = next_number s.net.next_id x.fabric.net.next_id (length x.sent) counts.numbers step.sends.few step.sends.numbers;
   nows = λ n l. let k : n < length s.nodes = subst (λ c. n < c) count l in step.nows n k e (counts.nows n k) counts.point;

@@ -8,8 +8,8 @@ use Rattle.sn_model.specs.declared.cache.LineState.TheVariants.{Absent, Shared, 
 use Rattle.sn_model.specs.declared.cache.Need.{Need}
 use Rattle.sn_model.specs.Caches.{Cache, Line, Miss, no_line, line_of, with_line, is_present, is_owned, is_writable_state, misses_on}
 use Rattle.sn_model.specs.Caches.{takes_frame}
-use Rattle.sn_model.specs.CacheRows.{Logged, CacheReply, AwaitsAnswer, content_of, line_when_done, completed, completed_or_waiting}
-use Rattle.sn_model.specs.CacheRows.{completed_or_waiting_by, fixed_at, acknowledged, taken_over, forward_read, forward_write, invalidate}
+use Rattle.sn_model.specs.CacheRows.{Logged, CacheReply, AwaitsAnswer, content_of, line_when_done, reply_when_complete, reply_or_wait}
+use Rattle.sn_model.specs.CacheRows.{reply_or_wait_by, fixed_at, miss_with_ack, taken_over, forward_read, forward_write, invalidate}
 use Rattle.sn_model.specs.CacheRows.{data_shared, data_modified, data_exclusive, upgrade_granted, acknowledge, put_go, put_done}
 use Rattle.mosi_cache.proofs.Taken.{TakesFewer, fewer-set}
 
@@ -75,24 +75,24 @@ module _ (at : Logged) (d : Cache) (fewer : TakesFewer at.cache d) (home : ℕ) 
   own_block : (p : Bool) (x : ℕ) → (p || nat_eq x x) ≡ true
   own_block p x = grind (arith, nat_tests)
 
-  completes : (miss : Miss) (fixed : ℕ) → IsOn (Some miss) → TakesFewer (completed at home miss fixed).after.cache d
+  completes : (miss : Miss) (fixed : ℕ) → IsOn (Some miss) → TakesFewer (reply_when_complete at home miss fixed).after.cache d
   completes miss fixed on b e =
-      waits miss on b (fewer-set (completed at home miss fixed).after.cache (record at.cache { miss = Some miss }) miss.block
+      waits miss on b (fewer-set (reply_when_complete at home miss fixed).after.cache (record at.cache { miss = Some miss }) miss.block
       (record { state = line_when_done (line_of at.cache miss.block).state miss.need; content = content_of at miss.block }) refl
       (λ o h. absurd (cc)) (λ h. own_block (is_present (line_of at.cache miss.block).state) miss.block) b e)
 
   completed_or_waiting_by_small : (miss : Miss) (fixed : Option ℕ) → IsOn (Some miss) →
-      IsSmall (completed_or_waiting_by at home miss fixed) d
+      IsSmall (reply_or_wait_by at home miss fixed) d
   completed_or_waiting_by_small miss None on = record { fewer = waits miss on; sends = omega arith }
   completed_or_waiting_by_small miss (Some fixed) on = all_in (nat_eq miss.acks miss.due)
     where
       all_in : (c : Bool) → IsSmall
-          (if c then completed at home miss fixed
+          (if c then reply_when_complete at home miss fixed
           else record { after = record at { cache = record at.cache { miss = Some miss } }; sends = []; lost = None }) d
       all_in true = record { fewer = completes miss fixed on; sends = omega arith }
       all_in false = record { fewer = waits miss on; sends = omega arith }
 
-  pub completed_or_waiting_small : (o : Option Miss) → IsOn o → IsSmall (completed_or_waiting at home o) d
+  pub completed_or_waiting_small : (o : Option Miss) → IsOn o → IsSmall (reply_or_wait at home o) d
   completed_or_waiting_small None on = record { fewer = fewer; sends = omega arith }
   completed_or_waiting_small (Some miss) on = completed_or_waiting_by_small miss miss.fixed on
 
@@ -101,7 +101,7 @@ fixed_on : (o : Option Miss) (tag due b : ℕ) → misses_on (fixed_at o tag due
 fixed_on None tag due b e = e
 fixed_on (Some miss) tag due b e = e
 
-acknowledged_on : (o : Option Miss) (b : ℕ) → misses_on (acknowledged o) b ≡ true → misses_on o b ≡ true
+acknowledged_on : (o : Option Miss) (b : ℕ) → misses_on (miss_with_ack o) b ≡ true → misses_on o b ≡ true
 acknowledged_on None b e = e
 acknowledged_on (Some miss) b e = e
 
@@ -169,5 +169,5 @@ module _ (at : Logged) where
 
   pub acknowledge_small : (home : ℕ) → IsSmall (acknowledge at home) at.cache
   acknowledge_small home =
-      completed_or_waiting_small at at.cache stays home (acknowledged at.cache.miss)
+      completed_or_waiting_small at at.cache stays home (miss_with_ack at.cache.miss)
       (λ b e. missed_takes b (acknowledged_on at.cache.miss b e))

@@ -6,18 +6,18 @@ use Rattle.sn_base.specs.Image.{ImageData}
 use Rattle.sn_base.specs.declared.config.Config.{Config}
 use Rattle.sn_base.specs.declared.event.Answer.TheVariants.{CutOff}
 use Rattle.sn_model.specs.Caches.{empty_cache}
-use Rattle.sn_model.specs.Fabric.{Fabric, Node, Moved, node_at, first_node, first_fabric}
+use Rattle.sn_model.specs.Fabric.{Fabric, Node, FabricStep, node_at, first_node, first_fabric}
 use Rattle.sn_model.specs.FabricEvents.{FabricEvent, Access, Write, Evict, Edge, Hop, Deliver, Lose, Kill, Report, Advance, Recover}
 use Rattle.sn_model.specs.FabricEvents.{moved_by}
-use Rattle.sn_model.specs.PointEvents.{recovered, recovers, restored, restored_node, living_switches}
+use Rattle.sn_model.specs.PointEvents.{step_of_recovery, recovers, restored, restored_node, living_switches}
 use Rattle.route_plan.specs.Routes.{first_cut_off}
 use Rattle.mosi_cache.proofs.Fits.{fits-none}
-use Rattle.fabric_coherence.specs.View.{Beside, block_seen}
+use Rattle.fabric_coherence.specs.View.{GhostState, block_seen}
 use Rattle.fabric_coherence.specs.Leads.{is_framed, KeepsFrames}
-use Rattle.fabric_coherence.specs.Coherent.{IsKept}
+use Rattle.fabric_coherence.specs.Coherent.{FabricInvariant}
 use Rattle.fabric_coherence.specs.Events.{MayBe}
 use Rattle.fabric_coherence.specs.Runs.{fabric_after}
-use Rattle.fabric_coherence.specs.Start.{first_beside}
+use Rattle.fabric_coherence.specs.Start.{first_ghost}
 use Rattle.fabric_coherence.proofs.KeptEvents.{each_keeps_frames}
 use Rattle.fabric_coherence.proofs.NodesStay.{nodes_same}
 use Rattle.fabric_coherence.proofs.Recovery.{each_node, replicated}
@@ -34,7 +34,7 @@ empty_fits config = fits-none config.sets config.ways
 first_at : (nodes n : ℕ) → slice_index_or (replicate nodes first_node) n first_node ≡ first_node
 first_at nodes n = replicated nodes n first_node
 
-pub start_bounded : (image : ImageData) (config : Config) (nodes : ℕ) → IsBounded config (first_fabric image nodes) first_beside
+pub start_bounded : (image : ImageData) (config : Config) (nodes : ℕ) → IsBounded config (first_fabric image nodes) first_ghost
 start_bounded image config nodes = record {
   logs = λ n l. subst (λ (x : Node). length x.log ≤ config.log) (sym (first_at nodes n)) (omega arith);
   net = omega arith;
@@ -44,7 +44,7 @@ start_bounded image config nodes = record {
 
 -- an event
 
-edge_fits : (config : Config) (s : Fabric) (t u : Beside) → KeepsFrames s t u → IsBounded config s t → (n j : ℕ) → n < length s.nodes →
+edge_fits : (config : Config) (s : Fabric) (t u : GhostState) → KeepsFrames s t u → IsBounded config s t → (n j : ℕ) → n < length s.nodes →
     EdgeFits config u n j
 edge_fits config s t u frames bounded n j l = either (frames n j)
   where
@@ -56,7 +56,7 @@ edge_fits config s t u frames bounded n j l = either (frames n j)
     either (inl same) = (before.0, before.1, λ b low e. before.2 b low (sym (same b) ∙ e))
     either (inr new) = ((node_at s n).cache, bounded.frames n l, λ b low e. sym (framed_takes s t n b) ∙ (sym (new b) ∙ e))
 
-stepped : (config : Config) (s : Fabric) (t u : Beside) (x : Moved) → length x.fabric.nodes ≡ length s.nodes → IsStep config s x →
+stepped : (config : Config) (s : Fabric) (t u : GhostState) (x : FabricStep) → length x.fabric.nodes ≡ length s.nodes → IsStep config s x →
     KeepsFrames s t u → IsBounded config s t → IsBounded config x.fabric u
 stepped config s t u x count step frames bounded = record {
   logs = λ n l. (step.nodes n (there n l)).log (bounded.logs n (there n l));
@@ -70,7 +70,7 @@ stepped config s t u x count step frames bounded = record {
 
 -- a recovery
 
-restored_bounded : (config : Config) (s : Fabric) (t u : Beside) → length (restored s s.point).nodes ≡ length s.nodes → IsKept s t →
+restored_bounded : (config : Config) (s : Fabric) (t u : GhostState) → length (restored s s.point).nodes ≡ length s.nodes → FabricInvariant s t →
     KeepsFrames s t u → IsBounded config s t → IsBounded config (restored s s.point) u
 unfolding restored
 restored_bounded config s t u count kept frames bounded = record {
@@ -87,20 +87,20 @@ restored_bounded config s t u count kept frames bounded = record {
     there : (n : ℕ) → n < length (map (restored_node s.point) s.nodes) → n < length s.nodes
     there n l = subst (λ c. n < c) count l
 
-recovers_bounded : (config : Config) (s : Fabric) (t u : Beside) (cut : Option (ℕ × ℕ)) →
-    length (recovers s s.point cut).fabric.nodes ≡ length s.nodes → IsKept s t → KeepsFrames s t u → IsBounded config s t →
+recovers_bounded : (config : Config) (s : Fabric) (t u : GhostState) (cut : Option (ℕ × ℕ)) →
+    length (recovers s s.point cut).fabric.nodes ≡ length s.nodes → FabricInvariant s t → KeepsFrames s t u → IsBounded config s t →
     IsBounded config (recovers s s.point cut).fabric u
 recovers_bounded config s t u (Some pair) count kept frames bounded =
     stepped config s t u (recovers s s.point (Some pair)) count (same_step config s (CutOff pair.0 pair.1)) frames bounded
 recovers_bounded config s t u None count kept frames bounded = restored_bounded config s t u count kept frames bounded
 
-recover_bounded : (config : Config) (s : Fabric) (t u : Beside) (k : ℕ) → k ≡ s.point →
-    length (moved_by config s (Recover k)).fabric.nodes ≡ length s.nodes → IsKept s t → KeepsFrames s t u → IsBounded config s t →
+recover_bounded : (config : Config) (s : Fabric) (t u : GhostState) (k : ℕ) → k ≡ s.point →
+    length (moved_by config s (Recover k)).fabric.nodes ≡ length s.nodes → FabricInvariant s t → KeepsFrames s t u → IsBounded config s t →
     IsBounded config (moved_by config s (Recover k)).fabric u
 unfolding moved_by
 recover_bounded config s t u k e =
-    subst (λ j. length (recovered s j).fabric.nodes ≡ length s.nodes → IsKept s t → KeepsFrames s t u → IsBounded config s t →
-    IsBounded config (recovered s j).fabric u) (sym e)
+    subst (λ j. length (step_of_recovery s j).fabric.nodes ≡ length s.nodes → FabricInvariant s t → KeepsFrames s t u → IsBounded config s t →
+    IsBounded config (step_of_recovery s j).fabric u) (sym e)
     (recovers_bounded config s t u (first_cut_off (living_switches s)))
 
 -- a recovery, or another event
@@ -117,7 +117,7 @@ no_recovery_or (Kill switch) = inr tt
 no_recovery_or (Report n) = inr tt
 no_recovery_or (Advance k) = inr tt
 
-event_bounded : (config : Config) (s : Fabric) (t u : Beside) (event : FabricEvent) → IsKept s t → MayBe s event → HasLogRoom config s event →
+event_bounded : (config : Config) (s : Fabric) (t u : GhostState) (event : FabricEvent) → FabricInvariant s t → MayBe s event → HasLogRoom config s event →
     KeepsFrames s t u → IsBounded config s t → IsBounded config (moved_by config s event).fabric u
 event_bounded config s t u event kept may room frames bounded = ⊎_elim
     (λ (r : (k : ℕ) × (event ≡ Recover k)). subst (λ e. MayBe s e → IsBounded config (moved_by config s e).fabric u) (sym r.1)

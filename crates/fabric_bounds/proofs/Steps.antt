@@ -6,9 +6,9 @@ use Rattle.std.specs.Prelude.{slice_index_or, slice_set}
 use Rattle.sn_base.specs.declared.config.Config.{Config}
 use Rattle.sn_base.specs.declared.event.Answer.{Answer}
 use Rattle.sn_model.specs.declared.cache.Out.{Out}
-use Rattle.sn_model.specs.declared.net.Told.{Told}
+use Rattle.sn_model.specs.declared.net.News.{News}
 use Rattle.sn_model.specs.Caches.{Cache}
-use Rattle.sn_model.specs.Fabric.{Fabric, Node, Moved, node_at, first_node, answered}
+use Rattle.sn_model.specs.Fabric.{Fabric, Node, FabricStep, node_at, first_node, step_with_answer}
 use Rattle.sn_model.specs.Net.{net_limit, routes_of, sending}
 use Rattle.mosi_cache.proofs.Taken.{TakesFewer, taken-fewer}
 use Rattle.fabric_bounds.specs.Bounds.{CacheFits}
@@ -20,7 +20,7 @@ pub record NodeSteps (config : Config) (old new : Node) : Type 0 where
   pub frames : CacheFits config old.cache → CacheFits config new.cache
   pub now : new.now ≤ old.now + 1
 
-pub record IsStep (config : Config) (s : Fabric) (x : Moved) : Type 0 where
+pub record IsStep (config : Config) (s : Fabric) (x : FabricStep) : Type 0 where
   pub nodes : (n : ℕ) → n < length s.nodes → NodeSteps config (node_at s n) (node_at x.fabric n)
   pub net : length s.net.flights ≤ net_limit → length x.fabric.net.flights ≤ net_limit
   pub sends : SendsFew s x
@@ -47,10 +47,10 @@ one_steps config s n v l h m k =
     either false e = node_stays config (node_at s m)
 
 -- an event that sends nothing
-pub quiet_step : (config : Config) (s after : Fabric) (answer : Answer) (told : Option Told) →
+pub quiet_step : (config : Config) (s after : Fabric) (answer : Answer) (told : Option News) →
     ((n : ℕ) → n < length s.nodes → NodeSteps config (node_at s n) (node_at after n)) →
     length after.net.flights ≤ length s.net.flights → after.net.next_id ≡ s.net.next_id → after.point ≤ s.point + 1 →
-    IsStep config s (record (answered after answer) { told = told })
+    IsStep config s (record (step_with_answer after answer) { told = told })
 quiet_step config s after answer told nodes fewer next point = record {
   nodes = nodes;
   net = λ h. omega arith;
@@ -62,7 +62,7 @@ quiet_step config s after answer told nodes fewer next point = record {
     none k = omega arith
 
 -- an event that sends these messages
-pub sending_step : (config : Config) (s after : Fabric) (from block : ℕ) (outs : List Out) (answer : Answer) (told : Option Told) →
+pub sending_step : (config : Config) (s after : Fabric) (from block : ℕ) (outs : List Out) (answer : Answer) (told : Option News) →
     ((n : ℕ) → n < length s.nodes → NodeSteps config (node_at s n) (node_at after n)) →
     (length s.net.flights ≤ net_limit → length after.net.flights + length outs ≤ net_limit) → after.net.next_id ≡ s.net.next_id →
     length outs ≤ most_sent → after.point ≤ s.point + 1 →
@@ -84,11 +84,11 @@ sending_step config s after from block outs answer told nodes room next few poin
 }
 
 -- an event that changes nothing
-pub same_step : (config : Config) (s : Fabric) (answer : Answer) → IsStep config s (answered s answer)
+pub same_step : (config : Config) (s : Fabric) (answer : Answer) → IsStep config s (step_with_answer s answer)
 same_step config s answer = quiet_step config s s answer None (λ n l. node_stays config (node_at s n)) (omega arith) refl (omega arith)
 
 -- a test of the fabric
-pub by_test : (config : Config) (s : Fabric) (test : Bool) (a b : Moved) → (test ≡ true → IsStep config s a) →
+pub by_test : (config : Config) (s : Fabric) (test : Bool) (a b : FabricStep) → (test ≡ true → IsStep config s a) →
     (test ≡ false → IsStep config s b) → IsStep config s (if test then a else b)
 by_test config s true a b first second = first refl
 by_test config s false a b first second = second refl

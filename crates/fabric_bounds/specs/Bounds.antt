@@ -13,9 +13,9 @@ use Rattle.sn_model.specs.FabricEvents.{FabricEvent, Write, moved_by}
 use Rattle.sn_model.specs.Net.{net_limit}
 use Rattle.sn_model.specs.PointEvents.{restored_cache}
 use Rattle.mosi_cache.specs.Controller.{FitsSets}
-use Rattle.fabric_coherence.specs.Coherent.{IsKept}
+use Rattle.fabric_coherence.specs.Coherent.{FabricInvariant}
 use Rattle.fabric_coherence.specs.Events.{MayBe}
-use Rattle.fabric_coherence.specs.View.{Beside}
+use Rattle.fabric_coherence.specs.View.{GhostState}
 
 -- a cache fits: in no set more blocks take a frame than it has ways
 abbrev pub CacheFits : Config → Cache → Type 0
@@ -26,13 +26,13 @@ abbrev pub cache_at : Node → ℕ → Cache
 cache_at node k = restored_cache node.log k node.cache
 
 -- the blocks that had frames of node n at its edge to interval j are some that fit: those of a cache that does
-abbrev pub EdgeFits : Config → Beside → ℕ → ℕ → Type 0
+abbrev pub EdgeFits : Config → GhostState → ℕ → ℕ → Type 0
 EdgeFits config t n j =
     (cache : Cache) × CacheFits config cache × ((b : ℕ) → b < block_count → t.framed b n j ≡ true → takes_frame cache b ≡ true)
 
 -- no log has more entries than it may, no more messages are in flight than may be, each cache fits, and so did the blocks
 -- that had frames at each edge
-pub record IsBounded (config : Config) (s : Fabric) (t : Beside) : Type 0 where
+pub record IsBounded (config : Config) (s : Fabric) (t : GhostState) : Type 0 where
   pub logs : (n : ℕ) → n < length s.nodes → length (node_at s n).log ≤ config.log
   pub net : length s.net.flights ≤ net_limit
   pub frames : (n : ℕ) → n < length s.nodes → CacheFits config (node_at s n).cache
@@ -40,7 +40,7 @@ pub record IsBounded (config : Config) (s : Fabric) (t : Beside) : Type 0 where
 
 -- all sentences of coherence and these bounds, with something beside the fabric
 abbrev pub KeepsBounds : Config → Fabric → Type 0
-KeepsBounds config s = (t : Beside) × IsKept s t × IsBounded config s t
+KeepsBounds config s = (t : GhostState) × FabricInvariant s t × IsBounded config s t
 
 -- a write was served: the log has the room for what it notes
 abbrev pub HasLogRoom : Config → Fabric → FabricEvent → Type 0

@@ -1,13 +1,13 @@
 -- How far the fabric's numbers have come.
 use Rattle.std.specs.Prelude.{◌≡◌, ℕ, ◌+◌, ◌*◌, ◌<◌, ◌≤◌, length}
-use Rattle.sn_model.specs.Fabric.{Fabric, Moved, node_at}
+use Rattle.sn_model.specs.Fabric.{Fabric, FabricStep, node_at}
 
 -- how many messages an event sends at most: one to each node, and one more
 abbrev pub most_sent : ℕ
 most_sent = 17
 
 -- an event sends no more than that, and each message takes the next number
-pub record SendsFew (s : Fabric) (moved : Moved) : Type 0 where
+pub record SendsFew (s : Fabric) (moved : FabricStep) : Type 0 where
   pub few : length moved.sent ≤ most_sent
   pub numbers : moved.fabric.net.next_id ≡ s.net.next_id + length moved.sent
 

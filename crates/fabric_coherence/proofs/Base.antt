@@ -7,9 +7,9 @@ use Rattle.std.specs.Prelude.{slice_index_or, slice_set}
 use Rattle.sn_msg.specs.declared.Message.{Message as Sent}
 use Rattle.route_plan.specs.Distances.{Switches}
 use Rattle.sn_model.specs.Fabric.{Flight, Net}
-use Rattle.sn_model.specs.Net.{post, posted, is_lost, message_of, without_flight}
+use Rattle.sn_model.specs.Net.{post, net_after_sends, is_lost, message_of, without_flight}
 use Rattle.sn_model.specs.declared.cache.Out.{Out}
-use Rattle.sn_coherence.specs.Block.{gone}
+use Rattle.sn_coherence.specs.Block.{no_message}
 use Rattle.fabric_coherence.specs.View.{net_seen, is_seen, message_seen}
 use Rattle.fabric_coherence.specs.Steps.{Below}
 
@@ -20,12 +20,12 @@ read_set xs i j v d l = grind (arith, nat_tests, get_or-set_same, get_or-set_oth
 
 -- the net without a message
 without_step : (f : Flight) (fs : List Flight) (id b i : ℕ) →
-    net_seen b (filter (λ f. not (nat_eq f.message.id id)) fs) i ≡ cond (i == id) gone (net_seen b fs i) →
-    net_seen b (filter (λ f. not (nat_eq f.message.id id)) (f ∷ fs)) i ≡ cond (i == id) gone (net_seen b (f ∷ fs) i)
+    net_seen b (filter (λ f. not (nat_eq f.message.id id)) fs) i ≡ cond (i == id) no_message (net_seen b fs i) →
+    net_seen b (filter (λ f. not (nat_eq f.message.id id)) (f ∷ fs)) i ≡ cond (i == id) no_message (net_seen b (f ∷ fs) i)
 without_step f fs id b i h = grind (arith, nat_tests)
 
 pub seen-without : (fs : List Flight) (id b i : ℕ) →
-    net_seen b (filter (λ f. not (nat_eq f.message.id id)) fs) i ≡ cond (i == id) gone (net_seen b fs i)
+    net_seen b (filter (λ f. not (nat_eq f.message.id id)) fs) i ≡ cond (i == id) no_message (net_seen b fs i)
 seen-without [] id b i = grind (arith, nat_tests)
 seen-without (f ∷ fs) id b i = without_step f fs id b i (seen-without fs id b i)
 
@@ -39,7 +39,7 @@ push_step : (g f : Flight) (fs : List Flight) (b i : ℕ) →
 push_step g f fs b i h l = grind (arith, nat_tests)
 
 push_first : (f : Flight) (b i : ℕ) →
-    net_seen b (f ∷ []) i ≡ cond ((i == f.message.id) && is_seen b f.message) (message_seen f.message f.message.body) gone
+    net_seen b (f ∷ []) i ≡ cond ((i == f.message.id) && is_seen b f.message) (message_seen f.message f.message.body) no_message
 push_first f b i = grind (arith, nat_tests)
 
 pub seen-push : (fs : List Flight) (f : Flight) (b i : ℕ) → Below fs f.message.id →
@@ -66,10 +66,10 @@ seen-post routes net m b i e l = grind (arith, nat_tests, seen-push)
 
 -- a message is taken, and one is sent
 pub seen-answered : (routes : Switches) (net : Net) (id from tag block : ℕ) (out : Out) (b i : ℕ) → Below net.flights net.next_id →
-    net_seen b (posted routes (without_flight net id) from tag block (out ∷ [])).flights i
+    net_seen b (net_after_sends routes (without_flight net id) from tag block (out ∷ [])).flights i
     ≡ cond ((i == net.next_id)
     && (is_seen b (message_of (without_flight net id) from tag block out) && not (is_lost routes net (message_of net from tag block out))))
-    (message_seen (message_of net from tag block out) out.body) (cond (i == id) gone (net_seen b net.flights i))
+    (message_seen (message_of net from tag block out) out.body) (cond (i == id) no_message (net_seen b net.flights i))
 seen-answered routes net id from tag block out b i l =
     seen-post routes (without_flight net id) (message_of (without_flight net id) from tag block out) b i refl
     (below-without net.flights id net.next_id l)

@@ -10,7 +10,7 @@ use Rattle.sn_model.specs.NetEvents.{node_after}
 use Rattle.sn_model.specs.CacheRows.{Logged, CacheReply}
 use Rattle.sn_coherence.specs.Block as block
 use Rattle.sn_coherence.specs.Same.{IsSame}
-use Rattle.fabric_coherence.specs.View.{Beside, block_seen, miss_seen, put_seen, put_issued, is_for_all, content_held}
+use Rattle.fabric_coherence.specs.View.{GhostState, block_seen, miss_seen, put_seen, put_issued, is_for_all, content_held}
 use Rattle.fabric_coherence.specs.Steps.{after_cache, elsewhere, IsShaped, IsInFlight}
 use Rattle.fabric_coherence.specs.CacheSeen.{cache_seen, KeepsHomeSide, KeepsCacheSide, IsElsewhere}
 use Rattle.fabric_coherence.proofs.Base.{read_set, seen-without}
@@ -26,7 +26,7 @@ abbrev pub waiting_with : block.Block → Waiting → block.Block
 waiting_with b w = record b { miss = w.miss; putting = w.putting; put_issued = w.put_issued }
 
 -- how a block that isn't the row's sees the cache of the reply
-pub record IsApart (s : Fabric) (t : Beside) (m : Message) (after : Logged) (o : ℕ) (w : Waiting) : Type 0 where
+pub record IsApart (s : Fabric) (t : GhostState) (m : Message) (after : Logged) (o : ℕ) (w : Waiting) : Type 0 where
   pub line : line_of after.cache o ≡ line_of (node_at s m.to).cache o
   pub home_side : KeepsHomeSide (node_at s m.to).log after.log o
   pub cache_side : KeepsCacheSide (node_at s m.to).log after.log o
@@ -34,7 +34,7 @@ pub record IsApart (s : Fabric) (t : Beside) (m : Message) (after : Logged) (o :
   pub putting : (n : ℕ) → block.set (block_seen s t o).putting m.to (put_seen o after.cache.put) n ≡ w.putting n
   pub put_issued : (n : ℕ) → block.set (block_seen s t o).put_issued m.to (put_issued after.cache.put) n ≡ w.put_issued n
 
-module _ (s : Fabric) (t : Beside) (m : Message) (shape : IsShaped s) (flight : IsInFlight s m) (o : ℕ) (apart : o ≢ m.block) where
+module _ (s : Fabric) (t : GhostState) (m : Message) (shape : IsShaped s) (flight : IsInFlight s m) (o : ℕ) (apart : o ≢ m.block) where
   -- a line of another block is written
   pub line_unwritten : (lines : List Line) (line : Line) → length lines ≡ block_count →
       slice_index_or (slice_set lines m.block line) o no_line ≡ slice_index_or lines o no_line
@@ -44,7 +44,7 @@ module _ (s : Fabric) (t : Beside) (m : Message) (shape : IsShaped s) (flight : 
 
   module _ (row : block.Block) (w : Waiting) where
     apart_seen : (reply : CacheReply) (count : ℕ) → IsApart s t m reply.after o w →
-        ((i : ℕ) → (block_seen (after_cache s m reply).fabric t o).net i ≡ block.set (block_seen s t o).net m.id block.gone i) →
+        ((i : ℕ) → (block_seen (after_cache s m reply).fabric t o).net i ≡ block.set (block_seen s t o).net m.id block.no_message i) →
         (after_cache s m reply).fabric.net.next_id ≡ s.net.next_id + count →
         IsElsewhere s t m reply row o (waiting_with (elsewhere (block_seen s t o) m.id count) w)
     apart_seen reply count h net next = record {

@@ -16,9 +16,9 @@ use Rattle.sn_model.specs.NetEvents.{logged_at}
 use Rattle.sn_model.specs.CacheRows.{AwaitsAnswer, NoneIn, is_absent_or_shared, MayForward, MayTakeCopy, MayTakeOwnership, MayUpgrade, MayCount}
 use Rattle.sn_model.specs.CacheRows.{MayGiveBack, MayClosePut}
 use Rattle.sn_coherence.specs.Block as block
-use Rattle.sn_coherence.specs.Kept.{Stages}
+use Rattle.sn_coherence.specs.Invariant.{Stages}
 use Rattle.sn_coherence.specs.Consequences.{MeetsRows, MeetsNotes}
-use Rattle.fabric_coherence.specs.View.{Beside, block_seen, message_seen, line_seen, miss_seen, miss_here, put_seen, wants}
+use Rattle.fabric_coherence.specs.View.{GhostState, block_seen, message_seen, line_seen, miss_seen, miss_here, put_seen, wants}
 use Rattle.fabric_coherence.specs.Steps.{IsInFlight}
 
 owned_seen : (state : LineState) → is_owned state ≡ block.is_owned (line_seen state)
@@ -128,7 +128,7 @@ inside_owned b block.Take st k ta i = ap block.is_owned (st.inside_other (ap blo
 inside_owned b block.Move st k ta i = ap block.is_owned (st.inside_other (ap block.brings_to_cache k) i)
 inside_owned b block.Upgrade st k ta i = ap block.is_owned (st.inside_upgrade k i)
 
-module _ (s : Fabric) (t : Beside) (m : Message) (flight : IsInFlight s m) where
+module _ (s : Fabric) (t : GhostState) (m : Message) (flight : IsInFlight s m) where
   abbrev here : block.Block
   here = block_seen s t m.block
 

@@ -13,13 +13,13 @@ use Rattle.sn_model.specs.declared.cache.Need.TheVariants.{Read, Write}
 use Rattle.sn_model.specs.Caches.{Line, Miss, Put, line_of, is_present, with_line, block_count, no_line, puts_on}
 use Rattle.sn_model.specs.Fabric.{Fabric, node_at, home_node}
 use Rattle.sn_model.specs.NetEvents.{logged_at}
-use Rattle.sn_model.specs.CacheRows.{Logged, send, completed, waiting, completed_or_waiting, completed_or_waiting_by, fixed_at}
-use Rattle.sn_model.specs.CacheRows.{acknowledged, with_miss, taken_over, line_when_done, AwaitsAnswer, forward_read, forward_write}
+use Rattle.sn_model.specs.CacheRows.{Logged, send, reply_when_complete, reply_that_waits, reply_or_wait, reply_or_wait_by, fixed_at}
+use Rattle.sn_model.specs.CacheRows.{miss_with_ack, with_miss, taken_over, line_when_done, AwaitsAnswer, forward_read, forward_write}
 use Rattle.sn_model.specs.CacheRows.{invalidate, put_go, put_done, data_shared, data_modified, data_exclusive, upgrade_granted, acknowledge}
 use Rattle.sn_model.specs.CacheRows.{MayTakeCopy, MayTakeOwnership, MayUpgrade, MayCount}
 use Rattle.sn_coherence.specs.Block as block
 use Rattle.sn_coherence.specs.OtherEvents.{end_miss_elsewhere, end_put_elsewhere}
-use Rattle.fabric_coherence.specs.View.{Beside, block_seen, miss_seen, miss_here, put_seen, put_issued}
+use Rattle.fabric_coherence.specs.View.{GhostState, block_seen, miss_seen, miss_here, put_seen, put_issued}
 use Rattle.fabric_coherence.specs.Steps.{elsewhere, IsShaped, IsInFlight}
 use Rattle.fabric_coherence.specs.CacheSeen.{KeepsHomeSide, KeepsCacheSide, IsElsewhere, completed_or_waiting_elsewhere}
 use Rattle.fabric_coherence.proofs.CacheSeen.{set_kept, home_side_same, home_side_noted_owned, home_side_noted_not, cache_side_same}
@@ -53,7 +53,7 @@ pub puts_elsewhere : (o : Option Put) (b other : ℕ) → puts_on o b ≡ true �
 puts_elsewhere None b other may d = grind arith
 puts_elsewhere (Some put) b other may d = put_apart put.block b other may d
 
-module _ (s : Fabric) (t : Beside) (m : Message) (shape : IsShaped s) (flight : IsInFlight s m) (row : block.Block) (o : ℕ) (apart : o ≢ m.block) where
+module _ (s : Fabric) (t : GhostState) (m : Message) (shape : IsShaped s) (flight : IsInFlight s m) (row : block.Block) (o : ℕ) (apart : o ≢ m.block) where
   abbrev there : block.Block
   there = block_seen s t o
 
@@ -173,9 +173,9 @@ module _ (s : Fabric) (t : Beside) (m : Message) (shape : IsShaped s) (flight : 
       (put : before.cache.put ≡ (node_at s m.to).cache.put)
       (home_side : KeepsHomeSide (node_at s m.to).log before.log o) (cache_side : KeepsCacheSide (node_at s m.to).log before.log o) where
     complete_elsewhere : (done : Miss) (fixed : ℕ) → done.block ≡ m.block →
-        IsElsewhere s t m (completed before home done fixed) row o (end_miss_elsewhere (elsewhere there m.id 1) m.to)
+        IsElsewhere s t m (reply_when_complete before home done fixed) row o (end_miss_elsewhere (elsewhere there m.id 1) m.to)
     complete_elsewhere done fixed same =
-        one_elsewhere s t m shape flight o apart row without_miss (completed before home done fixed).after None
+        one_elsewhere s t m shape flight o apart row without_miss (reply_when_complete before home done fixed).after None
         (record {
           line =
               ap (λ (b : ℕ). slice_index_or
@@ -199,7 +199,7 @@ module _ (s : Fabric) (t : Beside) (m : Message) (shape : IsShaped s) (flight : 
         (send home (Unblock fixed)) refl
 
     waiting_elsewhere : (later : Miss) → later.block ≡ m.block → later.issued ≡ miss.issued →
-        IsElsewhere s t m (waiting before later) row o (elsewhere there m.id 0)
+        IsElsewhere s t m (reply_that_waits before later) row o (elsewhere there m.id 0)
     waiting_elsewhere later same issued = none_elsewhere s t m shape flight o apart row as_before (with_miss before (Some later)) None
         (record {
           line = line;
@@ -213,13 +213,13 @@ module _ (s : Fabric) (t : Beside) (m : Message) (shape : IsShaped s) (flight : 
         })
 
     completed_or_waiting_case : (all : Bool) (now : Miss) (fixed : ℕ) → now.block ≡ m.block → now.issued ≡ miss.issued →
-        IsElsewhere s t m (if all then completed before home now fixed else waiting before now) row o
+        IsElsewhere s t m (if all then reply_when_complete before home now fixed else reply_that_waits before now) row o
         (completed_or_waiting_elsewhere there m.id m.to all)
     completed_or_waiting_case true now fixed same issued = complete_elsewhere now fixed same
     completed_or_waiting_case false now fixed same issued = waiting_elsewhere now same issued
 
     fixed_case : (fixed : Option ℕ) (now : Miss) → now.block ≡ m.block → now.issued ≡ miss.issued →
-        IsElsewhere s t m (completed_or_waiting_by before home now fixed) row o
+        IsElsewhere s t m (reply_or_wait_by before home now fixed) row o
         (completed_or_waiting_elsewhere there m.id m.to (is_some fixed && nat_eq now.acks now.due))
     fixed_case None now same issued = waiting_elsewhere now same issued
     fixed_case (Some fixed) now same issued = completed_or_waiting_case (nat_eq now.acks now.due) now fixed same issued
@@ -232,21 +232,21 @@ module _ (s : Fabric) (t : Beside) (m : Message) (shape : IsShaped s) (flight : 
     seen_miss = miss_is s t m shape flight (node_at s m.to).cache.miss miss open_is on
 
     answered_miss : (tag a : ℕ) →
-        IsElsewhere s t m (completed_or_waiting before home (fixed_at (node_at s m.to).cache.miss tag a)) row o
+        IsElsewhere s t m (reply_or_wait before home (fixed_at (node_at s m.to).cache.miss tag a)) row o
         (completed_or_waiting_elsewhere there m.id m.to (here.acks == a))
     answered_miss tag a =
-        subst (λ x. IsElsewhere s t m (completed_or_waiting before home (fixed_at x tag a)) row o
+        subst (λ x. IsElsewhere s t m (reply_or_wait before home (fixed_at x tag a)) row o
         (completed_or_waiting_elsewhere there m.id m.to (here.acks == a))) (sym open_is)
-        (subst (λ x. IsElsewhere s t m (completed_or_waiting before home (fixed_at (Some miss) tag a)) row o
+        (subst (λ x. IsElsewhere s t m (reply_or_wait before home (fixed_at (Some miss) tag a)) row o
         (completed_or_waiting_elsewhere there m.id m.to x)) (sym (eq_same miss.acks a) ∙ ap (λ x. x.acks == a) (sym seen_miss))
         (fixed_case (Some tag) (record miss { fixed = Some tag; due = a }) on refl))
 
-    counted_miss : IsElsewhere s t m (completed_or_waiting before home (acknowledged (node_at s m.to).cache.miss)) row o
+    counted_miss : IsElsewhere s t m (reply_or_wait before home (miss_with_ack (node_at s m.to).cache.miss)) row o
         (completed_or_waiting_elsewhere there m.id m.to (here.is_fixed && (here.acks + 1 == here.due)))
     counted_miss =
-        subst (λ x. IsElsewhere s t m (completed_or_waiting before home (acknowledged x)) row o
+        subst (λ x. IsElsewhere s t m (reply_or_wait before home (miss_with_ack x)) row o
         (completed_or_waiting_elsewhere there m.id m.to (here.is_fixed && (here.acks + 1 == here.due)))) (sym open_is)
-        (subst (λ x. IsElsewhere s t m (completed_or_waiting before home (acknowledged (Some miss))) row o
+        (subst (λ x. IsElsewhere s t m (reply_or_wait before home (miss_with_ack (Some miss))) row o
         (completed_or_waiting_elsewhere there m.id m.to x))
         (ap (λ x. is_some miss.fixed && x) (sym (eq_same (miss.acks + 1) miss.due))
         ∙ ap (λ x. x.is_fixed && (x.acks + 1 == x.due)) (sym seen_miss))
@@ -258,10 +258,10 @@ module _ (s : Fabric) (t : Beside) (m : Message) (shape : IsShaped s) (flight : 
 
   taken_elsewhere : (state : LineState) (content : List ℕ) (a : ℕ) (need : Need) → AwaitsAnswer (node_at s m.to).cache.miss m.block need →
       logged_to (node_at s m.to).log false m.block ≤ m.tag + 1 →
-      IsElsewhere s t m (completed_or_waiting (taken_over at m.block m.tag state content) home
+      IsElsewhere s t m (reply_or_wait (taken_over at m.block m.tag state content) home
       (fixed_at (node_at s m.to).cache.miss m.tag a)) row o (completed_or_waiting_elsewhere there m.id m.to (miss_here_now.acks == a))
   taken_elsewhere state content a need may low = awaited (node_at s m.to).cache.miss m.block need
-      (IsElsewhere s t m (completed_or_waiting (taken_over at m.block m.tag state content) home
+      (IsElsewhere s t m (reply_or_wait (taken_over at m.block m.tag state content) home
       (fixed_at (node_at s m.to).cache.miss m.tag a)) row o (completed_or_waiting_elsewhere there m.id m.to (miss_here_now.acks == a))) may
       (λ miss open_is on n. answered_miss miss open_is on (taken_over at m.block m.tag state content)
       (as_long (record { state = state; content = content })) (unwritten (record { state = state; content = content })) refl

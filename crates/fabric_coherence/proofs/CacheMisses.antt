@@ -14,14 +14,14 @@ use Rattle.sn_model.specs.declared.cache.Need.TheVariants.{Read, Write}
 use Rattle.sn_model.specs.Caches.{Line, Miss, line_of, is_owned, with_line, block_count}
 use Rattle.sn_model.specs.Fabric.{Fabric, node_at, home_node}
 use Rattle.sn_model.specs.NetEvents.{logged_at}
-use Rattle.sn_model.specs.CacheRows.{Logged, completed, waiting, completed_or_waiting, completed_or_waiting_by, fixed_at, acknowledged}
+use Rattle.sn_model.specs.CacheRows.{Logged, reply_when_complete, reply_that_waits, reply_or_wait, reply_or_wait_by, fixed_at, miss_with_ack}
 use Rattle.sn_model.specs.CacheRows.{with_miss, taken_over, line_when_done, is_absent_or_shared, AwaitsAnswer, data_shared, data_modified}
 use Rattle.sn_model.specs.CacheRows.{data_exclusive, upgrade_granted, acknowledge, MayTakeCopy, MayTakeOwnership, MayUpgrade, MayCount}
 use Rattle.sn_coherence.specs.Block as block
 use Rattle.sn_coherence.specs.Log.{was_owned, old_content, told_at, NoteLaw}
 use Rattle.sn_coherence.specs.CacheRows as rows
 use Rattle.sn_coherence.proofs.Log.{note_law}
-use Rattle.fabric_coherence.specs.View.{Beside, message_seen, miss_seen, miss_here, line_seen, wants, or_zero}
+use Rattle.fabric_coherence.specs.View.{GhostState, message_seen, miss_seen, miss_here, line_seen, wants, or_zero}
 use Rattle.fabric_coherence.specs.Steps.{IsShaped, IsInFlight}
 use Rattle.fabric_coherence.specs.CacheSeen.{IsOwnRow}
 use Rattle.fabric_coherence.proofs.CacheSeen.{set_kept, home_side_same, home_side_noted_not}
@@ -66,7 +66,7 @@ done_seen Owned Write e = refl
 done_seen Modified Write e = refl
 done_seen Exclusive Write e = refl
 
-module _ (s : Fabric) (t : Beside) (m : Message) (shape : IsShaped s) (flight : IsInFlight s m) where
+module _ (s : Fabric) (t : GhostState) (m : Message) (shape : IsShaped s) (flight : IsInFlight s m) where
   abbrev b : block.Block
   b = here s t m shape flight
 
@@ -111,12 +111,12 @@ module _ (s : Fabric) (t : Beside) (m : Message) (shape : IsShaped s) (flight : 
       abbrev with_copy : Logged
       with_copy = record at { cache = with_line at.cache m.block Shared content }
 
-      copy_reply : data_shared at home m.block m.tag content ≡ completed with_copy home (record miss { fixed = Some m.tag; due = 0 }) m.tag
-      copy_reply = ap (λ o. completed_or_waiting with_copy home (fixed_at o m.tag 0)) open_is
-          ∙ ap (λ x. if nat_eq x 0 then completed with_copy home (record miss { fixed = Some m.tag; due = 0 }) m.tag
-          else waiting with_copy (record miss { fixed = Some m.tag; due = 0 })) (ap (λ x. x.acks) (sym seen_miss) ∙ acks)
+      copy_reply : data_shared at home m.block m.tag content ≡ reply_when_complete with_copy home (record miss { fixed = Some m.tag; due = 0 }) m.tag
+      copy_reply = ap (λ o. reply_or_wait with_copy home (fixed_at o m.tag 0)) open_is
+          ∙ ap (λ x. if nat_eq x 0 then reply_when_complete with_copy home (record miss { fixed = Some m.tag; due = 0 }) m.tag
+          else reply_that_waits with_copy (record miss { fixed = Some m.tag; due = 0 })) (ap (λ x. x.acks) (sym seen_miss) ∙ acks)
 
-      copy_row : IsOwnRow s t m (completed with_copy home (record miss { fixed = Some m.tag; due = 0 }) m.tag) (rows.data_shared b m.id)
+      copy_row : IsOwnRow s t m (reply_when_complete with_copy home (record miss { fixed = Some m.tag; due = 0 }) m.tag) (rows.data_shared b m.id)
       copy_row =
           complete_seen s t m shape flight with_copy (record miss { fixed = Some m.tag; due = 0 }) m.tag
           (record { state = Shared; content = content }) (rows.data_shared b m.id)
@@ -130,7 +130,7 @@ module _ (s : Fabric) (t : Beside) (m : Message) (shape : IsShaped s) (flight : 
             miss = λ n. ap (λ x. block.set b.miss x.to block.no_miss n) copy;
             putting = λ n. set_kept b.putting m.to (b.putting m.to) n refl;
             put_issued = λ n. set_kept b.put_issued m.to (b.put_issued m.to) n refl;
-            net = λ i. ap (λ x. block.replaced b m.id (rows.unblocks b x.to x.tag) i) copy;
+            net = λ i. ap (λ x. block.net_with_reply b m.id (rows.unblocks b x.to x.tag) i) copy;
             next = refl;
             holds =
                 λ n j. ap (λ x. block.set_row b.holds m.to (owned_says (is_owned (line_when_done Shared x))) n j) need
@@ -175,12 +175,12 @@ module _ (s : Fabric) (t : Beside) (m : Message) (shape : IsShaped s) (flight : 
         exclusive = taken_over at m.block m.tag Exclusive content
 
         exclusive_reply : data_exclusive at home m.block m.tag content
-            ≡ completed exclusive home (record miss { fixed = Some m.tag; due = 0 }) m.tag
-        exclusive_reply = ap (λ o. completed_or_waiting exclusive home (fixed_at o m.tag 0)) open_is
-            ∙ ap (λ x. if nat_eq x 0 then completed exclusive home (record miss { fixed = Some m.tag; due = 0 }) m.tag
-            else waiting exclusive (record miss { fixed = Some m.tag; due = 0 })) (ap (λ x. x.acks) (sym seen_miss) ∙ acks)
+            ≡ reply_when_complete exclusive home (record miss { fixed = Some m.tag; due = 0 }) m.tag
+        exclusive_reply = ap (λ o. reply_or_wait exclusive home (fixed_at o m.tag 0)) open_is
+            ∙ ap (λ x. if nat_eq x 0 then reply_when_complete exclusive home (record miss { fixed = Some m.tag; due = 0 }) m.tag
+            else reply_that_waits exclusive (record miss { fixed = Some m.tag; due = 0 })) (ap (λ x. x.acks) (sym seen_miss) ∙ acks)
 
-        exclusive_row : IsOwnRow s t m (completed exclusive home (record miss { fixed = Some m.tag; due = 0 }) m.tag)
+        exclusive_row : IsOwnRow s t m (reply_when_complete exclusive home (record miss { fixed = Some m.tag; due = 0 }) m.tag)
             (rows.data_exclusive b m.id)
         exclusive_row =
             complete_seen s t m shape flight exclusive (record miss { fixed = Some m.tag; due = 0 }) m.tag
@@ -195,7 +195,7 @@ module _ (s : Fabric) (t : Beside) (m : Message) (shape : IsShaped s) (flight : 
               miss = λ n. ap (λ x. block.set b.miss x.to block.no_miss n) alone;
               putting = λ n. set_kept b.putting m.to (b.putting m.to) n refl;
               put_issued = λ n. set_kept b.put_issued m.to (b.put_issued m.to) n refl;
-              net = λ i. ap (λ x. block.replaced b m.id (rows.unblocks b x.to x.tag) i) alone;
+              net = λ i. ap (λ x. block.net_with_reply b m.id (rows.unblocks b x.to x.tag) i) alone;
               next = refl;
               holds =
                   λ n j. ap (λ x. block.set_row b.holds m.to
@@ -222,11 +222,11 @@ module _ (s : Fabric) (t : Beside) (m : Message) (shape : IsShaped s) (flight : 
         modified = taken_over at m.block m.tag Modified content
 
         modified_reply : data_modified at home m.block m.tag content a
-            ≡ (if nat_eq miss.acks a then completed modified home (record miss { fixed = Some m.tag; due = a }) m.tag
-            else waiting modified (record miss { fixed = Some m.tag; due = a }))
-        modified_reply = ap (λ o. completed_or_waiting modified home (fixed_at o m.tag a)) open_is
+            ≡ (if nat_eq miss.acks a then reply_when_complete modified home (record miss { fixed = Some m.tag; due = a }) m.tag
+            else reply_that_waits modified (record miss { fixed = Some m.tag; due = a }))
+        modified_reply = ap (λ o. reply_or_wait modified home (fixed_at o m.tag a)) open_is
 
-        modified_row : IsOwnRow s t m (completed modified home (record miss { fixed = Some m.tag; due = a }) m.tag)
+        modified_row : IsOwnRow s t m (reply_when_complete modified home (record miss { fixed = Some m.tag; due = a }) m.tag)
             (rows.data_modified_complete b m.id)
         modified_row =
             complete_seen s t m shape flight modified (record miss { fixed = Some m.tag; due = a }) m.tag
@@ -241,7 +241,7 @@ module _ (s : Fabric) (t : Beside) (m : Message) (shape : IsShaped s) (flight : 
               miss = λ n. ap (λ x. block.set b.miss x.to block.no_miss n) ownership;
               putting = λ n. set_kept b.putting m.to (b.putting m.to) n refl;
               put_issued = λ n. set_kept b.put_issued m.to (b.put_issued m.to) n refl;
-              net = λ i. ap (λ x. block.replaced b m.id (rows.unblocks b x.to x.tag) i) ownership;
+              net = λ i. ap (λ x. block.net_with_reply b m.id (rows.unblocks b x.to x.tag) i) ownership;
               next = refl;
               holds =
                   λ n j. ap (λ x. block.set_row b.holds m.to
@@ -255,7 +255,7 @@ module _ (s : Fabric) (t : Beside) (m : Message) (shape : IsShaped s) (flight : 
               last = λ n. ap (λ x. block.set b.last m.to x n) over_holds.newest ∙ ap (λ x. block.set b.last x.to (x.tag + 1) n) ownership;
             })
 
-        modified_open_row : IsOwnRow s t m (waiting modified (record miss { fixed = Some m.tag; due = a })) (rows.data_modified_open b m.id)
+        modified_open_row : IsOwnRow s t m (reply_that_waits modified (record miss { fixed = Some m.tag; due = a })) (rows.data_modified_open b m.id)
         modified_open_row =
             none_sent s t m shape flight (with_miss modified (Some (record miss { fixed = Some m.tag; due = a })))
             (record { state = Modified; content = content }) (rows.data_modified_open b m.id)
@@ -280,8 +280,8 @@ module _ (s : Fabric) (t : Beside) (m : Message) (shape : IsShaped s) (flight : 
             })
 
         modified_cases : (all : Bool) →
-            IsOwnRow s t m (if all then completed modified home (record miss { fixed = Some m.tag; due = a }) m.tag
-            else waiting modified (record miss { fixed = Some m.tag; due = a }))
+            IsOwnRow s t m (if all then reply_when_complete modified home (record miss { fixed = Some m.tag; due = a }) m.tag
+            else reply_that_waits modified (record miss { fixed = Some m.tag; due = a }))
             (cond all (rows.data_modified_complete b m.id) (rows.data_modified_open b m.id))
         modified_cases true = modified_row
         modified_cases false = modified_open_row
@@ -289,8 +289,8 @@ module _ (s : Fabric) (t : Beside) (m : Message) (shape : IsShaped s) (flight : 
         ownership_row : IsOwnRow s t m (data_modified at home m.block m.tag content a) (rows.data_modified b m.id)
         ownership_row = subst (λ x. IsOwnRow s t m x (rows.data_modified b m.id)) (sym modified_reply)
             (subst (λ x. IsOwnRow s t m
-            (if nat_eq miss.acks a then completed modified home (record miss { fixed = Some m.tag; due = a }) m.tag
-            else waiting modified (record miss { fixed = Some m.tag; due = a }))
+            (if nat_eq miss.acks a then reply_when_complete modified home (record miss { fixed = Some m.tag; due = a }) m.tag
+            else reply_that_waits modified (record miss { fixed = Some m.tag; due = a }))
             (cond x (rows.data_modified_complete b m.id) (rows.data_modified_open b m.id)))
             (all_in a (b.net m.id) (ap (λ x. x.to) ownership) (ap (λ x. x.due) ownership)) (modified_cases (nat_eq miss.acks a)))
 
@@ -300,14 +300,14 @@ module _ (s : Fabric) (t : Beside) (m : Message) (shape : IsShaped s) (flight : 
       granted = sym (flight.seen ∙ ap (message_seen m) is)
 
       upgrade_reply : upgrade_granted at home m.tag a
-          ≡ (if nat_eq miss.acks a then completed at home (record miss { fixed = Some m.tag; due = a }) m.tag
-          else waiting at (record miss { fixed = Some m.tag; due = a }))
-      upgrade_reply = ap (λ o. completed_or_waiting at home (fixed_at o m.tag a)) open_is
+          ≡ (if nat_eq miss.acks a then reply_when_complete at home (record miss { fixed = Some m.tag; due = a }) m.tag
+          else reply_that_waits at (record miss { fixed = Some m.tag; due = a }))
+      upgrade_reply = ap (λ o. reply_or_wait at home (fixed_at o m.tag a)) open_is
 
       upgraded : line_when_done line.state miss.need ≡ Modified
       upgraded = ap (λ x. line_when_done x miss.need) owned ∙ ap (line_when_done Owned) need
 
-      upgrade_row : IsOwnRow s t m (completed at home (record miss { fixed = Some m.tag; due = a }) m.tag)
+      upgrade_row : IsOwnRow s t m (reply_when_complete at home (record miss { fixed = Some m.tag; due = a }) m.tag)
           (rows.upgrade_granted_complete b m.id)
       upgrade_row =
           complete_seen s t m shape flight at (record miss { fixed = Some m.tag; due = a }) m.tag line
@@ -318,7 +318,7 @@ module _ (s : Fabric) (t : Beside) (m : Message) (shape : IsShaped s) (flight : 
             miss = λ n. ap (λ x. block.set b.miss x.to block.no_miss n) granted;
             putting = λ n. set_kept b.putting m.to (b.putting m.to) n refl;
             put_issued = λ n. set_kept b.put_issued m.to (b.put_issued m.to) n refl;
-            net = λ i. ap (λ x. block.replaced b m.id (rows.unblocks b x.to x.tag) i) granted;
+            net = λ i. ap (λ x. block.net_with_reply b m.id (rows.unblocks b x.to x.tag) i) granted;
             next = refl;
             holds =
                 λ n j. ap (λ x. block.set_row b.holds m.to (owned_says (is_owned x)) n j) upgraded
@@ -329,7 +329,7 @@ module _ (s : Fabric) (t : Beside) (m : Message) (shape : IsShaped s) (flight : 
             last = λ n. set_kept b.last m.to (b.last m.to) n refl;
           })
 
-      upgrade_open_row : IsOwnRow s t m (waiting at (record miss { fixed = Some m.tag; due = a })) (rows.upgrade_granted_open b m.id)
+      upgrade_open_row : IsOwnRow s t m (reply_that_waits at (record miss { fixed = Some m.tag; due = a })) (rows.upgrade_granted_open b m.id)
       upgrade_open_row =
           none_sent s t m shape flight (with_miss at (Some (record miss { fixed = Some m.tag; due = a }))) line
           (rows.upgrade_granted_open b m.id) refl (home_side_same (node_at s m.to).log m.block) None (record {
@@ -348,8 +348,8 @@ module _ (s : Fabric) (t : Beside) (m : Message) (shape : IsShaped s) (flight : 
           })
 
       upgrade_cases : (all : Bool) →
-          IsOwnRow s t m (if all then completed at home (record miss { fixed = Some m.tag; due = a }) m.tag
-          else waiting at (record miss { fixed = Some m.tag; due = a }))
+          IsOwnRow s t m (if all then reply_when_complete at home (record miss { fixed = Some m.tag; due = a }) m.tag
+          else reply_that_waits at (record miss { fixed = Some m.tag; due = a }))
           (cond all (rows.upgrade_granted_complete b m.id) (rows.upgrade_granted_open b m.id))
       upgrade_cases true = upgrade_row
       upgrade_cases false = upgrade_open_row
@@ -357,8 +357,8 @@ module _ (s : Fabric) (t : Beside) (m : Message) (shape : IsShaped s) (flight : 
       granted_row : IsOwnRow s t m (upgrade_granted at home m.tag a) (rows.upgrade_granted b m.id)
       granted_row = subst (λ x. IsOwnRow s t m x (rows.upgrade_granted b m.id)) (sym upgrade_reply)
           (subst (λ x. IsOwnRow s t m
-          (if nat_eq miss.acks a then completed at home (record miss { fixed = Some m.tag; due = a }) m.tag
-          else waiting at (record miss { fixed = Some m.tag; due = a }))
+          (if nat_eq miss.acks a then reply_when_complete at home (record miss { fixed = Some m.tag; due = a }) m.tag
+          else reply_that_waits at (record miss { fixed = Some m.tag; due = a }))
           (cond x (rows.upgrade_granted_complete b m.id) (rows.upgrade_granted_open b m.id)))
           (all_in a (b.net m.id) (ap (λ x. x.to) granted) (ap (λ x. x.due) granted)) (upgrade_cases (nat_eq miss.acks a)))
 
@@ -375,7 +375,7 @@ module _ (s : Fabric) (t : Beside) (m : Message) (shape : IsShaped s) (flight : 
           miss_is s t m shape flight (Some one_more) one_more refl on
           ∙ ap (λ (x : block.Miss). record x { acks = x.acks + 1 }) (sym seen_miss)
 
-      counted_row : IsOwnRow s t m (waiting at one_more) (rows.acknowledge_open b m.id)
+      counted_row : IsOwnRow s t m (reply_that_waits at one_more) (rows.acknowledge_open b m.id)
       counted_row =
           none_sent s t m shape flight (with_miss at (Some one_more)) line (rows.acknowledge_open b m.id) refl
           (home_side_same (node_at s m.to).log m.block) None (record {
@@ -394,7 +394,7 @@ module _ (s : Fabric) (t : Beside) (m : Message) (shape : IsShaped s) (flight : 
           })
 
       last_row : (fixed : ℕ) → miss.fixed ≡ Some fixed →
-          IsOwnRow s t m (completed at home one_more fixed) (rows.acknowledge_complete b m.id)
+          IsOwnRow s t m (reply_when_complete at home one_more fixed) (rows.acknowledge_complete b m.id)
       last_row fixed e = complete_seen s t m shape flight at one_more fixed line (rows.acknowledge_complete b m.id)
           on (shape.lines m.to flight.to) refl (home_side_same (node_at s m.to).log m.block) (record {
             line =
@@ -406,8 +406,8 @@ module _ (s : Fabric) (t : Beside) (m : Message) (shape : IsShaped s) (flight : 
             miss = λ n. ap (λ x. block.set b.miss x.to block.no_miss n) acknowledgement;
             putting = λ n. set_kept b.putting m.to (b.putting m.to) n refl;
             put_issued = λ n. set_kept b.put_issued m.to (b.put_issued m.to) n refl;
-            net = λ i. ap (λ x. block.replaced b m.id (rows.unblocks b m.to x) i) (ap or_zero (sym e) ∙ ap (λ x. x.fixed) (sym seen_miss))
-                ∙ ap (λ x. block.replaced b m.id (rows.unblocks b x.to (b.miss x.to).fixed) i) acknowledgement;
+            net = λ i. ap (λ x. block.net_with_reply b m.id (rows.unblocks b m.to x) i) (ap or_zero (sym e) ∙ ap (λ x. x.fixed) (sym seen_miss))
+                ∙ ap (λ x. block.net_with_reply b m.id (rows.unblocks b x.to (b.miss x.to).fixed) i) acknowledgement;
             next = refl;
             holds =
                 λ n j. ap (λ x. block.set_row b.holds m.to (owned_says x) n j) (done_owned line.state miss.need is_mine)
@@ -422,14 +422,14 @@ module _ (s : Fabric) (t : Beside) (m : Message) (shape : IsShaped s) (flight : 
           is_mine = owned (ap (λ x. x.is_fixed) seen_miss ∙ ap is_some e)
 
       acknowledge_cases : (fixed : Option ℕ) (all : Bool) → miss.fixed ≡ fixed → nat_eq (miss.acks + 1) miss.due ≡ all →
-          IsOwnRow s t m (completed_or_waiting_by at home one_more fixed)
+          IsOwnRow s t m (reply_or_wait_by at home one_more fixed)
           (cond (is_some fixed && all) (rows.acknowledge_complete b m.id) (rows.acknowledge_open b m.id))
       acknowledge_cases None all e d = counted_row
       acknowledge_cases (Some fixed) true e d =
-          subst (λ c. IsOwnRow s t m (if c then completed at home one_more fixed else waiting at one_more)
+          subst (λ c. IsOwnRow s t m (if c then reply_when_complete at home one_more fixed else reply_that_waits at one_more)
           (rows.acknowledge_complete b m.id)) (sym d) (last_row fixed e)
       acknowledge_cases (Some fixed) false e d =
-          subst (λ c. IsOwnRow s t m (if c then completed at home one_more fixed else waiting at one_more) (rows.acknowledge_open b m.id))
+          subst (λ c. IsOwnRow s t m (if c then reply_when_complete at home one_more fixed else reply_that_waits at one_more) (rows.acknowledge_open b m.id))
           (sym d) counted_row
 
       last_is : (is_some miss.fixed && nat_eq (miss.acks + 1) miss.due)
@@ -441,8 +441,8 @@ module _ (s : Fabric) (t : Beside) (m : Message) (shape : IsShaped s) (flight : 
 
       acknowledged_row : IsOwnRow s t m (acknowledge at home) (rows.acknowledge b m.id)
       acknowledged_row =
-          subst (λ x. IsOwnRow s t m x (rows.acknowledge b m.id)) (sym (ap (λ o. completed_or_waiting at home (acknowledged o)) open_is))
-          (subst (λ x. IsOwnRow s t m (completed_or_waiting_by at home one_more miss.fixed)
+          subst (λ x. IsOwnRow s t m x (rows.acknowledge b m.id)) (sym (ap (λ o. reply_or_wait at home (miss_with_ack o)) open_is))
+          (subst (λ x. IsOwnRow s t m (reply_or_wait_by at home one_more miss.fixed)
           (cond x (rows.acknowledge_complete b m.id) (rows.acknowledge_open b m.id))) last_is
           (acknowledge_cases miss.fixed (nat_eq (miss.acks + 1) miss.due) refl refl))
 

@@ -10,8 +10,8 @@ use Rattle.sn_msg.specs.declared.Body.TheVariants.{FwdGetS, FwdGetM, Inv, DataS,
 use Rattle.sn_model.specs.declared.cache.LineState.TheVariants.{Shared, Owned, Modified, Exclusive}
 use Rattle.sn_model.specs.declared.cache.Need.TheVariants.{Read, Write}
 use Rattle.sn_model.specs.Caches.{Line, Miss, block_count, no_line, line_of, with_line, is_present}
-use Rattle.sn_model.specs.CacheRows.{Logged, CacheReply, completed, waiting, completed_or_waiting, completed_or_waiting_by, taken_over}
-use Rattle.sn_model.specs.CacheRows.{fixed_at, acknowledged, forward_read, forward_write, invalidate, data_shared, data_modified}
+use Rattle.sn_model.specs.CacheRows.{Logged, CacheReply, reply_when_complete, reply_that_waits, reply_or_wait, reply_or_wait_by, taken_over}
+use Rattle.sn_model.specs.CacheRows.{fixed_at, miss_with_ack, forward_read, forward_write, invalidate, data_shared, data_modified}
 use Rattle.sn_model.specs.CacheRows.{data_exclusive, upgrade_granted, acknowledge, put_go, put_done, MayTakeCopy, MayTakeOwnership}
 use Rattle.sn_model.specs.CacheRows.{MayUpgrade, MayCount, MayGiveBack}
 use Rattle.sn_model.specs.Fabric.{Fabric, node_at, home_node}
@@ -21,13 +21,13 @@ use Rattle.sn_coherence.specs.OtherEvents.{end_miss_elsewhere, end_put_elsewhere
 use Rattle.sn_coherence.specs.Consequences.{MeetsRows, MeetsNotes}
 use Rattle.sn_coherence.specs.Events.{Event, ForwardRead, ForwardWrite, Invalidate, DataShared, DataModified, DataExclusive, UpgradeGranted}
 use Rattle.sn_coherence.specs.Events.{Acknowledge, PutGoes, PutIsDone, Allows, Arrives, after}
-use Rattle.sn_coherence.specs.Kept.{AllSentences}
-use Rattle.sn_coherence.specs.Records.{Records, unreserves, recorded, MayHappen}
+use Rattle.sn_coherence.specs.Invariant.{BlockInvariant}
+use Rattle.sn_coherence.specs.Records.{Records, unreserves, records_after_event, MayHappen}
 use Rattle.fabric_coherence.specs.Leads.{Leads}
 use Rattle.fabric_coherence.specs.Recorded.{heard_by}
 use Rattle.sn_coherence.proofs.WhatFollows.{kept_meets_rows, kept_meets_notes}
-use Rattle.fabric_coherence.specs.View.{Beside, block_seen, net_seen, message_seen}
-use Rattle.fabric_coherence.specs.Steps.{IsShaped, IsInFlight, elsewhere, named}
+use Rattle.fabric_coherence.specs.View.{GhostState, block_seen, net_seen, message_seen}
+use Rattle.fabric_coherence.specs.Steps.{IsShaped, IsInFlight, elsewhere, node_in_body}
 use Rattle.fabric_coherence.specs.Sends.{OutsWithin}
 use Rattle.fabric_coherence.specs.CacheSeen.{completed_or_waiting_elsewhere}
 use Rattle.fabric_coherence.specs.CacheEvents.{told_of, IsCacheEvent}
@@ -53,15 +53,15 @@ completed_or_waiting_leads N b i n true e = end_miss_elsewhere_leads N b (elsewh
 completed_or_waiting_leads N b i n false e = elsewhere_leads N b i 0
 
 -- a miss that completes or waits loses no copy
-pub completed_or_waiting_loses : (at : Logged) (home : ℕ) (o : Option Miss) → (completed_or_waiting at home o).lost ≡ None
+pub completed_or_waiting_loses : (at : Logged) (home : ℕ) (o : Option Miss) → (reply_or_wait at home o).lost ≡ None
 completed_or_waiting_loses at home None = refl
 completed_or_waiting_loses at home (Some miss) = by_fixed miss.fixed
   where
-    by_count : (all : Bool) (fixed : ℕ) → (if all then completed at home miss fixed else waiting at miss).lost ≡ None
+    by_count : (all : Bool) (fixed : ℕ) → (if all then reply_when_complete at home miss fixed else reply_that_waits at miss).lost ≡ None
     by_count true fixed = refl
     by_count false fixed = refl
 
-    by_fixed : (fixed : Option ℕ) → (completed_or_waiting_by at home miss fixed).lost ≡ None
+    by_fixed : (fixed : Option ℕ) → (reply_or_wait_by at home miss fixed).lost ≡ None
     by_fixed None = refl
     by_fixed (Some fixed) = by_count (nat_eq miss.acks miss.due) fixed
 
@@ -70,19 +70,19 @@ module _ (nodes home : ℕ) (some : 1 ≤ nodes) (home_low : home < nodes) (at :
   abbrev Fits : CacheReply → Type 0
   Fits reply = (length reply.after.cache.lines ≡ block_count) × OutsWithin reply.sends nodes
 
-  complete_fits : (all : Bool) (miss : Miss) (fixed : ℕ) → Fits (if all then completed at home miss fixed else waiting at miss)
+  complete_fits : (all : Bool) (miss : Miss) (fixed : ℕ) → Fits (if all then reply_when_complete at home miss fixed else reply_that_waits at miss)
   complete_fits true miss fixed = (length-set at.cache.lines miss.block _ ∙ long, ((home_low, some), tt))
   complete_fits false miss fixed = (long, tt)
 
-  completed_or_waiting_by_fits : (fixed : Option ℕ) (miss : Miss) → Fits (completed_or_waiting_by at home miss fixed)
+  completed_or_waiting_by_fits : (fixed : Option ℕ) (miss : Miss) → Fits (reply_or_wait_by at home miss fixed)
   completed_or_waiting_by_fits None miss = (long, tt)
   completed_or_waiting_by_fits (Some fixed) miss = complete_fits (nat_eq miss.acks miss.due) miss fixed
 
-  completed_or_waiting_fits : (o : Option Miss) → Fits (completed_or_waiting at home o)
+  completed_or_waiting_fits : (o : Option Miss) → Fits (reply_or_wait at home o)
   completed_or_waiting_fits None = (long, tt)
   completed_or_waiting_fits (Some miss) = completed_or_waiting_by_fits miss.fixed miss
 
-module _ (s : Fabric) (t : Beside) (m : Message) (shape : IsShaped s) (flight : IsInFlight s m) (kept : AllSentences (length s.nodes) (block_seen s t m.block)) (reached : m.tag ≤ (node_at s m.to).now) where
+module _ (s : Fabric) (t : GhostState) (m : Message) (shape : IsShaped s) (flight : IsInFlight s m) (kept : BlockInvariant (length s.nodes) (block_seen s t m.block)) (reached : m.tag ≤ (node_at s m.to).now) where
   abbrev here : block.Block
   here = block_seen s t m.block
 
@@ -130,10 +130,10 @@ module _ (s : Fabric) (t : Beside) (m : Message) (shape : IsShaped s) (flight : 
   to_is x is e = ap (λ (y : block.Message). y.to) (flight.seen ∙ ap (message_seen m) is) ∙ e
 
   lost_copy : (event : Event) → Allows (length s.nodes) here event → ((x : Records) → MayHappen (length s.nodes) here x event) →
-      ((x : Records) → recorded (length s.nodes) here x event ≡ unreserves x m.to) →
+      ((x : Records) → records_after_event (length s.nodes) here x event ≡ unreserves x m.to) →
       Leads (length s.nodes) here (heard_by (told_of m.to (Some m.block)) m.block) (Becomes event)
   lost_copy event a may is =
-      leads_as (length s.nodes) here (Becomes event) (λ x. recorded (length s.nodes) here x event)
+      leads_as (length s.nodes) here (Becomes event) (λ x. records_after_event (length s.nodes) here x event)
       (heard_by (told_of m.to (Some m.block)) m.block)
       (λ x. is x ∙ told_here m.to m.block x) (event_leads (length s.nodes) here event a may)
 
@@ -145,7 +145,7 @@ module _ (s : Fabric) (t : Beside) (m : Message) (shape : IsShaped s) (flight : 
       (λ x. ap (unreserves x) (to_is (Inv r) is refl))
   lost_or_absent false r is e =
       absent_leads (length s.nodes) here (Becomes (Invalidate m.id)) m.to (absent_seen (line_of at.cache m.block).state e)
-      (leads_as (length s.nodes) here (Becomes (Invalidate m.id)) (λ x. recorded (length s.nodes) here x (Invalidate m.id))
+      (leads_as (length s.nodes) here (Becomes (Invalidate m.id)) (λ x. records_after_event (length s.nodes) here x (Invalidate m.id))
       (λ x. unreserves x m.to)
       (λ x. ap (unreserves x) (to_is (Inv r) is refl))
       (event_leads (length s.nodes) here (Invalidate m.id) (arrives (Inv r) block.Inv is refl refl refl)
@@ -158,9 +158,9 @@ module _ (s : Fabric) (t : Beside) (m : Message) (shape : IsShaped s) (flight : 
   passed_by false o d other x = x
 
   -- the node that the message names is there
-  module _ (names : named m.body < length s.nodes) where
-    names_in : (x : Body) → m.body ≡ x → named x < length s.nodes
-    names_in x is = subst (λ y. named y < length s.nodes) is names
+  module _ (names : node_in_body m.body < length s.nodes) where
+    names_in : (x : Body) → m.body ≡ x → node_in_body x < length s.nodes
+    names_in x is = subst (λ y. node_in_body y < length s.nodes) is names
 
     pub forward_read-event : (r : ℕ) → m.body ≡ FwdGetS r →
         IsCacheEvent s t m (forward_read at m.block r) (ForwardRead m.id) (Passing 1) None
@@ -362,7 +362,7 @@ module _ (s : Fabric) (t : Beside) (m : Message) (shape : IsShaped s) (flight : 
         λ o other. completed_or_waiting_leads (length s.nodes) (block_seen s t o) m.id m.to
         ((here.miss m.to).is_fixed && ((here.miss m.to).acks + 1 == (here.miss m.to).due))
         (counts_elsewhere (node_at s m.to).cache.miss m.block o may other);
-    loses = completed_or_waiting_loses at home (acknowledged at.cache.miss);
+    loses = completed_or_waiting_loses at home (miss_with_ack at.cache.miss);
     lines = fitting.0;
     sends = fitting.1;
   }
@@ -371,4 +371,4 @@ module _ (s : Fabric) (t : Beside) (m : Message) (shape : IsShaped s) (flight : 
       may = meets_acknowledge s t m flight rows is
 
       fitting : (length (acknowledge at home).after.cache.lines ≡ block_count) × OutsWithin (acknowledge at home).sends (length s.nodes)
-      fitting = completed_or_waiting_fits (length s.nodes) home shape.some kept.nodes.home_low at long (acknowledged at.cache.miss)
+      fitting = completed_or_waiting_fits (length s.nodes) home shape.some kept.nodes.home_low at long (miss_with_ack at.cache.miss)

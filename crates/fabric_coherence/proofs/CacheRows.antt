@@ -14,13 +14,13 @@ use Rattle.sn_coherence.specs.Block as block
 use Rattle.sn_coherence.specs.Log.{was_owned, old_content, told_at, NoteLaw}
 use Rattle.sn_coherence.specs.CacheRows as rows
 use Rattle.sn_coherence.proofs.Log.{note_law}
-use Rattle.fabric_coherence.specs.View.{Beside, block_seen, message_seen}
+use Rattle.fabric_coherence.specs.View.{GhostState, block_seen, message_seen}
 use Rattle.fabric_coherence.specs.Steps.{IsShaped, IsInFlight}
 use Rattle.fabric_coherence.specs.CacheSeen.{IsOwnRow}
 use Rattle.fabric_coherence.proofs.CacheSeen.{set_kept, home_side_same, home_side_noted_owned}
 use Rattle.fabric_coherence.proofs.CacheSends.{line_written, one_sent, none_sent}
 
-module _ (s : Fabric) (t : Beside) (m : Message) (shape : IsShaped s) (flight : IsInFlight s m) where
+module _ (s : Fabric) (t : GhostState) (m : Message) (shape : IsShaped s) (flight : IsInFlight s m) where
   abbrev pub here : block.Block
   here = block_seen s t m.block
 
@@ -64,7 +64,7 @@ module _ (s : Fabric) (t : Beside) (m : Message) (shape : IsShaped s) (flight : 
           putting = λ n. set_kept here.putting m.to (here.putting m.to) n refl;
           put_issued = λ n. set_kept here.put_issued m.to (here.put_issued m.to) n refl;
           net =
-              λ i. ap (λ x. block.replaced here m.id
+              λ i. ap (λ x. block.net_with_reply here m.id
               (block.answer block.DataS x.to x.requester (here.now x.to) 0 (here.content x.to)) i) forwarded_read;
           next = refl;
           holds = λ n j. holds_same true n j may;
@@ -116,7 +116,7 @@ module _ (s : Fabric) (t : Beside) (m : Message) (shape : IsShaped s) (flight : 
             putting = λ n. set_kept here.putting m.to (here.putting m.to) n refl;
             put_issued = λ n. set_kept here.put_issued m.to (here.put_issued m.to) n refl;
             net =
-                λ i. ap (λ x. block.replaced here m.id
+                λ i. ap (λ x. block.net_with_reply here m.id
                 (block.answer block.DataM x.to x.requester (here.now x.to) x.due (here.content x.to)) i) forwarded_write;
             next = refl;
             holds =
@@ -147,7 +147,7 @@ module _ (s : Fabric) (t : Beside) (m : Message) (shape : IsShaped s) (flight : 
             putting = λ n. ap (λ x. block.set here.putting x.to block.NoPut n) put_granted;
             put_issued = λ n. ap (λ x. block.set here.put_issued x.to 0 n) put_granted;
             net =
-                λ i. ap (λ x. block.replaced here m.id
+                λ i. ap (λ x. block.net_with_reply here m.id
                 (block.answer block.PutData x.to here.home (here.now x.to) 0 (here.content x.to)) i) put_granted;
             next = refl;
             holds =
@@ -174,7 +174,7 @@ module _ (s : Fabric) (t : Beside) (m : Message) (shape : IsShaped s) (flight : 
           miss = λ n. set_kept here.miss m.to (here.miss m.to) n refl;
           putting = λ n. set_kept here.putting m.to (here.putting m.to) n refl;
           put_issued = λ n. set_kept here.put_issued m.to (here.put_issued m.to) n refl;
-          net = λ i. ap (λ x. block.replaced here m.id (block.plain block.InvAck x.to x.requester (here.now x.to)) i) invalidation;
+          net = λ i. ap (λ x. block.net_with_reply here m.id (block.plain block.InvAck x.to x.requester (here.now x.to)) i) invalidation;
           next = refl;
           holds = λ n j. holds_same false n j may;
           held = λ n j. held_same false n j may;

@@ -6,20 +6,20 @@ use Rattle.std.specs.Prelude.{slice_index_or, slice_set, nat_eq, if◌then◌els
 use Rattle.sn_msg.specs.declared.Message.{Message}
 use Rattle.sn_base.specs.declared.log.Old.TheVariants.{NotOwned, Owned}
 use Rattle.route_plan.specs.Distances.{Switches}
-use Rattle.log_buffer.specs.Log.{LogEntry, logged_to, noted}
+use Rattle.log_buffer.specs.Log.{LogEntry, logged_to, log_with_note}
 use Rattle.sn_model.specs.declared.cache.Out.{Out}
 use Rattle.sn_model.specs.Caches.{Line, line_of, is_owned}
 use Rattle.sn_model.specs.CacheRows.{CacheReply}
 use Rattle.sn_model.specs.Fabric.{Fabric, Node, Net, Flight, node_at, home_of, first_node}
-use Rattle.sn_model.specs.Net.{posted, is_lost, message_of, without_flight}
+use Rattle.sn_model.specs.Net.{net_after_sends, is_lost, message_of, without_flight}
 use Rattle.sn_model.specs.NetEvents.{node_after}
-use Rattle.sn_coherence.specs.Block.{Block, Message as Seen, gone, set, set_row}
+use Rattle.sn_coherence.specs.Block.{Block, Message as Seen, no_message, set, set_row}
 use Rattle.sn_coherence.specs.Same.{IsSame}
 use Rattle.sn_coherence.specs.Log.{was_owned, old_content, was_home, old_cache, told_at}
 use Rattle.sn_coherence.proofs.Log.{note_law}
-use Rattle.fabric_coherence.specs.View.{Beside, block_seen, line_seen, content_held, miss_seen, put_seen, put_issued, net_seen, is_for_all}
+use Rattle.fabric_coherence.specs.View.{GhostState, block_seen, line_seen, content_held, miss_seen, put_seen, put_issued, net_seen, is_for_all}
 use Rattle.fabric_coherence.specs.View.{message_seen, is_itself, owner_of, content_of}
-use Rattle.fabric_coherence.specs.Steps.{after_cache, beside_with, losing, Below}
+use Rattle.fabric_coherence.specs.Steps.{after_cache, ghost_with, losing, Below}
 use Rattle.fabric_coherence.specs.CacheSeen.{cache_seen, KeepsHomeSide, KeepsCacheSide, with_row, IsRow}
 use Rattle.fabric_coherence.proofs.Base.{read_set, seen-answered}
 
@@ -107,7 +107,7 @@ chosen f true x y = refl
 chosen f false x y = refl
 
 -- a node after a row
-module _ (s : Fabric) (t : Beside) (m : Message) (reply : CacheReply) (o : ℕ) (line : Line) (to : m.to < length s.nodes) where
+module _ (s : Fabric) (t : GhostState) (m : Message) (reply : CacheReply) (o : ℕ) (line : Line) (to : m.to < length s.nodes) where
   abbrev after : Node
   after = node_after (node_at s m.to) reply
 
@@ -174,7 +174,7 @@ module _ (s : Fabric) (t : Beside) (m : Message) (reply : CacheReply) (o : ℕ) 
   -- a row that is seen like this is the row of its own block
   pub own_row : (row : Block) → line_of reply.after.cache o ≡ line → KeepsHomeSide (node_at s m.to).log reply.after.log o →
       IsRow (cache_seen s t m reply line o) row →
-      IsSame (block_seen (after_cache s m reply).fabric (beside_with t o row) o) (with_row (block_seen s t o) row)
+      IsSame (block_seen (after_cache s m reply).fabric (ghost_with t o row) o) (with_row (block_seen s t o) row)
   own_row row e k h = record {
     point = r.point;
     home = r.home;
@@ -223,7 +223,7 @@ true_not_false : true ≢ false
 true_not_false e = grind arith
 
 pub home_side_noted_owned : (log : List LogEntry) (i b : ℕ) (old : List ℕ) (o : ℕ) → logged_to log false b ≤ i + 1 →
-    KeepsHomeSide log (noted log i b (Owned old)) o
+    KeepsHomeSide log (log_with_note log i b (Owned old)) o
 home_side_noted_owned log i b old o l = record {
   home = λ was j. (note_law Bool was_home log i b (Owned old) false false l refl).others true o j was (inl true_not_false);
   cache = λ was j. (note_law ℕ old_cache log i b (Owned old) 0 0 l refl).others true o j was (inl true_not_false);
@@ -231,7 +231,7 @@ home_side_noted_owned log i b old o l = record {
   newest = (note_law ℕ old_cache log i b (Owned old) 0 0 l refl).others_newest true o (inl true_not_false);
 }
 
-pub home_side_noted_not : (log : List LogEntry) (i b o : ℕ) → logged_to log false b ≤ i + 1 → KeepsHomeSide log (noted log i b NotOwned) o
+pub home_side_noted_not : (log : List LogEntry) (i b o : ℕ) → logged_to log false b ≤ i + 1 → KeepsHomeSide log (log_with_note log i b NotOwned) o
 home_side_noted_not log i b o l = record {
   home = λ was j. (note_law Bool was_home log i b NotOwned false false l refl).others true o j was (inl true_not_false);
   cache = λ was j. (note_law ℕ old_cache log i b NotOwned 0 0 l refl).others true o j was (inl true_not_false);
@@ -244,7 +244,7 @@ cache_side_same log o = record { owned = λ was j. refl; content = λ was j. ref
 
 -- a note of a block is none of another
 pub cache_side_noted_owned : (log : List LogEntry) (i b : ℕ) (old : List ℕ) (o : ℕ) → logged_to log false b ≤ i + 1 → o ≢ b →
-    KeepsCacheSide log (noted log i b (Owned old)) o
+    KeepsCacheSide log (log_with_note log i b (Owned old)) o
 cache_side_noted_owned log i b old o l d = record {
   owned = λ was j. (note_law Bool was_owned log i b (Owned old) true true l refl).others false o j was (inr d);
   content = λ was j. (note_law (List ℕ) old_content log i b (Owned old) old old l refl).others false o j was (inr d);
@@ -252,7 +252,7 @@ cache_side_noted_owned log i b old o l d = record {
 }
 
 pub cache_side_noted_not : (log : List LogEntry) (i b o : ℕ) → logged_to log false b ≤ i + 1 → o ≢ b →
-    KeepsCacheSide log (noted log i b NotOwned) o
+    KeepsCacheSide log (log_with_note log i b NotOwned) o
 cache_side_noted_not log i b o l d = record {
   owned = λ was j. (note_law Bool was_owned log i b NotOwned false false l refl).others false o j was (inr d);
   content = λ was j. (note_law (List ℕ) old_content log i b NotOwned [] [] l refl).others false o j was (inr d);
@@ -261,23 +261,23 @@ cache_side_noted_not log i b o l d = record {
 
 -- messages
 
-fresh_step : (f : Flight) (fs : List Flight) (b n : ℕ) → f.message.id < n → net_seen b fs n ≡ gone → net_seen b (f ∷ fs) n ≡ gone
+fresh_step : (f : Flight) (fs : List Flight) (b n : ℕ) → f.message.id < n → net_seen b fs n ≡ no_message → net_seen b (f ∷ fs) n ≡ no_message
 fresh_step f fs b n l h = grind (arith, nat_tests)
 
-pub seen-fresh : (fs : List Flight) (b n : ℕ) → Below fs n → net_seen b fs n ≡ gone
+pub seen-fresh : (fs : List Flight) (b n : ℕ) → Below fs n → net_seen b fs n ≡ no_message
 seen-fresh [] b n l = refl
 seen-fresh (f ∷ fs) b n l = fresh_step f fs b n l.0 (seen-fresh fs b n l.1)
 
 -- a block loses the one message that a row sent, or it doesn't
 pub losing_one : (a block : Block) (lost : Bool) (id : ℕ) →
-    IsSame a (record block { net = λ i. cond (lost && (i == id)) gone (block.net i) }) →
+    IsSame a (record block { net = λ i. cond (lost && (i == id)) no_message (block.net i) }) →
     IsSame a (losing block (if lost then id ∷ [] else []))
 losing_one a block true id h = h
 losing_one a block false id h = h
 
-answered : (lost : Bool) (i id next : ℕ) (m : Seen) (net : ℕ → Seen) → net next ≡ gone →
-    cond ((i == next) && (true && not lost)) m (cond (i == id) gone (net i))
-    ≡ cond (lost && (i == next)) gone (set (set net id gone) next m i)
+answered : (lost : Bool) (i id next : ℕ) (m : Seen) (net : ℕ → Seen) → net next ≡ no_message →
+    cond ((i == next) && (true && not lost)) m (cond (i == id) no_message (net i))
+    ≡ cond (lost && (i == next)) no_message (set (set net id no_message) next m i)
 answered lost i id next m net e = grind (arith, nat_tests)
 
 pub eq_self : (b : ℕ) → nat_eq b b ≡ true
@@ -289,14 +289,14 @@ seen_own false b = eq_self b
 
 -- a message of the block is taken, and one is sent, unless it is lost at once
 pub answered_here : (routes : Switches) (net : Net) (id from tag block : ℕ) (out : Out) (i : ℕ) → Below net.flights net.next_id →
-    net_seen block (posted routes (without_flight net id) from tag block (out ∷ [])).flights i
-    ≡ cond (is_lost routes net (message_of net from tag block out) && (i == net.next_id)) gone
-    (set (set (net_seen block net.flights) id gone) net.next_id (message_seen (message_of net from tag block out) out.body) i)
+    net_seen block (net_after_sends routes (without_flight net id) from tag block (out ∷ [])).flights i
+    ≡ cond (is_lost routes net (message_of net from tag block out) && (i == net.next_id)) no_message
+    (set (set (net_seen block net.flights) id no_message) net.next_id (message_seen (message_of net from tag block out) out.body) i)
 answered_here routes net id from tag block out i l =
     seen-answered routes net id from tag block out block i l
     ∙ (λ p. cond ((i == net.next_id)
     && (seen_own (is_for_all out.body) block p && not (is_lost routes net (message_of net from tag block out))))
-    (message_seen (message_of net from tag block out) out.body) (cond (i == id) gone (net_seen block net.flights i)))
+    (message_seen (message_of net from tag block out) out.body) (cond (i == id) no_message (net_seen block net.flights i)))
     ∙ answered (is_lost routes net (message_of net from tag block out)) i id net.next_id
     (message_seen (message_of net from tag block out) out.body) (net_seen block net.flights) (seen-fresh net.flights block net.next_id l)
 
@@ -313,11 +313,11 @@ never false m n d = refl
 -- another block sees only that the message is no longer there
 pub answered_elsewhere : (routes : Switches) (net : Net) (id from tag block : ℕ) (out : Out) (o i : ℕ) → Below net.flights net.next_id →
     is_for_all out.body ≡ false → o ≢ block →
-    net_seen o (posted routes (without_flight net id) from tag block (out ∷ [])).flights i ≡ set (net_seen o net.flights) id gone i
+    net_seen o (net_after_sends routes (without_flight net id) from tag block (out ∷ [])).flights i ≡ set (net_seen o net.flights) id no_message i
 answered_elsewhere routes net id from tag block out o i l e d =
     seen-answered routes net id from tag block out o i l
     ∙ (λ p. cond ((i == net.next_id)
     && (unseen (is_for_all out.body) block o e d p && not (is_lost routes net (message_of net from tag block out))))
-    (message_seen (message_of net from tag block out) out.body) (cond (i == id) gone (net_seen o net.flights i)))
-    ∙ never (i == net.next_id) (message_seen (message_of net from tag block out) out.body) (cond (i == id) gone (net_seen o net.flights i))
+    (message_seen (message_of net from tag block out) out.body) (cond (i == id) no_message (net_seen o net.flights i)))
+    ∙ never (i == net.next_id) (message_seen (message_of net from tag block out) out.body) (cond (i == id) no_message (net_seen o net.flights i))
     (not (is_lost routes net (message_of net from tag block out)))

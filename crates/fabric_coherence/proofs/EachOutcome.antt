@@ -4,16 +4,16 @@ use Rattle.sn_msg.specs.declared.Message.{Message}
 use Rattle.sn_msg.specs.declared.Body.{Body}
 use Rattle.sn_msg.specs.declared.Body.TheVariants.{GetS, GetM, FwdGetS, FwdGetM, Inv, DataS, DataM, DataE, UpgOk, InvAck, Unblock, PutReq}
 use Rattle.sn_msg.specs.declared.Body.TheVariants.{PutGo, PutData, PutDone, Ready, Advance}
-use Rattle.sn_model.specs.declared.net.Told.TheVariants as told
+use Rattle.sn_model.specs.declared.net.News.TheVariants as told
 use Rattle.sn_model.specs.CacheRows.{CacheReply}
 use Rattle.sn_model.specs.HomeRows.{HomeReply}
 use Rattle.sn_model.specs.Homes.{Transaction}
 use Rattle.sn_model.specs.Fabric.{Fabric, node_at, with_node, home_of}
-use Rattle.sn_model.specs.NetEvents.{Outcome, Busy, AtCache, AtHome, Noted, unless_busy, learned, outcome_of}
+use Rattle.sn_model.specs.NetEvents.{Outcome, Busy, AtCache, AtHome, Noted, unless_busy, node_after_news, outcome_of}
 
 module _ (s : Fabric) (m : Message) (P : Outcome → Type 0) (cache : (reply : CacheReply) → P (AtCache reply))
     (home : (reply : HomeReply) → P (AtHome reply)) (busy : P Busy) (ready : (k : ℕ) → P (Noted s (told.Ready m.from k)))
-    (advance : (k : ℕ) → m.body ≡ Advance k → P (Noted (with_node s m.to (learned (node_at s m.to) k)) (told.Advance m.to k))) where
+    (advance : (k : ℕ) → m.body ≡ Advance k → P (Noted (with_node s m.to (node_after_news (node_at s m.to) k)) (told.Advance m.to k))) where
   request : (open_one : Option Transaction) (reply : HomeReply) → P (unless_busy open_one reply)
   request None reply = home reply
   request (Some transaction) reply = busy

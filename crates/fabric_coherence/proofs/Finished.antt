@@ -10,14 +10,14 @@ use Rattle.sn_model.specs.Fabric.{Fabric, node_at, home_of, first_node, no_entry
 use Rattle.sn_coherence.specs.Block as block
 use Rattle.sn_coherence.specs.OtherEvents.{validate}
 use Rattle.sn_coherence.specs.Events.{Validate, NothingUnfinished as NoneOfBlockUnfinished}
-use Rattle.sn_coherence.specs.KeptRecords.{KeptRecords}
+use Rattle.sn_coherence.specs.RecordsInvariant.{RecordsInvariant}
 use Rattle.sn_coherence.specs.Records.{Records}
 use Rattle.sn_coherence.proofs.EachRowRecords.{validate_recorded}
 use Rattle.sn_coherence.proofs.WhatFollows.{kept_finished}
 use Rattle.sn_coherence.proofs.Whole.{event_kept}
 use Rattle.sn_coherence.proofs.WholeRecords.{nothing_unfinished}
-use Rattle.fabric_coherence.specs.View.{Beside, block_seen, miss_seen, put_seen, put_issued, kind_open, begun_of}
-use Rattle.fabric_coherence.specs.Coherent.{IsKept, NothingUnfinished}
+use Rattle.fabric_coherence.specs.View.{GhostState, block_seen, miss_seen, put_seen, put_issued, kind_open, begun_of}
+use Rattle.fabric_coherence.specs.Coherent.{FabricInvariant, NothingUnfinished}
 use Rattle.fabric_coherence.specs.Leads.{Leads}
 
 -- where no element passes each fails, and the other way round
@@ -66,7 +66,7 @@ pub home_finished : (x : Option Transaction) (k : ℕ) → (kind_open x ≢ bloc
 home_finished None k h = refl
 home_finished (Some x) k h = grind (arith, nat_tests)
 
-module _ (s : Fabric) (t : Beside) (k : ℕ) where
+module _ (s : Fabric) (t : GhostState) (k : ℕ) where
   lists_none : is_unfinished s k ≡ false →
       (list_any (λ node. unfinished_node node k) s.nodes ≡ false)
       × (list_any (λ entry. transaction_before entry.transaction k) s.homes ≡ false)
@@ -114,13 +114,13 @@ module _ (s : Fabric) (t : Beside) (k : ℕ) where
       first : NoneOfBlockUnfinished (length s.nodes) (block_seen s t 0) k
       first = each 0 (omega arith)
 
-module _ (s : Fabric) (t : Beside) (kept : IsKept s t) where
+module _ (s : Fabric) (t : GhostState) (kept : FabricInvariant s t) where
   -- nothing is unfinished before the point
   pub point_finished : NothingUnfinished s s.point
   point_finished = is_finished s t s.point (λ o l. kept_finished (length s.nodes) (block_seen s t o) (kept.blocks o l)) kept.shape.homes
 
   -- and none before the next, where every node has reported more
-  pub reported_finished : (r : ℕ → Records) → ((b : ℕ) → b < block_count → KeptRecords (block_seen s t b) (r b)) →
+  pub reported_finished : (r : ℕ → Records) → ((b : ℕ) → b < block_count → RecordsInvariant (block_seen s t b) (r b)) →
       ((b n : ℕ) → b < block_count → n < length s.nodes → s.point < (r b).reported n) → NothingUnfinished s (s.point + 1)
   reported_finished r recorded above = is_finished s t (s.point + 1)
       (λ o l. nothing_unfinished (length s.nodes) (block_seen s t o) (r o) (kept.blocks o l) (recorded o l).reports

@@ -9,19 +9,19 @@ use Rattle.sn_msg.specs.declared.Body.TheVariants.{PutGo, PutData, PutDone}
 use Rattle.sn_model.specs.Homes.{Transaction}
 use Rattle.sn_model.specs.HomeRows.{HomeReply}
 use Rattle.sn_model.specs.CacheRows.{CacheReply}
-use Rattle.sn_model.specs.Fabric.{Fabric, Moved, node_at, home_of, home_node, refused}
+use Rattle.sn_model.specs.Fabric.{Fabric, FabricStep, node_at, home_of, home_node, step_refused}
 use Rattle.sn_model.specs.Net.{net_limit}
 use Rattle.sn_model.specs.NetEvents.{AtCache, AtHome, logged_at, kept_at, get_shared, get_modified, put_request, unless_busy, outcome_of}
 use Rattle.sn_model.specs.NetEvents.{delivers}
 use Rattle.mosi_cache.specs.Rows.{row_by, is_over}
 use Rattle.mosi_cache.specs.Machine.{log_at}
-use Rattle.home_directory.specs.Receipt.{LacksRoom, Does, judged, outcome_at}
+use Rattle.home_directory.specs.Receipt.{LacksRoom, Does, verdict_on, outcome_at}
 use Rattle.fabric_coherence.specs.CacheEvents.{comes_to_cache}
 use Rattle.fabric_coherence.specs.Met.{comes_to_home, IsFullAsAtCache, IsFullAsAtHome}
 
-full : (s : Fabric) (over crowded : Bool) (done : Moved) → done.answer ≡ Delivered →
-    ((if over then refused s LogFull else if crowded then refused s NetFull else done).answer ≡ LogFull → over ≡ true)
-    × (over ≡ true → (if over then refused s LogFull else if crowded then refused s NetFull else done).answer ≡ LogFull)
+full : (s : Fabric) (over crowded : Bool) (done : FabricStep) → done.answer ≡ Delivered →
+    ((if over then step_refused s LogFull else if crowded then step_refused s NetFull else done).answer ≡ LogFull → over ≡ true)
+    × (over ≡ true → (if over then step_refused s LogFull else if crowded then step_refused s NetFull else done).answer ≡ LogFull)
 full s true crowded done d = (λ e. refl, λ e. refl)
 full s false true done d = (λ e. absurd (cc), λ e. absurd (cc))
 full s false false done d = (λ e. absurd (cc), λ e. absurd (cc))
@@ -53,31 +53,31 @@ module _ (config : Config) (s : Fabric) (m : Message) where
   pub cache_full : comes_to_cache m.body ≡ true → IsFullAsAtCache config s m
   cache_full e = cache_by m.body e
 
-  by_verdict : (over crowded : Bool) (reply : HomeReply) (done : Moved) → done.answer ≡ Delivered →
-      ((if over then refused s LogFull else if crowded then refused s NetFull else done).answer ≡ LogFull →
+  by_verdict : (over crowded : Bool) (reply : HomeReply) (done : FabricStep) → done.answer ≡ Delivered →
+      ((if over then step_refused s LogFull else if crowded then step_refused s NetFull else done).answer ≡ LogFull →
       (if over then LacksRoom else Does reply) ≡ LacksRoom)
       × ((if over then LacksRoom else Does reply) ≡ LacksRoom →
-      (if over then refused s LogFull else if crowded then refused s NetFull else done).answer ≡ LogFull)
+      (if over then step_refused s LogFull else if crowded then step_refused s NetFull else done).answer ≡ LogFull)
   by_verdict true crowded reply done d = (λ e. refl, λ e. refl)
   by_verdict false true reply done d = (λ e. absurd (cc), λ e. absurd (cc))
   by_verdict false false reply done d = (λ e. absurd (cc), λ e. absurd (cc))
 
-  at_home : (reply : HomeReply) → ((delivers config s m (AtHome reply)).answer ≡ LogFull → judged config.log (AtHome reply) ≡ LacksRoom)
-      × (judged config.log (AtHome reply) ≡ LacksRoom → (delivers config s m (AtHome reply)).answer ≡ LogFull)
+  at_home : (reply : HomeReply) → ((delivers config s m (AtHome reply)).answer ≡ LogFull → verdict_on config.log (AtHome reply) ≡ LacksRoom)
+      × (verdict_on config.log (AtHome reply) ≡ LacksRoom → (delivers config s m (AtHome reply)).answer ≡ LogFull)
   at_home reply =
       by_verdict (nat_lt config.log (length reply.after.log))
       (nat_lt (net_limit + 1) (length s.net.flights + length reply.sends)) reply _ refl
 
   request : (open_one : Option Transaction) (reply : HomeReply) →
-      ((delivers config s m (unless_busy open_one reply)).answer ≡ LogFull → judged config.log (unless_busy open_one reply) ≡ LacksRoom)
-      × (judged config.log (unless_busy open_one reply) ≡ LacksRoom → (delivers config s m (unless_busy open_one reply)).answer ≡ LogFull)
+      ((delivers config s m (unless_busy open_one reply)).answer ≡ LogFull → verdict_on config.log (unless_busy open_one reply) ≡ LacksRoom)
+      × (verdict_on config.log (unless_busy open_one reply) ≡ LacksRoom → (delivers config s m (unless_busy open_one reply)).answer ≡ LogFull)
   request None reply = at_home reply
   request (Some transaction) reply = (λ e. absurd (cc), λ e. absurd (cc))
 
   home_by : (x : Body) → comes_to_home x ≡ true →
       ((delivers config s m (outcome_of s m x)).answer ≡ LogFull →
-      judged config.log (outcome_at (kept_at s m.to m.block) (node_at s m.to).now m x) ≡ LacksRoom)
-      × (judged config.log (outcome_at (kept_at s m.to m.block) (node_at s m.to).now m x) ≡ LacksRoom →
+      verdict_on config.log (outcome_at (kept_at s m.to m.block) (node_at s m.to).now m x) ≡ LacksRoom)
+      × (verdict_on config.log (outcome_at (kept_at s m.to m.block) (node_at s m.to).now m x) ≡ LacksRoom →
       (delivers config s m (outcome_of s m x)).answer ≡ LogFull)
   home_by GetS e =
       request (home_of s m.block).transaction

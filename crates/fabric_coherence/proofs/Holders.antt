@@ -15,11 +15,11 @@ use Rattle.sn_model.specs.Homes.{Holder, Itself, OfCache, Transaction}
 use Rattle.sn_model.specs.Fabric.{Fabric, node_at, home_of, home_node}
 use Rattle.sn_coherence.specs.Block as block
 use Rattle.sn_coherence.specs.Consequences.{HasOneHolder as BlockHolder}
-use Rattle.sn_coherence.specs.Kept.{AllSentences}
-use Rattle.sn_coherence.specs.Log.{was_owned, was_home, old_cache, told}
+use Rattle.sn_coherence.specs.Invariant.{BlockInvariant}
+use Rattle.sn_coherence.specs.Log.{was_owned, was_home, old_cache, old_or_now}
 use Rattle.sn_coherence.proofs.WhatFollows.{kept_one_holder}
-use Rattle.fabric_coherence.specs.View.{Beside, block_seen, line_seen, miss_seen, is_itself, owner_of, kind_open, begun_of}
-use Rattle.fabric_coherence.specs.Coherent.{IsKept}
+use Rattle.fabric_coherence.specs.View.{GhostState, block_seen, line_seen, miss_seen, is_itself, owner_of, kind_open, begun_of}
+use Rattle.fabric_coherence.specs.Coherent.{FabricInvariant}
 use Rattle.sn_model.specs.RecoveryPoint.{HasOneHolderWith}
 use Rattle.fabric_coherence.specs.Holders.{HasOneWriter, HasHolder, IsCoherent}
 use Rattle.fabric_coherence.proofs.Recovery.{entry_sided, IsSided}
@@ -43,7 +43,7 @@ old_held (WasCache node) line = refl
 abbrev old_of : Option LogEntry → Option Old
 old_of o = option_map (λ e. e.old) o
 
-held_told : (o : Option LogEntry) (line : Line) → is_some (held_by (old_of o) line) ≡ told was_owned (old_of o) (is_owned line.state)
+held_told : (o : Option LogEntry) (line : Line) → is_some (held_by (old_of o) line) ≡ old_or_now was_owned (old_of o) (is_owned line.state)
 held_told None line = owned_told line line.state
 held_told (Some e) line = old_held e.old line
 
@@ -58,8 +58,8 @@ sided : (old : Old) → is_of_side true old ≡ true → is_home_side old ≡ tr
 sided old h = grind (arith, h)
 
 named_told : (o : Option LogEntry) (holder : Holder) → IsSided true o →
-    (is_itself (named_by (old_of o) holder) ≡ told was_home (old_of o) (is_itself holder))
-    × (owner_of (named_by (old_of o) holder) ≡ told old_cache (old_of o) (owner_of holder))
+    (is_itself (named_by (old_of o) holder) ≡ old_or_now was_home (old_of o) (is_itself holder))
+    × (owner_of (named_by (old_of o) holder) ≡ old_or_now old_cache (old_of o) (owner_of holder))
 named_told None holder side = (refl, refl)
 named_told (Some e) holder side = old_named e.old holder (sided e.old side)
 
@@ -91,7 +91,7 @@ module _ (s : Fabric) (b k : ℕ) (one : HasOneHolder s b k) where
   pub one_held : HasHolder s b k
   one_held = held_as (names_at s b k) refl
 
-module _ (s : Fabric) (t : Beside) (b : ℕ) where
+module _ (s : Fabric) (t : GhostState) (b : ℕ) where
   pub holds_is : (n k : ℕ) → is_some (holds_at s n b k) ≡ (block_seen s t b).holds n k
   holds_is n k = held_told (entry_at (node_at s n).log false b k) (line_of (node_at s n).cache b)
 
@@ -113,7 +113,7 @@ module _ (s : Fabric) (t : Beside) (b : ℕ) where
   names_cache : (n k : ℕ) → (block_seen s t b).named_home k ≡ false → (block_seen s t b).named k ≡ n → names_at s b k ≡ OfCache n
   names_cache n k h e = of-cache (names_at s b k) (names_home k ∙ h) ∙ ap OfCache (names_owner k ∙ e)
 
-  pub holder_of : AllSentences (length s.nodes) (block_seen s t b) → (k : ℕ) → s.point ≤ k →
+  pub holder_of : BlockInvariant (length s.nodes) (block_seen s t b) → (k : ℕ) → s.point ≤ k →
       transaction_before (home_of s b).transaction k ≡ false → HasOneHolder s b k
   holder_of kept k low begun =
       let one = kept_one_holder (length s.nodes) (block_seen s t b) kept k low (begun_by (home_of s b).transaction k begun) in record {
@@ -138,13 +138,13 @@ module _ (s : Fabric) (t : Beside) (b : ℕ) where
   misses_seen None h = refl
   misses_seen (Some x) h = grind (arith, nat_tests)
 
-  pub writer_of : AllSentences (length s.nodes) (block_seen s t b) → HasOneWriter s b
+  pub writer_of : BlockInvariant (length s.nodes) (block_seen s t b) → HasOneWriter s b
   writer_of kept n m l q apart writes none =
       absent_seen (line_of (node_at s m).cache b).state
       (kept.sharing.writer_alone n m (writable_seen (line_of (node_at s n).cache b).state writes)
       (misses_seen (node_at s n).cache.miss none) apart)
 
-pub coherent : (s : Fabric) (t : Beside) → IsKept s t → (b : ℕ) → b < block_count → IsCoherent s b
+pub coherent : (s : Fabric) (t : GhostState) → FabricInvariant s t → (b : ℕ) → b < block_count → IsCoherent s b
 coherent s t kept b l =
     record {
       writer = writer_of s t b (kept.blocks b l);

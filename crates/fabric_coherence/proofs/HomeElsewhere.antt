@@ -1,7 +1,7 @@
 -- Each row of a home is, for another block, a loss of the message and new numbers.
 use Rattle.std.proofs.Common.{◌≡◌, ◌≢◌, inr, ℕ, ◌+◌, ◌≤◌, Bool, true, List, refl, sym, subst, arith}
 use Rattle.std.specs.Prelude.{Some}
-use Rattle.log_buffer.specs.Log.{LogEntry, Old, noted, logged_to, is_home_side}
+use Rattle.log_buffer.specs.Log.{LogEntry, Old, log_with_note, logged_to, is_home_side}
 use Rattle.sn_base.specs.declared.log.Old.TheVariants.{WasHome, WasCache}
 use Rattle.sn_msg.specs.declared.Message.{Message}
 use Rattle.sn_model.specs.declared.home.Kind.{Kind}
@@ -13,7 +13,7 @@ use Rattle.sn_model.specs.NetEvents.{kept_at}
 use Rattle.sn_coherence.specs.Block.{Block}
 use Rattle.sn_coherence.specs.Log.{was_home, old_cache, old_content}
 use Rattle.sn_coherence.proofs.Log.{note_law}
-use Rattle.fabric_coherence.specs.View.{Beside}
+use Rattle.fabric_coherence.specs.View.{GhostState}
 use Rattle.fabric_coherence.specs.Steps.{IsShaped, IsInFlight}
 use Rattle.fabric_coherence.specs.HomeSeen.{IsSameHome, IsHomeElsewhere}
 use Rattle.fabric_coherence.proofs.NetSends.{none-invalidations}
@@ -25,7 +25,7 @@ same_home : (log : List LogEntry) (b : ℕ) → IsSameHome log log b
 same_home log b = record { named_home = λ x j. refl; named = λ x j. refl; home_held = λ x j. refl; home_last = refl }
 
 home-noted : (log : List LogEntry) (k b : ℕ) (old : Old) → logged_to log (is_home_side old) b ≤ k + 1 → (o : ℕ) → o ≢ b →
-    IsSameHome (noted log k b old) log o
+    IsSameHome (log_with_note log k b old) log o
 home-noted log k b old l o n = record {
   named_home = λ x j. (note_law Bool was_home log k b old (was_home old) x l refl).others true o j x (inr n);
   named = λ x j. (note_law ℕ old_cache log k b old (old_cache old) x l refl).others true o j x (inr n);
@@ -38,7 +38,7 @@ home-noted_owner : (log : List LogEntry) (k b : ℕ) (holder : Holder) → logge
 home-noted_owner log k b (Itself content) l o n = same_home log o
 home-noted_owner log k b (OfCache owner) l o n = home-noted log k b (WasCache owner) l o n
 
-module _ (s : Fabric) (t : Beside) (m : Message) (shape : IsShaped s) (flight : IsInFlight s m) (e : Block) (o : ℕ) (other : o ≢ m.block) where
+module _ (s : Fabric) (t : GhostState) (m : Message) (shape : IsShaped s) (flight : IsInFlight s m) (e : Block) (o : ℕ) (other : o ≢ m.block) where
   pub read_at_home-elsewhere : (content : List ℕ) →
       IsHomeElsewhere s t m (row.read_at_home (kept_at s m.to m.block) (node_at s m.to).now m.from content) e o
   read_at_home-elsewhere content =

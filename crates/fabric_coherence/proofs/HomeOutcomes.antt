@@ -18,9 +18,9 @@ use Rattle.sn_coherence.specs.Block as block
 use Rattle.sn_coherence.specs.Consequences.{MeetsRows, MeetsNotes}
 use Rattle.sn_coherence.specs.Events.{Event, GrantExclusive, ReadAtHome, Upgrades, MovesOwnership, PutBegins, PutIsStale, PutDataComes}
 use Rattle.sn_coherence.specs.Events.{Unblocks, Allows, Arrives, Lists, other_sharers, after}
-use Rattle.sn_coherence.specs.Kept.{AllSentences}
+use Rattle.sn_coherence.specs.Invariant.{BlockInvariant}
 use Rattle.sn_coherence.proofs.WhatFollows.{kept_meets_rows, kept_meets_notes}
-use Rattle.fabric_coherence.specs.View.{Beside, block_seen, net_seen, message_seen, is_itself, owner_of, kind_seen, kind_open, requester_of}
+use Rattle.fabric_coherence.specs.View.{GhostState, block_seen, net_seen, message_seen, is_itself, owner_of, kind_seen, kind_open, requester_of}
 use Rattle.fabric_coherence.specs.Steps.{IsShaped, IsInFlight}
 use Rattle.fabric_coherence.specs.HomeSeen.{IsHomeRow, IsHomeElsewhere, other_targets}
 use Rattle.fabric_coherence.specs.HomeEvents.{other_count, read_event, write_event, home_event}
@@ -34,7 +34,7 @@ use Rattle.fabric_coherence.proofs.HomeElsewhere.{put_data-elsewhere, grant_excl
 reply_is : (a b : row.HomeReply) → AtHome a ≡ AtHome b → a ≡ b
 reply_is a b h = cc
 
-module _ (s : Fabric) (t : Beside) (m : Message) (shape : IsShaped s) (flight : IsInFlight s m) (kept : AllSentences (length s.nodes) (block_seen s t m.block)) (reached : m.tag ≤ (node_at s m.to).now) where
+module _ (s : Fabric) (t : GhostState) (m : Message) (shape : IsShaped s) (flight : IsInFlight s m) (kept : BlockInvariant (length s.nodes) (block_seen s t m.block)) (reached : m.tag ≤ (node_at s m.to).now) where
   rows : MeetsRows (block_seen s t m.block)
   rows = kept_meets_rows (length s.nodes) (block_seen s t m.block) shape.few kept
 

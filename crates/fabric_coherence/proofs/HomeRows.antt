@@ -3,7 +3,7 @@ use Rattle.std.proofs.Common.{zero, suc, ◌≡◌, ◌≢◌, inl, ◌∙◌, �
 use Rattle.std.proofs.Common.{subst, arith, ◌==◌}
 use Rattle.std.specs.Prelude.{slice_index_or, slice_set, replicate, Some}
 use Rattle.route_plan.specs.Distances.{Switches}
-use Rattle.log_buffer.specs.Log.{LogEntry, Old, noted, logged_to, is_home_side}
+use Rattle.log_buffer.specs.Log.{LogEntry, Old, log_with_note, logged_to, is_home_side}
 use Rattle.sn_base.specs.declared.log.Old.TheVariants.{WasHome, WasCache}
 use Rattle.sn_msg.specs.declared.Message.{Message}
 use Rattle.sn_msg.specs.declared.Body.{Body}
@@ -15,7 +15,7 @@ use Rattle.sn_model.specs.CacheRows.{send}
 use Rattle.sn_model.specs.Homes.{Holder, Itself, OfCache, Transaction}
 use Rattle.sn_model.specs.HomeRows as row
 use Rattle.sn_model.specs.Fabric.{Fabric, node_at, home_of, home_node}
-use Rattle.sn_model.specs.Net.{posted, sent_by, message_of, without_flight}
+use Rattle.sn_model.specs.Net.{net_after_sends, sent_by, message_of, without_flight}
 use Rattle.sn_model.specs.NetEvents.{kept_at}
 use Rattle.sn_model.specs.declared.cache.Out.{Out}
 use Rattle.sn_coherence.specs.Block as block
@@ -23,7 +23,7 @@ use Rattle.sn_coherence.specs.HomeRows as seen
 use Rattle.sn_coherence.specs.Events.{Lists, other_sharers}
 use Rattle.sn_coherence.specs.Log.{told_at, was_owned, old_content, was_home, old_cache}
 use Rattle.sn_coherence.proofs.Log.{note_law}
-use Rattle.fabric_coherence.specs.View.{Beside, block_seen, net_seen, message_seen, is_itself, owner_of, content_of, kind_seen, kind_open}
+use Rattle.fabric_coherence.specs.View.{GhostState, block_seen, net_seen, message_seen, is_itself, owner_of, content_of, kind_seen, kind_open}
 use Rattle.fabric_coherence.specs.Steps.{lost_at_once, IsShaped, IsInFlight}
 use Rattle.fabric_coherence.specs.HomeSeen.{IsSameCaches, IsHomeRow, net_losing, other_targets}
 use Rattle.fabric_coherence.proofs.Base.{read_set}
@@ -35,7 +35,7 @@ pub same_caches : (log : List LogEntry) (b : ℕ) → IsSameCaches log log b
 same_caches log b = record { holds = λ x j. refl; held = λ x j. refl; last = refl }
 
 pub caches-noted : (log : List LogEntry) (k b : ℕ) (old : Old) → false ≢ is_home_side old → logged_to log (is_home_side old) b ≤ k + 1 →
-    (o : ℕ) → IsSameCaches (noted log k b old) log o
+    (o : ℕ) → IsSameCaches (log_with_note log k b old) log o
 caches-noted log k b old n l o = record {
   holds = λ x j. (note_law Bool was_owned log k b old (was_owned old) x l refl).others false o j x (inl n);
   held = λ x j. (note_law (List ℕ) old_content log k b old (old_content old) x l refl).others false o j x (inl n);
@@ -58,7 +58,7 @@ pub of-cache : (holder : Holder) → is_itself holder ≡ false → holder ≡ O
 of-cache (Itself content) h = absurd (grind (arith, h))
 of-cache (OfCache owner) h = refl
 
-module _ (s : Fabric) (t : Beside) (m : Message) (shape : IsShaped s) (flight : IsInFlight s m) (home : m.to ≡ home_node s m.block) where
+module _ (s : Fabric) (t : GhostState) (m : Message) (shape : IsShaped s) (flight : IsInFlight s m) (home : m.to ≡ home_node s m.block) where
   -- the message as its block sees it
   seen_as : (x : Body) → m.body ≡ x → message_seen m x ≡ net_seen m.block s.net.flights m.id
   seen_as x is = sym (flight.seen ∙ (λ p. message_seen m (is p)))
@@ -236,7 +236,7 @@ module _ (s : Fabric) (t : Beside) (m : Message) (shape : IsShaped s) (flight : 
       message_seen (message_of s.net m.to (node_at s m.to).now m.block first) first.body ≡ msg →
       e.net ≡ block.invalidates (block_seen s t m.block) m.id msg (other_targets (home_of s m.block).sharers m.from)
       (row.count_others (home_of s m.block).sharers m.from) → m.body ≡ GetM → (i : ℕ) →
-      net_seen m.block (posted routes (without_flight s.net m.id) m.to (node_at s m.to).now m.block
+      net_seen m.block (net_after_sends routes (without_flight s.net m.id) m.to (node_at s m.to).now m.block
       (first ∷ row.invalidations 0 (row.others (home_of s m.block).sharers m.from) m.from)).flights i
       ≡ net_losing e.net (lost_at_once
       (sent_by routes (without_flight s.net m.id) m.to (node_at s m.to).now m.block
@@ -364,7 +364,7 @@ module _ (s : Fabric) (t : Beside) (m : Message) (shape : IsShaped s) (flight : 
   unblock_move-row : (fixed r owner : ℕ) → m.body ≡ Unblock fixed → r ≡ m.from → (home_of s m.block).holder ≡ OfCache owner →
       logged_to (node_at s m.to).log true m.block ≤ fixed + 1 →
       IsHomeRow s t m (record {
-        after = row.closed
+        after = row.without_transaction
             (record {
               entry = record (home_of s m.block) { holder = OfCache r };
               log = row.noted_owner (node_at s m.to).log fixed m.block (home_of s m.block).holder;
@@ -374,7 +374,7 @@ module _ (s : Fabric) (t : Beside) (m : Message) (shape : IsShaped s) (flight : 
       (seen.unblock_move (block_seen s t m.block) m.id)
   unblock_move-row fixed r owner is from holder late =
       own-seen s m (record {
-        after = row.closed
+        after = row.without_transaction
             (record {
               entry = record (home_of s m.block) { holder = OfCache r };
               log = row.noted_owner (node_at s m.to).log fixed m.block (home_of s m.block).holder;
@@ -414,10 +414,10 @@ module _ (s : Fabric) (t : Beside) (m : Message) (shape : IsShaped s) (flight : 
       })
 
   unblock_other-row : (fixed : ℕ) → m.body ≡ Unblock fixed →
-      IsHomeRow s t m (record { after = row.closed (kept_at s m.to m.block); sends = [] })
+      IsHomeRow s t m (record { after = row.without_transaction (kept_at s m.to m.block); sends = [] })
       (seen.unblock_other (block_seen s t m.block) m.id)
   unblock_other-row fixed is =
-      own-seen s m (record { after = row.closed (kept_at s m.to m.block); sends = [] }) shape flight.to flight.block t
+      own-seen s m (record { after = row.without_transaction (kept_at s m.to m.block); sends = [] }) shape flight.to flight.block t
       (seen.unblock_other (block_seen s t m.block) m.id) home (same_caches (node_at s m.to).log m.block) (record {
         at_home = refl;
         owner = refl;

@@ -10,15 +10,15 @@ use Rattle.sn_model.specs.declared.cache.Out.{Out}
 use Rattle.sn_model.specs.Caches.{block_count, line_of, is_owned}
 use Rattle.sn_model.specs.HomeRows.{HomeReply}
 use Rattle.sn_model.specs.Fabric.{Fabric, Net, Flight, node_at, first_node, home_of, home_node, no_entry, with_net}
-use Rattle.sn_model.specs.Net.{post, posted, sent_by, is_lost, message_of, entry_of, without_flight, routes_of}
+use Rattle.sn_model.specs.Net.{post, net_after_sends, sent_by, is_lost, message_of, entry_of, without_flight, routes_of}
 use Rattle.sn_model.specs.NetEvents.{home_after}
 use Rattle.sn_coherence.specs.Block as block
 use Rattle.sn_coherence.specs.Same.{IsSame}
 use Rattle.sn_coherence.specs.Log.{told_at, was_owned, old_content, was_home, old_cache}
 use Rattle.sn_coherence.specs.OtherEvents.{lose}
-use Rattle.fabric_coherence.specs.View.{Beside, block_seen, home_log, net_seen, is_seen, is_for_all, message_seen, line_seen, content_held}
+use Rattle.fabric_coherence.specs.View.{GhostState, block_seen, home_log, net_seen, is_seen, is_for_all, message_seen, line_seen, content_held}
 use Rattle.fabric_coherence.specs.View.{miss_seen, put_seen, put_issued, is_itself, owner_of, content_of, kind_open, requester_of, begun_of}
-use Rattle.fabric_coherence.specs.Steps.{after_home, beside_with, losing, lost_at_once, elsewhere, IsShaped, Below}
+use Rattle.fabric_coherence.specs.Steps.{after_home, ghost_with, losing, lost_at_once, elsewhere, IsShaped, Below}
 use Rattle.fabric_coherence.specs.HomeSeen.{net_losing, with_home_side, IsSameCaches, IsSameHome, LeavesHome}
 use Rattle.fabric_coherence.specs.Sends.{NoneForAll}
 use Rattle.fabric_coherence.proofs.Base.{read_set, seen-without, seen-answered}
@@ -62,7 +62,7 @@ unseen : (x : Bool) (b o : ℕ) → o ≢ b → x ≡ false → (x || nat_eq b o
 unseen x b o n h = grind (arith, nat_tests)
 
 pub posted-elsewhere : (outs : List Out) (routes : Switches) (net : Net) (from tag b o i : ℕ) → o ≢ b → NoneForAll outs →
-    net_seen o (posted routes net from tag b outs).flights i ≡ net_seen o net.flights i
+    net_seen o (net_after_sends routes net from tag b outs).flights i ≡ net_seen o net.flights i
 posted-elsewhere [] routes net from tag b o i n h = refl
 posted-elsewhere (out ∷ outs) routes net from tag b o i n h =
     posted-elsewhere outs routes (post routes net (message_of net from tag b out)) from tag b o i n h.1
@@ -71,41 +71,41 @@ posted-elsewhere (out ∷ outs) routes net from tag b o i n h =
     (unseen (is_for_all out.body) b o n h.0)
 
 pub posted-next : (outs : List Out) (routes : Switches) (net : Net) (from tag b : ℕ) →
-    (posted routes net from tag b outs).next_id ≡ net.next_id + length outs
+    (net_after_sends routes net from tag b outs).next_id ≡ net.next_id + length outs
 posted-next [] routes net from tag b = omega arith
 posted-next (out ∷ outs) routes net from tag b =
     posted-next outs routes (post routes net (message_of net from tag b out)) from tag b ∙ omega arith
 
 -- no number from the next one on is seen
-fresh_step : (f : Flight) (fs : List Flight) (n b i : ℕ) → f.message.id < n → n ≤ i → net_seen b fs i ≡ block.gone →
-    net_seen b (f ∷ fs) i ≡ block.gone
+fresh_step : (f : Flight) (fs : List Flight) (n b i : ℕ) → f.message.id < n → n ≤ i → net_seen b fs i ≡ block.no_message →
+    net_seen b (f ∷ fs) i ≡ block.no_message
 fresh_step f fs n b i l m h = grind (arith, nat_tests)
 
-pub fresh : (fs : List Flight) (n b i : ℕ) → Below fs n → n ≤ i → net_seen b fs i ≡ block.gone
+pub fresh : (fs : List Flight) (n b i : ℕ) → Below fs n → n ≤ i → net_seen b fs i ≡ block.no_message
 fresh [] n b i l m = refl
 fresh (f ∷ fs) n b i l m = fresh_step f fs n b i l.0 m (fresh fs n b i l.1 m)
 
 -- a message is taken, and one is sent, which may be lost at once
-one_step : (c seen : Bool) (f : ℕ → block.Message) (n i : ℕ) (x y : block.Message) → f n ≡ block.gone → seen ≡ true → x ≡ y →
+one_step : (c seen : Bool) (f : ℕ → block.Message) (n i : ℕ) (x y : block.Message) → f n ≡ block.no_message → seen ≡ true → x ≡ y →
     cond ((i == n) && (seen && not c)) x (f i) ≡ net_losing (block.set f n y) (if c then n ∷ [] else []) i
 one_step true seen f n i x y g h e = grind (arith, nat_tests)
 one_step false seen f n i x y g h e = grind (arith, nat_tests)
 
 pub one-sent : (routes : Switches) (net : Net) (id from tag b : ℕ) (out : Out) (i : ℕ) (y : block.Message) → Below net.flights net.next_id →
     message_seen (message_of net from tag b out) out.body ≡ y →
-    net_seen b (posted routes (without_flight net id) from tag b (out ∷ [])).flights i
-    ≡ net_losing (block.set (block.set (net_seen b net.flights) id block.gone) net.next_id y)
+    net_seen b (net_after_sends routes (without_flight net id) from tag b (out ∷ [])).flights i
+    ≡ net_losing (block.set (block.set (net_seen b net.flights) id block.no_message) net.next_id y)
     (lost_at_once (sent_by routes (without_flight net id) from tag b (out ∷ []))) i
 one-sent routes net id from tag b out i y l e =
     seen-answered routes net id from tag b out b i l
     ∙ one_step (is_lost routes net (message_of net from tag b out)) (is_for_all out.body || nat_eq b b)
-    (λ j. cond (j == id) block.gone (net_seen b net.flights j)) net.next_id i (message_seen (message_of net from tag b out) out.body) y
+    (λ j. cond (j == id) block.no_message (net_seen b net.flights j)) net.next_id i (message_seen (message_of net from tag b out) out.body) y
     (grind (arith, nat_tests, fresh net.flights net.next_id b net.next_id l)) (grind (arith, nat_tests)) e
 
 -- a message is taken, and none is sent
 pub none-sent : (routes : Switches) (net : Net) (id from tag b i : ℕ) →
-    net_seen b (posted routes (without_flight net id) from tag b []).flights i
-    ≡ net_losing (block.set (net_seen b net.flights) id block.gone) (lost_at_once (sent_by routes (without_flight net id) from tag b [])) i
+    net_seen b (net_after_sends routes (without_flight net id) from tag b []).flights i
+    ≡ net_losing (block.set (net_seen b net.flights) id block.no_message) (lost_at_once (sent_by routes (without_flight net id) from tag b [])) i
 none-sent routes net id from tag b i = seen-without net.flights id b i
 
 -- what the proof alone knows, at the row's block and at another
@@ -141,7 +141,7 @@ module _ (s : Fabric) (m : Message) (reply : HomeReply) (shape : IsShaped s) (to
   now_seen n = λ p. (node_seen n p).now
 
   -- its own block
-  module _ (t : Beside) (e : block.Block) (home : m.to ≡ home_node s m.block) (caches : IsSameCaches reply.after.log (node_at s m.to).log m.block) (leaves : LeavesHome s m reply e) where
+  module _ (t : GhostState) (e : block.Block) (home : m.to ≡ home_node s m.block) (caches : IsSameCaches reply.after.log (node_at s m.to).log m.block) (leaves : LeavesHome s m reply e) where
     entry_own : home_of (after_home s m reply).fabric m.block ≡ reply.after.entry
     entry_own = entry_seen m.block ∙ grind (arith, nat_tests)
 
@@ -152,7 +152,7 @@ module _ (s : Fabric) (m : Message) (reply : HomeReply) (shape : IsShaped s) (to
         ≡ net_losing e.net (lost_at_once (after_home s m reply).sent) i
     net_own i =
         subst (λ x. net_seen m.block
-        (posted (routes_of (with_net (home_after s m.to m.block reply) (without_flight s.net m.id)))
+        (net_after_sends (routes_of (with_net (home_after s m.to m.block reply) (without_flight s.net m.id)))
         (without_flight s.net m.id) m.to x m.block reply.sends).flights i
         ≡ net_losing e.net (lost_at_once
         (sent_by (routes_of (with_net (home_after s m.to m.block reply) (without_flight s.net m.id)))
@@ -161,7 +161,7 @@ module _ (s : Fabric) (m : Message) (reply : HomeReply) (shape : IsShaped s) (to
 
     next_own : (after_home s m reply).fabric.net.next_id ≡ e.next
     next_own =
-        subst (λ x. (posted (routes_of (with_net (home_after s m.to m.block reply) (without_flight s.net m.id)))
+        subst (λ x. (net_after_sends (routes_of (with_net (home_after s m.to m.block reply) (without_flight s.net m.id)))
         (without_flight s.net m.id) m.to x m.block reply.sends).next_id ≡ e.next)
         (sym (now_seen m.to)) (leaves.next (routes_of (with_net (home_after s m.to m.block reply) (without_flight s.net m.id))))
 
@@ -169,7 +169,7 @@ module _ (s : Fabric) (m : Message) (reply : HomeReply) (shape : IsShaped s) (to
     caches_own n = subst (λ x. IsSameCaches x.log (node_at s n).log m.block) (sym (node_seen n))
         (caches_chosen (n == m.to) reply.after.log (node_at s m.to).log (node_at s n).log m.block (λ h. grind (arith, nat_tests)) caches)
 
-    pub own_kept : IsSame (block_seen (after_home s m reply).fabric (beside_with t m.block e) m.block)
+    pub own_kept : IsSame (block_seen (after_home s m reply).fabric (ghost_with t m.block e) m.block)
         (record (with_home_side (block_seen s t m.block) e) { net = net_losing e.net (lost_at_once (after_home s m reply).sent) })
     own_kept = record {
       point = refl;
@@ -209,14 +209,14 @@ module _ (s : Fabric) (m : Message) (reply : HomeReply) (shape : IsShaped s) (to
       framed = λ n j. refl;
     }
 
-    pub own-seen : IsSame (block_seen (after_home s m reply).fabric (beside_with t m.block e) m.block)
+    pub own-seen : IsSame (block_seen (after_home s m reply).fabric (ghost_with t m.block e) m.block)
         (losing (with_home_side (block_seen s t m.block) e) (lost_at_once (after_home s m reply).sent))
     own-seen =
-        same_losing (block_seen (after_home s m reply).fabric (beside_with t m.block e) m.block) (with_home_side (block_seen s t m.block) e)
+        same_losing (block_seen (after_home s m reply).fabric (ghost_with t m.block e) m.block) (with_home_side (block_seen s t m.block) e)
         (lost_at_once (after_home s m reply).sent) own_kept
 
   -- another block
-  module _ (t : Beside) (e : block.Block) (o : ℕ) (other : o ≢ m.block) (caches : IsSameCaches reply.after.log (node_at s m.to).log o) (logs : IsSameHome reply.after.log (node_at s m.to).log o) (sends : NoneForAll reply.sends) where
+  module _ (t : GhostState) (e : block.Block) (o : ℕ) (other : o ≢ m.block) (caches : IsSameCaches reply.after.log (node_at s m.to).log o) (logs : IsSameHome reply.after.log (node_at s m.to).log o) (sends : NoneForAll reply.sends) where
     entry_other : home_of (after_home s m reply).fabric o ≡ home_of s o
     entry_other = entry_seen o ∙ grind (arith, nat_tests)
 
@@ -228,7 +228,7 @@ module _ (s : Fabric) (m : Message) (reply : HomeReply) (shape : IsShaped s) (to
     logs_other = subst (λ x. IsSameHome x (home_log s o) o) (sym (home_log_seen o))
         (home_chosen (home_node s o == m.to) reply.after.log (node_at s m.to).log (home_log s o) o (λ h. grind (arith, nat_tests)) logs)
 
-    net_other : (i : ℕ) → net_seen o (after_home s m reply).fabric.net.flights i ≡ cond (i == m.id) block.gone (net_seen o s.net.flights i)
+    net_other : (i : ℕ) → net_seen o (after_home s m reply).fabric.net.flights i ≡ cond (i == m.id) block.no_message (net_seen o s.net.flights i)
     net_other i =
         posted-elsewhere reply.sends (routes_of (with_net (home_after s m.to m.block reply) (without_flight s.net m.id)))
         (without_flight s.net m.id) m.to
@@ -241,7 +241,7 @@ module _ (s : Fabric) (m : Message) (reply : HomeReply) (shape : IsShaped s) (to
         (without_flight s.net m.id) m.to
         (node_at (with_net (home_after s m.to m.block reply) (without_flight s.net m.id)) m.to).now m.block
 
-    pub other-seen : IsSame (block_seen (after_home s m reply).fabric (beside_with t m.block e) o)
+    pub other-seen : IsSame (block_seen (after_home s m reply).fabric (ghost_with t m.block e) o)
         (elsewhere (block_seen s t o) m.id (length reply.sends))
     other-seen = record {
       point = refl;

@@ -7,7 +7,7 @@ use Rattle.sn_model.specs.Caches.{block_count}
 use Rattle.sn_model.specs.Fabric.{Fabric, Flight}
 use Rattle.sn_model.specs.Net.{flight_of}
 use Rattle.fabric_coherence.specs.View.{net_seen, is_seen, is_for_all, message_seen}
-use Rattle.fabric_coherence.specs.Steps.{Below, Within, named, IsShaped, IsInFlight}
+use Rattle.fabric_coherence.specs.Steps.{Below, Within, node_in_body, IsShaped, IsInFlight}
 
 -- what is found is seen under its number, by each block that sees it
 found_step : (g f : Flight) (fs : List Flight) (id b : ℕ) → (if nat_eq g.message.id id then Some g else flight_of fs id) ≡ Some f →
@@ -27,11 +27,11 @@ pub record IsFound (f : Flight) (id next nodes : ℕ) : Type 0 where
   pub from : f.message.from < nodes
   pub to : f.message.to < nodes
   pub block : f.message.block < block_count
-  pub names : named f.message.body < nodes
+  pub names : node_in_body f.message.body < nodes
 
 is_found_step : (g f : Flight) (fs : List Flight) (id next nodes : ℕ) →
     (if nat_eq g.message.id id then Some g else flight_of fs id) ≡ Some f → g.message.id < next →
-    (g.message.from < nodes) × (g.message.to < nodes) × (g.message.block < block_count) × (named g.message.body < nodes) →
+    (g.message.from < nodes) × (g.message.to < nodes) × (g.message.block < block_count) × (node_in_body g.message.body < nodes) →
     (flight_of fs id ≡ Some f → IsFound f id next nodes) → IsFound f id next nodes
 is_found_step g f fs id next nodes e l w h = either (nat_eq g.message.id id) refl e
   where

@@ -8,15 +8,15 @@ use Rattle.sn_msg.specs.declared.Body.{Body}
 use Rattle.sn_msg.specs.declared.Body.TheVariants.{GetS, GetM, FwdGetS, FwdGetM, Inv, DataS, DataM, DataE, UpgOk, InvAck, Unblock, PutReq}
 use Rattle.sn_msg.specs.declared.Body.TheVariants.{PutGo, PutData, PutDone, Ready, Advance}
 use Rattle.sn_model.specs.CacheRows.{CacheReply}
-use Rattle.sn_model.specs.Fabric.{Fabric, node_at, Moved, refused}
+use Rattle.sn_model.specs.Fabric.{Fabric, node_at, FabricStep, step_refused}
 use Rattle.sn_model.specs.Net.{net_limit}
 use Rattle.sn_model.specs.NetEvents.{AtCache, node_after, outcome_of, delivers}
 use Rattle.sn_coherence.specs.Block as block
 use Rattle.sn_coherence.specs.Events.{Event, after}
-use Rattle.sn_coherence.specs.Kept.{AllSentences}
-use Rattle.fabric_coherence.specs.View.{Beside, block_seen}
-use Rattle.fabric_coherence.specs.Steps.{IsInFlight, after_cache, beside_with, losing, lost_at_once, named}
-use Rattle.fabric_coherence.specs.Coherent.{IsKept}
+use Rattle.sn_coherence.specs.Invariant.{BlockInvariant}
+use Rattle.fabric_coherence.specs.View.{GhostState, block_seen}
+use Rattle.fabric_coherence.specs.Steps.{IsInFlight, after_cache, ghost_with, losing, lost_at_once, node_in_body}
+use Rattle.fabric_coherence.specs.Coherent.{FabricInvariant}
 use Rattle.fabric_coherence.specs.Recorded.{heard_by}
 use Rattle.fabric_coherence.specs.Leads.{Goes, Moves}
 use Rattle.fabric_coherence.specs.CacheEvents.{comes_to_cache, told_of, IsCacheEvent}
@@ -27,17 +27,17 @@ use Rattle.fabric_coherence.proofs.CacheOutcomes.{put_go-event, put_done-event}
 use Rattle.fabric_coherence.proofs.KeptCommon.{frames_stay, then_losing, goes_own, as_it_is}
 
 -- a message that is in flight, and whose receiver's interval has reached its tag
-module _ (s : Fabric) (t : Beside) (m : Message) (kept : IsKept s t) (flight : IsInFlight s m) (reached : m.tag ≤ (node_at s m.to).now) where
-  of_block : AllSentences (length s.nodes) (block_seen s t m.block)
+module _ (s : Fabric) (t : GhostState) (m : Message) (kept : FabricInvariant s t) (flight : IsInFlight s m) (reached : m.tag ≤ (node_at s m.to).now) where
+  of_block : BlockInvariant (length s.nodes) (block_seen s t m.block)
   of_block = kept.blocks m.block flight.block
 
   -- what a row of the cache leaves, and the copy that it says was lost
   row_moves : (reply : CacheReply) (event : Event) (others : ℕ → block.Block) (lost : Option ℕ) →
       IsCacheEvent s t m reply event others lost → Moves s t (after_cache s m reply)
   row_moves reply event others lost does = (
-    beside_with t m.block own,
-    subst (λ x. Goes s t (heard_by (told_of m.to x)) (after_cache s m reply).fabric (beside_with t m.block own)) (sym does.loses)
-        (goes_own s t (heard_by (told_of m.to lost)) (after_cache s m reply).fabric (beside_with t m.block own)
+    ghost_with t m.block own,
+    subst (λ x. Goes s t (heard_by (told_of m.to x)) (after_cache s m reply).fabric (ghost_with t m.block own)) (sym does.loses)
+        (goes_own s t (heard_by (told_of m.to lost)) (after_cache s m reply).fabric (ghost_with t m.block own)
         (length-set s.nodes m.to (node_after (node_at s m.to) reply)) (frames_stay s t)
         (after_cache-shaped s m kept.shape flight.to flight.block reply does.lines does.sends) m.block
         (losing own (lost_at_once (after_cache s m reply).sent)) others
@@ -50,8 +50,8 @@ module _ (s : Fabric) (t : Beside) (m : Message) (kept : IsKept s t) (flight : I
       own = after (length s.nodes) (block_seen s t m.block) event
 
   -- nothing, where the log or the net lacks the room
-  room_moves : (full_log full_net : Bool) (done : Moved) → Moves s t done →
-      Moves s t (if full_log then refused s LogFull else if full_net then refused s NetFull else done)
+  room_moves : (full_log full_net : Bool) (done : FabricStep) → Moves s t done →
+      Moves s t (if full_log then step_refused s LogFull else if full_net then step_refused s NetFull else done)
   room_moves true full_net done k = as_it_is s t LogFull kept.shape
   room_moves false true done k = as_it_is s t NetFull kept.shape
   room_moves false false done k = k
@@ -64,7 +64,7 @@ module _ (s : Fabric) (t : Beside) (m : Message) (kept : IsKept s t) (flight : I
         (after_cache s m reply) (row_moves reply event others lost does)
 
     -- a delivery to the cache
-    pub cache_delivery_moves : named m.body < length s.nodes → (x : Body) → m.body ≡ x → comes_to_cache x ≡ true →
+    pub cache_delivery_moves : node_in_body m.body < length s.nodes → (x : Body) → m.body ≡ x → comes_to_cache x ≡ true →
         Moves s t (delivers config s m (outcome_of s m x))
     cache_delivery_moves names (FwdGetS r) is cache =
         reply_moves _ _ _ _ (forward_read-event s t m kept.shape flight of_block reached names r is)

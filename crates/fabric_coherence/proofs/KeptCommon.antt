@@ -6,29 +6,29 @@ use Rattle.std.specs.Prelude.{⊤}
 use Rattle.std.proofs.lemmas.Bool.Decides.{nat_tests}
 use Rattle.sn_base.specs.declared.event.Answer.{Answer}
 use Rattle.sn_model.specs.Caches.{block_count}
-use Rattle.sn_model.specs.Fabric.{Fabric, Moved, refused}
+use Rattle.sn_model.specs.Fabric.{Fabric, FabricStep, step_refused}
 use Rattle.sn_coherence.specs.Block.{Block, NoLine, Nothing, Elsewhere, NoPut, PutElsewhere}
 use Rattle.sn_coherence.specs.OtherEvents.{lose, begin_miss_elsewhere, end_miss_elsewhere, begin_put_elsewhere, end_put_elsewhere}
 use Rattle.sn_coherence.specs.Events.{Event, ForwardWrite, Invalidate, PutGoes, DeliverReady, Lose, NumbersElsewhere, BeginMissElsewhere}
 use Rattle.sn_coherence.specs.Events.{EndMissElsewhere, BeginPutElsewhere, EndPutElsewhere, Load, LoadReserved, Store, StoreConditionalDone}
 use Rattle.sn_coherence.specs.Events.{StoreConditionalUndone, EvictShared, Edge, Validate, Recover, Allows, after}
-use Rattle.sn_coherence.specs.Kept.{AllSentences}
-use Rattle.sn_coherence.specs.KeptRecords.{KeptRecords}
-use Rattle.sn_coherence.specs.Records.{Records, recorded, MayHappen, unreserves}
+use Rattle.sn_coherence.specs.Invariant.{BlockInvariant}
+use Rattle.sn_coherence.specs.RecordsInvariant.{RecordsInvariant}
+use Rattle.sn_coherence.specs.Records.{Records, records_after_event, MayHappen, unreserves}
 use Rattle.sn_coherence.specs.Same.{IsSame}
 use Rattle.sn_coherence.proofs.Whole.{event_kept}
 use Rattle.sn_coherence.proofs.WholeRecords.{event_recorded}
 use Rattle.sn_coherence.proofs.Same.{same_block}
-use Rattle.fabric_coherence.specs.View.{Beside, block_seen}
+use Rattle.fabric_coherence.specs.View.{GhostState, block_seen}
 use Rattle.fabric_coherence.specs.Steps.{losing, elsewhere, IsShaped}
-use Rattle.fabric_coherence.specs.Coherent.{IsKept}
+use Rattle.fabric_coherence.specs.Coherent.{FabricInvariant}
 use Rattle.fabric_coherence.specs.Recorded.{heard_by}
 use Rattle.fabric_coherence.specs.CacheEvents.{told_of}
 use Rattle.fabric_coherence.specs.Leads.{Leads, KeepsFrames, Goes, Moves}
 
 -- an event that is allowed leads to the block after it
 pub event_leads : (N : ℕ) (b : Block) (e : Event) → Allows N b e → ((r : Records) → MayHappen N b r e) →
-    Leads N b (λ r. recorded N b r e) (after N b e)
+    Leads N b (λ r. records_after_event N b r e) (after N b e)
 event_leads N b e a m = record { kept = λ k. event_kept N b e k a; records = λ r k v. event_recorded N b r e k v (m r) }
 
 -- an event that leaves the records as they are
@@ -48,8 +48,8 @@ IsQuiet Validate = ⊥
 IsQuiet Recover = ⊥
 IsQuiet _ = ⊤
 
-quiet_records : (N : ℕ) (b : Block) (r : Records) (e : Event) → IsQuiet e → KeptRecords (after N b e) (recorded N b r e) →
-    KeptRecords (after N b e) r
+quiet_records : (N : ℕ) (b : Block) (r : Records) (e : Event) → IsQuiet e → RecordsInvariant (after N b e) (records_after_event N b r e) →
+    RecordsInvariant (after N b e) r
 quiet_records N b r (ForwardWrite i) q v = absurd q
 quiet_records N b r (Invalidate i) q v = absurd q
 quiet_records N b r (PutGoes i) q v = absurd q
@@ -86,7 +86,7 @@ leads_then N b c d f g x y = record { kept = λ k. y.kept (x.kept k); records = 
 
 -- the same records in other words
 pub leads_as : (N : ℕ) (b c : Block) (f g : Records → Records) → ((r : Records) → f r ≡ g r) → Leads N b f c → Leads N b g c
-leads_as N b c f g e x = record { kept = x.kept; records = λ r k v. subst (KeptRecords c) (e r) (x.records r k v) }
+leads_as N b c f g e x = record { kept = x.kept; records = λ r k v. subst (RecordsInvariant c) (e r) (x.records r k v) }
 
 -- a loss is an event that may always happen
 pub losing_leads : (N : ℕ) (b : Block) (ids : List ℕ) → Leads N b (λ r. r) (losing b ids)
@@ -124,7 +124,7 @@ pub end_put_elsewhere_leads : (N : ℕ) (b c : Block) (n : ℕ) → Leads N b (�
 end_put_elsewhere_leads N b c n x e = then_quiet N b c (EndPutElsewhere n) x e tt
 
 -- where the line is not there, there is no reservation to lose
-no_reservation : (b : Block) (r : Records) (n : ℕ) → KeptRecords b r → b.line n ≡ NoLine → r.reserved n ≡ false
+no_reservation : (b : Block) (r : Records) (n : ℕ) → RecordsInvariant b r → b.line n ≡ NoLine → r.reserved n ≡ false
 no_reservation b r n v e = of (r.reserved n) refl
   where
     of : (c : Bool) → r.reserved n ≡ c → c ≡ false
@@ -133,7 +133,7 @@ no_reservation b r n v e = of (r.reserved n) refl
 
 pub absent_leads : (N : ℕ) (b c : Block) (n : ℕ) → b.line n ≡ NoLine → Leads N b (λ r. unreserves r n) c → Leads N b (λ r. r) c
 absent_leads N b c n e x =
-    record { kept = x.kept; records = λ r k v. subst (KeptRecords c) (as_it_was r (no_reservation b r n v e)) (x.records r k v) }
+    record { kept = x.kept; records = λ r k v. subst (RecordsInvariant c) (as_it_was r (no_reservation b r n v e)) (x.records r k v) }
   where
     same : (r : Records) → r.reserved n ≡ false → (m : ℕ) → (unreserves r n).reserved m ≡ r.reserved m
     same r q m = grind (arith, nat_tests)
@@ -167,11 +167,11 @@ pub leads_seen : (N : ℕ) (b c d : Block) (f : Records → Records) → IsSame 
 leads_seen N b c d f same x = subst (λ y. Leads N b f y) (sym (same_block d c same)) x
 
 -- where the frames at edges stay
-pub frames_stay : (s : Fabric) (t : Beside) → KeepsFrames s t t
+pub frames_stay : (s : Fabric) (t : GhostState) → KeepsFrames s t t
 frames_stay s t n j = inl (λ b. refl)
 
 -- the fabric goes on, where each block does
-module _ (s : Fabric) (t : Beside) (f : ℕ → Records → Records) (after : Fabric) (u : Beside) (count : length after.nodes ≡ length s.nodes) (frames : KeepsFrames s t u) (shape : IsShaped after) where
+module _ (s : Fabric) (t : GhostState) (f : ℕ → Records → Records) (after : Fabric) (u : GhostState) (count : length after.nodes ≡ length s.nodes) (frames : KeepsFrames s t u) (shape : IsShaped after) where
   pub goes_each : (each : ℕ → Block) → ((o : ℕ) → o < block_count → IsSame (block_seen after u o) (each o)) →
       ((o : ℕ) → o < block_count → Leads (length s.nodes) (block_seen s t o) (f o) (each o)) → Goes s t f after u
   goes_each each sees leads = record {
@@ -205,27 +205,27 @@ module _ (s : Fabric) (t : Beside) (f : ℕ → Records → Records) (after : Fa
           (leads_others o l (unequal o e))
 
 -- an event that changes nothing, and tells nothing
-pub as_it_is : (s : Fabric) (t : Beside) (answer : Answer) → IsShaped s → Moves s t (refused s answer)
+pub as_it_is : (s : Fabric) (t : GhostState) (answer : Answer) → IsShaped s → Moves s t (step_refused s answer)
 as_it_is s t answer shape =
     (t, record { shape = shape; count = refl; frames = frames_stay s t; blocks = λ o l. stays (length s.nodes) (block_seen s t o) })
 
 -- a test of the fabric
-pub by_test : (s : Fabric) (t : Beside) (test : Bool) (a b : Moved) → (test ≡ true → Moves s t a) → (test ≡ false → Moves s t b) →
+pub by_test : (s : Fabric) (t : GhostState) (test : Bool) (a b : FabricStep) → (test ≡ true → Moves s t a) → (test ≡ false → Moves s t b) →
     Moves s t (if test then a else b)
 by_test s t true a b first second = first refl
 by_test s t false a b first second = second refl
 
 -- what is kept, where the fabric goes on
-pub kept_on : (s : Fabric) (t : Beside) (f : ℕ → Records → Records) (after : Fabric) (u : Beside) → IsKept s t → Goes s t f after u →
-    IsKept after u
+pub kept_on : (s : Fabric) (t : GhostState) (f : ℕ → Records → Records) (after : Fabric) (u : GhostState) → FabricInvariant s t → Goes s t f after u →
+    FabricInvariant after u
 kept_on s t f after u k g =
     record {
       shape = g.shape;
-      blocks = λ o l. subst (λ N. AllSentences N (block_seen after u o)) (sym g.count) ((g.blocks o l).kept (k.blocks o l));
+      blocks = λ o l. subst (λ N. BlockInvariant N (block_seen after u o)) (sym g.count) ((g.blocks o l).kept (k.blocks o l));
     }
 
-pub recorded_on : (s : Fabric) (t : Beside) (f : ℕ → Records → Records) (after : Fabric) (u : Beside) (r : ℕ → Records) → IsKept s t →
+pub recorded_on : (s : Fabric) (t : GhostState) (f : ℕ → Records → Records) (after : Fabric) (u : GhostState) (r : ℕ → Records) → FabricInvariant s t →
     Goes s t f after u →
-    ((o : ℕ) → o < block_count → KeptRecords (block_seen s t o) (r o)) → (o : ℕ) → o < block_count →
-    KeptRecords (block_seen after u o) (f o (r o))
+    ((o : ℕ) → o < block_count → RecordsInvariant (block_seen s t o) (r o)) → (o : ℕ) → o < block_count →
+    RecordsInvariant (block_seen after u o) (f o (r o))
 recorded_on s t f after u r k g v o l = (g.blocks o l).records (r o) (k.blocks o l) (v o l)

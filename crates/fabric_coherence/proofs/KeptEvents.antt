@@ -8,17 +8,17 @@ use Rattle.sn_base.specs.declared.block.Write.{Write as Written}
 use Rattle.sn_base.specs.declared.event.Answer.TheVariants.{NotArrived, Held, NoMessage, NetFull, Validated}
 use Rattle.sn_msg.specs.declared.Body.{Body}
 use Rattle.sn_msg.specs.declared.Body.TheVariants as body
-use Rattle.sn_model.specs.Fabric.{refused, Fabric, Flight, node_at}
+use Rattle.sn_model.specs.Fabric.{step_refused, Fabric, Flight, node_at}
 use Rattle.sn_model.specs.Net.{flight_of, is_there, is_full, sending}
 use Rattle.sn_model.specs.NetEvents.{delivers, delivers_flight, outcome_of}
-use Rattle.sn_model.specs.PointEvents.{advanced, advances}
+use Rattle.sn_model.specs.PointEvents.{step_of_advance, advances}
 use Rattle.sn_model.specs.FabricEvents.{FabricEvent, Access, Write, Evict, Edge, Hop, Deliver, Lose, Kill, Report, Advance, Recover}
 use Rattle.sn_model.specs.FabricEvents.{moved_by}
 use Rattle.sn_coherence.specs.Block.{is_to_home}
 use Rattle.sn_coherence.specs.Records.{Records}
-use Rattle.fabric_coherence.specs.View.{Beside, message_seen}
+use Rattle.fabric_coherence.specs.View.{GhostState, message_seen}
 use Rattle.fabric_coherence.specs.Steps.{IsInFlight}
-use Rattle.fabric_coherence.specs.Coherent.{IsKept, Keeps, NothingUnfinished}
+use Rattle.fabric_coherence.specs.Coherent.{FabricInvariant, Keeps, NothingUnfinished}
 use Rattle.fabric_coherence.specs.Events.{MayBe}
 use Rattle.fabric_coherence.specs.Recorded.{KeepsRecords, MayBeRecorded, noted_by, recorded_by}
 use Rattle.fabric_coherence.specs.Leads.{KeepsFrames, Goes, Moves}
@@ -38,7 +38,7 @@ use Rattle.fabric_coherence.proofs.Retirements.{stored_kept}
 use Rattle.fabric_coherence.proofs.InFlight.{in_flight, is_found}
 
 -- a message that is delivered, by its body
-module _ (config : Config) (s : Fabric) (t : Beside) (id : ℕ) (f : Flight) (kept : IsKept s t) (found : flight_of s.net.flights id ≡ Some f) where
+module _ (config : Config) (s : Fabric) (t : GhostState) (id : ℕ) (f : Flight) (kept : FabricInvariant s t) (found : flight_of s.net.flights id ≡ Some f) where
   flight : IsInFlight s f.message
   flight = in_flight s id f kept.shape found
 
@@ -78,25 +78,25 @@ module _ (config : Config) (s : Fabric) (t : Beside) (id : ℕ) (f : Flight) (ke
   taken_moves (body.Advance k) is h = subst TakenMoves is (advance_delivered_moves s t kept config id f k found h is)
 
   arrived_moves : (there held : Bool) → nat_lt (node_at s f.message.to).now f.message.tag ≡ held →
-      Moves s t (if not there then refused s NotArrived else if held then refused s Held
+      Moves s t (if not there then step_refused s NotArrived else if held then step_refused s Held
       else delivers config s f.message (outcome_of s f.message f.message.body))
   arrived_moves false held h = as_it_is s t NotArrived kept.shape
   arrived_moves true true h = as_it_is s t Held kept.shape
   arrived_moves true false h = taken_moves f.message.body refl h
 
-delivery_moves : (config : Config) (s : Fabric) (t : Beside) (id : ℕ) (found : Option Flight) → IsKept s t →
+delivery_moves : (config : Config) (s : Fabric) (t : GhostState) (id : ℕ) (found : Option Flight) → FabricInvariant s t →
     flight_of s.net.flights id ≡ found → Moves s t (delivers_flight config s found)
 delivery_moves config s t id None kept e = as_it_is s t NoMessage kept.shape
 delivery_moves config s t id (Some f) kept e =
     arrived_moves config s t id f kept e (is_there f) (nat_lt (node_at s f.message.to).now f.message.tag) refl
 
 -- the recovery point rises
-advanced_moves : (s : Fabric) (t : Beside) (k : ℕ) → IsKept s t → k ≡ s.point + 1 → NothingUnfinished s k → Moves s t (advanced s k)
-advanced_moves s t k kept e f = subst (λ j. NothingUnfinished s j → Moves s t (advanced s j)) (sym e) next f
+advanced_moves : (s : Fabric) (t : GhostState) (k : ℕ) → FabricInvariant s t → k ≡ s.point + 1 → NothingUnfinished s k → Moves s t (step_of_advance s k)
+advanced_moves s t k kept e f = subst (λ j. NothingUnfinished s j → Moves s t (step_of_advance s j)) (sym e) next f
   where
-    next : NothingUnfinished s (s.point + 1) → Moves s t (advanced s (s.point + 1))
+    next : NothingUnfinished s (s.point + 1) → Moves s t (step_of_advance s (s.point + 1))
     next f =
-        by_test s t (is_full s (length s.nodes)) (refused s NetFull)
+        by_test s t (is_full s (length s.nodes)) (step_refused s NetFull)
         (sending (record s { point = s.point + 1 }) 0 0 (advances (s.point + 1) 0 s.nodes) (Validated (s.point + 1)))
         (λ q. as_it_is s t NetFull kept.shape) (λ q. (t, rises_goes s t kept (rises_leads s t kept f)))
 
@@ -105,8 +105,8 @@ abbrev pub IsNoWrite : FabricEvent → Type 0
 IsNoWrite (Write n w) = ⊥
 IsNoWrite _ = ⊤
 
-pub event_goes : (config : Config) (s : Fabric) (t : Beside) (event : FabricEvent) → IsKept s t → MayBe s event → IsNoWrite event →
-    (u : Beside) × Goes s t (noted_by s event (moved_by config s event)) (moved_by config s event).fabric u
+pub event_goes : (config : Config) (s : Fabric) (t : GhostState) (event : FabricEvent) → FabricInvariant s t → MayBe s event → IsNoWrite event →
+    (u : GhostState) × Goes s t (noted_by s event (moved_by config s event)) (moved_by config s event).fabric u
 unfolding moved_by
 event_goes config s t (Access n b need) k m w = accessed-moves config s t n b need k m.0 m.1
 event_goes config s t (Write n x) k m w = absurd w
@@ -121,13 +121,13 @@ event_goes config s t (Advance j) k m w = advanced_moves s t j k m.0 m.1
 event_goes config s t (Recover j) k m w = recovered_goes s t k j m
 
 -- so every event keeps the sentences
-event_keeps : (config : Config) (s : Fabric) (t : Beside) (event : FabricEvent) → IsKept s t → MayBe s event → IsNoWrite event →
+event_keeps : (config : Config) (s : Fabric) (t : GhostState) (event : FabricEvent) → FabricInvariant s t → MayBe s event → IsNoWrite event →
     Keeps (moved_by config s event).fabric
 event_keeps config s t event k m w =
     let g = event_goes config s t event k m w in
     (g.0, kept_on s t (noted_by s event (moved_by config s event)) (moved_by config s event).fabric g.0 k g.1)
 
-write_keeps : (config : Config) (s : Fabric) (t : Beside) (n : ℕ) (w : Written) → IsKept s t → MayBe s (Write n w) →
+write_keeps : (config : Config) (s : Fabric) (t : GhostState) (n : ℕ) (w : Written) → FabricInvariant s t → MayBe s (Write n w) →
     Keeps (moved_by config s (Write n w)).fabric
 unfolding moved_by
 write_keeps config s t n w k m = (t, stored_kept s t k n w m)
@@ -146,21 +146,21 @@ each_keeps config s (Advance j) k m = event_keeps config s k.0 (Advance j) k.1 m
 each_keeps config s (Recover j) k m = event_keeps config s k.0 (Recover j) k.1 m tt
 
 -- the same, with what becomes of the frames at edges
-abbrev FramesKept : Config → Fabric → Beside → FabricEvent → Type 0
-FramesKept config s t event = (u : Beside) × IsKept (moved_by config s event).fabric u × KeepsFrames s t u
+abbrev FramesKept : Config → Fabric → GhostState → FabricEvent → Type 0
+FramesKept config s t event = (u : GhostState) × FabricInvariant (moved_by config s event).fabric u × KeepsFrames s t u
 
-no_write_frames : (config : Config) (s : Fabric) (t : Beside) (event : FabricEvent) → IsKept s t → MayBe s event → IsNoWrite event →
+no_write_frames : (config : Config) (s : Fabric) (t : GhostState) (event : FabricEvent) → FabricInvariant s t → MayBe s event → IsNoWrite event →
     FramesKept config s t event
 no_write_frames config s t event k m w =
     let g = event_goes config s t event k m w in
     (g.0, kept_on s t (noted_by s event (moved_by config s event)) (moved_by config s event).fabric g.0 k g.1, g.1.frames)
 
-write_frames : (config : Config) (s : Fabric) (t : Beside) (n : ℕ) (w : Written) → IsKept s t → MayBe s (Write n w) →
+write_frames : (config : Config) (s : Fabric) (t : GhostState) (n : ℕ) (w : Written) → FabricInvariant s t → MayBe s (Write n w) →
     FramesKept config s t (Write n w)
 unfolding moved_by
 write_frames config s t n w k m = (t, stored_kept s t k n w m, frames_stay s t)
 
-pub each_keeps_frames : (config : Config) (s : Fabric) (t : Beside) (event : FabricEvent) → IsKept s t → MayBe s event →
+pub each_keeps_frames : (config : Config) (s : Fabric) (t : GhostState) (event : FabricEvent) → FabricInvariant s t → MayBe s event →
     FramesKept config s t event
 each_keeps_frames config s t (Write n w) k m = write_frames config s t n w k m
 each_keeps_frames config s t (Access n b need) k m = no_write_frames config s t (Access n b need) k m tt
@@ -197,7 +197,7 @@ each_keeps_records config s r event k m = (
     may (Advance j) m = ((m.0, subst (NothingUnfinished s) (sym m.0) (reported_finished s k.0 k.1 r k.2 m.1)), tt)
     may (Recover j) m = (m, tt)
 
-    goes : (u : Beside) × Goes s k.0 (noted_by s event (moved_by config s event)) (moved_by config s event).fabric u
+    goes : (u : GhostState) × Goes s k.0 (noted_by s event (moved_by config s event)) (moved_by config s event).fabric u
     goes = event_goes config s k.0 event k.1 (may event m).0 (may event m).1
 
 pub run_keeps : (config : Config) (s : Fabric) (events : List FabricEvent) → Keeps s → IsFabricRun config s events →

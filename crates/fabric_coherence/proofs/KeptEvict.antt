@@ -7,15 +7,15 @@ use Rattle.sn_model.specs.declared.cache.LineState.TheVariants as state
 use Rattle.sn_model.specs.declared.cache.LineState.TheVariants.{Shared}
 use Rattle.sn_model.specs.Caches.{block_count, line_of, no_line, misses_on, is_owned}
 use Rattle.sn_model.specs.CacheRows.{send}
-use Rattle.sn_model.specs.Fabric.{Fabric, node_at, with_node, home_node, Moved, refused}
+use Rattle.sn_model.specs.Fabric.{Fabric, node_at, with_node, home_node, FabricStep, step_refused}
 use Rattle.sn_model.specs.Net.{sending, is_full}
-use Rattle.sn_model.specs.NodeEvents.{evicted, evicts, begins_put, with_put, without_copy, drops_copy, has_put}
+use Rattle.sn_model.specs.NodeEvents.{step_of_eviction, evicts, begins_put, with_put, without_copy, drops_copy, has_put}
 use Rattle.sn_coherence.specs.OtherEvents.{evict_shared, begin_put, begin_put_elsewhere, numbers_elsewhere}
 use Rattle.sn_coherence.specs.Events.{BeginPut, EvictShared, NumbersElsewhere, Allows}
 use Rattle.sn_coherence.specs.Records.{unreserves}
-use Rattle.fabric_coherence.specs.View.{Beside, block_seen, line_seen}
+use Rattle.fabric_coherence.specs.View.{GhostState, block_seen, line_seen}
 use Rattle.fabric_coherence.specs.Steps.{losing, lost_at_once}
-use Rattle.fabric_coherence.specs.Coherent.{IsKept}
+use Rattle.fabric_coherence.specs.Coherent.{FabricInvariant}
 use Rattle.fabric_coherence.specs.Recorded.{heard_by}
 use Rattle.fabric_coherence.specs.CacheEvents.{told_of}
 use Rattle.fabric_coherence.specs.Leads.{Moves}
@@ -25,9 +25,9 @@ use Rattle.fabric_coherence.proofs.KeptCommon.{frames_stay, event_leads, quiet_l
 use Rattle.fabric_coherence.proofs.KeptCommon.{stays, leads_as, told_here, told_there, goes_own, as_it_is, by_test}
 use Rattle.fabric_coherence.proofs.KeptNode.{sent-shaped, miss_apart, no_put_seen, owned_seen}
 
-module _ (s : Fabric) (t : Beside) (n b : ℕ) (kept : IsKept s t) (l : n < length s.nodes) (low : b < block_count) (apart : misses_on (node_at s n).cache.miss b ≡ false) where
+module _ (s : Fabric) (t : GhostState) (n b : ℕ) (kept : FabricInvariant s t) (l : n < length s.nodes) (low : b < block_count) (apart : misses_on (node_at s n).cache.miss b ≡ false) where
   -- the home is asked for the block
-  abbrev put_begun : Moved
+  abbrev put_begun : FabricStep
   put_begun = sending (with_node s n (with_put (node_at s n) b)) n b (send (home_node s b) PutReq ∷ []) PutBegun
 
   put_moves : has_put (node_at s n).cache.put ≡ false → is_owned (line_of (node_at s n).cache b).state ≡ true → Moves s t put_begun
@@ -53,8 +53,8 @@ module _ (s : Fabric) (t : Beside) (n b : ℕ) (kept : IsKept s t) (l : n < leng
   )
 
   begins_put_moves : is_owned (line_of (node_at s n).cache b).state ≡ true → Moves s t (begins_put s n b)
-  begins_put_moves owned = by_test s t (has_put (node_at s n).cache.put) (refused s PutOpen) _ (λ e. as_it_is s t PutOpen kept.shape)
-      (λ none. by_test s t (is_full s 1) (refused s NetFull) put_begun (λ e. as_it_is s t NetFull kept.shape) (λ e. put_moves none owned))
+  begins_put_moves owned = by_test s t (has_put (node_at s n).cache.put) (step_refused s PutOpen) _ (λ e. as_it_is s t PutOpen kept.shape)
+      (λ none. by_test s t (is_full s 1) (step_refused s NetFull) put_begun (λ e. as_it_is s t NetFull kept.shape) (λ e. put_moves none owned))
 
   -- a Shared line is dropped, and the copy is lost
   drop_moves : (line_of (node_at s n).cache b).state ≡ Shared → Moves s t (drops_copy s n b)
@@ -83,8 +83,8 @@ module _ (s : Fabric) (t : Beside) (n b : ℕ) (kept : IsKept s t) (l : n < leng
   evicts_moves state.Modified e = begins_put_moves (ap is_owned e)
   evicts_moves state.Exclusive e = begins_put_moves (ap is_owned e)
 
-pub evicted-moves : (s : Fabric) (t : Beside) (n b : ℕ) → IsKept s t → n < length s.nodes → b < block_count → Moves s t (evicted s n b)
+pub evicted-moves : (s : Fabric) (t : GhostState) (n b : ℕ) → FabricInvariant s t → n < length s.nodes → b < block_count → Moves s t (step_of_eviction s n b)
 evicted-moves s t n b kept l low =
-    by_test s t (misses_on (node_at s n).cache.miss b) (refused s MissOpen) (evicts s n b (line_of (node_at s n).cache b).state)
+    by_test s t (misses_on (node_at s n).cache.miss b) (step_refused s MissOpen) (evicts s n b (line_of (node_at s n).cache b).state)
     (λ e. as_it_is s t MissOpen kept.shape)
     (λ apart. evicts_moves s t n b kept l low apart (line_of (node_at s n).cache b).state refl)

@@ -12,17 +12,17 @@ use Rattle.sn_model.specs.declared.home.Kind.{Kind}
 use Rattle.sn_model.specs.declared.home.Kind.TheVariants as kind
 use Rattle.sn_model.specs.Homes.{Holder, Itself, OfCache, Transaction, is_owner}
 use Rattle.sn_model.specs.HomeRows as row
-use Rattle.sn_model.specs.Fabric.{Fabric, node_at, home_of, Moved, refused}
+use Rattle.sn_model.specs.Fabric.{Fabric, node_at, home_of, FabricStep, step_refused}
 use Rattle.sn_model.specs.Net.{net_limit}
 use Rattle.sn_model.specs.NetEvents.{AtHome, unless_busy, kept_at, get_shared, get_modified, put_request, outcome_of, delivers}
 use Rattle.sn_coherence.specs.Block as block
 use Rattle.sn_coherence.specs.Events.{Allows, after}
-use Rattle.sn_coherence.specs.Kept.{AllSentences}
-use Rattle.fabric_coherence.specs.View.{Beside, block_seen, message_seen, is_itself, owner_of}
-use Rattle.fabric_coherence.specs.Steps.{IsShaped, IsInFlight, after_home, beside_with, losing, lost_at_once, elsewhere}
+use Rattle.sn_coherence.specs.Invariant.{BlockInvariant}
+use Rattle.fabric_coherence.specs.View.{GhostState, block_seen, message_seen, is_itself, owner_of}
+use Rattle.fabric_coherence.specs.Steps.{IsShaped, IsInFlight, after_home, ghost_with, losing, lost_at_once, elsewhere}
 use Rattle.fabric_coherence.specs.Sends.{OutsWithin}
 use Rattle.fabric_coherence.specs.HomeSeen.{IsHomeRow}
-use Rattle.fabric_coherence.specs.Coherent.{IsKept}
+use Rattle.fabric_coherence.specs.Coherent.{FabricInvariant}
 use Rattle.fabric_coherence.specs.HomeEvents.{other_count, home_event}
 use Rattle.fabric_coherence.proofs.Base.{read_set}
 use Rattle.fabric_coherence.proofs.NetShape.{invalidations-within, after_home-shaped}
@@ -37,7 +37,7 @@ reply_is : (a b : row.HomeReply) → AtHome a ≡ AtHome b → a ≡ b
 reply_is a b h = cc
 
 -- what a home sends goes to nodes that are there, and its entry keeps its length
-module _ (s : Fabric) (t : Beside) (m : Message) (shape : IsShaped s) (flight : IsInFlight s m) (kept : AllSentences (length s.nodes) (block_seen s t m.block)) where
+module _ (s : Fabric) (t : GhostState) (m : Message) (shape : IsShaped s) (flight : IsInFlight s m) (kept : BlockInvariant (length s.nodes) (block_seen s t m.block)) where
   abbrev Fits : row.HomeReply → Type 0
   Fits reply = (length reply.after.entry.sharers ≡ 16) × OutsWithin reply.sends (length s.nodes)
 
@@ -184,15 +184,15 @@ home-quiet s m (Ready k) = tt
 home-quiet s m (Advance k) = tt
 
 -- a message that is in flight, and whose receiver's interval has reached its tag
-module _ (s : Fabric) (t : Beside) (m : Message) (kept : IsKept s t) (flight : IsInFlight s m) (reached : m.tag ≤ (node_at s m.to).now) where
-  of_block : AllSentences (length s.nodes) (block_seen s t m.block)
+module _ (s : Fabric) (t : GhostState) (m : Message) (kept : FabricInvariant s t) (flight : IsInFlight s m) (reached : m.tag ≤ (node_at s m.to).now) where
+  of_block : BlockInvariant (length s.nodes) (block_seen s t m.block)
   of_block = kept.blocks m.block flight.block
 
   -- what a row of the home leaves
   row_moves : (x : Body) (reply : row.HomeReply) → m.body ≡ x → outcome_of s m x ≡ AtHome reply → Moves s t (after_home s m reply)
   row_moves x reply is h = (
-    beside_with t m.block own,
-    goes_own s t (λ o r. r) (after_home s m reply).fabric (beside_with t m.block own)
+    ghost_with t m.block own,
+    goes_own s t (λ o r. r) (after_home s m reply).fabric (ghost_with t m.block own)
         (length-set s.nodes m.to (record (node_at s m.to) { log = reply.after.log })) (frames_stay s t) shaped m.block (losing own lost) others
         does.0 (quiet_losing (length s.nodes) (block_seen s t m.block) (home_event s m x) lost does.1 (home-quiet s m x))
         (λ o l other. home-elsewhere s t m kept.shape flight of_block reached own o other x reply is h)
@@ -217,8 +217,8 @@ module _ (s : Fabric) (t : Beside) (m : Message) (kept : IsKept s t) (flight : I
       does = home-outcome s t m kept.shape flight of_block reached x reply is h
 
   -- nothing, where the log or the net lacks the room
-  room_moves : (full_log full_net : Bool) (done : Moved) → Moves s t done →
-      Moves s t (if full_log then refused s LogFull else if full_net then refused s NetFull else done)
+  room_moves : (full_log full_net : Bool) (done : FabricStep) → Moves s t done →
+      Moves s t (if full_log then step_refused s LogFull else if full_net then step_refused s NetFull else done)
   room_moves true full_net done k = as_it_is s t LogFull kept.shape
   room_moves false true done k = as_it_is s t NetFull kept.shape
   room_moves false false done k = k

@@ -9,19 +9,19 @@ use Rattle.sn_msg.specs.declared.Message.{Message as Sent}
 use Rattle.sn_msg.specs.declared.Body.TheVariants.{Ready, Advance}
 use Rattle.route_plan.specs.Distances.{is_dead}
 use Rattle.sn_model.specs.Caches.{block_count}
-use Rattle.sn_model.specs.Fabric.{Fabric, Flight, Moved, node_at, with_node, with_net, refused, answered}
-use Rattle.sn_model.specs.Net.{routes_of, flight_of, without_flight, moved, is_there, next_switch, sending}
-use Rattle.sn_model.specs.NetEvents.{learned, hops_to, hops, hopped, loses, lost, killed, delivers, outcome_of}
+use Rattle.sn_model.specs.Fabric.{Fabric, Flight, FabricStep, node_at, with_node, with_net, step_refused, step_with_answer}
+use Rattle.sn_model.specs.Net.{routes_of, flight_of, without_flight, net_with_flight_in, is_there, next_switch, sending}
+use Rattle.sn_model.specs.NetEvents.{node_after_news, hops_to, hops, step_of_hop, loses, step_of_loss, step_of_kill, delivers, outcome_of}
 use Rattle.sn_model.specs.PointEvents.{advances}
 use Rattle.sn_coherence.specs.Block as block
 use Rattle.sn_coherence.specs.Block.{Message, with_number}
 use Rattle.sn_coherence.specs.OtherEvents.{lose, deliver_ready, deliver_advance, validate}
 use Rattle.sn_coherence.specs.Events.{Lose, DeliverAdvance, Arrives, DeliverReady}
 use Rattle.sn_coherence.specs.Records.{hears}
-use Rattle.fabric_coherence.specs.View.{Beside, block_seen, net_seen, message_seen}
+use Rattle.fabric_coherence.specs.View.{GhostState, block_seen, net_seen, message_seen}
 use Rattle.fabric_coherence.specs.Steps.{losing, lost_at_once}
 use Rattle.fabric_coherence.specs.Flights.{standing}
-use Rattle.fabric_coherence.specs.Coherent.{IsKept}
+use Rattle.fabric_coherence.specs.Coherent.{FabricInvariant}
 use Rattle.fabric_coherence.specs.Leads.{Leads, Goes, Moves}
 use Rattle.fabric_coherence.proofs.InFlight.{in_flight, found-for_all}
 use Rattle.fabric_coherence.proofs.NetEvents.{lose-seen, move-seen, kill-seen, ready-seen, advance-seen, validate-seen}
@@ -29,7 +29,7 @@ use Rattle.fabric_coherence.proofs.NetShape.{without-kept, moved-kept, kill-kept
 use Rattle.fabric_coherence.proofs.KeptCommon.{frames_stay, event_leads, quiet_leads, leads_as, losing_leads, then_losing, stays, goes_each}
 use Rattle.fabric_coherence.proofs.KeptCommon.{as_it_is, by_test}
 
-module _ (s : Fabric) (t : Beside) (kept : IsKept s t) where
+module _ (s : Fabric) (t : GhostState) (kept : FabricInvariant s t) where
   abbrev nodes : ℕ
   nodes = length s.nodes
 
@@ -40,9 +40,9 @@ module _ (s : Fabric) (t : Beside) (kept : IsKept s t) where
       (λ o. lose (block_seen s t o) id)
       (λ o l. lose-seen s t o id) (λ o l. quiet_leads nodes (block_seen s t o) (Lose id) tt tt)
 
-  moved_goes : (id place : ℕ) → Goes s t (λ o r. r) (with_net s (moved s.net id place)) t
+  moved_goes : (id place : ℕ) → Goes s t (λ o r. r) (with_net s (net_with_flight_in s.net id place)) t
   moved_goes id place =
-      goes_each s t (λ o r. r) (with_net s (moved s.net id place)) t refl (frames_stay s t) (moved-kept s kept.shape id place)
+      goes_each s t (λ o r. r) (with_net s (net_with_flight_in s.net id place)) t refl (frames_stay s t) (moved-kept s kept.shape id place)
       (block_seen s t)
       (λ o l. move-seen s t o id place) (λ o l. stays nodes (block_seen s t o))
 
@@ -56,7 +56,7 @@ module _ (s : Fabric) (t : Beside) (kept : IsKept s t) where
       (λ o l. kill-seen s t o switch dead kept.shape.rising) (λ o l. losing_leads nodes (block_seen s t o) (standing switch s.net.flights))
 
   -- a loss
-  pub lost_moves : (id : ℕ) → Moves s t (lost s id)
+  pub lost_moves : (id : ℕ) → Moves s t (step_of_loss s id)
   lost_moves id = of (flight_of s.net.flights id)
     where
       of : (found : Option Flight) → Moves s t (loses s found)
@@ -64,25 +64,25 @@ module _ (s : Fabric) (t : Beside) (kept : IsKept s t) where
       of (Some f) = (t, without_goes f.message.id)
 
   -- a hop
-  pub hopped_moves : (id : ℕ) → Moves s t (hopped s id)
+  pub hopped_moves : (id : ℕ) → Moves s t (step_of_hop s id)
   hopped_moves id = of (flight_of s.net.flights id)
     where
       into : (f : Flight) (next : ℕ) (dead : Bool) →
-          Moves s t (if dead then answered (with_net s (without_flight s.net f.message.id)) LostInDead
-          else answered (with_net s (moved s.net f.message.id next)) Hopped)
+          Moves s t (if dead then step_with_answer (with_net s (without_flight s.net f.message.id)) LostInDead
+          else step_with_answer (with_net s (net_with_flight_in s.net f.message.id next)) Hopped)
       into f next true = (t, without_goes f.message.id)
       into f next false = (t, moved_goes f.message.id next)
 
       of : (found : Option Flight) → Moves s t (hops s found)
       of None = as_it_is s t NoMessage kept.shape
       of (Some f) =
-          by_test s t (is_there f) (refused s Arrived) (hops_to s f (next_switch (routes_of s) f)) (λ e. as_it_is s t Arrived kept.shape)
+          by_test s t (is_there f) (step_refused s Arrived) (hops_to s f (next_switch (routes_of s) f)) (λ e. as_it_is s t Arrived kept.shape)
           (λ e. into f (next_switch (routes_of s) f) (is_dead s.net.dead (next_switch (routes_of s) f)))
 
   -- a switch that dies
-  pub killed_moves : (switch : ℕ) → Moves s t (killed s switch)
+  pub killed_moves : (switch : ℕ) → Moves s t (step_of_kill s switch)
   killed_moves switch =
-      by_test s t (is_dead s.net.dead switch) (refused s AlreadyDead) _ (λ e. as_it_is s t AlreadyDead kept.shape)
+      by_test s t (is_dead s.net.dead switch) (step_refused s AlreadyDead) _ (λ e. as_it_is s t AlreadyDead kept.shape)
       (λ e. (t, kill_goes switch (slice_set s.net.dead switch true)))
 
   -- Ready at the controller and Advance at a node: where it is found by its number, has come to its receiver and isn't held
@@ -113,8 +113,8 @@ module _ (s : Fabric) (t : Beside) (kept : IsKept s t) where
       Moves s t (delivers config s m (outcome_of s m (Advance k)))
   advance_moves config m k low e l = (
     t,
-    goes_each s t (λ o r. r) (with_net (with_node s m.to (learned (node_at s m.to) k)) (without_flight s.net m.id)) t
-        (length-set s.nodes m.to (learned (node_at s m.to) k)) (frames_stay s t)
+    goes_each s t (λ o r. r) (with_net (with_node s m.to (node_after_news (node_at s m.to) k)) (without_flight s.net m.id)) t
+        (length-set s.nodes m.to (node_after_news (node_at s m.to) k)) (frames_stay s t)
         (advance-kept s kept.shape m.id m.to k low) (λ o. deliver_advance (block_seen s t o) m.id)
         (λ o q. advance-seen s t o m k low (e o))
         (λ o q. quiet_leads nodes (block_seen s t o) (DeliverAdvance m.id)
@@ -142,7 +142,7 @@ module _ (s : Fabric) (t : Beside) (kept : IsKept s t) where
       (reached (node_at s f.message.to).now f.message.tag held))
 
   -- the recovery point rises, where it does so for each block
-  abbrev rises : Moved
+  abbrev rises : FabricStep
   rises = sending (record s { point = s.point + 1 }) 0 0 (advances (s.point + 1) 0 s.nodes) (Validated (s.point + 1))
 
   pub rises_goes : ((o : ℕ) → o < block_count → Leads nodes (block_seen s t o) (λ r. r) (validate nodes (block_seen s t o))) →

@@ -6,11 +6,11 @@ use Rattle.sn_model.specs.declared.cache.LineState.{LineState}
 use Rattle.sn_model.specs.Caches.{Miss, Put, block_count, is_present, is_owned, is_writable_state, misses_on, puts_on}
 use Rattle.sn_model.specs.Access.{has_miss}
 use Rattle.sn_model.specs.Fabric.{Fabric, Node, node_at, with_node}
-use Rattle.sn_model.specs.Net.{posted, routes_of, sending}
+use Rattle.sn_model.specs.Net.{net_after_sends, routes_of, sending}
 use Rattle.sn_model.specs.NodeEvents.{has_put}
 use Rattle.sn_coherence.specs.Block.{NoLine, Nothing, NoPut, Here, is_owned as owns, is_writable, is_here}
 use Rattle.fabric_coherence.specs.View.{line_seen, miss_seen, put_seen}
-use Rattle.fabric_coherence.specs.Steps.{IsShaped, named}
+use Rattle.fabric_coherence.specs.Steps.{IsShaped, node_in_body}
 use Rattle.fabric_coherence.proofs.NetShape.{with_node-shaped, with_net-shaped, posted-shaped, net-shaped}
 
 -- the shape
@@ -18,10 +18,10 @@ use Rattle.fabric_coherence.proofs.NetShape.{with_node-shaped, with_net-shaped, 
 module _ (s : Fabric) (n : ℕ) (h : IsShaped s) (l : n < length s.nodes) where
   -- a node is replaced by one of as many lines, and it sends a message
   pub sent-shaped : (v : Node) (b : ℕ) (out : Out) (answer : Answer) → length v.cache.lines ≡ block_count → b < block_count →
-      out.to < length s.nodes → named out.body < length s.nodes →
+      out.to < length s.nodes → node_in_body out.body < length s.nodes →
       IsShaped (sending (with_node s n v) n b (out ∷ []) answer).fabric
   sent-shaped v b out answer lines low to names =
-      with_net-shaped after (posted (routes_of after) s.net n (node_at after n).now b (out ∷ [])) (with_node-shaped s n v h l lines)
+      with_net-shaped after (net_after_sends (routes_of after) s.net n (node_at after n).now b (out ∷ [])) (with_node-shaped s n v h l lines)
       (posted-shaped (routes_of after) s.net n (node_at after n).now b (out ∷ []) (length after.nodes) (rw count l) low
       (rw count ((to, names), tt)) (rw count (net-shaped s h)))
     where

@@ -11,17 +11,17 @@ use Rattle.route_plan.specs.Routes.{first_cut_off}
 use Rattle.sn_model.specs.Caches.{Line, block_count}
 use Rattle.sn_model.specs.Homes.{HomeEntry}
 use Rattle.sn_model.specs.FabricEvents as event
-use Rattle.sn_model.specs.Fabric.{Fabric, node_at, with_node, home_of, Moved, refused, answered}
-use Rattle.sn_model.specs.NodeEvents.{edged, after_edge, checkpoint_limit}
-use Rattle.sn_model.specs.PointEvents.{recovered, recovers, restored, restored_node, restored_lines, restored_homes, living_switches}
+use Rattle.sn_model.specs.Fabric.{Fabric, node_at, with_node, home_of, FabricStep, step_refused, step_with_answer}
+use Rattle.sn_model.specs.NodeEvents.{step_of_edge, after_edge, checkpoint_limit}
+use Rattle.sn_model.specs.PointEvents.{step_of_recovery, recovers, restored, restored_node, restored_lines, restored_homes, living_switches}
 use Rattle.sn_coherence.specs.OtherEvents.{edge, recover}
 use Rattle.sn_coherence.specs.Events.{Edge, Recover, Allows}
 use Rattle.sn_coherence.specs.Records.{unreserves, rolls_back}
-use Rattle.fabric_coherence.specs.View.{Beside, block_seen}
+use Rattle.fabric_coherence.specs.View.{GhostState, block_seen}
 use Rattle.fabric_coherence.specs.Steps.{IsShaped}
 use Rattle.fabric_coherence.specs.Sends.{IsNetShaped}
-use Rattle.fabric_coherence.specs.NodeSeen.{beside_edged, beside_restored}
-use Rattle.fabric_coherence.specs.Coherent.{IsKept}
+use Rattle.fabric_coherence.specs.NodeSeen.{ghost_after_edge, ghost_after_recovery}
+use Rattle.fabric_coherence.specs.Coherent.{FabricInvariant}
 use Rattle.fabric_coherence.specs.Recorded.{noted_by}
 use Rattle.fabric_coherence.specs.Leads.{is_framed, KeepsFrames, Goes}
 use Rattle.fabric_coherence.proofs.NetShape.{with_node-shaped, restored-shaped}
@@ -50,14 +50,14 @@ edge_row f h n k m j = ⊎_elim
     edge_past : (b : ℕ) → (m ≡ n → j ≡ k → ⊥) → set_row (f b) n (set (f b n) k (h b n)) m j ≡ f b m j
     edge_past b e = grind (arith, nat_tests)
 
-module _ (s : Fabric) (t : Beside) (kept : IsKept s t) (n : ℕ) (l : n < length s.nodes) where
-  edge_frames : KeepsFrames s t (beside_edged s t n)
+module _ (s : Fabric) (t : GhostState) (kept : FabricInvariant s t) (n : ℕ) (l : n < length s.nodes) where
+  edge_frames : KeepsFrames s t (ghost_after_edge s t n)
   edge_frames m j = edge_row t.framed (λ b x. is_framed (block_seen s t b) x) n ((node_at s n).now + 1) m j
 
   edge_goes : nat_eq ((node_at s n).now - (node_at s n).known) checkpoint_limit ≡ false →
-      Goes s t (λ b r. unreserves r n) (with_node s n (after_edge (node_at s n))) (beside_edged s t n)
+      Goes s t (λ b r. unreserves r n) (with_node s n (after_edge (node_at s n))) (ghost_after_edge s t n)
   edge_goes e =
-      goes_each s t (λ b r. unreserves r n) (with_node s n (after_edge (node_at s n))) (beside_edged s t n)
+      goes_each s t (λ b r. unreserves r n) (with_node s n (after_edge (node_at s n))) (ghost_after_edge s t n)
       (length-set s.nodes n (after_edge (node_at s n))) edge_frames
       (with_node-shaped s n (after_edge (node_at s n)) kept.shape l (kept.shape.lines n l))
       (λ b. edge (block_seen s t b) n) (λ b w. edge-seen s t n b l)
@@ -66,18 +66,18 @@ module _ (s : Fabric) (t : Beside) (kept : IsKept s t) (n : ℕ) (l : n < length
       allowed : (b : ℕ) → b < block_count → Allows (length s.nodes) (block_seen s t b) (Edge n)
       allowed b w = (l, has_room (node_at s n).now (node_at s n).known e ((kept.blocks b w).clocks.now_known n l))
 
-  abbrev edged_by : Bool → Moved
+  abbrev edged_by : Bool → FabricStep
   edged_by full =
-      if full then refused s CheckpointsFull else answered (with_node s n (after_edge (node_at s n))) (Edged ((node_at s n).now + 1))
+      if full then step_refused s CheckpointsFull else step_with_answer (with_node s n (after_edge (node_at s n))) (Edged ((node_at s n).now + 1))
 
   -- a clock edge
-  pub edged_goes : (u : Beside) × Goes s t (noted_by s (event.Edge n) (edged s n)) (edged s n).fabric u
+  pub edged_goes : (u : GhostState) × Goes s t (noted_by s (event.Edge n) (step_of_edge s n)) (step_of_edge s n).fabric u
   edged_goes = either (nat_eq ((node_at s n).now - (node_at s n).known) checkpoint_limit) refl
     where
       either : (full : Bool) → nat_eq ((node_at s n).now - (node_at s n).known) checkpoint_limit ≡ full →
-          (u : Beside) × Goes s t (noted_by s (event.Edge n) (edged_by full)) (edged_by full).fabric u
+          (u : GhostState) × Goes s t (noted_by s (event.Edge n) (edged_by full)) (edged_by full).fabric u
       either true e = as_it_is s t CheckpointsFull kept.shape
-      either false e = (beside_edged s t n, edge_goes e)
+      either false e = (ghost_after_edge s t n, edge_goes e)
 
 -- a recovery
 
@@ -126,22 +126,22 @@ module _ (s : Fabric) (shape : IsShaped s) where
     rising = net_restored.rising;
   }
 
-module _ (s : Fabric) (t : Beside) (kept : IsKept s t) where
-  restored_goes : Goes s t (λ b r. rolls_back r (length s.nodes) s.point) (restored s s.point) (beside_restored t)
+module _ (s : Fabric) (t : GhostState) (kept : FabricInvariant s t) where
+  restored_goes : Goes s t (λ b r. rolls_back r (length s.nodes) s.point) (restored s s.point) (ghost_after_recovery t)
   restored_goes =
-      goes_each s t (λ b r. rolls_back r (length s.nodes) s.point) (restored s s.point) (beside_restored t)
+      goes_each s t (λ b r. rolls_back r (length s.nodes) s.point) (restored s s.point) (ghost_after_recovery t)
       (length-restored_nodes s kept.shape) (frames_stay s t) (recovery-shaped s kept.shape)
       (λ b. recover (length s.nodes) (block_seen s t b)) (λ b w. recovery-seen s t b kept.shape w)
       (λ b w. event_leads (length s.nodes) (block_seen s t b) Recover tt (λ r. tt))
 
   recovers_goes : (cut : Option (ℕ × ℕ)) →
-      (u : Beside) × Goes s t (noted_by s (event.Recover s.point) (recovers s s.point cut)) (recovers s s.point cut).fabric u
+      (u : GhostState) × Goes s t (noted_by s (event.Recover s.point) (recovers s s.point cut)) (recovers s s.point cut).fabric u
   recovers_goes (Some pair) = as_it_is s t (CutOff pair.0 pair.1) kept.shape
-  recovers_goes None = (beside_restored t, restored_goes)
+  recovers_goes None = (ghost_after_recovery t, restored_goes)
 
   -- a recovery
   pub recovered_goes : (k : ℕ) → k ≡ s.point →
-      (u : Beside) × Goes s t (noted_by s (event.Recover k) (recovered s k)) (recovered s k).fabric u
+      (u : GhostState) × Goes s t (noted_by s (event.Recover k) (step_of_recovery s k)) (step_of_recovery s k).fabric u
   recovered_goes k e =
-      subst (λ j. (u : Beside) × Goes s t (noted_by s (event.Recover j) (recovered s j)) (recovered s j).fabric u) (sym e)
+      subst (λ j. (u : GhostState) × Goes s t (noted_by s (event.Recover j) (step_of_recovery s j)) (step_of_recovery s j).fabric u) (sym e)
       (recovers_goes (first_cut_off (living_switches s)))

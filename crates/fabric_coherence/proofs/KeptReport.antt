@@ -8,15 +8,15 @@ use Rattle.sn_msg.specs.declared.Body.TheVariants.{Ready}
 use Rattle.sn_model.specs.Caches.{Miss, Put, block_count}
 use Rattle.sn_model.specs.CacheRows.{send}
 use Rattle.sn_model.specs.Homes.{HomeEntry, Transaction}
-use Rattle.sn_model.specs.Fabric.{Fabric, node_at, home_of, home_node, no_entry, Moved, refused}
+use Rattle.sn_model.specs.Fabric.{Fabric, node_at, home_of, home_node, no_entry, FabricStep, step_refused}
 use Rattle.sn_model.specs.Net.{routes_of, sending, is_full}
-use Rattle.sn_model.specs.NodeEvents.{reported, ready_of, least_begun, begun_by, issued_by, put_issued_by}
+use Rattle.sn_model.specs.NodeEvents.{step_of_report, ready_of, least_begun, begun_by, issued_by, put_issued_by}
 use Rattle.sn_coherence.specs.Block as block
 use Rattle.sn_coherence.specs.OtherEvents.{report}
 use Rattle.sn_coherence.specs.Events.{IsReady, Report}
-use Rattle.fabric_coherence.specs.View.{Beside, block_seen, miss_seen, put_seen, put_issued, kind_open, begun_of}
+use Rattle.fabric_coherence.specs.View.{GhostState, block_seen, miss_seen, put_seen, put_issued, kind_open, begun_of}
 use Rattle.fabric_coherence.specs.Steps.{IsShaped, losing, lost_at_once}
-use Rattle.fabric_coherence.specs.Coherent.{IsKept}
+use Rattle.fabric_coherence.specs.Coherent.{FabricInvariant}
 use Rattle.fabric_coherence.specs.Leads.{Goes, Moves}
 use Rattle.fabric_coherence.proofs.NetShape.{with_net-shaped, posted-shaped, net-shaped}
 use Rattle.fabric_coherence.proofs.NodeOther.{report-seen}
@@ -87,7 +87,7 @@ least_of now nodes n start (entry ∷ homes) (suc i) l e opened =
     (nat_eq (start % nodes) n) entry.transaction
     (least_of now nodes n (start + 1) homes i (omega arith) (subst (λ k. k % nodes ≡ n) q e) opened)
 
-module _ (s : Fabric) (t : Beside) (kept : IsKept s t) (n : ℕ) where
+module _ (s : Fabric) (t : GhostState) (kept : FabricInvariant s t) (n : ℕ) where
   abbrev homes_least : ℕ
   homes_least = least_begun (node_at s n).now (length s.nodes) n 0 s.homes
 
@@ -130,7 +130,7 @@ module _ (s : Fabric) (t : Beside) (kept : IsKept s t) (n : ℕ) where
   report-ready b w = subst (IsReady (block_seen s t b) n) (sym least_is) (least-ready b w)
 
   -- the report, where the network has room for it
-  abbrev sends : Moved
+  abbrev sends : FabricStep
   sends = sending s n 0 (send 0 (Ready (ready_of s n)) ∷ []) (Reported (ready_of s n))
 
   first_block : 0 < block_count
@@ -150,5 +150,5 @@ module _ (s : Fabric) (t : Beside) (kept : IsKept s t) (n : ℕ) where
         (l, report-ready b w) tt)
 
     -- a report
-    pub reported_moves : Moves s t (reported s n)
-    reported_moves = by_test s t (is_full s 1) (refused s NetFull) sends (λ e. as_it_is s t NetFull kept.shape) (λ e. (t, report_goes))
+    pub reported_moves : Moves s t (step_of_report s n)
+    reported_moves = by_test s t (is_full s 1) (step_refused s NetFull) sends (λ e. as_it_is s t NetFull kept.shape) (λ e. (t, report_goes))

@@ -17,13 +17,13 @@ use Rattle.sn_coherence.specs.Log.{was_owned, old_content, was_home, old_cache, 
 use Rattle.sn_coherence.proofs.Ends.{start_kept}
 use Rattle.sn_coherence.proofs.EndsRecords.{start_recorded}
 use Rattle.sn_coherence.proofs.Same.{same_kept, same_kept_records}
-use Rattle.sn_coherence.specs.KeptRecords.{KeptRecords}
+use Rattle.sn_coherence.specs.RecordsInvariant.{RecordsInvariant}
 use Rattle.sn_coherence.specs.Records.{no_records}
 use Rattle.fabric_coherence.specs.View.{block_seen, line_seen, content_held, miss_seen, put_seen, put_issued, is_itself, owner_of}
 use Rattle.fabric_coherence.specs.View.{content_of, kind_open, requester_of, begun_of}
 use Rattle.fabric_coherence.specs.Steps.{IsShaped}
-use Rattle.fabric_coherence.specs.Coherent.{IsKept}
-use Rattle.fabric_coherence.specs.Start.{first_beside}
+use Rattle.fabric_coherence.specs.Coherent.{FabricInvariant}
+use Rattle.fabric_coherence.specs.Start.{first_ghost}
 use Rattle.fabric_coherence.proofs.Recovery.{no_line_at, replicated}
 
 -- each node at the start
@@ -85,7 +85,7 @@ module _ (image : ImageData) (nodes : ℕ) (some : 1 ≤ nodes) (few : nodes ≤
     unlogged : (m : ℕ) → (node_at s m).log ≡ []
     unlogged m = each (λ x. x.log ≡ []) m refl
 
-    start-seen : IsSame (block_seen s first_beside b) (start (home_node s b) (initial_block image b))
+    start-seen : IsSame (block_seen s first_ghost b) (start (home_node s b) (initial_block image b))
     start-seen = record {
       point = refl;
       home = refl;
@@ -140,7 +140,7 @@ module _ (image : ImageData) (nodes : ℕ) (some : 1 ≤ nodes) (few : nodes ≤
   }
 
   -- the start has all of it, with nothing beside it
-  pub start-kept : IsKept s first_beside
+  pub start-kept : FabricInvariant s first_ghost
   start-kept = record {
     shape = start-shaped;
     blocks =
@@ -149,7 +149,7 @@ module _ (image : ImageData) (nodes : ℕ) (some : 1 ≤ nodes) (few : nodes ≤
   }
 
   -- and nothing is recorded
-  pub start-recorded : (b : ℕ) → b < block_count → KeptRecords (block_seen s first_beside b) (no_records (initial_block image b))
+  pub start-recorded : (b : ℕ) → b < block_count → RecordsInvariant (block_seen s first_ghost b) (no_records (initial_block image b))
   start-recorded b l =
-      same_kept_records (block_seen s first_beside b) (start (home_node s b) (initial_block image b)) (no_records (initial_block image b))
+      same_kept_records (block_seen s first_ghost b) (start (home_node s b) (initial_block image b)) (no_records (initial_block image b))
       (start-seen b l) (start_recorded (home_node s b) (initial_block image b))

@@ -8,13 +8,13 @@ use Rattle.std.proofs.lemmas.List.Sums.{sum_by-cons}
 use Rattle.sn_msg.specs.declared.Message.{Message as Sent}
 use Rattle.route_plan.specs.Distances.{Switches}
 use Rattle.sn_model.specs.Fabric.{Flight, Net}
-use Rattle.sn_model.specs.Net.{post, posted, sent_by, is_lost, entry_of, message_of, without_flight}
+use Rattle.sn_model.specs.Net.{post, net_after_sends, sent_by, is_lost, entry_of, message_of, without_flight}
 use Rattle.sn_model.specs.declared.cache.Out.{Out}
 use Rattle.sn_model.specs.HomeRows.{invalidations}
 use Rattle.sn_coherence.specs.Block.{Inv as SeenInv}
-use Rattle.sn_coherence.specs.Block.{Block, Message, gone, forward, invalidates}
+use Rattle.sn_coherence.specs.Block.{Block, Message, no_message, forward, invalidates}
 use Rattle.sn_coherence.specs.Events.{Lists}
-use Rattle.sn_coherence.specs.Kept.{count}
+use Rattle.sn_coherence.specs.Invariant.{count}
 use Rattle.sn_coherence.specs.OtherEvents.{lose}
 use Rattle.sn_coherence.specs.Same.{IsSame}
 use Rattle.sn_coherence.proofs.Counts.{no_count}
@@ -24,10 +24,10 @@ use Rattle.fabric_coherence.specs.Sends.{numbered, sent_at, is_among, targets, N
 use Rattle.fabric_coherence.proofs.Base.{seen-without, seen-post, below-without}
 
 -- a number from the next one on is of no message
-fresh_step : (f : Flight) (fs : List Flight) (n b i : ℕ) → f.message.id < n → n ≤ i → net_seen b fs i ≡ gone → net_seen b (f ∷ fs) i ≡ gone
+fresh_step : (f : Flight) (fs : List Flight) (n b i : ℕ) → f.message.id < n → n ≤ i → net_seen b fs i ≡ no_message → net_seen b (f ∷ fs) i ≡ no_message
 fresh_step f fs n b i l m e = grind (arith, nat_tests)
 
-pub seen-fresh : (fs : List Flight) (n b i : ℕ) → Below fs n → n ≤ i → net_seen b fs i ≡ gone
+pub seen-fresh : (fs : List Flight) (n b i : ℕ) → Below fs n → n ≤ i → net_seen b fs i ≡ no_message
 seen-fresh [] n b i l m = refl
 seen-fresh (f ∷ fs) n b i l m = fresh_step f fs n b i l.0 m (seen-fresh fs n b i l.1 m)
 
@@ -74,14 +74,14 @@ among_either true id i ids = grind arith
 among_either false id i ids = grind arith
 
 posted_step : (lost seen among : Bool) (i next : ℕ) (m x rest rest_seen : Message) → (i < next + 1 → rest ≡ x) →
-    (i < next + 1 → rest_seen ≡ cond ((i == next) && (seen && not lost)) m x) → (i ≡ next → x ≡ gone) →
+    (i < next + 1 → rest_seen ≡ cond ((i == next) && (seen && not lost)) m x) → (i ≡ next → x ≡ no_message) →
     (next < i → rest_seen ≡ rest) →
-    cond among gone rest_seen ≡ cond (((i == next) && lost) || among) gone (cond ((i == next) && seen) m rest)
+    cond among no_message rest_seen ≡ cond (((i == next) && lost) || among) no_message (cond ((i == next) && seen) m rest)
 posted_step lost seen among i next m x rest rest_seen e d g h = grind (arith, nat_tests)
 
 pub seen-posted : (routes : Switches) (net : Net) (from tag block : ℕ) (outs : List Out) (b i : ℕ) → Below net.flights net.next_id →
-    net_seen b (posted routes net from tag block outs).flights i
-    ≡ cond (is_among (lost_at_once (sent_by routes net from tag block outs)) i) gone
+    net_seen b (net_after_sends routes net from tag block outs).flights i
+    ≡ cond (is_among (lost_at_once (sent_by routes net from tag block outs)) i) no_message
     (sent_at b from tag block net.next_id outs i (net_seen b net.flights i))
 seen-posted routes net from tag block [] b i l = refl
 seen-posted routes net from tag block (out ∷ outs) b i l =
@@ -94,7 +94,7 @@ seen-posted routes net from tag block (out ∷ outs) b i l =
     (λ q. seen-fresh net.flights net.next_id b i l (omega arith))
     (λ q. ap (sent_at b from tag block (net.next_id + 1) outs i)
     (seen-post routes net m b i refl l ∙ other (i == net.next_id) (grind (arith, nat_tests))))
-    ∙ sym (ap (λ t. cond t gone (sent_at b from tag block net.next_id (out ∷ outs) i (net_seen b net.flights i)))
+    ∙ sym (ap (λ t. cond t no_message (sent_at b from tag block net.next_id (out ∷ outs) i (net_seen b net.flights i)))
     (among_either (is_lost routes net m) net.next_id i later)))
   where
     m : Sent
@@ -113,30 +113,30 @@ seen-posted routes net from tag block (out ∷ outs) b i l =
 
 -- a loss takes the messages out of the net, and nothing else
 losing_step : (c : Block) (id : ℕ) (ids : List ℕ) (i : ℕ) →
-    (losing (lose c id) ids).net i ≡ cond (is_among ids i) gone ((lose c id).net i) →
-    (losing (lose c id) ids).net i ≡ cond ((i == id) || is_among ids i) gone (c.net i)
+    (losing (lose c id) ids).net i ≡ cond (is_among ids i) no_message ((lose c id).net i) →
+    (losing (lose c id) ids).net i ≡ cond ((i == id) || is_among ids i) no_message (c.net i)
 losing_step c id ids i e = grind (arith, nat_tests)
 
-pub losing-net : (c : Block) (ids : List ℕ) (i : ℕ) → (losing c ids).net i ≡ cond (is_among ids i) gone (c.net i)
+pub losing-net : (c : Block) (ids : List ℕ) (i : ℕ) → (losing c ids).net i ≡ cond (is_among ids i) no_message (c.net i)
 losing-net c [] i = refl
 losing-net c (id ∷ ids) i = losing_step c id ids i (losing-net (lose c id) ids i)
 
 -- so a block is losing where it is the same but for the net
-pub losing_as : (c : Block) (ids : List ℕ) → losing c ids ≡ record c { net = λ i. cond (is_among ids i) gone (c.net i) }
+pub losing_as : (c : Block) (ids : List ℕ) → losing c ids ≡ record c { net = λ i. cond (is_among ids i) no_message (c.net i) }
 losing_as c [] = refl
 losing_as c (id ∷ ids) = losing_as (lose c id) ids ∙ ap (λ (f : ℕ → Message). record c { net = f }) (fun_ext one)
   where
-    one : (i : ℕ) → cond (is_among ids i) gone (cond (i == id) gone (c.net i)) ≡ cond ((i == id) || is_among ids i) gone (c.net i)
+    one : (i : ℕ) → cond (is_among ids i) no_message (cond (i == id) no_message (c.net i)) ≡ cond ((i == id) || is_among ids i) no_message (c.net i)
     one i = grind arith
 
 -- without a message, and then some messages in order
 pub seen-sends : (routes : Switches) (net : Net) (id from tag block : ℕ) (outs : List Out) (b i : ℕ) → Below net.flights net.next_id →
-    net_seen b (posted routes (without_flight net id) from tag block outs).flights i
-    ≡ cond (is_among (lost_at_once (sent_by routes (without_flight net id) from tag block outs)) i) gone
-    (sent_at b from tag block net.next_id outs i (cond (i == id) gone (net_seen b net.flights i)))
+    net_seen b (net_after_sends routes (without_flight net id) from tag block outs).flights i
+    ≡ cond (is_among (lost_at_once (sent_by routes (without_flight net id) from tag block outs)) i) no_message
+    (sent_at b from tag block net.next_id outs i (cond (i == id) no_message (net_seen b net.flights i)))
 seen-sends routes net id from tag block outs b i l =
     seen-posted routes (without_flight net id) from tag block outs b i (below-without net.flights id net.next_id l)
-    ∙ ap (λ x. cond (is_among (lost_at_once (sent_by routes (without_flight net id) from tag block outs)) i) gone
+    ∙ ap (λ x. cond (is_among (lost_at_once (sent_by routes (without_flight net id) from tag block outs)) i) no_message
     (sent_at b from tag block net.next_id outs i x)) (seen-without net.flights id b i)
 
 -- the invalidations
@@ -268,10 +268,10 @@ next_step : (next n a : ℕ) → a ≡ next + 1 + n → a ≡ next + suc n
 next_step next n a e = omega arith
 
 pub next-posted : (routes : Switches) (net : Net) (from tag block : ℕ) (outs : List Out) →
-    (posted routes net from tag block outs).next_id ≡ net.next_id + length outs
+    (net_after_sends routes net from tag block outs).next_id ≡ net.next_id + length outs
 next-posted routes net from tag block [] = omega arith
 next-posted routes net from tag block (out ∷ outs) =
-    next_step net.next_id (length outs) (posted routes (post routes net (message_of net from tag block out)) from tag block outs).next_id
+    next_step net.next_id (length outs) (net_after_sends routes (post routes net (message_of net from tag block out)) from tag block outs).next_id
     (next-posted routes (post routes net (message_of net from tag block out)) from tag block outs)
 
 pub length-invalidations : (at : ℕ) (marks : List Bool) (r : ℕ) → length (invalidations at marks r) ≡ length (targets at marks)
@@ -280,11 +280,11 @@ length-invalidations at (true ∷ marks) r = ap suc (length-invalidations (at + 
 length-invalidations at (false ∷ marks) r = length-invalidations (at + 1) marks r
 
 pub next-invalidates : (routes : Switches) (net : Net) (id from tag block : ℕ) (first : Out) (marks : List Bool) (r : ℕ) →
-    (posted routes (without_flight net id) from tag block (first ∷ invalidations 0 marks r)).next_id
+    (net_after_sends routes (without_flight net id) from tag block (first ∷ invalidations 0 marks r)).next_id
     ≡ net.next_id + (1 + count_by (λ mark. mark) marks)
 next-invalidates routes net id from tag block first marks r =
     counted net.next_id (length (invalidations 0 marks r)) (length (targets 0 marks)) (count_by (λ mark. mark) marks)
-    (posted routes (without_flight net id) from tag block (first ∷ invalidations 0 marks r)).next_id
+    (net_after_sends routes (without_flight net id) from tag block (first ∷ invalidations 0 marks r)).next_id
     (next-posted routes (without_flight net id) from tag block (first ∷ invalidations 0 marks r)) (length-invalidations 0 marks r)
     (length-targets 0 marks)
   where
@@ -292,24 +292,24 @@ next-invalidates routes net id from tag block first marks r =
     counted next a b c n e g h = omega arith
 
 -- a message and then an Inv to each marked node, seen by their block
-invalidates_step : (seen : Bool) (i id next len due : ℕ) (old msg inv : Message) → seen ≡ true → len ≡ due → (next ≤ i → old ≡ gone) →
-    cond ((i == next) && seen) msg (cond (nat_le (next + 1) i && nat_lt i (next + 1 + len)) inv (cond (i == id) gone old))
-    ≡ cond (nat_lt i next) (cond (i == id) gone old) (cond (i == next) msg (cond (nat_le i (next + due)) inv gone))
+invalidates_step : (seen : Bool) (i id next len due : ℕ) (old msg inv : Message) → seen ≡ true → len ≡ due → (next ≤ i → old ≡ no_message) →
+    cond ((i == next) && seen) msg (cond (nat_le (next + 1) i && nat_lt i (next + 1 + len)) inv (cond (i == id) no_message old))
+    ≡ cond (nat_lt i next) (cond (i == id) no_message old) (cond (i == next) msg (cond (nat_le i (next + due)) inv no_message))
 invalidates_step seen i id next len due old msg inv s e f = grind (arith, nat_tests)
 
 seen_own : (all : Bool) (block : ℕ) → (all || nat_eq block block) ≡ true
 seen_own all block = grind (arith, nat_tests)
 
 pub sent_at-invalidates : (net : Net) (id from tag block : ℕ) (first : Out) (marks : List Bool) (r i : ℕ) → Below net.flights net.next_id →
-    sent_at block from tag block net.next_id (first ∷ invalidations 0 marks r) i (cond (i == id) gone (net_seen block net.flights i))
-    ≡ cond (nat_lt i net.next_id) (cond (i == id) gone (net_seen block net.flights i))
+    sent_at block from tag block net.next_id (first ∷ invalidations 0 marks r) i (cond (i == id) no_message (net_seen block net.flights i))
+    ≡ cond (nat_lt i net.next_id) (cond (i == id) no_message (net_seen block net.flights i))
     (cond (i == net.next_id) (message_seen (numbered net.next_id from tag block first) first.body)
     (cond (nat_le i (net.next_id + count_by (λ mark. mark) marks))
-    (forward SeenInv from (slice_index_or (targets 0 marks) (i - (net.next_id + 1)) 0) tag r 0) gone))
+    (forward SeenInv from (slice_index_or (targets 0 marks) (i - (net.next_id + 1)) 0) tag r 0) no_message))
 sent_at-invalidates net id from tag block first marks r i l =
     ap (cond ((i == net.next_id) && is_seen block (numbered net.next_id from tag block first))
     (message_seen (numbered net.next_id from tag block first) first.body))
-    (sent_at-invalidations from tag block (net.next_id + 1) 0 marks r i (cond (i == id) gone (net_seen block net.flights i)))
+    (sent_at-invalidations from tag block (net.next_id + 1) 0 marks r i (cond (i == id) no_message (net_seen block net.flights i)))
     ∙ invalidates_step (is_seen block (numbered net.next_id from tag block first)) i id net.next_id (length (targets 0 marks))
     (count_by (λ mark. mark) marks) (net_seen block net.flights i)
     (message_seen (numbered net.next_id from tag block first) first.body)
@@ -322,20 +322,20 @@ pub seen-invalidates : (routes : Switches) (net : Net) (id from tag block : ℕ)
     b.next ≡ net.next_id → b.home ≡ from → b.now b.home ≡ tag → (b.net id).from ≡ r → ((j : ℕ) → b.net j ≡ net_seen block net.flights j) →
     message_seen (numbered net.next_id from tag block first) first.body ≡ msg →
     row.net i ≡ invalidates b id msg (λ k. slice_index_or (targets 0 marks) k 0) (count_by (λ mark. mark) marks) i →
-    net_seen block (posted routes (without_flight net id) from tag block (first ∷ invalidations 0 marks r)).flights i
+    net_seen block (net_after_sends routes (without_flight net id) from tag block (first ∷ invalidations 0 marks r)).flights i
     ≡ (losing row (lost_at_once (sent_by routes (without_flight net id) from tag block (first ∷ invalidations 0 marks r)))).net i
 seen-invalidates routes net id from tag block first marks r i b row msg l next home now sender nets first_is row_is =
     seen-sends routes net id from tag block (first ∷ invalidations 0 marks r) block i l
-    ∙ (ap (cond (is_among ids i) gone) (sent_at-invalidates net id from tag block first marks r i l ∙ (same ∙ sym row_is))
+    ∙ (ap (cond (is_among ids i) no_message) (sent_at-invalidates net id from tag block first marks r i l ∙ (same ∙ sym row_is))
     ∙ sym (losing-net row ids i))
   where
     ids : List ℕ
     ids = lost_at_once (sent_by routes (without_flight net id) from tag block (first ∷ invalidations 0 marks r))
 
-    same : cond (nat_lt i net.next_id) (cond (i == id) gone (net_seen block net.flights i))
+    same : cond (nat_lt i net.next_id) (cond (i == id) no_message (net_seen block net.flights i))
         (cond (i == net.next_id) (message_seen (numbered net.next_id from tag block first) first.body)
         (cond (nat_le i (net.next_id + count_by (λ mark. mark) marks))
-        (forward SeenInv from (slice_index_or (targets 0 marks) (i - (net.next_id + 1)) 0) tag r 0) gone))
+        (forward SeenInv from (slice_index_or (targets 0 marks) (i - (net.next_id + 1)) 0) tag r 0) no_message))
         ≡ invalidates b id msg (λ k. slice_index_or (targets 0 marks) k 0) (count_by (λ mark. mark) marks) i
     same = rw next (rw (nets i) (rw now (rw home (rw sender (rw first_is refl)))))
 
@@ -345,6 +345,6 @@ none-invalidations at (true ∷ marks) r = (refl, none-invalidations (at + 1) ma
 none-invalidations at (false ∷ marks) r = none-invalidations (at + 1) marks r
 
 -- a block is the same as one that loses messages, where it is the same as that one without them
-pub lost_same : (a c : Block) (ids : List ℕ) → IsSame a (record c { net = λ i. cond (is_among ids i) gone (c.net i) }) →
+pub lost_same : (a c : Block) (ids : List ℕ) → IsSame a (record c { net = λ i. cond (is_among ids i) no_message (c.net i) }) →
     IsSame a (losing c ids)
 lost_same a c ids h = subst (IsSame a) (sym (losing_as c ids)) h

@@ -6,15 +6,15 @@ use Rattle.sn_msg.specs.declared.Message.{Message as Sent}
 use Rattle.route_plan.specs.Distances.{Switches}
 use Rattle.sn_model.specs.Caches.{block_count}
 use Rattle.sn_model.specs.Fabric.{Fabric, Node, Flight, Net, node_at, with_node, first_node, home_of, with_home, no_entry, with_net}
-use Rattle.sn_model.specs.Net.{post, posted, is_lost, entry_of, message_of, without_flight, placed, moved, routes_of, sending}
-use Rattle.sn_model.specs.NetEvents.{learned, node_after, home_after}
+use Rattle.sn_model.specs.Net.{post, net_after_sends, is_lost, entry_of, message_of, without_flight, flight_in_switch, net_with_flight_in, routes_of, sending}
+use Rattle.sn_model.specs.NetEvents.{node_after_news, node_after, home_after}
 use Rattle.sn_model.specs.PointEvents.{advances, restored_net}
 use Rattle.sn_model.specs.declared.cache.Out.{Out}
 use Rattle.sn_model.specs.Homes.{HomeEntry}
 use Rattle.sn_model.specs.CacheRows.{CacheReply}
 use Rattle.sn_model.specs.HomeRows.{invalidations, HomeReply}
 use Rattle.sn_base.specs.declared.event.Answer.TheVariants.{Validated, Delivered}
-use Rattle.fabric_coherence.specs.Steps.{Below, Within, named, IsShaped, after_cache, after_home}
+use Rattle.fabric_coherence.specs.Steps.{Below, Within, node_in_body, IsShaped, after_cache, after_home}
 use Rattle.fabric_coherence.specs.Sends.{IsNetShaped, OutsWithin}
 use Rattle.fabric_coherence.proofs.NetSends.{below-post}
 use Rattle.fabric_coherence.proofs.Rising.{rising-filter, rising-moved, rising-post}
@@ -30,7 +30,7 @@ below-filter p [] n l = tt
 below-filter p (f ∷ fs) n l = below_one (p f) f (filter p fs) n l.0 (below-filter p fs n l.1)
 
 abbrev IsOf : Sent → ℕ → Type 0
-IsOf m nodes = (m.from < nodes) × (m.to < nodes) × (m.block < block_count) × (named m.body < nodes)
+IsOf m nodes = (m.from < nodes) × (m.to < nodes) × (m.block < block_count) × (node_in_body m.body < nodes)
 
 within_one : (pass : Bool) (f : Flight) (fs : List Flight) (n : ℕ) → IsOf f.message n → Within fs n → Within (if pass then f ∷ fs else fs) n
 within_one true f fs n l h = (l, h)
@@ -41,14 +41,14 @@ within-filter p [] n l = tt
 within-filter p (f ∷ fs) n l = within_one (p f) f (filter p fs) n l.0 (within-filter p fs n l.1)
 
 -- messages in other switches
-placed_message : (id place : ℕ) (f : Flight) → (placed id place f).message ≡ f.message
+placed_message : (id place : ℕ) (f : Flight) → (flight_in_switch id place f).message ≡ f.message
 placed_message id place f = grind (arith, nat_tests)
 
-pub below-moved : (id place : ℕ) (fs : List Flight) (n : ℕ) → Below fs n → Below (map (placed id place) fs) n
+pub below-moved : (id place : ℕ) (fs : List Flight) (n : ℕ) → Below fs n → Below (map (flight_in_switch id place) fs) n
 below-moved id place [] n l = tt
 below-moved id place (f ∷ fs) n l = (subst (λ (m : Sent). m.id < n) (sym (placed_message id place f)) l.0, below-moved id place fs n l.1)
 
-pub within-moved : (id place : ℕ) (fs : List Flight) (n : ℕ) → Within fs n → Within (map (placed id place) fs) n
+pub within-moved : (id place : ℕ) (fs : List Flight) (n : ℕ) → Within fs n → Within (map (flight_in_switch id place) fs) n
 within-moved id place [] n l = tt
 within-moved id place (f ∷ fs) n l = (subst (λ m. IsOf m n) (sym (placed_message id place f)) l.0, within-moved id place fs n l.1)
 
@@ -75,7 +75,7 @@ without-shaped net id nodes h = record {
   rising = rising-filter (λ f. not (nat_eq f.message.id id)) net.flights h.rising;
 }
 
-pub moved-shaped : (net : Net) (id place nodes : ℕ) → IsNetShaped net nodes → IsNetShaped (moved net id place) nodes
+pub moved-shaped : (net : Net) (id place nodes : ℕ) → IsNetShaped net nodes → IsNetShaped (net_with_flight_in net id place) nodes
 moved-shaped net id place nodes h =
     record {
       below = below-moved id place net.flights net.next_id h.below;
@@ -105,7 +105,7 @@ post-shaped routes net m nodes e l h =
 
 pub posted-shaped : (routes : Switches) (net : Net) (from tag block : ℕ) (outs : List Out) (nodes : ℕ) → from < nodes →
     block < block_count → OutsWithin outs nodes → IsNetShaped net nodes →
-    IsNetShaped (posted routes net from tag block outs) nodes
+    IsNetShaped (net_after_sends routes net from tag block outs) nodes
 posted-shaped routes net from tag block [] nodes l m o h = h
 posted-shaped routes net from tag block (out ∷ outs) nodes l m o h =
     posted-shaped routes (post routes net (message_of net from tag block out)) from tag block outs nodes l m o.1
@@ -170,8 +170,8 @@ module _ (s : Fabric) (h : IsShaped s) where
   pub without-kept : (id : ℕ) → IsShaped (with_net s (without_flight s.net id))
   without-kept id = with_net-shaped s (without_flight s.net id) h (without-shaped s.net id (length s.nodes) (net-shaped s h))
 
-  pub moved-kept : (id place : ℕ) → IsShaped (with_net s (moved s.net id place))
-  moved-kept id place = with_net-shaped s (moved s.net id place) h (moved-shaped s.net id place (length s.nodes) (net-shaped s h))
+  pub moved-kept : (id place : ℕ) → IsShaped (with_net s (net_with_flight_in s.net id place))
+  moved-kept id place = with_net-shaped s (net_with_flight_in s.net id place) h (moved-shaped s.net id place (length s.nodes) (net-shaped s h))
 
   pub kill-kept : (switch : ℕ) (dead : List Bool) →
       IsShaped (with_net s (record s.net { dead = dead; flights = filter (λ f. not (nat_eq f.place switch)) s.net.flights }))
@@ -180,18 +180,18 @@ module _ (s : Fabric) (h : IsShaped s) where
       (killed-shaped s.net switch (length s.nodes) dead (net-shaped s h))
 
   pub advance-kept : (id n k : ℕ) → n < length s.nodes →
-      IsShaped (with_net (with_node s n (learned (node_at s n) k)) (without_flight s.net id))
+      IsShaped (with_net (with_node s n (node_after_news (node_at s n) k)) (without_flight s.net id))
   advance-kept id n k l =
-      let after = with_node-shaped s n (learned (node_at s n) k) h l (h.lines n l) in
-      with_net-shaped (with_node s n (learned (node_at s n) k)) (without_flight s.net id) after
-      (without-shaped s.net id (length (with_node s n (learned (node_at s n) k)).nodes)
-      (net-shaped (with_node s n (learned (node_at s n) k)) after))
+      let after = with_node-shaped s n (node_after_news (node_at s n) k) h l (h.lines n l) in
+      with_net-shaped (with_node s n (node_after_news (node_at s n) k)) (without_flight s.net id) after
+      (without-shaped s.net id (length (with_node s n (node_after_news (node_at s n) k)).nodes)
+      (net-shaped (with_node s n (node_after_news (node_at s n) k)) after))
 
   pub validate-kept : IsShaped
       (sending (record s { point = s.point + 1 }) 0 0 (advances (s.point + 1) 0 s.nodes) (Validated (s.point + 1))).fabric
   validate-kept =
       with_net-shaped (record s { point = s.point + 1 })
-      (posted (routes_of s) s.net 0 (node_at s 0).now 0 (advances (s.point + 1) 0 s.nodes)) (committed-kept)
+      (net_after_sends (routes_of s) s.net 0 (node_at s 0).now 0 (advances (s.point + 1) 0 s.nodes)) (committed-kept)
       (posted-shaped (routes_of s) s.net 0 (node_at s 0).now 0 (advances (s.point + 1) 0 s.nodes) (length s.nodes) h.some first_block
       (advances-within (s.point + 1) 0 s.nodes (length s.nodes) (omega arith) h.some) (net-shaped s h))
     where
@@ -235,7 +235,7 @@ module _ (s : Fabric) (m : Sent) (h : IsShaped s) (to : m.to < length s.nodes) (
       OutsWithin sends (length s.nodes) →
       IsShaped (sending (with_net after (without_flight s.net m.id)) m.to m.block sends Delivered).fabric
   sends-shaped after sends count same a o =
-      with_net-shaped after (posted (routes_of after_taken) (without_flight s.net m.id) m.to (node_at after m.to).now m.block sends) a
+      with_net-shaped after (net_after_sends (routes_of after_taken) (without_flight s.net m.id) m.to (node_at after m.to).now m.block sends) a
       (posted-shaped (routes_of after_taken) (without_flight s.net m.id) m.to (node_at after m.to).now m.block sends (length after.nodes)
       (rw count to) block (rw count o) (rw count (without-shaped s.net m.id (length s.nodes) (net-shaped s h))))
     where

@@ -5,7 +5,7 @@ use Rattle.std.proofs.Common.{cond, List, [], length, refl, ap, sym, arith, ◌=
 use Rattle.std.proofs.lemmas.Bool.Decides.{nat_tests}
 use Rattle.sn_base.specs.declared.block.Write.{Write}
 use Rattle.sn_base.specs.declared.log.Old.TheVariants.{Owned as WasOwned}
-use Rattle.log_buffer.specs.Log.{logged_to, noted}
+use Rattle.log_buffer.specs.Log.{logged_to, log_with_note}
 use Rattle.sn_model.specs.declared.cache.LineState.{LineState}
 use Rattle.sn_model.specs.declared.cache.LineState.TheVariants as state
 use Rattle.sn_model.specs.declared.cache.LineState.TheVariants.{Modified}
@@ -15,7 +15,7 @@ use Rattle.sn_model.specs.declared.cache.Need.TheVariants as need
 use Rattle.sn_model.specs.Caches.{Cache, Line, line_of, is_owned, is_writable_state, with_line, no_line}
 use Rattle.sn_model.specs.CacheRows.{send}
 use Rattle.rv_core.specs.Core.{block_of as block_at}
-use Rattle.sn_model.specs.Access.{missed, missing, request_for, new_miss, written_to, written_in, with_write, stored}
+use Rattle.sn_model.specs.Access.{step_of_miss, missing, request_for, new_miss, written_to, written_in, with_write, fabric_with_write}
 use Rattle.sn_model.specs.Fabric.{Fabric, Node, node_at, home_node}
 use Rattle.sn_msg.specs.declared.Body.TheVariants.{GetS, GetM}
 use Rattle.sn_base.specs.declared.event.Answer.TheVariants.{Missed}
@@ -23,9 +23,9 @@ use Rattle.sn_coherence.specs.Block as miss
 use Rattle.sn_coherence.specs.OtherEvents.{store, begin_read_miss, begin_write_miss, begin_miss_elsewhere, numbers_elsewhere}
 use Rattle.sn_coherence.specs.Same.{IsSame}
 use Rattle.sn_coherence.specs.Log.{was_owned, old_content, was_home, old_cache, told_at, NoteLaw}
-use Rattle.fabric_coherence.specs.View.{Beside, block_seen, line_seen, content_held, miss_seen, is_for_all, miss_here}
+use Rattle.fabric_coherence.specs.View.{GhostState, block_seen, line_seen, content_held, miss_seen, is_for_all, miss_here}
 use Rattle.fabric_coherence.specs.Steps.{IsShaped, losing, lost_at_once}
-use Rattle.fabric_coherence.specs.NodeSeen.{changed, carried_by, IsSameAtHome}
+use Rattle.fabric_coherence.specs.NodeSeen.{block_with_node, carried_by, IsSameAtHome}
 use Rattle.fabric_coherence.proofs.NodeSeen.{same_then, set_self, set_with, node_changed, log_same, own_post, other_post, sends}
 use Rattle.fabric_coherence.proofs.NodeSeen.{routes_with, sent_same, own_block, other_block}
 
@@ -38,9 +38,9 @@ request_seen need.Write b o n = other_block b o n
 pub miss_on : (b o now : ℕ) (need : Need) → o ≢ b → miss_seen o (Some (new_miss b need now)) ≡ miss.new_miss miss.Elsewhere now
 miss_on b o now need n = ap (λ c. if c then miss_here (new_miss b need now) else miss.new_miss miss.Elsewhere now) (other_block b o n)
 
-module _ (s : Fabric) (t : Beside) (n b : ℕ) (shape : IsShaped s) (l : n < length s.nodes) where
-  pub read_miss-seen : IsSame (block_seen (missed s n b need.Read).fabric t b)
-      (losing (begin_read_miss (block_seen s t b) n) (lost_at_once (missed s n b need.Read).sent))
+module _ (s : Fabric) (t : GhostState) (n b : ℕ) (shape : IsShaped s) (l : n < length s.nodes) where
+  pub read_miss-seen : IsSame (block_seen (step_of_miss s n b need.Read).fabric t b)
+      (losing (begin_read_miss (block_seen s t b) n) (lost_at_once (step_of_miss s n b need.Read).sent))
   read_miss-seen =
       sent_same s t n b b (missing (node_at s n) b need.Read) (send (home_node s b) GetS) Missed l
       (log_same b (missing (node_at s n) b need.Read) (node_at s n) refl) refl (begin_read_miss (block_seen s t b) n)
@@ -52,8 +52,8 @@ module _ (s : Fabric) (t : Beside) (n b : ℕ) (shape : IsShaped s) (l : n < len
         shape.below,
       ))
 
-  pub write_miss-seen : IsSame (block_seen (missed s n b need.Write).fabric t b)
-      (losing (begin_write_miss (block_seen s t b) n) (lost_at_once (missed s n b need.Write).sent))
+  pub write_miss-seen : IsSame (block_seen (step_of_miss s n b need.Write).fabric t b)
+      (losing (begin_write_miss (block_seen s t b) n) (lost_at_once (step_of_miss s n b need.Write).sent))
   write_miss-seen =
       sent_same s t n b b (missing (node_at s n) b need.Write) (send (home_node s b) GetM) Missed l
       (log_same b (missing (node_at s n) b need.Write) (node_at s n) refl) refl (begin_write_miss (block_seen s t b) n)
@@ -66,9 +66,9 @@ module _ (s : Fabric) (t : Beside) (n b : ℕ) (shape : IsShaped s) (l : n < len
       ))
 
 -- a miss on another block than b
-pub other_miss-seen : (s : Fabric) (t : Beside) (n b about : ℕ) (need : Need) → IsShaped s → n < length s.nodes → b ≢ about →
-    IsSame (block_seen (missed s n about need).fabric t b)
-    (losing (numbers_elsewhere (begin_miss_elsewhere (block_seen s t b) n) 1) (lost_at_once (missed s n about need).sent))
+pub other_miss-seen : (s : Fabric) (t : GhostState) (n b about : ℕ) (need : Need) → IsShaped s → n < length s.nodes → b ≢ about →
+    IsSame (block_seen (step_of_miss s n about need).fabric t b)
+    (losing (numbers_elsewhere (begin_miss_elsewhere (block_seen s t b) n) 1) (lost_at_once (step_of_miss s n about need).sent))
 other_miss-seen s t n b about need shape l apart =
     sent_same s t n b about (missing (node_at s n) about need) (send (home_node s about) (request_for need)) Missed l
     (log_same b (missing (node_at s n) about need) (node_at s n) refl) refl
@@ -116,7 +116,7 @@ writable_there : (cache : Cache) (b : ℕ) → is_writable_state (line_of cache 
 writable_there cache b e = grind (arith, nat_tests, get_or_past cache.lines b no_line)
 
 -- the home's side is no part of what a cache notes
-noted_same : (b o now : ℕ) (content : List ℕ) (x y : Node) → x.log ≡ noted y.log now b (WasOwned content) →
+noted_same : (b o now : ℕ) (content : List ℕ) (x y : Node) → x.log ≡ log_with_note y.log now b (WasOwned content) →
     (logged_to y.log false b ≤ now + 1) → IsSameAtHome o x y
 noted_same b o now content x y e l = record {
   named_home =
@@ -139,7 +139,7 @@ noted_same b o now content x y e l = record {
 abbrev pub old_line : Fabric → ℕ → ℕ → Line
 old_line s n b = line_of (node_at s n).cache b
 
-module _ (s : Fabric) (t : Beside) (n : ℕ) (w : Write) (l : n < length s.nodes)
+module _ (s : Fabric) (t : GhostState) (n : ℕ) (w : Write) (l : n < length s.nodes)
     (writable : is_writable_state (old_line s n (block_written w)).state ≡ true)
     (newest : logged_to (node_at s n).log false (block_written w) ≤ (node_at s n).now + 1) where
   abbrev b : ℕ
@@ -166,7 +166,7 @@ module _ (s : Fabric) (t : Beside) (n : ℕ) (w : Write) (l : n < length s.nodes
       (written_in old.content w) newest
       (sym (ap (λ c. if c then old.content else []) (writable_owned old.state writable)))
 
-  written_own : IsSame (carried_by (changed (block_seen s t b) b n written) b s.net) (store (block_seen s t b) n (written_in old.content w))
+  written_own : IsSame (carried_by (block_with_node (block_seen s t b) b n written) b s.net) (store (block_seen s t b) n (written_in old.content w))
   written_own = record {
     point = refl;
     home = refl;
@@ -207,7 +207,7 @@ module _ (s : Fabric) (t : Beside) (n : ℕ) (w : Write) (l : n < length s.nodes
     other_line : line_of written.cache o ≡ old_line s n o
     other_line = written_other (node_at s n).cache o old.content w apart
 
-    written_elsewhere : IsSame (carried_by (changed (block_seen s t o) o n written) o s.net) (block_seen s t o)
+    written_elsewhere : IsSame (carried_by (block_with_node (block_seen s t o) o n written) o s.net) (block_seen s t o)
     written_elsewhere = record {
       point = refl;
       home = refl;
@@ -248,11 +248,11 @@ module _ (s : Fabric) (t : Beside) (n : ℕ) (w : Write) (l : n < length s.nodes
 
   -- a write is a store on its block, where the line may be written and no entry of the cache's side lies above the node's
   -- interval; other blocks don't see it
-  pub store-seen : IsSame (block_seen (stored s n w) t b) (store (block_seen s t b) n (written_in old.content w))
-  store-seen = same_then _ (carried_by (changed (block_seen s t b) b n written) b s.net) _
+  pub store-seen : IsSame (block_seen (fabric_with_write s n w) t b) (store (block_seen s t b) n (written_in old.content w))
+  store-seen = same_then _ (carried_by (block_with_node (block_seen s t b) b n written) b s.net) _
       (node_changed s t n b written s.net l (noted_same b b (node_at s n).now old.content written (node_at s n) refl newest)) written_own
 
-  pub other_store-seen : (o : ℕ) → o ≢ b → IsSame (block_seen (stored s n w) t o) (block_seen s t o)
-  other_store-seen o apart = same_then _ (carried_by (changed (block_seen s t o) o n written) o s.net) _
+  pub other_store-seen : (o : ℕ) → o ≢ b → IsSame (block_seen (fabric_with_write s n w) t o) (block_seen s t o)
+  other_store-seen o apart = same_then _ (carried_by (block_with_node (block_seen s t o) o n written) o s.net) _
       (node_changed s t n o written s.net l (noted_same b o (node_at s n).now old.content written (node_at s n) refl newest))
       (written_elsewhere o apart)

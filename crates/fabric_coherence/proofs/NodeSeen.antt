@@ -7,16 +7,16 @@ use Rattle.log_buffer.specs.Log.{logged_to}
 use Rattle.sn_model.specs.declared.cache.Out.{Out}
 use Rattle.sn_model.specs.Caches.{line_of, is_owned}
 use Rattle.sn_model.specs.Fabric.{Fabric, Node, Net, Flight, node_at, with_node, home_node, first_node}
-use Rattle.sn_model.specs.Net.{post, posted, sent_by, is_lost, message_of, routes_of, sending}
+use Rattle.sn_model.specs.Net.{post, net_after_sends, sent_by, is_lost, message_of, routes_of, sending}
 use Rattle.sn_msg.specs.declared.Message.{Message as Sent}
 use Rattle.sn_base.specs.declared.event.Answer.{Answer}
-use Rattle.sn_coherence.specs.Block.{Block, Message, gone, set}
+use Rattle.sn_coherence.specs.Block.{Block, Message, no_message, set}
 use Rattle.sn_coherence.specs.Same.{IsSame}
 use Rattle.sn_coherence.specs.Log.{was_owned, old_content, was_home, old_cache, told_at}
-use Rattle.fabric_coherence.specs.View.{Beside, block_seen, net_seen, is_seen, message_seen, line_seen, content_held, miss_seen, put_seen}
+use Rattle.fabric_coherence.specs.View.{GhostState, block_seen, net_seen, is_seen, message_seen, line_seen, content_held, miss_seen, put_seen}
 use Rattle.fabric_coherence.specs.View.{put_issued}
 use Rattle.fabric_coherence.specs.Steps.{Below, losing, lost_at_once}
-use Rattle.fabric_coherence.specs.NodeSeen.{changed, carried_by, IsSameAtHome}
+use Rattle.fabric_coherence.specs.NodeSeen.{block_with_node, carried_by, IsSameAtHome}
 use Rattle.fabric_coherence.proofs.Base.{read_set, seen-post}
 
 -- blocks that are the same at each place
@@ -79,8 +79,8 @@ same_at_home f s n b v l e =
     ap (λ h. f (node_at (with_node s n v) h)) (home_still s n b v)
     ∙ (replaced_at f s n (home_node s b) v l ∙ set_self (λ m. f (node_at s m)) n (home_node s b) (f v) e)
 
-pub node_changed : (s : Fabric) (t : Beside) (n b : ℕ) (v : Node) (net : Net) → n < length s.nodes → IsSameAtHome b v (node_at s n) →
-    IsSame (block_seen (record (with_node s n v) { net = net }) t b) (carried_by (changed (block_seen s t b) b n v) b net)
+pub node_changed : (s : Fabric) (t : GhostState) (n b : ℕ) (v : Node) (net : Net) → n < length s.nodes → IsSameAtHome b v (node_at s n) →
+    IsSame (block_seen (record (with_node s n v) { net = net }) t b) (carried_by (block_with_node (block_seen s t b) b n v) b net)
 node_changed s t n b v net l h = record {
   point = refl;
   home = home_still s n b v;
@@ -128,26 +128,26 @@ log_same b x y e = record {
 
 -- one message is sent
 
-fresh_step : (f : Flight) (fs : List Flight) (b i next : ℕ) → f.message.id < next → next ≤ i → net_seen b fs i ≡ gone →
-    net_seen b (f ∷ fs) i ≡ gone
+fresh_step : (f : Flight) (fs : List Flight) (b i next : ℕ) → f.message.id < next → next ≤ i → net_seen b fs i ≡ no_message →
+    net_seen b (f ∷ fs) i ≡ no_message
 fresh_step f fs b i next l k h = grind (arith, nat_tests)
 
-pub seen-fresh : (fs : List Flight) (b i next : ℕ) → Below fs next → next ≤ i → net_seen b fs i ≡ gone
+pub seen-fresh : (fs : List Flight) (b i next : ℕ) → Below fs next → next ≤ i → net_seen b fs i ≡ no_message
 seen-fresh [] b i next l k = refl
 seen-fresh (f ∷ fs) b i next l k = fresh_step f fs b i next l.0 k (seen-fresh fs b i next l.1 k)
 
 -- the net with a message under the next number, and then without it where it was lost at once
-own_net : (x : ℕ → Message) (m : Message) (next i : ℕ) (seen lost : Bool) → seen ≡ true → (next ≤ i → x i ≡ gone) →
-    cond ((i == next) && (seen && not lost)) m (x i) ≡ cond (lost && (i == next)) gone (set x next m i)
+own_net : (x : ℕ → Message) (m : Message) (next i : ℕ) (seen lost : Bool) → seen ≡ true → (next ≤ i → x i ≡ no_message) →
+    cond ((i == next) && (seen && not lost)) m (x i) ≡ cond (lost && (i == next)) no_message (set x next m i)
 own_net x m next i seen lost s h = grind (arith, nat_tests)
 
-other_net : (x : ℕ → Message) (m : Message) (next i : ℕ) (seen lost : Bool) → seen ≡ false → (next ≤ i → x i ≡ gone) →
-    cond ((i == next) && (seen && not lost)) m (x i) ≡ cond (lost && (i == next)) gone (x i)
+other_net : (x : ℕ → Message) (m : Message) (next i : ℕ) (seen lost : Bool) → seen ≡ false → (next ≤ i → x i ≡ no_message) →
+    cond ((i == next) && (seen && not lost)) m (x i) ≡ cond (lost && (i == next)) no_message (x i)
 other_net x m next i seen lost s h = grind (arith, nat_tests)
 
 -- a block that loses what was lost at once
 abbrev pub without_lost : Block → Bool → ℕ → Block
-without_lost block lost id = record block { net = λ i. cond (lost && (i == id)) gone (block.net i) }
+without_lost block lost id = record block { net = λ i. cond (lost && (i == id)) no_message (block.net i) }
 
 pub lost_same : (a block : Block) (lost : Bool) (id : ℕ) → IsSame a (without_lost block lost id) →
     IsSame a (losing block (if lost then id ∷ [] else []))
@@ -157,7 +157,7 @@ lost_same a block false id h = h
 pub own_post : (routes : Switches) (net : Net) (m : Sent) (b i : ℕ) → m.id ≡ net.next_id → Below net.flights net.next_id →
     is_seen b m ≡ true →
     net_seen b (post routes net m).flights i
-    ≡ cond (is_lost routes net m && (i == net.next_id)) gone (set (net_seen b net.flights) net.next_id (message_seen m m.body) i)
+    ≡ cond (is_lost routes net m && (i == net.next_id)) no_message (set (net_seen b net.flights) net.next_id (message_seen m m.body) i)
 own_post routes net m b i e l s =
     seen-post routes net m b i e l
     ∙ own_net (net_seen b net.flights) (message_seen m m.body) net.next_id i (is_seen b m) (is_lost routes net m) s
@@ -165,7 +165,7 @@ own_post routes net m b i e l s =
 
 pub other_post : (routes : Switches) (net : Net) (m : Sent) (b i : ℕ) → m.id ≡ net.next_id → Below net.flights net.next_id →
     is_seen b m ≡ false →
-    net_seen b (post routes net m).flights i ≡ cond (is_lost routes net m && (i == net.next_id)) gone (net_seen b net.flights i)
+    net_seen b (post routes net m).flights i ≡ cond (is_lost routes net m && (i == net.next_id)) no_message (net_seen b net.flights i)
 other_post routes net m b i e l s =
     seen-post routes net m b i e l
     ∙ other_net (net_seen b net.flights) (message_seen m m.body) net.next_id i (is_seen b m) (is_lost routes net m) s
@@ -183,18 +183,18 @@ sends s n about out = message_of s.net n (node_at s n).now about out
 abbrev pub routes_with : Fabric → ℕ → Node → Switches
 routes_with s n v = routes_of (with_node s n v)
 
-module _ (s : Fabric) (t : Beside) (n b about : ℕ) (v : Node) (out : Out) (answer : Answer) (l : n < length s.nodes) (home : IsSameAtHome b v (node_at s n)) (now : v.now ≡ (node_at s n).now) where
+module _ (s : Fabric) (t : GhostState) (n b about : ℕ) (v : Node) (out : Out) (answer : Answer) (l : n < length s.nodes) (home : IsSameAtHome b v (node_at s n)) (now : v.now ≡ (node_at s n).now) where
   pub sent_same : (c : Block) →
-      IsSame (carried_by (changed (block_seen s t b) b n v) b (post (routes_with s n v) s.net (sends s n about out)))
+      IsSame (carried_by (block_with_node (block_seen s t b) b n v) b (post (routes_with s n v) s.net (sends s n about out)))
       (without_lost c (is_lost (routes_with s n v) s.net (sends s n about out)) s.net.next_id) →
       IsSame (block_seen (sending (with_node s n v) n about (out ∷ []) answer).fabric t b)
       (losing c (lost_at_once (sending (with_node s n v) n about (out ∷ []) answer).sent))
   sent_same c h =
-      subst (λ tag. IsSame (block_seen (record (with_node s n v) { net = posted (routes_with s n v) s.net n tag about (out ∷ []) }) t b)
+      subst (λ tag. IsSame (block_seen (record (with_node s n v) { net = net_after_sends (routes_with s n v) s.net n tag about (out ∷ []) }) t b)
       (losing c (lost_at_once (sent_by (routes_with s n v) s.net n tag about (out ∷ [])))))
       (sym (tag_is s n v l now))
       (lost_same _ c (is_lost (routes_with s n v) s.net (sends s n about out)) s.net.next_id
-      (same_then _ (carried_by (changed (block_seen s t b) b n v) b (post (routes_with s n v) s.net (sends s n about out))) _
+      (same_then _ (carried_by (block_with_node (block_seen s t b) b n v) b (post (routes_with s n v) s.net (sends s n about out))) _
       (node_changed s t n b v (post (routes_with s n v) s.net (sends s n about out)) l home) h))
 
 pub own_block : (b : ℕ) → nat_eq b b ≡ true

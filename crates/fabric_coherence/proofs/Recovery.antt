@@ -17,11 +17,11 @@ use Rattle.sn_model.specs.Cuts.{held_by, owned_content, named_by}
 use Rattle.sn_coherence.specs.Block as block
 use Rattle.sn_coherence.specs.OtherEvents.{recover}
 use Rattle.sn_coherence.specs.Same.{IsSame}
-use Rattle.sn_coherence.specs.Log.{was_owned, old_content, was_home, old_cache, told, told_at}
-use Rattle.fabric_coherence.specs.View.{Beside, block_seen, line_seen, content_held, miss_seen, put_seen, put_issued, is_itself, owner_of}
+use Rattle.sn_coherence.specs.Log.{was_owned, old_content, was_home, old_cache, old_or_now, told_at}
+use Rattle.fabric_coherence.specs.View.{GhostState, block_seen, line_seen, content_held, miss_seen, put_seen, put_issued, is_itself, owner_of}
 use Rattle.fabric_coherence.specs.View.{content_of, kind_open, requester_of, begun_of}
 use Rattle.fabric_coherence.specs.Steps.{IsShaped}
-use Rattle.fabric_coherence.specs.NodeSeen.{beside_restored}
+use Rattle.fabric_coherence.specs.NodeSeen.{ghost_after_recovery}
 
 -- an old content is of the side that is asked for
 
@@ -96,17 +96,17 @@ content_kept state.Exclusive line = refl
 
 pub state_told : (e : Option LogEntry) (line : Line) → IsSided false e →
     line_seen (restored_line (held_by (old_of e) line)).state
-    ≡ cond (told was_owned (old_of e) (is_owned line.state)) block.Modified block.NoLine
+    ≡ cond (old_or_now was_owned (old_of e) (is_owned line.state)) block.Modified block.NoLine
 state_told None line h = state_kept line.state line
 state_told (Some e) line h = state_restored e.old line h
 
 pub owned_told : (e : Option LogEntry) (line : Line) →
-    is_owned (restored_line (held_by (old_of e) line)).state ≡ told was_owned (old_of e) (is_owned line.state)
+    is_owned (restored_line (held_by (old_of e) line)).state ≡ old_or_now was_owned (old_of e) (is_owned line.state)
 owned_told None line = owned_kept line.state line
 owned_told (Some e) line = owned_restored e.old line
 
 pub content_told : (e : Option LogEntry) (line : Line) → IsSided false e →
-    (restored_line (held_by (old_of e) line)).content ≡ told old_content (old_of e) (content_held line)
+    (restored_line (held_by (old_of e) line)).content ≡ old_or_now old_content (old_of e) (content_held line)
 content_told None line h = content_kept line.state line
 content_told (Some e) line h = content_restored e.old line h
 
@@ -136,17 +136,17 @@ kept_restored (old.WasHome content) holder h = refl
 kept_restored (old.WasCache node) holder h = refl
 
 pub itself_told : (e : Option LogEntry) (holder : Holder) → IsSided true e →
-    is_itself (named_by (old_of e) holder) ≡ told was_home (old_of e) (is_itself holder)
+    is_itself (named_by (old_of e) holder) ≡ old_or_now was_home (old_of e) (is_itself holder)
 itself_told None holder h = refl
 itself_told (Some e) holder h = itself_restored e.old holder h
 
 pub owner_told : (e : Option LogEntry) (holder : Holder) → IsSided true e →
-    owner_of (named_by (old_of e) holder) ≡ told old_cache (old_of e) (owner_of holder)
+    owner_of (named_by (old_of e) holder) ≡ old_or_now old_cache (old_of e) (owner_of holder)
 owner_told None holder h = refl
 owner_told (Some e) holder h = owner_restored e.old holder h
 
 pub kept_told : (e : Option LogEntry) (holder : Holder) → IsSided true e →
-    content_of (named_by (old_of e) holder) ≡ told old_content (old_of e) (content_of holder)
+    content_of (named_by (old_of e) holder) ≡ old_or_now old_content (old_of e) (content_of holder)
 kept_told None holder h = refl
 kept_told (Some e) holder h = kept_restored e.old holder h
 
@@ -219,7 +219,7 @@ pub restored_home_at : (s : Fabric) (k b : ℕ) → b < length s.homes →
     slice_index_or (restored_homes s k 0 s.homes) b no_entry ≡ restored_entry s k b (home_of s b)
 restored_home_at s k b l = let e : 0 + b ≡ b = omega arith in homes_at s k 0 s.homes b l ∙ ap (λ c. restored_entry s k c (home_of s b)) e
 
-module _ (s : Fabric) (t : Beside) (b : ℕ) (shape : IsShaped s) (within : b < block_count) where
+module _ (s : Fabric) (t : GhostState) (b : ℕ) (shape : IsShaped s) (within : b < block_count) where
   abbrev new_node : ℕ → Node
   new_node m = slice_index_or (map (restored_node s.point) s.nodes) m first_node
 
@@ -296,7 +296,7 @@ module _ (s : Fabric) (t : Beside) (b : ℕ) (shape : IsShaped s) (within : b < 
   place = b % length (map (restored_node s.point) s.nodes)
 
   -- a recovery is that of each block
-  pub recovery-seen : IsSame (block_seen (restored s s.point) (beside_restored t) b) (recover (length s.nodes) (block_seen s t b))
+  pub recovery-seen : IsSame (block_seen (restored s s.point) (ghost_after_recovery t) b) (recover (length s.nodes) (block_seen s t b))
   unfolding restored
   recovery-seen = record {
     point = refl;

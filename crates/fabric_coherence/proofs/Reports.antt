@@ -9,8 +9,8 @@ use Rattle.sn_model.specs.Fabric.{Fabric, node_at, home_of, no_entry}
 use Rattle.sn_model.specs.NodeEvents.{ready_of, least_begun, begun_by, issued_by, put_issued_by}
 use Rattle.sn_coherence.specs.Block as block
 use Rattle.sn_coherence.specs.Events.{IsReady}
-use Rattle.fabric_coherence.specs.View.{Beside, block_seen, miss_seen, put_seen, put_issued, kind_open, begun_of}
-use Rattle.fabric_coherence.specs.Coherent.{IsKept}
+use Rattle.fabric_coherence.specs.View.{GhostState, block_seen, miss_seen, put_seen, put_issued, kind_open, begun_of}
+use Rattle.fabric_coherence.specs.Coherent.{FabricInvariant}
 
 below_begun : (k now : ℕ) (transaction : Option Transaction) → k ≤ now → (kind_open transaction ≢ block.Idle → k ≤ begun_of transaction) →
     k ≤ begun_by now transaction
@@ -47,7 +47,7 @@ below_least k now nodes n start (entry ∷ homes) l h =
     (λ i m e. let r : start + 1 + i ≡ start + suc i = omega arith in h (suc i) (omega arith) (subst (λ x. x % nodes ≡ n) r e)))
     (λ e. h zero (omega arith) (subst (λ x. x % nodes ≡ n) q (mine_is (start % nodes) n e)))
 
-pub ready_above : (s : Fabric) (t : Beside) (n k : ℕ) → IsKept s t → ((b : ℕ) → b < block_count → IsReady (block_seen s t b) n k) →
+pub ready_above : (s : Fabric) (t : GhostState) (n k : ℕ) → FabricInvariant s t → ((b : ℕ) → b < block_count → IsReady (block_seen s t b) n k) →
     k ≤ ready_of s n
 unfolding ready_of
 ready_above s t n k kept each =

@@ -4,22 +4,22 @@ use Rattle.std.proofs.Common.{if◌then◌else◌}
 use Rattle.std.proofs.lemmas.Bool.Decides.{nat_tests}
 use Rattle.sn_base.specs.declared.block.Write.{Write}
 use Rattle.log_buffer.specs.Log.{logged_to}
-use Rattle.sn_model.specs.Access.{stored, with_write, written_in, prepared}
+use Rattle.sn_model.specs.Access.{fabric_with_write, with_write, written_in, node_to_write}
 use Rattle.sn_model.specs.Caches.{block_count, line_of, is_present}
 use Rattle.sn_model.specs.Fabric.{Fabric, node_at}
 use Rattle.sn_coherence.specs.Block.{is_writable}
 use Rattle.sn_coherence.specs.OtherEvents.{store}
 use Rattle.sn_coherence.specs.Events.{Load, LoadReserved, Store, StoreConditionalDone, StoreConditionalUndone, Free}
-use Rattle.sn_coherence.specs.Kept.{AllSentences}
-use Rattle.sn_coherence.specs.KeptRecords.{KeptRecords}
+use Rattle.sn_coherence.specs.Invariant.{BlockInvariant}
+use Rattle.sn_coherence.specs.RecordsInvariant.{RecordsInvariant}
 use Rattle.sn_coherence.specs.Same.{IsSame}
 use Rattle.sn_coherence.specs.Records.{Records, loads, loads_reserved, stores, stores_conditional, unreserves}
 use Rattle.sn_coherence.proofs.WholeRecords.{event_recorded}
 use Rattle.sn_coherence.proofs.Whole.{event_kept}
 use Rattle.sn_coherence.proofs.Same.{same_kept, same_kept_records}
-use Rattle.fabric_coherence.specs.View.{Beside, block_seen}
+use Rattle.fabric_coherence.specs.View.{GhostState, block_seen}
 use Rattle.fabric_coherence.specs.Steps.{IsShaped}
-use Rattle.fabric_coherence.specs.Coherent.{IsKept}
+use Rattle.fabric_coherence.specs.Coherent.{FabricInvariant}
 use Rattle.fabric_coherence.specs.Events.{CanUse, CanWrite}
 use Rattle.fabric_coherence.specs.Recorded.{at_block}
 use Rattle.fabric_coherence.proofs.NetShape.{with_node-shaped}
@@ -62,9 +62,9 @@ at_each P b x r here there =
     there_at o true e p = absurd (cc)
     there_at o false e p = p
 
-module _ (s : Fabric) (t : Beside) (r : ℕ → Records) (kept : IsKept s t) (recorded : (b : ℕ) → b < block_count → KeptRecords (block_seen s t b) (r b)) where
+module _ (s : Fabric) (t : GhostState) (r : ℕ → Records) (kept : FabricInvariant s t) (recorded : (b : ℕ) → b < block_count → RecordsInvariant (block_seen s t b) (r b)) where
   -- a reservation that ends, at any block
-  pub undone : (n : ℕ) → n < length s.nodes → (b : ℕ) → b < block_count → KeptRecords (block_seen s t b) (unreserves (r b) n)
+  pub undone : (n : ℕ) → n < length s.nodes → (b : ℕ) → b < block_count → RecordsInvariant (block_seen s t b) (unreserves (r b) n)
   undone n l b w = event_recorded (length s.nodes) (block_seen s t b) (r b) (StoreConditionalUndone n) (kept.blocks b w) (recorded b w) l
 
   module _ (n b : ℕ) (can : CanUse s n b) where
@@ -73,21 +73,21 @@ module _ (s : Fabric) (t : Beside) (r : ℕ → Records) (kept : IsKept s t) (re
 
     module _ (present : is_present (line_of (node_at s n).cache b).state ≡ true) where
       -- a load and an LR
-      pub load : (o : ℕ) → o < block_count → KeptRecords (block_seen s t o) (at_block b (loads (r b) n (node_at s n).now) r o)
-      load = at_each (λ o x. KeptRecords (block_seen s t o) x) b (loads (r b) n (node_at s n).now) r
+      pub load : (o : ℕ) → o < block_count → RecordsInvariant (block_seen s t o) (at_block b (loads (r b) n (node_at s n).now) r o)
+      load = at_each (λ o x. RecordsInvariant (block_seen s t o) x) b (loads (r b) n (node_at s n).now) r
           (event_recorded (length s.nodes) (block_seen s t b) (r b) (Load n) (kept.blocks b can.block) (recorded b can.block)
           (free_here, present_seen (line_of (node_at s n).cache b).state present))
           (λ o w other. recorded o w)
 
       pub load_reserved : (o : ℕ) → o < block_count →
-          KeptRecords (block_seen s t o) (at_block b (loads_reserved (r b) n (node_at s n).now) (λ o. unreserves (r o) n) o)
+          RecordsInvariant (block_seen s t o) (at_block b (loads_reserved (r b) n (node_at s n).now) (λ o. unreserves (r o) n) o)
       load_reserved =
-          at_each (λ o x. KeptRecords (block_seen s t o) x) b (loads_reserved (r b) n (node_at s n).now) (λ o. unreserves (r o) n)
+          at_each (λ o x. RecordsInvariant (block_seen s t o) x) b (loads_reserved (r b) n (node_at s n).now) (λ o. unreserves (r o) n)
           (event_recorded (length s.nodes) (block_seen s t b) (r b) (LoadReserved n) (kept.blocks b can.block) (recorded b can.block)
           (free_here, present_seen (line_of (node_at s n).cache b).state present))
           (λ o w other. undone n can.node o w)
 
-module _ (s : Fabric) (t : Beside) (kept : IsKept s t) (n : ℕ) (w : Write) (can : CanWrite s n w) where
+module _ (s : Fabric) (t : GhostState) (kept : FabricInvariant s t) (n : ℕ) (w : Write) (can : CanWrite s n w) where
   abbrev b : ℕ
   b = block_written w
 
@@ -101,53 +101,53 @@ module _ (s : Fabric) (t : Beside) (kept : IsKept s t) (n : ℕ) (w : Write) (ca
   may_store =
       (free s t n kept can.line.node can.line.no_miss b can.line.no_put, writable_seen (line_of (node_at s n).cache b).state can.writable)
 
-  stored-shaped : IsShaped (stored s n w)
+  stored-shaped : IsShaped (fabric_with_write s n w)
   stored-shaped =
       with_node-shaped s n (with_write (node_at s n) w) kept.shape can.line.node
-      (length-set (prepared (node_at s n) b).cache.lines b _
+      (length-set (node_to_write (node_at s n) b).cache.lines b _
       ∙ (length-set (node_at s n).cache.lines b _ ∙ kept.shape.lines n can.line.node))
 
-  as_many : length (stored s n w).nodes ≡ length s.nodes
+  as_many : length (fabric_with_write s n w).nodes ≡ length s.nodes
   as_many = length-set s.nodes n (with_write (node_at s n) w)
 
   -- a write is a store on its block; other blocks stay
-  seen_here : IsSame (block_seen (stored s n w) t b) (store (block_seen s t b) n content)
+  seen_here : IsSame (block_seen (fabric_with_write s n w) t b) (store (block_seen s t b) n content)
   seen_here = store-seen s t n w can.line.node can.writable newest
 
-  seen_there : (o : ℕ) → o ≢ b → IsSame (block_seen (stored s n w) t o) (block_seen s t o)
+  seen_there : (o : ℕ) → o ≢ b → IsSame (block_seen (fabric_with_write s n w) t o) (block_seen s t o)
   seen_there o other = other_store-seen s t n w can.line.node can.writable newest o other
 
-  pub stored_kept : IsKept (stored s n w) t
+  pub stored_kept : FabricInvariant (fabric_with_write s n w) t
   stored_kept = record {
     shape = stored-shaped;
     blocks =
-        λ o l. subst (λ N. AllSentences N (block_seen (stored s n w) t o)) (sym as_many)
-        (each_block (λ o. AllSentences (length s.nodes) (block_seen (stored s n w) t o)) b
-        (same_kept (length s.nodes) (block_seen (stored s n w) t b) (store (block_seen s t b) n content) seen_here
+        λ o l. subst (λ N. BlockInvariant N (block_seen (fabric_with_write s n w) t o)) (sym as_many)
+        (each_block (λ o. BlockInvariant (length s.nodes) (block_seen (fabric_with_write s n w) t o)) b
+        (same_kept (length s.nodes) (block_seen (fabric_with_write s n w) t b) (store (block_seen s t b) n content) seen_here
         (event_kept (length s.nodes) (block_seen s t b) (Store n content) (kept.blocks b can.line.block) may_store))
-        (λ o q other. same_kept (length s.nodes) (block_seen (stored s n w) t o) (block_seen s t o) (seen_there o other)
+        (λ o q other. same_kept (length s.nodes) (block_seen (fabric_with_write s n w) t o) (block_seen s t o) (seen_there o other)
         (kept.blocks o q)) o l);
   }
 
-  module _ (r : ℕ → Records) (recorded : (b : ℕ) → b < block_count → KeptRecords (block_seen s t b) (r b)) where
+  module _ (r : ℕ → Records) (recorded : (b : ℕ) → b < block_count → RecordsInvariant (block_seen s t b) (r b)) where
     abbrev Says : ℕ → Records → Type 0
-    Says o x = KeptRecords (block_seen (stored s n w) t o) x
+    Says o x = RecordsInvariant (block_seen (fabric_with_write s n w) t o) x
 
     -- a store, and an SC that is done
     pub store_recorded : (o : ℕ) → o < block_count → Says o (at_block b (stores (r b) n (node_at s n).now content) r o)
     store_recorded = at_each Says b (stores (r b) n (node_at s n).now content) r
-        (same_kept_records (block_seen (stored s n w) t b) (store (block_seen s t b) n content)
+        (same_kept_records (block_seen (fabric_with_write s n w) t b) (store (block_seen s t b) n content)
         (stores (r b) n (node_at s n).now content) seen_here
         (event_recorded (length s.nodes) (block_seen s t b) (r b) (Store n content) (kept.blocks b can.line.block)
         (recorded b can.line.block) may_store))
-        (λ o q other. same_kept_records (block_seen (stored s n w) t o) (block_seen s t o) (r o) (seen_there o other) (recorded o q))
+        (λ o q other. same_kept_records (block_seen (fabric_with_write s n w) t o) (block_seen s t o) (r o) (seen_there o other) (recorded o q))
 
     pub store_conditional_recorded : (r b).reserved n ≡ true → (o : ℕ) → o < block_count →
         Says o (at_block b (stores_conditional (r b) n (node_at s n).now content) (λ o. unreserves (r o) n) o)
     store_conditional_recorded reserved = at_each Says b (stores_conditional (r b) n (node_at s n).now content) (λ o. unreserves (r o) n)
-        (same_kept_records (block_seen (stored s n w) t b) (store (block_seen s t b) n content)
+        (same_kept_records (block_seen (fabric_with_write s n w) t b) (store (block_seen s t b) n content)
         (stores_conditional (r b) n (node_at s n).now content) seen_here
         (event_recorded (length s.nodes) (block_seen s t b) (r b) (StoreConditionalDone n content) (kept.blocks b can.line.block)
         (recorded b can.line.block) (may_store, reserved)))
-        (λ o q other. same_kept_records (block_seen (stored s n w) t o) (block_seen s t o) (unreserves (r o) n) (seen_there o other)
+        (λ o q other. same_kept_records (block_seen (fabric_with_write s n w) t o) (block_seen s t o) (unreserves (r o) n) (seen_there o other)
         (undone s t r kept recorded n can.line.node o q))

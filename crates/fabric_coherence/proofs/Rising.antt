@@ -4,7 +4,7 @@ use Rattle.std.proofs.lemmas.Bool.Decides.{nat_tests}
 use Rattle.sn_msg.specs.declared.Message.{Message as Sent}
 use Rattle.route_plan.specs.Distances.{Switches}
 use Rattle.sn_model.specs.Fabric.{Flight, Net}
-use Rattle.sn_model.specs.Net.{post, is_lost, entry_of, placed}
+use Rattle.sn_model.specs.Net.{post, is_lost, entry_of, flight_in_switch}
 use Rattle.fabric_coherence.specs.Flights.{From, Rising}
 use Rattle.fabric_coherence.specs.Steps.{Below}
 
@@ -24,17 +24,17 @@ pub rising-filter : (p : Flight → Bool) (fs : List Flight) → Rising fs → R
 rising-filter p [] r = tt
 rising-filter p (f ∷ fs) r = rising_one (p f) f (filter p fs) (from-filter p fs (f.message.id + 1) r.0) (rising-filter p fs r.1)
 
-placed_number : (id place : ℕ) (f : Flight) → (placed id place f).message.id ≡ f.message.id
+placed_number : (id place : ℕ) (f : Flight) → (flight_in_switch id place f).message.id ≡ f.message.id
 placed_number id place f = grind (arith, nat_tests)
 
-from-moved : (id place : ℕ) (fs : List Flight) (n : ℕ) → From fs n → From (map (placed id place) fs) n
+from-moved : (id place : ℕ) (fs : List Flight) (n : ℕ) → From fs n → From (map (flight_in_switch id place) fs) n
 from-moved id place [] n l = tt
 from-moved id place (f ∷ fs) n l = (subst (λ i. n ≤ i) (sym (placed_number id place f)) l.0, from-moved id place fs n l.1)
 
-pub rising-moved : (id place : ℕ) (fs : List Flight) → Rising fs → Rising (map (placed id place) fs)
+pub rising-moved : (id place : ℕ) (fs : List Flight) → Rising fs → Rising (map (flight_in_switch id place) fs)
 rising-moved id place [] r = tt
 rising-moved id place (f ∷ fs) r = (
-  subst (λ i. From (map (placed id place) fs) (i + 1)) (sym (placed_number id place f)) (from-moved id place fs (f.message.id + 1) r.0),
+  subst (λ i. From (map (flight_in_switch id place) fs) (i + 1)) (sym (placed_number id place f)) (from-moved id place fs (f.message.id + 1) r.0),
   rising-moved id place fs r.1,
 )
 

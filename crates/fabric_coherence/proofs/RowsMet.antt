@@ -13,15 +13,15 @@ use Rattle.sn_model.specs.Homes.{Holder, Itself, OfCache, Transaction, is_owner}
 use Rattle.sn_model.specs.HomeRows.{count_others}
 use Rattle.sn_model.specs.Fabric.{Fabric, node_at, home_of, home_node}
 use Rattle.sn_model.specs.NetEvents.{logged_at}
-use Rattle.mosi_cache.specs.Rows.{MeetsRow, NotesLast, noted_in}
-use Rattle.home_directory.specs.Receipt.{HasRow, IsNotOlder, MayUnblock, MayGiveBack, is_put, noting, noted_by_read, noted_by_write}
+use Rattle.mosi_cache.specs.Rows.{MeetsRow, NotesInLogOrder, noted_in}
+use Rattle.home_directory.specs.Receipt.{HasRow, IsNoteInOrder, MayUnblock, MayGiveBack, is_put, noting, noted_by_read, noted_by_write}
 use Rattle.home_directory.specs.Receipt.{noted_by_end, noted_by_unblock, unless_open}
 use Rattle.sn_coherence.specs.Block as block
 use Rattle.sn_coherence.specs.Consequences.{MeetsRows, MeetsNotes}
 use Rattle.sn_coherence.proofs.WhatFollows.{kept_meets_rows, kept_meets_notes}
-use Rattle.fabric_coherence.specs.View.{Beside, block_seen, message_seen, is_itself, owner_of, kind_seen, kind_open, requester_of}
+use Rattle.fabric_coherence.specs.View.{GhostState, block_seen, message_seen, is_itself, owner_of, kind_seen, kind_open, requester_of}
 use Rattle.fabric_coherence.specs.Steps.{IsInFlight}
-use Rattle.fabric_coherence.specs.Coherent.{IsKept}
+use Rattle.fabric_coherence.specs.Coherent.{FabricInvariant}
 use Rattle.fabric_coherence.specs.CacheEvents.{comes_to_cache}
 use Rattle.fabric_coherence.specs.Met.{comes_to_home, MeetsCache, MeetsHome}
 use Rattle.fabric_coherence.proofs.CacheConditions.{meets_forward_read, meets_forward_write, meets_data_shared, meets_data_modified}
@@ -94,7 +94,7 @@ late_unblock : (log : ℕ) (open_one : Option Transaction) (holder : Holder) (fi
 late_unblock log None holder fixed l = tt
 late_unblock log (Some transaction) holder fixed l = late_end log transaction.kind holder fixed l
 
-module _ (s : Fabric) (t : Beside) (m : Message) (flight : IsInFlight s m) (kept : IsKept s t) where
+module _ (s : Fabric) (t : GhostState) (m : Message) (flight : IsInFlight s m) (kept : FabricInvariant s t) where
   abbrev here : block.Block
   here = block_seen s t m.block
 
@@ -118,7 +118,7 @@ module _ (s : Fabric) (t : Beside) (m : Message) (flight : IsInFlight s m) (kept
   cache_row PutDone is c = meets_put_done s t m flight rows is
   cache_row _ is c = absurd (cc)
 
-  cache_note : (x : Body) → m.body ≡ x → NotesLast (node_at s m.to).log m.block (noted_in (node_at s m.to).now m.tag x)
+  cache_note : (x : Body) → m.body ≡ x → NotesInLogOrder (node_at s m.to).log m.block (noted_in (node_at s m.to).now m.tag x)
   cache_note (FwdGetM r due) is = notes_forward_write s t m flight notes r due is
   cache_note PutGo is = notes_put_go s t m flight notes is
   cache_note (DataM content due) is = notes_data_modified s t m flight notes content due is
@@ -190,7 +190,7 @@ module _ (s : Fabric) (t : Beside) (m : Message) (flight : IsInFlight s m) (kept
       (notes.put_data m.id (ap (λ x. x.body) (seen_as (PutData content) is))))
 
   home_note : (x : Body) → m.body ≡ x → m.to ≡ home_node s m.block →
-      IsNotOlder (node_at s m.to).log (noting (home_of s m.block) (node_at s m.to).now m x) m.block
+      IsNoteInOrder (node_at s m.to).log (noting (home_of s m.block) (node_at s m.to).now m x) m.block
   home_note GetS is home =
       late_read last (home_of s m.block).transaction (home_of s m.block).holder (count_others (home_of s m.block).sharers m.from)
       (node_at s m.to).now (late_now home)

@@ -14,12 +14,12 @@ use Rattle.sn_model.specs.PointEvents.{restored, restored_node, restored_line}
 use Rattle.sn_model.specs.RecoveryPoint.{HasOneHolderWith, IsOwned}
 use Rattle.sn_coherence.specs.Block as block
 use Rattle.sn_coherence.specs.Consequences.{HasContent, IsLegal}
-use Rattle.sn_coherence.specs.Kept.{AllSentences}
-use Rattle.sn_coherence.specs.KeptRecords.{KeptRecords}
+use Rattle.sn_coherence.specs.Invariant.{BlockInvariant}
+use Rattle.sn_coherence.specs.RecordsInvariant.{RecordsInvariant}
 use Rattle.sn_coherence.specs.Records.{Records}
 use Rattle.sn_coherence.proofs.WhatFollows.{kept_content, kept_legal}
-use Rattle.fabric_coherence.specs.View.{Beside, block_seen, line_seen, is_itself, owner_of, content_of}
-use Rattle.fabric_coherence.specs.Coherent.{IsKept}
+use Rattle.fabric_coherence.specs.View.{GhostState, block_seen, line_seen, is_itself, owner_of, content_of}
+use Rattle.fabric_coherence.specs.Coherent.{FabricInvariant}
 use Rattle.fabric_coherence.specs.Told.{Tells}
 use Rattle.fabric_coherence.proofs.Finished.{home_finished}
 use Rattle.fabric_coherence.proofs.Holders.{HasOneHolder, holder_of, holds_is, names_home, misses_seen}
@@ -47,11 +47,11 @@ false_is : (c : Bool) → (c ≡ true → ⊥) → c ≡ false
 false_is false h = refl
 false_is true h = absurd (h refl)
 
-module _ (s : Fabric) (t : Beside) (kept : IsKept s t) (b : ℕ) (low : b < block_count) (r : Records) (recorded : KeptRecords (block_seen s t b) r) where
+module _ (s : Fabric) (t : GhostState) (kept : FabricInvariant s t) (b : ℕ) (low : b < block_count) (r : Records) (recorded : RecordsInvariant (block_seen s t b) r) where
   abbrev here : block.Block
   here = block_seen s t b
 
-  of_block : AllSentences (length s.nodes) here
+  of_block : BlockInvariant (length s.nodes) here
   of_block = kept.blocks b low
 
   legal : IsLegal (length s.nodes) here r

@@ -13,12 +13,12 @@ use Rattle.sn_model.specs.declared.cache.LineState.TheVariants as state
 use Rattle.sn_model.specs.declared.cache.LineState.TheVariants.{Shared, Modified, Exclusive}
 use Rattle.sn_model.specs.declared.cache.Need.{Need}
 use Rattle.sn_model.specs.Caches.{block_count, line_of, with_line, is_present, misses_on, puts_on, frames_taken}
-use Rattle.sn_model.specs.CacheRows.{Logged, CacheReply, fixed_at, acknowledged, taken_over, forward_read, forward_write, invalidate}
+use Rattle.sn_model.specs.CacheRows.{Logged, CacheReply, fixed_at, miss_with_ack, taken_over, forward_read, forward_write, invalidate}
 use Rattle.sn_model.specs.CacheRows.{data_shared, data_modified, data_exclusive, upgrade_granted, acknowledge, put_go, put_done}
 use Rattle.sn_model.specs.HomeRows.{HomeReply, unblock, put_data}
 use Rattle.sn_model.specs.Homes.{Transaction}
-use Rattle.sn_model.specs.Access.{missed, misses, has_miss, serves, lacks_room, accesses, accessed}
-use Rattle.sn_model.specs.Fabric.{Fabric, Flight, Moved, node_at, home_of, home_node, refused, answered}
+use Rattle.sn_model.specs.Access.{step_of_miss, misses, has_miss, serves, lacks_room, accesses, step_of_access}
+use Rattle.sn_model.specs.Fabric.{Fabric, Flight, FabricStep, node_at, home_of, home_node, step_refused, step_with_answer}
 use Rattle.sn_model.specs.FabricEvents.{FabricEvent, Access, Write, Evict, Edge, Hop, Deliver, Lose, Kill, Report, Advance as Advances}
 use Rattle.sn_model.specs.FabricEvents.{Recover, moved_by}
 use Rattle.sn_model.specs.Net.{net_limit, routes_of, flight_of, is_there, is_full, next_switch}
@@ -29,35 +29,35 @@ use Rattle.sn_model.specs.PointEvents.{recovers, living_switches}
 use Rattle.route_plan.specs.Distances.{is_dead}
 use Rattle.route_plan.specs.Routes.{first_cut_off}
 use Rattle.sn_coherence.specs.Block as block
-use Rattle.fabric_coherence.specs.View.{Beside, net_seen, message_seen}
+use Rattle.fabric_coherence.specs.View.{GhostState, net_seen, message_seen}
 use Rattle.fabric_coherence.specs.Steps.{IsInFlight}
 use Rattle.fabric_coherence.specs.CacheEvents.{told_of}
-use Rattle.fabric_coherence.specs.Coherent.{IsKept, Keeps}
+use Rattle.fabric_coherence.specs.Coherent.{FabricInvariant, Keeps}
 use Rattle.fabric_coherence.specs.Events.{MayBe}
 use Rattle.fabric_coherence.specs.Recorded.{IsOfFabric}
 use Rattle.fabric_coherence.proofs.CacheOutcomes.{completed_or_waiting_loses}
 use Rattle.fabric_coherence.proofs.InFlight.{in_flight}
 
-abbrev Tells : Fabric → Moved → Type 0
+abbrev Tells : Fabric → FabricStep → Type 0
 Tells s x = IsOfFabric s x.told
 
-by_test : (s : Fabric) (test : Bool) (a b : Moved) → Tells s a → Tells s b → Tells s (if test then a else b)
+by_test : (s : Fabric) (test : Bool) (a b : FabricStep) → Tells s a → Tells s b → Tells s (if test then a else b)
 by_test s true a b first second = first
 by_test s false a b first second = second
 
-tells_accessed : (config : Config) (s : Fabric) (n block : ℕ) (need : Need) → Tells s (accessed config s n block need)
+tells_accessed : (config : Config) (s : Fabric) (n block : ℕ) (need : Need) → Tells s (step_of_access config s n block need)
 tells_accessed config s n block need =
-    by_test s (has_miss (node_at s n).cache.miss) (refused s Waits) (accesses config s n block need) tt
-    (by_test s (puts_on (node_at s n).cache.put block) (refused s Waits) _ tt
+    by_test s (has_miss (node_at s n).cache.miss) (step_refused s Waits) (accesses config s n block need) tt
+    (by_test s (puts_on (node_at s n).cache.put block) (step_refused s Waits) _ tt
     (by_test s (serves need (line_of (node_at s n).cache block).state) _ (misses config s n block need)
-    (by_test s (lacks_room config (node_at s n) block need) (refused s LogFull) (answered s Retired) tt tt)
+    (by_test s (lacks_room config (node_at s n) block need) (step_refused s LogFull) (step_with_answer s Retired) tt tt)
     (by_test s (not (is_present (line_of (node_at s n).cache block).state)
-    && nat_le config.ways (frames_taken (node_at s n).cache config.sets block)) (refused s NeedsEvict) _ tt
-    (by_test s (is_full s 1) (refused s NetFull) (missed s n block need) tt tt))))
+    && nat_le config.ways (frames_taken (node_at s n).cache config.sets block)) (step_refused s NeedsEvict) _ tt
+    (by_test s (is_full s 1) (step_refused s NetFull) (step_of_miss s n block need) tt tt))))
 
 tells_begins_put : (s : Fabric) (n b : ℕ) → Tells s (begins_put s n b)
 tells_begins_put s n b =
-    by_test s (has_put (node_at s n).cache.put) (refused s PutOpen) _ tt (by_test s (is_full s 1) (refused s NetFull) _ tt tt)
+    by_test s (has_put (node_at s n).cache.put) (step_refused s PutOpen) _ tt (by_test s (is_full s 1) (step_refused s NetFull) _ tt tt)
 
 tells_evicts : (s : Fabric) (n b : ℕ) (line : LineState) → n < length s.nodes → b < block_count → Tells s (evicts s n b line)
 tells_evicts s n b state.Absent l low = tt
@@ -69,7 +69,7 @@ tells_evicts s n b state.Exclusive l low = tells_begins_put s n b
 tells_hops : (s : Fabric) (found : Option Flight) → Tells s (hops s found)
 tells_hops s None = tt
 tells_hops s (Some f) =
-    by_test s (is_there f) (refused s Arrived) (hops_to s f (next_switch (routes_of s) f)) tt
+    by_test s (is_there f) (step_refused s Arrived) (hops_to s f (next_switch (routes_of s) f)) tt
     (by_test s (is_dead s.net.dead (next_switch (routes_of s) f)) _ _ tt tt)
 
 tells_loses : (s : Fabric) (found : Option Flight) → Tells s (loses s found)
@@ -77,7 +77,7 @@ tells_loses s None = tt
 tells_loses s (Some f) = tt
 
 -- a delivery
-module _ (config : Config) (s : Fabric) (t : Beside) (id : ℕ) (f : Flight) (kept : IsKept s t) (found : flight_of s.net.flights id ≡ Some f) where
+module _ (config : Config) (s : Fabric) (t : GhostState) (id : ℕ) (f : Flight) (kept : FabricInvariant s t) (found : flight_of s.net.flights id ≡ Some f) where
   abbrev m : Message
   m = f.message
 
@@ -91,12 +91,12 @@ module _ (config : Config) (s : Fabric) (t : Beside) (id : ℕ) (f : Flight) (ke
   home = home_node s m.block
 
   at_cache : (reply : CacheReply) → IsOfFabric s (told_of m.to reply.lost) → Tells s (delivers config s m (AtCache reply))
-  at_cache reply told = by_test s (nat_lt config.log (length reply.after.log)) (refused s LogFull) _ tt
-      (by_test s (nat_lt (net_limit + 1) (length s.net.flights + length reply.sends)) (refused s NetFull) _ tt told)
+  at_cache reply told = by_test s (nat_lt config.log (length reply.after.log)) (step_refused s LogFull) _ tt
+      (by_test s (nat_lt (net_limit + 1) (length s.net.flights + length reply.sends)) (step_refused s NetFull) _ tt told)
 
   at_home : (reply : HomeReply) → Tells s (delivers config s m (AtHome reply))
-  at_home reply = by_test s (nat_lt config.log (length reply.after.log)) (refused s LogFull) _ tt
-      (by_test s (nat_lt (net_limit + 1) (length s.net.flights + length reply.sends)) (refused s NetFull) _ tt tt)
+  at_home reply = by_test s (nat_lt config.log (length reply.after.log)) (step_refused s LogFull) _ tt
+      (by_test s (nat_lt (net_limit + 1) (length s.net.flights + length reply.sends)) (step_refused s NetFull) _ tt tt)
 
   request : (open_one : Option Transaction) (reply : HomeReply) → Tells s (delivers config s m (unless_busy open_one reply))
   request None reply = at_home reply
@@ -143,18 +143,18 @@ module _ (config : Config) (s : Fabric) (t : Beside) (id : ℕ) (f : Flight) (ke
       at_cache (upgrade_granted at home m.tag due)
       (none_lost (upgrade_granted at home m.tag due) (completed_or_waiting_loses at home (fixed_at at.cache.miss m.tag due)))
   by_body InvAck is =
-      at_cache (acknowledge at home) (none_lost (acknowledge at home) (completed_or_waiting_loses at home (acknowledged at.cache.miss)))
+      at_cache (acknowledge at home) (none_lost (acknowledge at home) (completed_or_waiting_loses at home (miss_with_ack at.cache.miss)))
   by_body PutGo is = at_cache (put_go at home m.block (node_at s m.to).now) (lost_here true)
   by_body PutDone is = at_cache (put_done at) tt
   by_body (Ready k) is = flight.from
   by_body (Advance k) is = (flight.to, advance_low k is)
 
   tells_found : Tells s (delivers_flight config s (Some f))
-  tells_found = by_test s (not (is_there f)) (refused s NotArrived) _ tt
-      (by_test s (nat_lt (node_at s m.to).now m.tag) (refused s Held) (delivers config s m (outcome_of s m m.body)) tt
+  tells_found = by_test s (not (is_there f)) (step_refused s NotArrived) _ tt
+      (by_test s (nat_lt (node_at s m.to).now m.tag) (step_refused s Held) (delivers config s m (outcome_of s m m.body)) tt
       (by_body m.body refl))
 
-tells_flight : (config : Config) (s : Fabric) (t : Beside) (id : ℕ) (found : Option Flight) → IsKept s t →
+tells_flight : (config : Config) (s : Fabric) (t : GhostState) (id : ℕ) (found : Option Flight) → FabricInvariant s t →
     flight_of s.net.flights id ≡ found → Tells s (delivers_flight config s found)
 tells_flight config s t id None kept e = tt
 tells_flight config s t id (Some f) kept e = tells_found config s t id f kept e
@@ -168,14 +168,14 @@ unfolding moved_by
 told_of_fabric config s (Access n b need) k m = tells_accessed config s n b need
 told_of_fabric config s (Write n w) k m = tt
 told_of_fabric config s (Evict n b) k m =
-    by_test s (misses_on (node_at s n).cache.miss b) (refused s MissOpen) _ tt
+    by_test s (misses_on (node_at s n).cache.miss b) (step_refused s MissOpen) _ tt
     (tells_evicts s n b (line_of (node_at s n).cache b).state m.0 m.1)
 told_of_fabric config s (Edge n) k m =
-    by_test s (nat_eq ((node_at s n).now - (node_at s n).known) checkpoint_limit) (refused s CheckpointsFull) _ tt tt
+    by_test s (nat_eq ((node_at s n).now - (node_at s n).known) checkpoint_limit) (step_refused s CheckpointsFull) _ tt tt
 told_of_fabric config s (Hop id) k m = tells_hops s (flight_of s.net.flights id)
 told_of_fabric config s (Deliver id) k m = tells_flight config s k.0 id (flight_of s.net.flights id) k.1 refl
 told_of_fabric config s (Lose id) k m = tells_loses s (flight_of s.net.flights id)
-told_of_fabric config s (Kill switch) k m = by_test s (is_dead s.net.dead switch) (refused s AlreadyDead) _ tt tt
-told_of_fabric config s (Report n) k m = by_test s (is_full s 1) (refused s NetFull) _ tt tt
-told_of_fabric config s (Advances j) k m = by_test s (is_full s (length s.nodes)) (refused s NetFull) _ tt tt
+told_of_fabric config s (Kill switch) k m = by_test s (is_dead s.net.dead switch) (step_refused s AlreadyDead) _ tt tt
+told_of_fabric config s (Report n) k m = by_test s (is_full s 1) (step_refused s NetFull) _ tt tt
+told_of_fabric config s (Advances j) k m = by_test s (is_full s (length s.nodes)) (step_refused s NetFull) _ tt tt
 told_of_fabric config s (Recover j) k m = tells_recovers s j (first_cut_off (living_switches s))

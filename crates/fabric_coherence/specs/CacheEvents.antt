@@ -6,19 +6,19 @@ use Rattle.sn_msg.specs.declared.Body.{Body}
 use Rattle.sn_msg.specs.declared.Body.TheVariants.{FwdGetS, FwdGetM, Inv, DataS, DataM, DataE, UpgOk, InvAck, PutGo, PutDone}
 use Rattle.sn_model.specs.Caches.{block_count}
 use Rattle.sn_model.specs.CacheRows.{CacheReply}
-use Rattle.sn_model.specs.declared.net.Told.{Told}
-use Rattle.sn_model.specs.declared.net.Told.TheVariants.{LostCopy}
+use Rattle.sn_model.specs.declared.net.News.{News}
+use Rattle.sn_model.specs.declared.net.News.TheVariants.{LostCopy}
 use Rattle.sn_model.specs.Fabric.{Fabric}
 use Rattle.sn_coherence.specs.Block.{Block}
 use Rattle.sn_coherence.specs.Events.{Event, after}
 use Rattle.fabric_coherence.specs.Recorded.{heard_by}
 use Rattle.fabric_coherence.specs.Leads.{Leads}
-use Rattle.fabric_coherence.specs.View.{Beside, block_seen}
+use Rattle.fabric_coherence.specs.View.{GhostState, block_seen}
 use Rattle.fabric_coherence.specs.Sends.{OutsWithin}
 use Rattle.fabric_coherence.specs.CacheSeen.{IsOwnRow, IsElsewhere}
 
 -- what is told of a lost copy
-abbrev pub told_of : ℕ → Option ℕ → Option Told
+abbrev pub told_of : ℕ → Option ℕ → Option News
 told_of n lost = option_map (λ (block : ℕ). LostCopy n block) lost
 
 abbrev pub comes_to_cache : Body → Bool
@@ -35,7 +35,7 @@ comes_to_cache PutDone = true
 comes_to_cache _ = false
 
 -- a reply of a cache is this event of its own block, and makes of the others these blocks; it says that this copy was lost
-pub record IsCacheEvent (s : Fabric) (t : Beside) (m : Message) (reply : CacheReply) (event : Event) (others : ℕ → Block)
+pub record IsCacheEvent (s : Fabric) (t : GhostState) (m : Message) (reply : CacheReply) (event : Event) (others : ℕ → Block)
     (lost : Option ℕ) : Type 0 where
   pub own : IsOwnRow s t m reply (after (length s.nodes) (block_seen s t m.block) event)
   pub leads : Leads (length s.nodes) (block_seen s t m.block) (heard_by (told_of m.to lost) m.block)

@@ -7,15 +7,15 @@ use Rattle.sn_model.specs.declared.cache.Out.{Out}
 use Rattle.sn_model.specs.CacheRows.{CacheReply}
 use Rattle.sn_model.specs.Fabric.{Fabric, node_at}
 use Rattle.sn_model.specs.Net.{message_of}
-use Rattle.sn_coherence.specs.Block.{Block, Content, Message as Seen, gone, set, set_row}
+use Rattle.sn_coherence.specs.Block.{Block, Content, Message as Seen, no_message, set, set_row}
 use Rattle.sn_coherence.specs.OtherEvents.{end_miss_elsewhere}
 use Rattle.sn_coherence.specs.Same.{IsSame}
 use Rattle.sn_coherence.specs.Log.{was_owned, old_content, was_home, old_cache, told_at}
-use Rattle.fabric_coherence.specs.View.{Beside, block_seen, line_seen, content_held, miss_seen, put_seen, put_issued, net_seen}
+use Rattle.fabric_coherence.specs.View.{GhostState, block_seen, line_seen, content_held, miss_seen, put_seen, put_issued, net_seen}
 use Rattle.fabric_coherence.specs.View.{message_seen}
-use Rattle.fabric_coherence.specs.Steps.{after_cache, beside_with, losing, lost_at_once, elsewhere}
+use Rattle.fabric_coherence.specs.Steps.{after_cache, ghost_with, losing, lost_at_once, elsewhere}
 
-abbrev pub cache_seen : Fabric → Beside → Message → CacheReply → Line → ℕ → Block
+abbrev pub cache_seen : Fabric → GhostState → Message → CacheReply → Line → ℕ → Block
 cache_seen s t m reply line o = record (block_seen s t o) {
   line = set (block_seen s t o).line m.to (line_seen line.state);
   content = set (block_seen s t o).content m.to line.content;
@@ -68,15 +68,15 @@ pub record IsRow (a b : Block) : Type 0 where
   pub last : (n : ℕ) → a.last n ≡ b.last n
 
 -- a reply of a cache is, for its own block, this row of the block
-abbrev pub IsOwnRow : Fabric → Beside → Message → CacheReply → Block → Type 0
+abbrev pub IsOwnRow : Fabric → GhostState → Message → CacheReply → Block → Type 0
 IsOwnRow s t m reply row =
-    IsSame (block_seen (after_cache s m reply).fabric (beside_with t m.block row) m.block)
+    IsSame (block_seen (after_cache s m reply).fabric (ghost_with t m.block row) m.block)
     (losing row (lost_at_once (after_cache s m reply).sent))
 
 -- the net with a message of the block taken, and one sent by its receiver
-abbrev pub net_answered : Fabric → Beside → Message → Out → ℕ → Seen
+abbrev pub net_answered : Fabric → GhostState → Message → Out → ℕ → Seen
 net_answered s t m out =
-    set (set (block_seen s t m.block).net m.id gone) s.net.next_id
+    set (set (block_seen s t m.block).net m.id no_message) s.net.next_id
     (message_seen (message_of s.net m.to (node_at s m.to).now m.block out) out.body)
 
 -- a log says of the cache's side of a block what it said before
@@ -86,8 +86,8 @@ pub record KeepsCacheSide (before after : List LogEntry) (o : ℕ) : Type 0 wher
   pub newest : logged_to after false o ≡ logged_to before false o
 
 -- a reply of a cache that goes with this row of its own block leaves this of block o
-abbrev pub IsElsewhere : Fabric → Beside → Message → CacheReply → Block → ℕ → Block → Type 0
-IsElsewhere s t m reply row o block = IsSame (block_seen (after_cache s m reply).fabric (beside_with t m.block row) o) block
+abbrev pub IsElsewhere : Fabric → GhostState → Message → CacheReply → Block → ℕ → Block → Type 0
+IsElsewhere s t m reply row o block = IsSame (block_seen (after_cache s m reply).fabric (ghost_with t m.block row) o) block
 
 -- another block, where node n's miss is complete or waits for acknowledgements
 abbrev pub completed_or_waiting_elsewhere : Block → ℕ → ℕ → Bool → Block

@@ -3,18 +3,18 @@ use Rattle.std.specs.Prelude.{◌≡◌, ℕ, ◌+◌, ◌<◌, ◌≤◌, false
 use Rattle.sn_model.specs.Caches.{block_count}
 use Rattle.sn_model.specs.Cuts.{is_unfinished}
 use Rattle.sn_model.specs.Fabric.{Fabric, node_at}
-use Rattle.sn_coherence.specs.Kept.{AllSentences}
-use Rattle.fabric_coherence.specs.View.{Beside, block_seen}
+use Rattle.sn_coherence.specs.Invariant.{BlockInvariant}
+use Rattle.fabric_coherence.specs.View.{GhostState, block_seen}
 use Rattle.fabric_coherence.specs.Steps.{IsShaped}
 
 -- the fabric's lists have their shape, and of each block all sentences hold, with this beside the fabric
-pub record IsKept (s : Fabric) (t : Beside) : Type 0 where
+pub record FabricInvariant (s : Fabric) (t : GhostState) : Type 0 where
   pub shape : IsShaped s
-  pub blocks : (b : ℕ) → b < block_count → AllSentences (length s.nodes) (block_seen s t b)
+  pub blocks : (b : ℕ) → b < block_count → BlockInvariant (length s.nodes) (block_seen s t b)
 
 -- the same with something beside it
 abbrev pub Keeps : Fabric → Type 0
-Keeps s = (t : Beside) × IsKept s t
+Keeps s = (t : GhostState) × FabricInvariant s t
 
 -- each node has reached k, and nothing that was begun in an interval below k is unfinished
 pub record NothingUnfinished (s : Fabric) (k : ℕ) : Type 0 where

@@ -5,18 +5,18 @@ use Rattle.log_buffer.specs.Log.{LogEntry, logged_to}
 use Rattle.sn_msg.specs.declared.Message.{Message as Sent}
 use Rattle.sn_model.specs.HomeRows.{HomeReply, others}
 use Rattle.sn_model.specs.Fabric.{Fabric, node_at}
-use Rattle.sn_model.specs.Net.{posted, sent_by, without_flight}
-use Rattle.sn_coherence.specs.Block.{Block, Message, Content, gone, set}
+use Rattle.sn_model.specs.Net.{net_after_sends, sent_by, without_flight}
+use Rattle.sn_coherence.specs.Block.{Block, Message, Content, no_message, set}
 use Rattle.sn_coherence.specs.Log.{was_owned, old_content, was_home, old_cache, told_at}
-use Rattle.fabric_coherence.specs.View.{Beside, block_seen, net_seen, is_itself, owner_of, content_of, kind_open, requester_of, begun_of}
+use Rattle.fabric_coherence.specs.View.{GhostState, block_seen, net_seen, is_itself, owner_of, content_of, kind_open, requester_of, begun_of}
 use Rattle.sn_coherence.specs.Same.{IsSame}
 use Rattle.fabric_coherence.specs.Sends.{targets}
-use Rattle.fabric_coherence.specs.Steps.{after_home, beside_with, losing, lost_at_once, elsewhere}
+use Rattle.fabric_coherence.specs.Steps.{after_home, ghost_with, losing, lost_at_once, elsewhere}
 
 -- the net without these messages
 abbrev pub net_losing : (ℕ → Message) → List ℕ → ℕ → Message
 net_losing net [] = net
-net_losing net (id ∷ ids) = net_losing (set net id gone) ids
+net_losing net (id ∷ ids) = net_losing (set net id no_message) ids
 
 -- the block with the home's side, the net and the proof's own of another
 abbrev pub with_home_side : Block → Block → Block
@@ -61,10 +61,10 @@ pub record LeavesHome (s : Fabric) (m : Sent) (reply : HomeReply) (e : Block) : 
   pub requester : requester_of reply.after.entry.transaction ≡ e.requester
   pub begun : begun_of reply.after.entry.transaction ≡ e.begun
   pub net : (routes : Switches) (i : ℕ) →
-      net_seen m.block (posted routes (without_flight s.net m.id) m.to (node_at s m.to).now m.block reply.sends).flights i
+      net_seen m.block (net_after_sends routes (without_flight s.net m.id) m.to (node_at s m.to).now m.block reply.sends).flights i
       ≡ net_losing e.net (lost_at_once (sent_by routes (without_flight s.net m.id) m.to (node_at s m.to).now m.block reply.sends)) i
   pub next : (routes : Switches) →
-      (posted routes (without_flight s.net m.id) m.to (node_at s m.to).now m.block reply.sends).next_id ≡ e.next
+      (net_after_sends routes (without_flight s.net m.id) m.to (node_at s m.to).now m.block reply.sends).next_id ≡ e.next
   pub named_home : (j : ℕ) → told_at was_home reply.after.log true m.block (is_itself reply.after.entry.holder) j ≡ e.named_home j
   pub named : (j : ℕ) → told_at old_cache reply.after.log true m.block (owner_of reply.after.entry.holder) j ≡ e.named j
   pub home_held : (j : ℕ) → told_at old_content reply.after.log true m.block (content_of reply.after.entry.holder) j ≡ e.home_held j
@@ -75,12 +75,12 @@ abbrev pub other_targets : List Bool → ℕ → ℕ → ℕ
 other_targets sharers r k = slice_index_or (targets 0 (others sharers r)) k 0
 
 -- a row of a home is this row of its block, and then the loss of what was lost at once
-abbrev pub IsHomeRow : Fabric → Beside → Sent → HomeReply → Block → Type 0
+abbrev pub IsHomeRow : Fabric → GhostState → Sent → HomeReply → Block → Type 0
 IsHomeRow s t m reply e =
-    IsSame (block_seen (after_home s m reply).fabric (beside_with t m.block e) m.block)
+    IsSame (block_seen (after_home s m reply).fabric (ghost_with t m.block e) m.block)
     (losing e (lost_at_once (after_home s m reply).sent))
 
 -- another block sees that the message is gone, and that numbers were taken
-abbrev pub IsHomeElsewhere : Fabric → Beside → Sent → HomeReply → Block → ℕ → Type 0
+abbrev pub IsHomeElsewhere : Fabric → GhostState → Sent → HomeReply → Block → ℕ → Type 0
 IsHomeElsewhere s t m reply e o =
-    IsSame (block_seen (after_home s m reply).fabric (beside_with t m.block e) o) (elsewhere (block_seen s t o) m.id (length reply.sends))
+    IsSame (block_seen (after_home s m reply).fabric (ghost_with t m.block e) o) (elsewhere (block_seen s t o) m.id (length reply.sends))

@@ -8,9 +8,9 @@ use Rattle.sn_msg.specs.declared.Body.{Body}
 use Rattle.sn_msg.specs.declared.Body.TheVariants.{GetS, GetM, Unblock, PutReq, PutData}
 use Rattle.sn_model.specs.Fabric.{Fabric, node_at, home_of, home_node}
 use Rattle.sn_model.specs.NetEvents.{logged_at, kept_at, outcome_of, delivers}
-use Rattle.mosi_cache.specs.Rows.{MeetsRow, NotesLast, noted_in, row_of, is_over}
+use Rattle.mosi_cache.specs.Rows.{MeetsRow, NotesInLogOrder, noted_in, row_of, is_over}
 use Rattle.mosi_cache.specs.Machine.{controller_at, log_at}
-use Rattle.home_directory.specs.Receipt.{HasRow, IsNotOlder, noting, LacksRoom, verdict_of}
+use Rattle.home_directory.specs.Receipt.{HasRow, IsNoteInOrder, noting, LacksRoom, verdict_of}
 
 -- the messages that come to a home; those that come to a cache are listed where its events are
 abbrev pub comes_to_home : Body → Bool
@@ -24,14 +24,14 @@ comes_to_home _ = false
 -- the message finds its row's condition at the cache, and what its row notes is not older than the log's entries
 abbrev pub MeetsCache : Fabric → Message → Type 0
 MeetsCache s m =
-    MeetsRow (logged_at s m.to) m.block m.body × NotesLast (node_at s m.to).log m.block (noted_in (node_at s m.to).now m.tag m.body)
+    MeetsRow (logged_at s m.to) m.block m.body × NotesInLogOrder (node_at s m.to).log m.block (noted_in (node_at s m.to).now m.tag m.body)
 
 -- the message has come to its block's home, has a row there, and what that notes is not older than the log's entries
 abbrev pub MeetsHome : Fabric → Message → Type 0
 MeetsHome s m =
     (m.to ≡ home_node s m.block)
     × HasRow (home_of s m.block) m.from m.body
-    × IsNotOlder (node_at s m.to).log (noting (home_of s m.block) (node_at s m.to).now m m.body) m.block
+    × IsNoteInOrder (node_at s m.to).log (noting (home_of s m.block) (node_at s m.to).now m m.body) m.block
 
 -- the answer to a delivery, once it has come and isn't held
 abbrev pub answer_to : Config → Fabric → Message → Answer

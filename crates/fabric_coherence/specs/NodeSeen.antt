@@ -6,11 +6,11 @@ use Rattle.sn_model.specs.Caches.{line_of, is_owned}
 use Rattle.sn_coherence.specs.Block.{Block, set, set_row}
 use Rattle.sn_coherence.specs.Log.{was_owned, old_content, was_home, old_cache, told_at}
 use Rattle.sn_coherence.specs.OtherEvents.{edge}
-use Rattle.fabric_coherence.specs.View.{Beside, block_seen, line_seen, content_held, miss_seen, put_seen, put_issued, net_seen}
+use Rattle.fabric_coherence.specs.View.{GhostState, block_seen, line_seen, content_held, miss_seen, put_seen, put_issued, net_seen}
 
 -- block b with node n as this node, apart from the home's side of its log
-abbrev pub changed : Block → ℕ → ℕ → Node → Block
-changed a b n node = record a {
+abbrev pub block_with_node : Block → ℕ → ℕ → Node → Block
+block_with_node a b n node = record a {
   now = set a.now n node.now;
   known = set a.known n node.known;
   line = set a.line n (line_seen (line_of node.cache b).state);
@@ -35,9 +35,9 @@ pub record IsSameAtHome (b : ℕ) (x y : Node) : Type 0 where
   pub newest : logged_to x.log true b ≡ logged_to y.log true b
 
 -- what the proof alone knows, after node n's clock edge
-abbrev pub beside_edged : Fabric → Beside → ℕ → Beside
-beside_edged s t n = record t { framed = λ b. (edge (block_seen s t b) n).framed }
+abbrev pub ghost_after_edge : Fabric → GhostState → ℕ → GhostState
+ghost_after_edge s t n = record t { framed = λ b. (edge (block_seen s t b) n).framed }
 
 -- what the proof alone knows, after a recovery
-abbrev pub beside_restored : Beside → Beside
-beside_restored t = record t { waited = λ b n. false }
+abbrev pub ghost_after_recovery : GhostState → GhostState
+ghost_after_recovery t = record t { waited = λ b n. false }

@@ -1,7 +1,7 @@
 -- What stands beside the fabric at its start.
 use Rattle.std.specs.Prelude.{false}
 use Rattle.sn_coherence.specs.Block.{Asked}
-use Rattle.fabric_coherence.specs.View.{Beside}
+use Rattle.fabric_coherence.specs.View.{GhostState}
 
-abbrev pub first_beside : Beside
-first_beside = record { stage = λ b. Asked; at = λ b. 0; waited = λ b n. false; framed = λ b n j. false }
+abbrev pub first_ghost : GhostState
+first_ghost = record { stage = λ b. Asked; at = λ b. 0; waited = λ b n. false; framed = λ b n j. false }

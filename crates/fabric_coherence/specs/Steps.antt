@@ -9,28 +9,28 @@ use Rattle.sn_model.specs.declared.net.Sent.{Sent}
 use Rattle.sn_model.specs.Caches.{block_count}
 use Rattle.sn_model.specs.CacheRows.{CacheReply}
 use Rattle.sn_model.specs.HomeRows.{HomeReply}
-use Rattle.sn_model.specs.Fabric.{Fabric, Flight, node_at, with_node, home_of, Moved, with_net}
+use Rattle.sn_model.specs.Fabric.{Fabric, Flight, node_at, with_node, home_of, FabricStep, with_net}
 use Rattle.sn_model.specs.Net.{without_flight, sending}
 use Rattle.sn_model.specs.NetEvents.{node_after, home_after, copy_lost}
 use Rattle.sn_coherence.specs.Block.{Block, set, set_row}
 use Rattle.sn_coherence.specs.OtherEvents.{lose, numbers_elsewhere}
-use Rattle.fabric_coherence.specs.View.{Beside, net_seen, message_seen}
+use Rattle.fabric_coherence.specs.View.{GhostState, net_seen, message_seen}
 use Rattle.fabric_coherence.specs.Flights.{Rising}
 
 -- the fabric after a row of a cache, and after a row of a home, for a message
-abbrev pub after_cache : Fabric → Message → CacheReply → Moved
+abbrev pub after_cache : Fabric → Message → CacheReply → FabricStep
 after_cache s m reply =
     record (sending (with_net (with_node s m.to (node_after (node_at s m.to) reply))
     (without_flight s.net m.id)) m.to m.block reply.sends Delivered) {
       told = copy_lost m.to reply;
     }
 
-abbrev pub after_home : Fabric → Message → HomeReply → Moved
+abbrev pub after_home : Fabric → Message → HomeReply → FabricStep
 after_home s m reply = sending (with_net (home_after s m.to m.block reply) (without_flight s.net m.id)) m.to m.block reply.sends Delivered
 
 -- what the proof alone knows, where one block goes on to another
-abbrev pub beside_with : Beside → ℕ → Block → Beside
-beside_with t b block = record t { stage = set t.stage b block.stage; at = set t.at b block.at; waited = set_row t.waited b block.waited }
+abbrev pub ghost_with : GhostState → ℕ → Block → GhostState
+ghost_with t b block = record t { stage = set t.stage b block.stage; at = set t.at b block.at; waited = set_row t.waited b block.waited }
 
 -- the numbers of the messages that were lost at once
 abbrev pub lost_at_once : List Sent → List ℕ
@@ -54,17 +54,17 @@ Below [] next = ⊤
 Below (f ∷ fs) next = (f.message.id < next) × Below fs next
 
 -- the node that a message names beside its sender and receiver
-abbrev pub named : Body → ℕ
-named (FwdGetS r) = r
-named (FwdGetM r due) = r
-named (Inv r) = r
-named _ = 0
+abbrev pub node_in_body : Body → ℕ
+node_in_body (FwdGetS r) = r
+node_in_body (FwdGetM r due) = r
+node_in_body (Inv r) = r
+node_in_body _ = 0
 
 -- each message is between nodes that are there, about a block of memory
 abbrev pub Within : List Flight → ℕ → Type 0
 Within [] nodes = ⊤
 Within (f ∷ fs) nodes =
-    ((f.message.from < nodes) × (f.message.to < nodes) × (f.message.block < block_count) × (named f.message.body < nodes)) × Within fs nodes
+    ((f.message.from < nodes) × (f.message.to < nodes) × (f.message.block < block_count) × (node_in_body f.message.body < nodes)) × Within fs nodes
 
 pub record IsShaped (s : Fabric) : Type 0 where
   pub some : 1 ≤ length s.nodes

@@ -129,12 +129,12 @@ abbrev pub is_seen : ℕ → Message → Bool
 is_seen b m = is_for_all m.body || nat_eq m.block b
 
 abbrev pub net_seen : ℕ → List Flight → ℕ → block.Message
-net_seen b [] i = block.gone
+net_seen b [] i = block.no_message
 net_seen b (f ∷ fs) i = if nat_eq f.message.id i && is_seen b f.message then message_seen f.message f.message.body else net_seen b fs i
 
 -- what the proof alone knows of each block: how far its transaction has come and its interval of atomicity, who is waited
 -- for, and whether it had a frame of a node at an edge
-pub record Beside : Type 0 where
+pub record GhostState : Type 0 where
   pub stage : ℕ → block.Stage
   pub at : ℕ → ℕ
   pub waited : ℕ → ℕ → Bool
@@ -144,7 +144,7 @@ abbrev pub home_log : Fabric → ℕ → List LogEntry
 home_log s b = (node_at s (home_node s b)).log
 
 -- block b of the fabric
-abbrev pub block_seen : Fabric → Beside → ℕ → block.Block
+abbrev pub block_seen : Fabric → GhostState → ℕ → block.Block
 block_seen s t b = record {
   point = s.point;
   home = home_node s b;

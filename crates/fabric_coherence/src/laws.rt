@@ -4,18 +4,18 @@ ghost use Rattle.sn_base.specs.Image.{ImageData};
 ghost use Rattle.sn_base.specs.declared.config.Config.{Config};
 ghost use Rattle.sn_base.specs.declared.event.Answer.TheVariants.{Retired};
 ghost use Rattle.sn_model.specs.declared.cache.Need.{Need};
-ghost use Rattle.sn_model.specs.Access.{accessed, serves};
+ghost use Rattle.sn_model.specs.Access.{step_of_access, serves};
 ghost use Rattle.sn_model.specs.Caches.{block_count, line_of};
 ghost use Rattle.sn_model.specs.Cuts.{is_unfinished};
 ghost use Rattle.sn_model.specs.Fabric.{Fabric, node_at, first_fabric};
 ghost use Rattle.sn_model.specs.FabricEvents.{FabricEvent, moved_by};
-ghost use Rattle.fabric_coherence.specs.Coherent.{IsKept, Keeps, IsInTime};
+ghost use Rattle.fabric_coherence.specs.Coherent.{FabricInvariant, Keeps, IsInTime};
 ghost use Rattle.fabric_coherence.specs.Events.{MayBe, CanUse};
 ghost use Rattle.fabric_coherence.specs.Holders.{IsCoherent};
 ghost use Rattle.fabric_coherence.specs.Leads.{KeepsFrames};
 ghost use Rattle.fabric_coherence.specs.Recorded.{IsOfFabric};
 ghost use Rattle.fabric_coherence.specs.Runs.{IsFabricRun, fabric_after};
-ghost use Rattle.fabric_coherence.specs.View.{Beside};
+ghost use Rattle.fabric_coherence.specs.View.{GhostState};
 
 /// At the start all sentences hold of every block.
 pub fn start_is_kept()
@@ -29,8 +29,8 @@ pub fn each_event_keeps()
 
 /// And the blocks that had frames of a node at an edge stay those that have them there, which bounds the lines of a cut.
 pub fn each_event_keeps_frames()
-    ensures { (config : Config) (s : Fabric) (t : Beside) (event : FabricEvent) → IsKept s t → MayBe s event
-        → (u : Beside) × IsKept (moved_by config s event).fabric u × KeepsFrames s t u }
+    ensures { (config : Config) (s : Fabric) (t : GhostState) (event : FabricEvent) → FabricInvariant s t → MayBe s event
+        → (u : GhostState) × FabricInvariant (moved_by config s event).fabric u × KeepsFrames s t u }
 {}
 
 /// No event brings or takes a node.
@@ -62,7 +62,7 @@ pub fn what_is_told_is_of_the_fabric()
 /// An access that its line serves is one of which the records speak, and its line is what it needs.
 pub fn what_is_served_can_be_used()
     ensures { (config : Config) (s : Fabric) (n block : ℕ) (need : Need) → n < length s.nodes → block < block_count
-        → (accessed config s n block need).answer ≡ Retired
+        → (step_of_access config s n block need).answer ≡ Retired
         → CanUse s n block × (serves need (line_of (node_at s n).cache block).state ≡ true) }
 {}
 

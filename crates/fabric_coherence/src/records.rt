@@ -4,7 +4,7 @@ ghost use Rattle.sn_base.specs.Image.{ImageData};
 ghost use Rattle.sn_base.specs.declared.block.Write.{Write};
 ghost use Rattle.sn_base.specs.declared.config.Config.{Config};
 ghost use Rattle.rv_core.specs.Core.{block_of};
-ghost use Rattle.sn_model.specs.Access.{stored, written_in};
+ghost use Rattle.sn_model.specs.Access.{fabric_with_write, written_in};
 ghost use Rattle.sn_model.specs.Caches.{block_count, line_of, is_present};
 ghost use Rattle.sn_model.specs.Fabric.{Fabric, node_at, first_fabric, initial_block};
 ghost use Rattle.sn_model.specs.FabricEvents.{FabricEvent, moved_by};
@@ -36,11 +36,11 @@ pub fn each_access_keeps_records()
         → is_present (line_of (node_at s n).cache b).state ≡ true
         → KeepsRecords s (at_block b (loads_reserved (r b) n (node_at s n).now) (λ o. unreserves (r o) n)) }
     ensures store { (s : Fabric) (r : ℕ → Records) (n : ℕ) (w : Write) → KeepsRecords s r → CanWrite s n w
-        → KeepsRecords (stored s n w) (at_block (block_of w.address)
+        → KeepsRecords (fabric_with_write s n w) (at_block (block_of w.address)
         (stores (r (block_of w.address)) n (node_at s n).now (written_in (line_of (node_at s n).cache (block_of w.address)).content w)) r) }
     ensures store_conditional { (s : Fabric) (r : ℕ → Records) (n : ℕ) (w : Write) → KeepsRecords s r → CanWrite s n w
         → (r (block_of w.address)).reserved n ≡ true
-        → KeepsRecords (stored s n w) (at_block (block_of w.address)
+        → KeepsRecords (fabric_with_write s n w) (at_block (block_of w.address)
         (stores_conditional (r (block_of w.address)) n (node_at s n).now
         (written_in (line_of (node_at s n).cache (block_of w.address)).content w)) (λ o. unreserves (r o) n)) }
     ensures undone { (s : Fabric) (r : ℕ → Records) (n : ℕ) → KeepsRecords s r → n < length s.nodes

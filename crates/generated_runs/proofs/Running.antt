@@ -20,7 +20,7 @@ use Rattle.sn_model.specs.Step.{step_of}
 use Rattle.consistent_cuts.specs.Runs.{EventFits, AllFit}
 use Rattle.consistent_cuts.proofs.NodesStay.{step_count}
 use Rattle.sn_machine.specs.Looks.{have_ended}
-use Rattle.due_events.specs.Numbers.{Numbers, first_numbers, counted, with_retired, with_edge, with_report, with_answer, numbers_after}
+use Rattle.due_events.specs.Numbers.{Numbers, first_numbers, numbers_with_event, with_retired, with_edge, with_report, with_answer, numbers_after}
 use Rattle.due_events.specs.Due.{is_over, next_due, due_of}
 use Rattle.due_events.specs.Runs.{then_others}
 use Rattle.counting_program.specs.Program.{counting_image}
@@ -95,7 +95,7 @@ module _ (s : State) (x : Numbers) (worker pick : ℕ) (e : Event) (r : IsRunnin
       record {
         count = step_count counting_image generated_config s e ∙ r.count;
         dead = stays.0 ∙ r.dead;
-        joined = answer_keeps (counted x e) e (step_of counting_image generated_config s e).answer stays.1 ∙ r.joined;
+        joined = answer_keeps (numbers_with_event x e) e (step_of counting_image generated_config s e).answer stays.1 ∙ r.joined;
       }
 
 -- so many events of which each fits

@@ -7,6 +7,7 @@ ghost use Rattle.script_replay.specs.Played.{IsWatchable};
 ghost use Rattle.script_replay.specs.Probed.{told_all};
 ghost use Rattle.script_replay.specs.Shown.{IsReplayed, IsBrokenOff, KnowApplied};
 ghost use Rattle.generated_runs.specs.Generated.{generated_replay};
+ghost use Rattle.sn_base.specs.declared.limits.TheConstants.{EVENTS};
 
 use crate::schedule::Generated;
 use crate::starting::start;
@@ -25,7 +26,7 @@ pub fn replay_generated<C: Sink, R: Sink>(
     console: &mut C,
     report: &mut R,
 ) -> Result<(), ReplayFault>
-    requires few { size ≤ 1000000 }
+    requires few { size ≤ EVENTS }
     requires watched { IsWatchable showing.watch }
     ensures ok { OnOk result (IsReplayed (generated_replay size showing) (meters_in first tally step probes.old.probes.items)
         (ends (C.written console.old) (R.written report.old)) (ends (C.written console.new) (R.written report.new))) }

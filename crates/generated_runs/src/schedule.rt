@@ -3,6 +3,7 @@ ghost use Rattle.std.specs.Prelude.{◌≡◌, ◌≤◌, length};
 ghost use Rattle.consistent_cuts.specs.Runs.{AllFit};
 ghost use Rattle.due_events.specs.Numbers.{first_numbers};
 ghost use Rattle.generated_runs.specs.Generated.{generated_events, generator_of};
+ghost use Rattle.sn_base.specs.declared.limits.TheConstants.{EVENTS};
 
 use rand_core::SeedableRng;
 use rand_core::utils::NextWord;
@@ -26,20 +27,21 @@ pub struct Generated {
 impl Model for Generated {
     ghost use Rattle.std.specs.Prelude.{◌≡◌, ◌+◌, ◌≤◌};
     ghost use Rattle.generated_runs.specs.Generated.{GeneratedData, generated_rules};
+    ghost use Rattle.sn_base.specs.declared.limits.TheConstants.{EVENTS};
 
     ghost Value = { GeneratedData };
 
     ghost view = { λ g. record { numbers = g.driver.numbers; turn = g.turn; left = g.left; generator = g.generator } };
 
-    ghost invariant = { λ g. (g.driver.rules ≡ generated_rules) × (g.driver.nodes ≡ 4) × (g.turn + g.left ≤ 1000000) ×
-        (g.driver.numbers.done + g.left ≤ 1000000) };
+    ghost invariant = { λ g. (g.driver.rules ≡ generated_rules) × (g.driver.nodes ≡ 4) × (g.turn + g.left ≤ EVENTS) ×
+        (g.driver.numbers.done + g.left ≤ EVENTS) };
 }
 
 impl Generated {
     /// A run of so many events, all of which are left: those that are due, one after another, in turns of workers 0 to 3 and
     /// again from 0, with the numbers that the generator gives that the size seeds.
     pub fn new(size: u32) -> Generated
-        requires { size ≤ 1000000 }
+        requires { size ≤ EVENTS }
         ensures start { result ≡ record { numbers = first_numbers; turn = 0; left = size; generator = generator_of size } }
         ensures count { length (generated_events size) ≡ size }
         ensures fit { AllFit 4 (generated_events size) }
@@ -65,6 +67,7 @@ impl Schedule for Generated {
     ghost use Rattle.std.specs.Prelude.{◌≡◌, ◌+◌, ◌<◌};
     ghost use Rattle.due_events.specs.Numbers.{numbers_after};
     ghost use Rattle.generated_runs.specs.Generated.{still_due};
+    ghost use Rattle.sn_base.specs.declared.limits.TheConstants.{EVENTS};
 
     ghost left = { λ g image config s. still_due image config s g.numbers g.left g.turn g.generator };
 
@@ -73,7 +76,7 @@ impl Schedule for Generated {
 
     ghost serves = { λ g nodes. nodes ≡ 4 };
 
-    ghost awaits = { λ g. g.numbers.done + g.left < 1000000 };
+    ghost awaits = { λ g. g.numbers.done + g.left < EVENTS };
 
     fn next(&mut self, machine: &Machine) -> Option<Event> {
         if self.left == 0 {

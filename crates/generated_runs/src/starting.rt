@@ -4,6 +4,7 @@ ghost use Rattle.std.specs.List.{flat_map};
 ghost use Rattle.byteorder.specs.Endian.{little_bytes};
 ghost use Rattle.counting_program.specs.Program.{counting_image};
 ghost use Rattle.generated_runs.specs.Generated.{generated_config, IsFresh};
+ghost use Rattle.sn_base.specs.declared.limits.TheConstants.{EVENTS};
 
 use byteorder::{ByteOrder, LittleEndian};
 use sn_base::{Config, Image, Memory, RAM_START, Segment};
@@ -53,7 +54,7 @@ fn counting_image(alloc: Global) -> Result<Image, Memory>
 
 /// A fresh machine of the program, with room for so many events.
 pub fn start(alloc: Global, size: u32) -> Result<Machine, Memory>
-    requires { size ≤ 1000000 }
+    requires { size ≤ EVENTS }
     ensures fresh { IfOk result (λ machine. IsFresh machine) }
     ensures room { IfOk result (λ machine. size ≤ machine.spare) }
 {

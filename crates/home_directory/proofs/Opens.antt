@@ -7,7 +7,7 @@ use Rattle.std.proofs.lemmas.Bool.Decides.{nat_tests}
 use Rattle.std.proofs.lemmas.List.Sums.{sum_by-cons}
 use Rattle.sn_model.specs.Homes.{HomeEntry, Transaction}
 use Rattle.home_directory.specs.Home.{begun_of, lesser_of, least_open}
-use Rattle.home_directory.specs.Open.{Open, open_at, with_open, opens_from, without_place, put_in, relisted, least_in}
+use Rattle.home_directory.specs.Open.{Open, open_at, with_open, opens_from, without_place, put_in, opens_after, least_in}
 
 -- how many stand before a place
 abbrev before : ℕ → List Open → ℕ
@@ -64,7 +64,7 @@ without_later p s (e ∷ es) h =
 -- what a place has open is listed
 
 listed_here : (p s : ℕ) (t : Option Transaction) (os : List Open) → p ≡ s → before p os ≡ 0 → without_place p os ≡ os →
-    relisted p (begun_of t) os ≡ with_open s t os
+    opens_after p (begun_of t) os ≡ with_open s t os
 listed_here p s None os e z w = w
 listed_here p s (Some t) os e z w =
     ap (put_in p t.begun) w ∙ ap (λ i. insert os i (open_at p t.begun)) z ∙ ap (λ q. open_at q t.begun ∷ os) e
@@ -75,18 +75,18 @@ put_after p s b None os h = refl
 put_after p s b (Some t) os h = put_in-cons p b (open_at s t.begun) os h
 
 listed_after : (p s : ℕ) (u t : Option Transaction) (os : List Open) → s < p →
-    relisted p (begun_of u) (with_open s t os) ≡ with_open s t (relisted p (begun_of u) os)
+    opens_after p (begun_of u) (with_open s t os) ≡ with_open s t (opens_after p (begun_of u) os)
 listed_after p s None t os h = without_with p s t os (grind (arith, nat_tests))
 listed_after p s (Some u) t os h =
     ap (put_in p u.begun) (without_with p s t os (grind (arith, nat_tests)))
     ∙ put_after p s u.begun t (without_place p os) (grind (arith, nat_tests))
 
-relisted_same : (p : ℕ) (o : Option ℕ) (xs ys : List Open) → without_place p xs ≡ without_place p ys → relisted p o xs ≡ relisted p o ys
+relisted_same : (p : ℕ) (o : Option ℕ) (xs ys : List Open) → without_place p xs ≡ without_place p ys → opens_after p o xs ≡ opens_after p o ys
 relisted_same p None xs ys h = h
 relisted_same p (Some b) xs ys h = ap (put_in p b) h
 
 relisted_from : (es : List HomeEntry) (s k p : ℕ) (e : HomeEntry) → p ≡ s + k → k < length es →
-    relisted p (begun_of e.transaction) (opens_from s es) ≡ opens_from s (slice_set es k e)
+    opens_after p (begun_of e.transaction) (opens_from s es) ≡ opens_from s (slice_set es k e)
 relisted_from [] s k p e h l = absurd (omega arith)
 relisted_from (x ∷ xs) s zero p e h l =
     relisted_same p (begun_of e.transaction) (with_open s x.transaction (opens_from (s + 1) xs)) (opens_from (s + 1) xs)
@@ -99,7 +99,7 @@ relisted_from (x ∷ xs) s (suc k) p e h l =
 
 -- the list follows the change of an entry
 pub relisted_is : (es : List HomeEntry) (p : ℕ) (e : HomeEntry) → p < length es →
-    relisted p (begun_of e.transaction) (opens_from 0 es) ≡ opens_from 0 (slice_set es p e)
+    opens_after p (begun_of e.transaction) (opens_from 0 es) ≡ opens_from 0 (slice_set es p e)
 relisted_is es p e l = relisted_from es 0 p p e (omega arith) l
 
 length_with : (s : ℕ) (t : Option Transaction) (os : List Open) (n : ℕ) → length os ≤ n → length (with_open s t os) ≤ n + 1

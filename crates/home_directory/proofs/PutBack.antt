@@ -7,19 +7,19 @@ use Rattle.std.proofs.lemmas.Nat.{div-add-mod'}
 use Rattle.sn_base.specs.declared.log.Old.{Old}
 use Rattle.sn_base.specs.declared.log.Old.TheVariants.{NotOwned}
 use Rattle.log_buffer.specs.Log.{is_home_side}
-use Rattle.rollback.specs.Unwound.{restored}
+use Rattle.rollback.specs.Unwound.{contents_with_old}
 use Rattle.sn_model.specs.Homes.{HomeEntry, Holder, Transaction}
 use Rattle.sn_model.specs.Fabric.{no_entry}
 use Rattle.home_directory.specs.Home.{HomeData, entry_of}
 use Rattle.home_directory.specs.Open.{opens_from, with_open}
-use Rattle.home_directory.specs.Restored.{cleared, old_of, is_here, had, CanHave, with_holder}
+use Rattle.home_directory.specs.Restored.{entry_without_sharers, old_of, is_here, had, CanHave, with_holder}
 
 -- the block of an old content that a home can have is its own
-pub here-put : (home : HomeData) (block : ℕ) (old : Old) → is_home_side old ≡ true → CanHave home (restored true (had home) block old) →
+pub here-put : (home : HomeData) (block : ℕ) (old : Old) → is_home_side old ≡ true → CanHave home (contents_with_old true (had home) block old) →
     block % home.nodes ≡ home.node
 here-put home block old side can = by_test (is_here home block) refl
   where
-    put_here : (restored true (had home) block old) block ≡ NotOwned → old ≡ NotOwned
+    put_here : (contents_with_old true (had home) block old) block ≡ NotOwned → old ≡ NotOwned
     put_here e = let s : nat_eq block block ≡ true = grind (arith, nat_tests) in grind (arith, nat_tests)
 
     by_test : (c : Bool) → is_here home block ≡ c → block % home.nodes ≡ home.node
@@ -78,6 +78,6 @@ opens-put (first ∷ entries) start zero other default l e =
 opens-put (first ∷ entries) start (suc place) other default l e =
     ap (with_open start first.transaction) (opens-put entries (start + 1) place other default (omega arith) e)
 
-pub opens-cleared : (entries : List HomeEntry) (start : ℕ) → opens_from start (map cleared entries) ≡ []
+pub opens-cleared : (entries : List HomeEntry) (start : ℕ) → opens_from start (map entry_without_sharers entries) ≡ []
 opens-cleared [] start = refl
 opens-cleared (first ∷ entries) start = opens-cleared entries (start + 1)

@@ -7,13 +7,13 @@ use Rattle.std.proofs.lemmas.Bool.Decides.{nat_tests}
 use Rattle.sn_base.specs.declared.log.Old.{Old}
 use Rattle.sn_base.specs.declared.log.Old.TheVariants.{NotOwned, Owned, WasHome, WasCache}
 use Rattle.log_buffer.specs.Log.{LogEntry, is_home_side, is_about, earlier, entry_at, old_at}
-use Rattle.rollback.specs.Unwound.{unwound}
+use Rattle.rollback.specs.Unwound.{content_unwound}
 use Rattle.sn_model.specs.Homes.{HomeEntry, Holder, Itself, OfCache, Transaction, no_sharers}
 use Rattle.sn_model.specs.Cuts.{named_by}
 use Rattle.sn_model.specs.Fabric.{Fabric, home_of, no_entry}
 use Rattle.sn_model.specs.PointEvents.{log_of_home, restored_homes}
 use Rattle.home_directory.specs.Home.{HomeData, entry_of}
-use Rattle.home_directory.specs.Restored.{cleared, begun_restore, old_of, is_here, had, CanHave, Stays}
+use Rattle.home_directory.specs.Restored.{entry_without_sharers, begun_restore, old_of, is_here, had, CanHave, Stays}
 
 -- what a home has, it can have
 pub can-had : (home : HomeData) → CanHave home (had home)
@@ -71,12 +71,12 @@ entry_by x holder sharers transaction h s t =
     ∙ ap (λ (y : Option Transaction). record { holder = holder; sharers = sharers; transaction = y }) t
 
 pub cleared-at : (entries : List HomeEntry) (place : ℕ) →
-    get_or (map cleared entries) place no_entry ≡ cleared (get_or entries place no_entry)
+    get_or (map entry_without_sharers entries) place no_entry ≡ entry_without_sharers (get_or entries place no_entry)
 cleared-at [] place = refl
 cleared-at (entry ∷ entries) zero = refl
 cleared-at (entry ∷ entries) (suc place) = cleared-at entries place
 
-pub length-cleared : (entries : List HomeEntry) → length (map cleared entries) ≡ length entries
+pub length-cleared : (entries : List HomeEntry) → length (map entry_without_sharers entries) ≡ length entries
 length-cleared [] = refl
 length-cleared (entry ∷ entries) = ap suc (length-cleared entries)
 
@@ -101,7 +101,7 @@ restored-at s k b l =
     restored-from s k 0 s.homes b l ∙ ap (λ (j : ℕ). restored_entry (log_of_home s j) k j (home_of s b)) e
 
 -- a home that began to be put back, and into which a log was unwound
-module _ (c d e : HomeData) (log : List LogEntry) (k : ℕ) (begun : d ≡ begun_restore c) (held : (b : ℕ) → had e b ≡ unwound log true k (had d) b) (stays : Stays d e) (b : ℕ) (here : b % c.nodes ≡ c.node) where
+module _ (c d e : HomeData) (log : List LogEntry) (k : ℕ) (begun : d ≡ begun_restore c) (held : (b : ℕ) → had e b ≡ content_unwound log true k (had d) b) (stays : Stays d e) (b : ℕ) (here : b % c.nodes ≡ c.node) where
   nodes_are : e.nodes ≡ c.nodes
   nodes_are = stays.nodes ∙ ap (λ (x : HomeData). x.nodes) begun
 
@@ -114,7 +114,7 @@ module _ (c d e : HomeData) (log : List LogEntry) (k : ℕ) (begun : d ≡ begun
   last-here : is_here e b ≡ true
   last-here = ap (λ (j : ℕ). nat_eq (b % j) e.node) stays.nodes ∙ ap (λ (j : ℕ). nat_eq (b % d.nodes) j) stays.node ∙ begun-here
 
-  entry-begun : entry_of d b ≡ cleared (entry_of c b)
+  entry-begun : entry_of d b ≡ entry_without_sharers (entry_of c b)
   entry-begun = ap (λ (x : HomeData). entry_of x b) begun ∙ cleared-at c.entries (b / c.nodes)
 
   had-begun : had d b ≡ old_of (entry_of c b).holder
@@ -150,7 +150,7 @@ module _ (c d e : HomeData) (log : List LogEntry) (k : ℕ) (begun : d ≡ begun
 
 -- so it is the machine's
 pub restored-is : (s : Fabric) (c d e : HomeData) (k b : ℕ) → d ≡ begun_restore c →
-    ((j : ℕ) → had e j ≡ unwound (log_of_home s b) true k (had d) j) → Stays d e →
+    ((j : ℕ) → had e j ≡ content_unwound (log_of_home s b) true k (had d) j) → Stays d e →
     b % c.nodes ≡ c.node → home_of s b ≡ entry_of c b → b < length s.homes → entry_of e b ≡ get_or (restored_homes s k 0 s.homes) b no_entry
 restored-is s c d e k b begun held stays here home l =
     entry-restored c d e (log_of_home s b) k begun held stays b here
@@ -159,7 +159,7 @@ restored-is s c d e k b begun held stays here home l =
 
 -- what an unwinding leaves, a home can have, where the log has nothing of blocks of other homes
 pub unwound-can : (c d : HomeData) (log : List LogEntry) (k : ℕ) → d ≡ begun_restore c →
-    ((b : ℕ) → is_here c b ≡ false → old_at log true b k ≡ None) → CanHave d (unwound log true k (had d))
+    ((b : ℕ) → is_here c b ≡ false → old_at log true b k ≡ None) → CanHave d (content_unwound log true k (had d))
 unwound-can c d log k begun none b other =
     let h : is_here c b ≡ false = sym (ap (λ (x : HomeData). is_here x b) begun) ∙ other in
     ap (λ (o : Option Old). unwrap_or o (had d b)) (none b h) ∙ can-had d b other

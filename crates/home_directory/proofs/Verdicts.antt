@@ -22,7 +22,7 @@ use Rattle.home_directory.specs.declared.step.HomeStep.{HomeStep}
 use Rattle.sn_model.specs.declared.look.Look.{Look}
 use Rattle.sn_model.specs.declared.look.Look.TheVariants.{Sends}
 use Rattle.home_directory.specs.Receipt.{Verdict, Does, IsBusy, LacksRoom, kept, HasRow, noted_by_read, noted_by_write, noted_by_unblock}
-use Rattle.home_directory.specs.Receipt.{unless_open, noting, outcome_at, judged, within, look_of, left_by, Tells}
+use Rattle.home_directory.specs.Receipt.{unless_open, noting, outcome_at, verdict_on, within, look_of, left_by, Tells}
 use Rattle.home_directory.specs.Serving.{HasLogRoom, lacks_room, waits, count_sends, IsRowDone, DidOutcome}
 
 -- a log with a note has more than its limit just where it lacks the room
@@ -97,21 +97,21 @@ within_is limit reply b h = rw h
 
 request_is : (log : LogData) (block : ℕ) (t : Option Transaction) (reply : HomeReply) (interval : Option ℕ) → is_some t ≡ false →
     nat_lt log.limit (length reply.after.log) ≡ lacks_room log interval block →
-    judged log.limit (unless_busy t reply)
+    verdict_on log.limit (unless_busy t reply)
     ≡ (if lacks_room log (unless_open t interval) block then LacksRoom else does (unless_busy t reply))
 request_is log block None reply interval w h = within_is log.limit reply _ h
 request_is log block (Some t) reply interval w h = cc
 
 put_is : (log : LogData) (block : ℕ) (t : Option Transaction) (reply : HomeReply) → is_some t ≡ false →
     nat_lt log.limit (length reply.after.log) ≡ false →
-    judged log.limit (unless_busy t reply) ≡ does (unless_busy t reply)
+    verdict_on log.limit (unless_busy t reply) ≡ does (unless_busy t reply)
 put_is log block None reply w h = within_is log.limit reply false h
 put_is log block (Some t) reply w h = cc
 
 -- the verdict: a request waits; a row whose note has no room isn't done; else the row is done
 pub judged_is : (log : LogData) (entry : HomeEntry) (now : ℕ) (m : Message) (body : Body) → HasRow entry m.from body →
     length log.entries ≤ log.limit → waits entry body ≡ false →
-    judged log.limit (outcome_at (kept entry log.entries) now m body)
+    verdict_on log.limit (outcome_at (kept entry log.entries) now m body)
     ≡ (if lacks_room log (noting entry now m body) m.block then LacksRoom else does (outcome_at (kept entry log.entries) now m body))
 judged_is log entry now m (Unblock fixed) r h w = within_is log.limit _ _ (unblock_size log entry m.block fixed entry.transaction h)
 judged_is log entry now m (PutData content) r h w =
@@ -123,12 +123,12 @@ judged_is log entry now m GetM r h w =
 judged_is log entry now m PutReq r h w = put_is log m.block entry.transaction _ w (put_size log entry now m.from h)
 judged_is log entry now m _ r h w = absurd r
 
-wait_is : (limit : ℕ) (t : Option Transaction) (reply : HomeReply) → is_some t ≡ true → judged limit (unless_busy t reply) ≡ IsBusy
+wait_is : (limit : ℕ) (t : Option Transaction) (reply : HomeReply) → is_some t ≡ true → verdict_on limit (unless_busy t reply) ≡ IsBusy
 wait_is limit None reply w = cc
 wait_is limit (Some t) reply w = refl
 
 pub judged_waits : (limit : ℕ) (at : LoggedEntry) (now : ℕ) (m : Message) (body : Body) → waits at.entry body ≡ true →
-    judged limit (outcome_at at now m body) ≡ IsBusy
+    verdict_on limit (outcome_at at now m body) ≡ IsBusy
 judged_waits limit at now m GetS w = wait_is limit at.entry.transaction _ w
 judged_waits limit at now m GetM w = wait_is limit at.entry.transaction _ w
 judged_waits limit at now m PutReq w = wait_is limit at.entry.transaction _ w

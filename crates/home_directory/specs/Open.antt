@@ -25,9 +25,9 @@ abbrev pub put_in : ℕ → ℕ → List Open → List Open
 put_in place begun opens = insert opens (count_by (λ o. nat_lt o.place place) opens) (open_at place begun)
 
 -- the list after what a place has open is this
-abbrev pub relisted : ℕ → Option ℕ → List Open → List Open
-relisted place None opens = without_place place opens
-relisted place (Some begun) opens = put_in place begun (without_place place opens)
+abbrev pub opens_after : ℕ → Option ℕ → List Open → List Open
+opens_after place None opens = without_place place opens
+opens_after place (Some begun) opens = put_in place begun (without_place place opens)
 
 -- the least interval in a list
 abbrev pub least_in : List Open → Option ℕ

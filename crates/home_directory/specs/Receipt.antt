@@ -77,8 +77,8 @@ noting entry now m (PutData content) = Some m.tag
 noting entry now m _ = None
 
 -- a note isn't older than the newest entry of the home's side and the block
-abbrev pub IsNotOlder : List LogEntry → Option ℕ → ℕ → Type 0
-IsNotOlder log interval block = IfSome interval (λ i. logged_to log true block ≤ i + 1)
+abbrev pub IsNoteInOrder : List LogEntry → Option ℕ → ℕ → Type 0
+IsNoteInOrder log interval block = IfSome interval (λ i. logged_to log true block ≤ i + 1)
 
 -- what a message comes to: the rows of the definitions, at this entry and log
 abbrev pub outcome_at : LoggedEntry → ℕ → Message → Body → Outcome
@@ -98,13 +98,13 @@ pub data Verdict : Type 0 where
 abbrev pub within : ℕ → HomeReply → Verdict
 within limit reply = if nat_lt limit (length reply.after.log) then LacksRoom else Does reply
 
-abbrev pub judged : ℕ → Outcome → Verdict
-judged limit (AtHome reply) = within limit reply
-judged limit _ = IsBusy
+abbrev pub verdict_on : ℕ → Outcome → Verdict
+verdict_on limit (AtHome reply) = within limit reply
+verdict_on limit _ = IsBusy
 
 -- the verdict on a message at an entry, with a log of this limit
 abbrev pub verdict_of : ℕ → LoggedEntry → ℕ → Message → Verdict
-verdict_of limit at now m = judged limit (outcome_at at now m m.body)
+verdict_of limit at now m = verdict_on limit (outcome_at at now m m.body)
 
 -- what is left after it
 abbrev pub left_by : LoggedEntry → Verdict → LoggedEntry
@@ -140,8 +140,8 @@ abbrev pub HasRowAt : HomeData → Message → Type 0
 HasRowAt home m = HasRow (entry_of home m.block) m.from m.body
 
 -- what its row notes isn't older than the log
-abbrev pub NotesLast : HomeData → LogData → ℕ → Message → Type 0
-NotesLast home log now m = IsNotOlder log.entries (noting (entry_of home m.block) now m m.body) m.block
+abbrev pub NotesInOrder : HomeData → LogData → ℕ → Message → Type 0
+NotesInOrder home log now m = IsNoteInOrder log.entries (noting (entry_of home m.block) now m m.body) m.block
 
 abbrev pub verdict_at : HomeData → LogData → ℕ → Message → Verdict
 verdict_at home log now m = verdict_of log.limit (kept (entry_of home m.block) log.entries) now m
@@ -155,8 +155,8 @@ pub record Receipt : Type 0 where
   pub home : HomeData
   pub log : LogData
 
-abbrev pub received : HomeData → LogData → ℕ → Message → Receipt
-received home log now m = record {
+abbrev pub receipt_of : HomeData → LogData → ℕ → Message → Receipt
+receipt_of home log now m = record {
   verdict = verdict_at home log now m;
   home = with_entry home m.block (left_at home log now m).entry;
   log = record log { entries = (left_at home log now m).log };

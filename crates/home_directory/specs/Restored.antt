@@ -9,12 +9,12 @@ use Rattle.sn_model.specs.Fabric.{no_entry}
 use Rattle.home_directory.specs.Home.{HomeData, entry_of, with_entry}
 
 -- an entry that nobody shares and on which nothing is open
-abbrev pub cleared : HomeEntry → HomeEntry
-cleared entry = record { holder = entry.holder; sharers = no_sharers; transaction = None }
+abbrev pub entry_without_sharers : HomeEntry → HomeEntry
+entry_without_sharers entry = record { holder = entry.holder; sharers = no_sharers; transaction = None }
 
 -- a home whose entries are all so
 abbrev pub begun_restore : HomeData → HomeData
-begun_restore home = record home { entries = map cleared home.entries }
+begun_restore home = record home { entries = map entry_without_sharers home.entries }
 
 -- who holds a block, as an old content of a log says it
 abbrev pub old_of : Holder → Old

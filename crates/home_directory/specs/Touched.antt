@@ -3,7 +3,7 @@ use Rattle.std.specs.Prelude.{◌≡◌, ℕ, ◌<◌, Bool, true, false, ◌||�
 use Rattle.std.specs.List.{All}
 use Rattle.sn_model.specs.Homes.{HomeEntry}
 use Rattle.sn_model.specs.Fabric.{no_entry}
-use Rattle.home_directory.specs.Restored.{cleared}
+use Rattle.home_directory.specs.Restored.{entry_without_sharers}
 
 -- whether a place is marked; a look-up past the end finds no mark
 abbrev pub is_marked : List Bool → ℕ → Bool
@@ -22,7 +22,7 @@ pub record IsListOf (marks : List Bool) (places : List ℕ) : Type 0 where
 
 -- an entry is as a recovery leaves it
 abbrev pub IsCleared : HomeEntry → Type 0
-IsCleared entry = cleared entry ≡ entry
+IsCleared entry = entry_without_sharers entry ≡ entry
 
 -- each entry is marked, or it is as a recovery leaves it
 pub record AreCleared (marks : List Bool) (entries : List HomeEntry) : Type 0 where

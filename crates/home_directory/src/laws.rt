@@ -3,7 +3,7 @@ ghost use Rattle.std.specs.Prelude.{◌≡◌, ℕ, ◌%◌, ◌<◌, true, fals
 ghost use Rattle.sn_msg.specs.declared.Message.{Message};
 ghost use Rattle.sn_msg.specs.declared.Body.{Body};
 ghost use Rattle.log_buffer.specs.Log.{LogEntry, old_at};
-ghost use Rattle.rollback.specs.Unwound.{unwound};
+ghost use Rattle.rollback.specs.Unwound.{content_unwound};
 ghost use Rattle.sn_model.specs.Caches.{block_count};
 ghost use Rattle.sn_model.specs.Fabric.{Fabric, node_at, home_of, no_entry};
 ghost use Rattle.sn_model.specs.NetEvents.{kept_at, outcome_of};
@@ -31,10 +31,10 @@ pub fn least_open_is_the_machines()
 /// recovery of the machine leaves. It can have what the unwinding gives where the log has nothing of blocks of other homes.
 pub fn restore_is_the_machines()
     ensures entries { (s : Fabric) (c d e : HomeData) (k block : ℕ) → d ≡ begun_restore c
-        → ((b : ℕ) → had e b ≡ unwound (log_of_home s block) true k (had d) b) → Stays d e
+        → ((b : ℕ) → had e b ≡ content_unwound (log_of_home s block) true k (had d) b) → Stays d e
         → block % c.nodes ≡ c.node → home_of s block ≡ entry_of c block → block < length s.homes
         → entry_of e block ≡ slice_index_or (restored_homes s k 0 s.homes) block no_entry }
     ensures fits { (c d : HomeData) (log : List LogEntry) (k : ℕ) → d ≡ begun_restore c
         → ((block : ℕ) → is_here c block ≡ false → old_at log true block k ≡ None)
-        → CanHave d (unwound log true k (had d)) }
+        → CanHave d (content_unwound log true k (had d)) }
 {}

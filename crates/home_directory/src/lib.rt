@@ -13,7 +13,7 @@
 ghost use Rattle.std.specs.Prelude.{◌≡◌, ◌/◌, ◌%◌, ◌<◌, ◌≤◌, length, IfOk};
 ghost use Rattle.sn_model.specs.Homes.{Itself};
 ghost use Rattle.home_directory.specs.Home.{HomeData, IsHome, entry_of, first_of, owner_of, least_open};
-ghost use Rattle.home_directory.specs.Receipt.{HasRowAt, NotesLast, received, Tells, look_of};
+ghost use Rattle.home_directory.specs.Receipt.{HasRowAt, NotesInOrder, receipt_of, Tells, look_of};
 
 mod entry;
 mod laws;
@@ -102,10 +102,10 @@ impl Home {
         requires here { message.now.block % self.old.nodes ≡ self.old.node }
         requires due { message.now.tag ≤ now }
         requires row { HasRowAt self.old message.now }
-        requires latest { NotesLast self.old log.old now message.now }
-        ensures home { self.new ≡ (received self.old log.old now message.now).home }
-        ensures log { log.new ≡ (received self.old log.old now message.now).log }
-        ensures step { Tells result (received self.old log.old now message.now).verdict }
+        requires latest { NotesInOrder self.old log.old now message.now }
+        ensures home { self.new ≡ (receipt_of self.old log.old now message.now).home }
+        ensures log { log.new ≡ (receipt_of self.old log.old now message.now).log }
+        ensures step { Tells result (receipt_of self.old log.old now message.now).verdict }
     {
         let place = self.place(message.block);
         self.touched.touch(place);
@@ -122,8 +122,8 @@ impl Home {
         requires here { message.now.block % self.now.nodes ≡ self.now.node }
         requires due { message.now.tag ≤ now }
         requires row { HasRowAt self.now message.now }
-        requires latest { NotesLast self.now log.now now message.now }
-        ensures { result ≡ look_of (received self.now log.now now message.now).verdict }
+        requires latest { NotesInOrder self.now log.now now message.now }
+        ensures { result ≡ look_of (receipt_of self.now log.now now message.now).verdict }
     {
         let place = self.place(message.block);
         receive::look(&self.entries[place], message, now, log)

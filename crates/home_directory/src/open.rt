@@ -1,6 +1,6 @@
 //! The list of the open transactions, so that the least interval of them is found without a walk over all blocks.
 ghost use Rattle.std.specs.Prelude.{◌≡◌, ◌<◌, ◌≤◌, length, nat_lt, count_by, vec_capacity, Some, None};
-ghost use Rattle.home_directory.specs.Open.{relisted, without_place, least_in};
+ghost use Rattle.home_directory.specs.Open.{opens_after, without_place, least_in};
 
 use sn_base::Interval;
 
@@ -28,7 +28,7 @@ fn count_before(opens: &[Open], place: usize) -> usize
 /// Lists what a place has open now, in order of places.
 pub fn relist(opens: &mut Vec<Open>, place: usize, begun: Option<Interval>)
     requires room { length (without_place place opens.old.items) < vec_capacity opens.old }
-    ensures listed { opens.new.items ≡ relisted place begun opens.old.items }
+    ensures listed { opens.new.items ≡ opens_after place begun opens.old.items }
     ensures room { vec_capacity opens.old ≤ vec_capacity opens.new }
 {
     drop_place(opens, place);

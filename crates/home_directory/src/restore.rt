@@ -1,7 +1,7 @@
 //! A home is put back to a checkpoint: its transactions end, and each block is held as the log says.
 ghost use Rattle.std.specs.Prelude.{◌≡◌, ◌/◌, ◌%◌, ◌<◌, true, length, map};
 ghost use Rattle.sn_model.specs.Homes.{Itself, OfCache};
-ghost use Rattle.home_directory.specs.Restored.{cleared, begun_restore, had, CanHave, Stays, with_holder};
+ghost use Rattle.home_directory.specs.Restored.{entry_without_sharers, begun_restore, had, CanHave, Stays, with_holder};
 ghost use Rattle.home_directory.specs.Touched.{AreCleared};
 ghost use Rattle.home_directory.specs.Restored.{stays-same, stays-along, can-part, can-way};
 
@@ -15,7 +15,7 @@ use sn_model::Owner;
 /// Nobody shares a block, and nothing is open: so it is but for the touched places already.
 fn clear_entries(entries: &mut Vec<DirectoryEntry>, touched: &Touched)
     requires { AreCleared touched.now entries.old.items }
-    ensures { entries.new.items ≡ map cleared entries.old.items }
+    ensures { entries.new.items ≡ map entry_without_sharers entries.old.items }
 {
     'places: for place in touched.places() {
         let entry = &mut entries[*place];

@@ -4,7 +4,7 @@ use Rattle.std.proofs.Common.{refl, sym, ap, ◌∙◌, arith}
 use Rattle.std.specs.Prelude.{nat_le, nat_eq, if◌then◌else◌}
 use Rattle.std.specs.Option.{option_map}
 use Rattle.std.proofs.lemmas.Bool.Decides.{nat_tests}
-use Rattle.log_buffer.specs.Log.{LogEntry, Old, is_home_side, is_of_side, is_about, earlier, entry_at, old_at, has_entry, noted}
+use Rattle.log_buffer.specs.Log.{LogEntry, Old, is_home_side, is_of_side, is_about, earlier, entry_at, old_at, has_entry, log_with_note}
 use Rattle.log_buffer.specs.Log.{entries_from, logged_to}
 
 -- the first of two options that has a value
@@ -113,13 +113,13 @@ noted_step false es f b k h m a l =
 
 -- after a change is noted, a checkpoint up to its interval has what was there, or else the old content
 pub old_at-noted : (es : List LogEntry) (i b : ℕ) (old : Old) (k : ℕ) → logged_to es (is_home_side old) b ≤ i + 1 → k ≤ i →
-    old_at (noted es i b old) (is_home_side old) b k ≡ or_else (old_at es (is_home_side old) b k) (Some old)
+    old_at (log_with_note es i b old) (is_home_side old) b k ≡ or_else (old_at es (is_home_side old) b k) (Some old)
 old_at-noted es i b old k m l =
     noted_step (has_entry es i (is_home_side old) b) es (record { interval = i; block = b; old = old }) b k refl m (about_new old i b) l
 
 -- and other sides and blocks have what they had
 pub old_at-noted_other : (es : List LogEntry) (i b : ℕ) (old : Old) (s : Bool) (c k : ℕ) → (is_of_side s old && nat_eq b c) ≡ false →
-    old_at (noted es i b old) s c k ≡ old_at es s c k
+    old_at (log_with_note es i b old) s c k ≡ old_at es s c k
 old_at-noted_other es i b old s c k h =
     elim (has_entry es i (is_home_side old) b) as
     (λ t. old_at (if t then es else es ++ record { interval = i; block = b; old = old } ∷ []) s c k ≡ old_at es s c k) [
@@ -157,12 +157,12 @@ noted_to_step false es f h m a = logged_to-push es f (is_home_side f.old) f.bloc
 
 -- a change that is noted is the newest of its side and block
 pub logged_to-noted : (es : List LogEntry) (i b : ℕ) (old : Old) → logged_to es (is_home_side old) b ≤ i + 1 →
-    logged_to (noted es i b old) (is_home_side old) b ≡ i + 1
+    logged_to (log_with_note es i b old) (is_home_side old) b ≡ i + 1
 logged_to-noted es i b old m =
     noted_to_step (has_entry es i (is_home_side old) b) es (record { interval = i; block = b; old = old }) refl m (about_new old i b)
 
 pub logged_to-noted_other : (es : List LogEntry) (i b : ℕ) (old : Old) (s : Bool) (c : ℕ) → (is_of_side s old && nat_eq b c) ≡ false →
-    logged_to (noted es i b old) s c ≡ logged_to es s c
+    logged_to (log_with_note es i b old) s c ≡ logged_to es s c
 logged_to-noted_other es i b old s c h =
     elim (has_entry es i (is_home_side old) b) as
     (λ t. logged_to (if t then es else es ++ record { interval = i; block = b; old = old } ∷ []) s c ≡ logged_to es s c)

@@ -51,8 +51,8 @@ has_entry (e ∷ es) interval home_side block =
     (is_about home_side block e && nat_eq e.interval interval) || has_entry es interval home_side block
 
 -- the log after a change of the block: the first one in an interval adds an entry
-abbrev pub noted : List LogEntry → ℕ → ℕ → Old → List LogEntry
-noted es interval block old =
+abbrev pub log_with_note : List LogEntry → ℕ → ℕ → Old → List LogEntry
+log_with_note es interval block old =
     if has_entry es interval (is_home_side old) block
     then es
     else es ++ record { interval = interval; block = block; old = old } ∷ []

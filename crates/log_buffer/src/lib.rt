@@ -10,7 +10,7 @@
 #![tactic(auto)]
 
 ghost use Rattle.std.specs.Prelude.{◌≡◌, ◌+◌, ◌-◌, ◌<◌, ◌≤◌, ◌^◌, ◌&&◌, Bool, true, false, nat_eq, nat_le, [], length, IfOk, option_copied};
-ghost use Rattle.log_buffer.specs.Log.{LogData, IsLog, is_home_side, old_at, has_entry, noted, entries_from, logged_to};
+ghost use Rattle.log_buffer.specs.Log.{LogData, IsLog, is_home_side, old_at, has_entry, log_with_note, entries_from, logged_to};
 
 mod places;
 mod renewal;
@@ -84,7 +84,7 @@ impl LogBuffer {
     pub fn note(&mut self, interval: Interval, block: BlockNo, old: Old)
         requires room { has_entry self.old.entries interval (is_home_side old) block ≡ false → length self.old.entries < self.old.limit }
         requires latest { logged_to self.old.entries (is_home_side old) block ≤ interval + 1 }
-        ensures { self.new ≡ record self.old { entries = noted self.old.entries interval block old } }
+        ensures { self.new ≡ record self.old { entries = log_with_note self.old.entries interval block old } }
     {
         let home_side = is_home_side(&old);
         if self.has(interval, home_side, block) {

@@ -13,11 +13,11 @@ use Rattle.sn_driver.specs.Driver.{DriverData}
 use Rattle.run_journals.specs.declared.entry.JournalEntry.{JournalEntry}
 use Rattle.run_journals.specs.Journal.{IsDue, state_of, answers_of, numbers_of, draws_of}
 use Rattle.shared_machine.specs.Shared.{LockedData, began_with}
-use Rattle.shared_machine.specs.Kept.{FollowsJournal}
+use Rattle.shared_machine.specs.Invariant.{FollowsJournal}
 use Rattle.sn_monitor.specs.Cut.{snap_of, snap_now}
 use Rattle.sn_monitor.specs.Goes as one
 use Rattle.script_replay.specs.Played.{IsWatchable}
-use Rattle.sn_monitor.specs.Monitored.{begun}
+use Rattle.sn_monitor.specs.Monitored.{first_monitored}
 use Rattle.monitor_run.specs.declared.marks.Mark.{Mark}
 use Rattle.monitor_run.specs.Seen.{published_by, mark_of}
 use Rattle.monitor_run.specs.Shown.{watched_word}
@@ -69,7 +69,7 @@ module _ (m : MachineData) (driver : DriverData) (watch seed budget : ℕ) (appl
 
   pub stands-first : (generators : Vec Lcg Global) (journal : Vec JournalEntry Global) (answers : Vec Answer Global) (published : Vec Mark Global) →
       journal.items ≡ [] → answers.items ≡ [] → published.items ≡ mark_of (snap_now m watch) ∷ [] → budget ≤ vec_capacity journal →
-      budget ≤ vec_capacity answers → budget + 1 ≤ vec_capacity published → Stands (begun m driver watch) (record {
+      budget ≤ vec_capacity answers → budget + 1 ≤ vec_capacity published → Stands (first_monitored m driver watch) (record {
         generators = generators;
         journal = journal;
         answers = answers;

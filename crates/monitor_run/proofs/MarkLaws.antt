@@ -1,11 +1,15 @@
 -- Laws of the pieces of what was seen.
 use Rattle.std.proofs.Common.{◌≡◌, ℕ, ◌+◌, ◌<◌, List, [], ◌∷◌, ◌++◌, drop, length, get_or, ap, sym, subst, ◌∙◌, arith}
 use Rattle.std.proofs.lemmas.List.{drop_more, drop_all}
+use Rattle.std.specs.Prelude.{Option}
+use Rattle.sn_machine.specs.Machine.{MachineData}
 use Rattle.sink_pieces.specs.Pieces.{Piece, Report, Ends, after, Breaks, console_piece}
 use Rattle.sink_pieces.proofs.PieceLaws.{after-append, after-nil, Breaks-more, Breaks-after}
 use Rattle.sink_pieces.proofs.SoFar.{SoFar, SoFar-more, SoFar-breaks, SoFar-whole}
+use Rattle.script_replay.specs.Played.{summary_pieces_of}
 use Rattle.monitor_run.specs.declared.marks.Mark.{Mark}
 use Rattle.monitor_run.specs.Seen.{seen_line, seen_pieces}
+use Rattle.monitor_run.specs.Reported.{report_now}
 
 pieces-drop : (marks : List Mark) (i : ℕ) (d : Mark) → i < length marks →
     seen_pieces (drop i marks) ≡ Report (seen_line (get_or marks i d)) ∷ seen_pieces (drop (i + 1) marks)
@@ -46,6 +50,19 @@ module _ (first second : List Piece) where
 
   pub second-breaks : (a b d : Ends) → b ≡ after a first → Breaks second b d → Breaks (first ++ second) a d
   second-breaks a b d one broken = Breaks-after first second a d (subst (λ (e : Ends). Breaks second e d) one broken)
+
+-- what was seen, and then the summary
+module _ (m : MachineData) (marks : List Mark) (watch : Option ℕ) (tallies : List (List ℕ)) where
+  pub report-put : (a b d : Ends) → b ≡ after a (seen_pieces marks) → d ≡ after b (summary_pieces_of [] m watch tallies) →
+      d ≡ after a (report_now m marks watch tallies)
+  report-put a b d one other = both-put (seen_pieces marks) (summary_pieces_of [] m watch tallies) a b d one other
+
+  pub seen-breaks : (a b : Ends) → Breaks (seen_pieces marks) a b → Breaks (report_now m marks watch tallies) a b
+  seen-breaks a b broken = first-breaks (seen_pieces marks) (summary_pieces_of [] m watch tallies) a b broken
+
+  pub summary-breaks : (a b d : Ends) → b ≡ after a (seen_pieces marks) → Breaks (summary_pieces_of [] m watch tallies) b d →
+      Breaks (report_now m marks watch tallies) a d
+  summary-breaks a b d one broken = second-breaks (seen_pieces marks) (summary_pieces_of [] m watch tallies) a b d one broken
 
 -- the released bytes come before it
 module _ (text released : List ℕ) (is : text ≡ released) (rest : List Piece) where

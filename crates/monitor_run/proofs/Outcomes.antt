@@ -15,7 +15,7 @@ use Rattle.sink_pieces.proofs.PieceLaws.{console_text-append}
 use Rattle.sink_pieces.proofs.Begun.{console-after, console-begun, console_text-piece}
 use Rattle.script_replay.specs.declared.job.ReportKind.TheVariants as replayed
 use Rattle.script_replay.specs.Pieces.{summary_pieces, end_pieces, turns_from, pieces_from}
-use Rattle.script_replay.specs.Played.{summed_up}
+use Rattle.script_replay.specs.Played.{summary_pieces_of}
 use Rattle.script_replay.proofs.Lawful.{run-lawful}
 use Rattle.script_replay.proofs.Shown.{console_text-turns}
 use Rattle.run_journals.specs.declared.entry.JournalEntry.{JournalEntry}
@@ -112,18 +112,18 @@ module _ (r : Monitor) (may : MayBegin r) (began : Began) (same : began ≡ begi
     knows : KnowAll (run_of r) journal probes told
     knows = are ∙ told-replayed (run_of r) journal answers probes by_run.answers_are
 
-    summary-is : summed_up [] m r.watch (tallies_of told) ≡ summary_by [] (run_of r) probes journal
+    summary-is : summary_pieces_of [] m r.watch (tallies_of told) ≡ summary_by [] (run_of r) probes journal
     summary-is =
-        ap (λ (i : ImageData). summed_up [] (record m { image = i }) r.watch (tallies_of told)) by_run.image
-        ∙ ap (λ (c : Config). summed_up [] (record m { image = r.program; config = c }) r.watch (tallies_of told)) by_run.config
-        ∙ ap (λ (s : State). summed_up []
+        ap (λ (i : ImageData). summary_pieces_of [] (record m { image = i }) r.watch (tallies_of told)) by_run.image
+        ∙ ap (λ (c : Config). summary_pieces_of [] (record m { image = r.program; config = c }) r.watch (tallies_of told)) by_run.config
+        ∙ ap (λ (s : State). summary_pieces_of []
         (record m { image = r.program; config = r.config; state = s }) r.watch (tallies_of told)) by_run.state
         ∙ ap (λ (n : ℕ). summary_pieces [] r.program r.config r.watch (tallies_of told) n (state_of b journal)) by_run.applied
         ∙ ap (λ (l : List Meter). summary_pieces [] r.program r.config r.watch (tallies_of l) (length journal) (state_of b journal)) knows
 
     pieces-are : pieces_now m marks r.watch (tallies_of told) ≡ monitor_pieces r probes journal seen.0
     pieces-are =
-        ap (λ (s : State). console_piece s.released ++ (seen_pieces marks ++ summed_up [] m r.watch (tallies_of told))) by_run.state
+        ap (λ (s : State). console_piece s.released ++ (seen_pieces marks ++ summary_pieces_of [] m r.watch (tallies_of told))) by_run.state
         ∙ ap (λ (l : List Piece). console_piece (state_of b journal).released ++ (seen_pieces marks ++ l)) summary-is
         ∙ ap (λ (l : List Mark). console_piece (state_of b journal).released ++ (seen_pieces l ++ summary_by [] (run_of r) probes journal))
         (sym seen.1)

@@ -12,13 +12,14 @@ use Rattle.run_journals.specs.declared.entry.JournalEntry.{JournalEntry}
 use Rattle.run_journals.specs.Journal.{events_of, state_of}
 use Rattle.node_run.specs.declared.ending.Ending.{Ending}
 use Rattle.node_run.specs.declared.job.Run.{Run}
-use Rattle.node_run.specs.declared.job.RunReport.TheVariants.{Summary}
+use Rattle.sn_base.specs.declared.report.RunReport.TheVariants.{Summary}
 use Rattle.node_run.specs.Endings.{ending_of}
 use Rattle.node_run.specs.Pieces.{begins, summary_by}
 use Rattle.node_run.specs.Shown.{IsJournal, output_by, KnowAll}
 use Rattle.snap_board.specs.Snap.{SnapData}
 use Rattle.monitor_run.specs.declared.job.Monitor.{Monitor}
 use Rattle.monitor_run.specs.Seen.{published_by, IsInRounds, AreSeen, mark_of, seen_pieces}
+use Rattle.sn_base.specs.declared.limits.TheConstants.{EVENTS}
 
 -- the run by threads that picks events by the same rules and seed, and shows its summary
 abbrev pub run_of : Monitor → Run
@@ -35,7 +36,7 @@ run_of r = record {
 pub record MayBegin (r : Monitor) : Type 0 where
   pub fits : config_fits r.config ≡ true
   pub ruled : AreRules r.rules r.config.nodes
-  pub few : r.budget ≤ 1000000
+  pub few : r.budget ≤ EVENTS
   pub watched : IsWatchable r.watch
 
 -- the word that the snapshots have: the watched one, or the first of memory

@@ -3,7 +3,7 @@ use Rattle.std.specs.Prelude.{◌≡◌, ℕ, ◌+◌, ◌<◌, ◌≤◌, false
 use Rattle.run_journals.specs.Journal.{Began}
 use Rattle.shared_machine.specs.declared.finish.Finish.{Finish}
 use Rattle.shared_machine.specs.Shared.{LockedData, began_with, refusal_of}
-use Rattle.shared_machine.specs.Kept.{FollowsJournal, HasRoomForRest}
+use Rattle.shared_machine.specs.Invariant.{FollowsJournal, HasRoomForRest}
 use Rattle.sn_machine.specs.Machine.{MachineData}
 use Rattle.node_threads.specs.Finishes.{IsRunOf, finish_by}
 use Rattle.sn_monitor.specs.Monitored.{MonitoredData}

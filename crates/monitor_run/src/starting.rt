@@ -7,6 +7,7 @@ ghost use Rattle.node_run.specs.Pieces.{begins};
 ghost use Rattle.sn_monitor.specs.Goes.{IsWatchable};
 ghost use Rattle.monitor_run.specs.Shown.{MayBegin, run_of, watched_word};
 ghost use Rattle.monitor_run.specs.Stands.{Stands, IsReady, IsNew, its_start};
+ghost use Rattle.sn_base.specs.declared.limits.TheConstants.{EVENTS};
 
 use crate::draws::generators;
 use crate::job::Monitor;
@@ -30,7 +31,7 @@ pub(crate) struct Started {
 
 // What the turns of so many workers fill.
 fn room_for(alloc: Global, seed: u64, budget: u32, workers: u8) -> Result<Turns, Memory>
-    requires { budget ≤ 1000000 }
+    requires { budget ≤ EVENTS }
     ensures new { IfOk result (λ t. IsNew workers t) }
     ensures same { IfOk result (λ t. (t.seed ≡ seed) × (t.budget ≡ budget)) }
 {
@@ -52,7 +53,7 @@ fn machine_for(
     budget: u32,
 ) -> Result<Machine, Memory>
     requires sizes { config_fits config ≡ true }
-    requires few { budget ≤ 1000000 }
+    requires few { budget ≤ EVENTS }
     ensures program { IfOk result (λ m. (m.image ≡ program) × (m.config ≡ config)) }
     ensures start { IfOk result (λ m. (m.applied ≡ 0) × (m.state ≡ start_of program config.nodes)) }
     ensures room { IfOk result (λ m. budget + 1 ≤ m.spare) }
@@ -76,7 +77,7 @@ fn begin(
     requires fresh { (machine.applied ≡ 0) × (machine.state ≡ start_of machine.image machine.config.nodes) }
     requires sizes { config_fits machine.config ≡ true }
     requires room { turns.old.budget + 1 ≤ machine.spare }
-    requires few { turns.old.budget ≤ 1000000 }
+    requires few { turns.old.budget ≤ EVENTS }
     requires watched { IsWatchable watch }
     requires new { IsNew machine.config.nodes turns.old }
     ensures stands { IfOk result (λ started. Stands started.0 turns.new × IsReady started.0 turns.new) }

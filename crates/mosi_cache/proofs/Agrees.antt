@@ -12,13 +12,13 @@ use Rattle.sn_model.specs.declared.cache.LineState.TheVariants.{Absent, Shared, 
 use Rattle.sn_model.specs.declared.cache.Need.{Need}
 use Rattle.sn_model.specs.declared.cache.Need.TheVariants.{Read, Write}
 use Rattle.sn_model.specs.Caches.{Put, line_of, is_present, is_writable_state, misses_on, puts_on, frames_taken}
-use Rattle.sn_model.specs.Fabric.{Fabric, Moved, node_at, home_node, refused, answered}
+use Rattle.sn_model.specs.Fabric.{Fabric, FabricStep, node_at, home_node, step_refused, step_with_answer}
 use Rattle.sn_model.specs.Net.{is_full}
-use Rattle.sn_model.specs.Access.{prepared, missed, accesses}
-use Rattle.sn_model.specs.NodeEvents.{evicted, evicts}
+use Rattle.sn_model.specs.Access.{node_to_write, step_of_miss, accesses}
+use Rattle.sn_model.specs.NodeEvents.{step_of_eviction, evicts}
 use Rattle.sn_model.specs.NetEvents.{logged_at, outcome_of, AtCache}
-use Rattle.mosi_cache.specs.declared.step.Probe1.TheVariants.{Ready as IsReady, Waits as HasToWait, Miss, NeedsEvict as HasNoFrame}
-use Rattle.mosi_cache.specs.declared.step.Probe1.TheVariants.{LogFull as HasNoRoom}
+use Rattle.mosi_cache.specs.declared.step.AccessProbe.TheVariants.{Ready as IsReady, Waits as HasToWait, Miss, NeedsEvict as HasNoFrame}
+use Rattle.mosi_cache.specs.declared.step.AccessProbe.TheVariants.{LogFull as HasNoRoom}
 use Rattle.mosi_cache.specs.Rows.{row_by, MeetsRow}
 use Rattle.mosi_cache.specs.Probe.{probe_by, evict_by, evict_line}
 use Rattle.mosi_cache.specs.Machine.{controller_at, log_at, access_by_probe, evicted_by}
@@ -45,25 +45,25 @@ row-agrees s m (Advance point) r = absurd r
 
 -- by the tests of an access, in their order
 
-miss_step : (s : Fabric) (misses : Moved) (p e : Bool) →
-    (if not p && e then refused s NeedsEvict else if is_full s 1 then refused s NetFull else misses)
+miss_step : (s : Fabric) (misses : FabricStep) (p e : Bool) →
+    (if not p && e then step_refused s NeedsEvict else if is_full s 1 then step_refused s NetFull else misses)
     ≡ access_by_probe s misses (if not p && e then HasNoFrame else Miss)
 miss_step s misses true e = refl
 miss_step s misses false true = refl
 miss_step s misses false false = refl
 
-read_step : (s : Fabric) (misses : Moved) (w p e : Bool) →
-    (if w then refused s Waits else if p then answered s Retired else if not p && e then refused s NeedsEvict
-    else if is_full s 1 then refused s NetFull else misses)
+read_step : (s : Fabric) (misses : FabricStep) (w p e : Bool) →
+    (if w then step_refused s Waits else if p then step_with_answer s Retired else if not p && e then step_refused s NeedsEvict
+    else if is_full s 1 then step_refused s NetFull else misses)
     ≡ access_by_probe s misses (if w then HasToWait else if p then IsReady else if not p && e then HasNoFrame else Miss)
 read_step s misses true p e = refl
 read_step s misses false true e = refl
 read_step s misses false false true = refl
 read_step s misses false false false = refl
 
-write_step : (s : Fabric) (misses : Moved) (w v f p e : Bool) →
-    (if w then refused s Waits else if v then (if f then refused s LogFull else answered s Retired)
-    else if not p && e then refused s NeedsEvict else if is_full s 1 then refused s NetFull else misses)
+write_step : (s : Fabric) (misses : FabricStep) (w v f p e : Bool) →
+    (if w then step_refused s Waits else if v then (if f then step_refused s LogFull else step_with_answer s Retired)
+    else if not p && e then step_refused s NeedsEvict else if is_full s 1 then step_refused s NetFull else misses)
     ≡ access_by_probe s misses
     (if w then HasToWait else if v then (if f then HasNoRoom else IsReady) else if not p && e then HasNoFrame else Miss)
 write_step s misses true v f p e = refl
@@ -73,14 +73,14 @@ write_step s misses false false f p e = miss_step s misses p e
 
 pub probe-agrees : (config : Config) (s : Fabric) (n block : ℕ) (need : Need) →
     accesses config s n block need
-    ≡ access_by_probe s (missed s n block need) (probe_by (controller_at config s n) (log_at config s n) block (node_at s n).now need)
+    ≡ access_by_probe s (step_of_miss s n block need) (probe_by (controller_at config s n) (log_at config s n) block (node_at s n).now need)
 probe-agrees config s n block Read =
-    read_step s (missed s n block Read) (puts_on (node_at s n).cache.put block) (is_present (line_of (node_at s n).cache block).state)
+    read_step s (step_of_miss s n block Read) (puts_on (node_at s n).cache.put block) (is_present (line_of (node_at s n).cache block).state)
     (nat_le config.ways (frames_taken (node_at s n).cache config.sets block))
 probe-agrees config s n block Write =
-    write_step s (missed s n block Write) (puts_on (node_at s n).cache.put block)
+    write_step s (step_of_miss s n block Write) (puts_on (node_at s n).cache.put block)
     (is_writable_state (line_of (node_at s n).cache block).state)
-    (nat_lt config.log (length (prepared (node_at s n) block).log)) (is_present (line_of (node_at s n).cache block).state)
+    (nat_lt config.log (length (node_to_write (node_at s n) block).log)) (is_present (line_of (node_at s n).cache block).state)
     (nat_le config.ways (frames_taken (node_at s n).cache config.sets block))
 
 put_agrees : (s : Fabric) (n block : ℕ) (put : Option Put) (state : LineState) → (node_at s n).cache.put ≡ put →
@@ -95,10 +95,10 @@ put_agrees s n block None Exclusive e = rw e refl
 put_agrees s n block (Some p) Exclusive e = rw e refl
 
 evict_step : (s : Fabric) (n block : ℕ) (state : LineState) (m : Bool) →
-    (if m then refused s MissOpen else evicts s n block state)
+    (if m then step_refused s MissOpen else evicts s n block state)
     ≡ evicted_by s n block (if m then MissOpen else evict_line (node_at s n).cache.put state)
 evict_step s n block state true = refl
 evict_step s n block state false = put_agrees s n block (node_at s n).cache.put state refl
 
-pub eviction-agrees : (s : Fabric) (n block : ℕ) → evicted s n block ≡ evicted_by s n block (evict_by (node_at s n).cache block)
+pub eviction-agrees : (s : Fabric) (n block : ℕ) → step_of_eviction s n block ≡ evicted_by s n block (evict_by (node_at s n).cache block)
 eviction-agrees s n block = evict_step s n block (line_of (node_at s n).cache block).state (misses_on (node_at s n).cache.miss block)

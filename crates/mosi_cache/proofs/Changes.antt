@@ -5,10 +5,10 @@ use Rattle.std.specs.Prelude.{nat_eq, is_some, IfSome}
 use Rattle.std.proofs.lemmas.Bool.{cases_eq, cases_lt}
 use Rattle.std.proofs.lemmas.List.{get_or-set_same, get_or-set_other, get_or_past, set-get_or}
 use Rattle.std.proofs.lemmas.Option.{none-some, same_Some}
-use Rattle.cache_array.specs.Slots.{FrameSlots, block_at, IsOfSet, frame_of, is_full, taken, freed}
+use Rattle.cache_array.specs.Slots.{FrameSlots, block_at, IsOfSet, frame_of, is_full, slots_with_block, slots_without_block}
 use Rattle.cache_array.proofs.Slots.{found-at, at-inside, frame-inside, slots-taken, slots-freed}
 use Rattle.sn_model.specs.Caches.{Line, no_line, is_present, block_count, frames_taken}
-use Rattle.mosi_cache.specs.Frames.{FrameLine, closed, line_at, kept_at, line_kept, line_in_frame, line_in, lines_of, AreLines}
+use Rattle.mosi_cache.specs.Frames.{FrameLine, cache_of_lines, line_at, kept_at, line_kept, line_in_frame, line_in, lines_of, AreLines}
 use Rattle.mosi_cache.proofs.Frames.{length-lines, line-at, lines-changed, line-written, line-taken, line-freed}
 use Rattle.mosi_cache.proofs.Counts.{not-full}
 
@@ -80,22 +80,22 @@ put-found d ks k b f h e t =
     (line-written d ks f b k e l)
 
 -- what a slot that was taken has: the new block, or what it had
-at_taken : (d : FrameSlots) (f b g x : ℕ) (P : Type 0) → f < length d.slots → block_at (taken d f b) g ≡ Some x → (f ≡ g → b ≡ x → P) →
+at_taken : (d : FrameSlots) (f b g x : ℕ) (P : Type 0) → f < length d.slots → block_at (slots_with_block d f b) g ≡ Some x → (f ≡ g → b ≡ x → P) →
     ((f ≡ g → ⊥) → block_at d g ≡ Some x → P) → P
 at_taken d f b g x P l h same other =
     ⊎_elim
-    (λ (e : f ≡ g). same e (same_Some b x (sym (get_or-set_same d.slots f (Some b) None l) ∙ ap (block_at (taken d f b)) e ∙ h)))
+    (λ (e : f ≡ g). same e (same_Some b x (sym (get_or-set_same d.slots f (Some b) None l) ∙ ap (block_at (slots_with_block d f b)) e ∙ h)))
     (λ (e : f ≡ g → ⊥). other e (sym (get_or-set_other d.slots f g (Some b) None (λ j. e (sym j))) ∙ h))
     (cases_eq f g)
 
 -- a line of a block that had none, in a free frame of its set
 pub put-new : (d : FrameSlots) (ks : List FrameLine) (k : FrameLine) (b f : ℕ) → AreLines d ks → frame_of d b ≡ None → block_at d f ≡ None →
     IsOfSet d f b → b < block_count → is_present k.state ≡ true →
-    Changed d (taken d f b) ks (set ks f k) b (line_kept k)
+    Changed d (slots_with_block d f b) ks (set ks f k) b (line_kept k)
 put-new d ks k b f h e z i n t =
     let l = frame-inside d f b h.slots i in
     let m : f < length ks = omega (arith, h.whole, l) in
-    changed d (taken d f b) ks (set ks f k) b (line_kept k)
+    changed d (slots_with_block d f b) ks (set ks f k) b (line_kept k)
     (record {
       slots = slots-taken d f b h.slots e i;
       whole = length-set ks f k ∙ h.whole ∙ sym (length-set d.slots f (Some b));
@@ -108,20 +108,20 @@ put-new d ks k b f h e z i n t =
     (line-taken d ks f b k h.slots e z i m)
 
 -- what a slot that was freed has, it had
-at_freed : (d : FrameSlots) (f g x : ℕ) → f < length d.slots → block_at (freed d f) g ≡ Some x → block_at d g ≡ Some x
+at_freed : (d : FrameSlots) (f g x : ℕ) → f < length d.slots → block_at (slots_without_block d f) g ≡ Some x → block_at d g ≡ Some x
 at_freed d f g x l h =
     ⊎_elim
-    (λ (e : f ≡ g). absurd (none-some x (sym (get_or-set_same d.slots f None None l) ∙ ap (block_at (freed d f)) e ∙ h)))
+    (λ (e : f ≡ g). absurd (none-some x (sym (get_or-set_same d.slots f None None l) ∙ ap (block_at (slots_without_block d f)) e ∙ h)))
     (λ (e : f ≡ g → ⊥). sym (get_or-set_other d.slots f g None None (λ j. e (sym j))) ∙ h)
     (cases_eq f g)
 
 -- the frame of a block is free
 pub removed : (d : FrameSlots) (ks : List FrameLine) (b f : ℕ) → AreLines d ks → frame_of d b ≡ Some f →
-    Changed d (freed d f) ks ks b no_line
+    Changed d (slots_without_block d f) ks ks b no_line
 removed d ks b f h e =
     let a = found-at d f b e in
     let l = at-inside d f b a in
-    changed d (freed d f) ks ks b no_line
+    changed d (slots_without_block d f) ks ks b no_line
     (record {
       slots = slots-freed d f h.slots l;
       whole = h.whole ∙ sym (length-set d.slots f None);
@@ -132,7 +132,7 @@ removed d ks b f h e =
     (line-freed d ks f b h.slots e)
 
 pub dropped : (d e : FrameSlots) (ks : List FrameLine) (b : ℕ) (o : Option ℕ) → AreLines d ks → frame_of d b ≡ o → is_some o ≡ true →
-    IfSome o (λ f. e ≡ freed d f) → Changed d e ks ks b no_line
+    IfSome o (λ f. e ≡ slots_without_block d f) → Changed d e ks ks b no_line
 dropped d e ks b None h i s q = cc
 dropped d e ks b (Some f) h i s q = subst (λ (x : FrameSlots). Changed d x ks ks b no_line) (sym q) (removed d ks b f h i)
 
@@ -146,7 +146,7 @@ nothing-removed d ks b e = sym (set-get_or (lines_of d ks) b no_line) ∙ ap (se
 
 -- the set of a block without a line has a frame for it, where the machine's count says so
 pub has-frame : (d : FrameSlots) (ks : List FrameLine) (b : ℕ) → AreLines d ks → frame_of d b ≡ None → b < block_count →
-    (b < block_count → is_present (line_at (lines_of d ks) b).state ≡ false → frames_taken (closed (lines_of d ks)) d.sets b < d.ways) →
+    (b < block_count → is_present (line_at (lines_of d ks) b).state ≡ false → frames_taken (cache_of_lines (lines_of d ks)) d.sets b < d.ways) →
     is_full d b ≡ false
 has-frame d ks b h e n r =
     let w : is_present (line_at (lines_of d ks) b).state ≡ false = rw (read-absent d ks b e) refl in not-full d ks b h (r n w)

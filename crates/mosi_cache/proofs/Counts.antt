@@ -11,7 +11,7 @@ use Rattle.cache_array.proofs.Places.{position-None}
 use Rattle.cache_array.proofs.Slots.{found-at}
 use Rattle.cache_array.proofs.Counts.{how_many, is_in, blocks_in, full-counted}
 use Rattle.sn_model.specs.Caches.{Line, is_present, empty_lines, block_count, frames_below, frames_taken}
-use Rattle.mosi_cache.specs.Frames.{FrameLine, closed, line_at, line_in_frame, line_in, lines_of, AreLines}
+use Rattle.mosi_cache.specs.Frames.{FrameLine, cache_of_lines, line_at, line_in_frame, line_in, lines_of, AreLines}
 use Rattle.mosi_cache.proofs.Frames.{line-at, empty-at}
 
 -- slots of a set with a block below a number, and with just that block
@@ -122,10 +122,10 @@ more_step : (a b k l : ℕ) (p q c : Bool) → a ≡ b → l ≡ cond (q && c) 1
 more_step a b k l p q c h i j = grind arith
 
 counted : (d : FrameSlots) (ks : List FrameLine) (sets s m : ℕ) → AreLines d ks → m ≤ block_count →
-    frames_below m (closed (lines_of d ks)) sets s ≡ how_many (below m sets s) d.slots
+    frames_below m (cache_of_lines (lines_of d ks)) sets s ≡ how_many (below m sets s) d.slots
 counted d ks sets s zero h l = sym (none_below sets s d.slots)
 counted d ks sets s (suc m) h l =
-    more_step (frames_below m (closed (lines_of d ks)) sets s) (how_many (below m sets s) d.slots) 0 (how_many (at m sets s) d.slots)
+    more_step (frames_below m (cache_of_lines (lines_of d ks)) sets s) (how_many (below m sets s) d.slots) 0 (how_many (at m sets s) d.slots)
     (is_present (line_at (lines_of d ks) m).state) (has d.slots m) (nat_eq (m % sets) s)
     (counted d ks sets s m h (omega arith)) (one_at m sets s d.slots h.slots.apart)
     (ap (λ (n : Line). is_present n.state) (line-at d ks m (omega arith)) ∙ present-in d ks m h)
@@ -142,33 +142,33 @@ all_below (o ∷ os) sets s h = rw (within_step o sets s (h 0), all_below os set
 
 -- the frames of a set that the lines take are as many as its blocks that have a frame
 pub taken-counted : (d : FrameSlots) (ks : List FrameLine) (b : ℕ) → AreLines d ks →
-    frames_taken (closed (lines_of d ks)) d.sets b ≡ blocks_in d (b % d.sets)
+    frames_taken (cache_of_lines (lines_of d ks)) d.sets b ≡ blocks_in d (b % d.sets)
 unfolding frames_taken
 taken-counted d ks b h = counted d ks d.sets (b % d.sets) block_count h (omega arith) ∙ all_below d.slots d.sets (b % d.sets) h.inside
 
 -- a set is full exactly where the lines take as many of its frames as it has ways
 pub full-taken : (d : FrameSlots) (ks : List FrameLine) (b : ℕ) → AreLines d ks →
-    is_full d b ≡ nat_le d.ways (frames_taken (closed (lines_of d ks)) d.sets b)
+    is_full d b ≡ nat_le d.ways (frames_taken (cache_of_lines (lines_of d ks)) d.sets b)
 full-taken d ks b h = rw (taken-counted d ks b h) (full-counted d b h.slots)
 
 few_step : (full : Bool) (n w : ℕ) → full ≡ nat_le w n → n < w → full ≡ false
 few_step full n w h l = grind (arith, nat_tests)
 
-pub not-full : (d : FrameSlots) (ks : List FrameLine) (b : ℕ) → AreLines d ks → frames_taken (closed (lines_of d ks)) d.sets b < d.ways →
+pub not-full : (d : FrameSlots) (ks : List FrameLine) (b : ℕ) → AreLines d ks → frames_taken (cache_of_lines (lines_of d ks)) d.sets b < d.ways →
     is_full d b ≡ false
-not-full d ks b h l = few_step (is_full d b) (frames_taken (closed (lines_of d ks)) d.sets b) d.ways (full-taken d ks b h) l
+not-full d ks b h l = few_step (is_full d b) (frames_taken (cache_of_lines (lines_of d ks)) d.sets b) d.ways (full-taken d ks b h) l
 
 -- a cache without a line takes no frame
 
 no_step : (a : ℕ) (c p : Bool) → a ≡ 0 → p ≡ false → a + (if c && (p || false) then 1 else 0) ≡ 0
 no_step a c p h i = grind arith
 
-no_frame : (n sets s : ℕ) → frames_below n (closed empty_lines) sets s ≡ 0
+no_frame : (n sets s : ℕ) → frames_below n (cache_of_lines empty_lines) sets s ≡ 0
 no_frame zero sets s = refl
 no_frame (suc n) sets s =
-    no_step (frames_below n (closed empty_lines) sets s) (nat_eq (n % sets) s) (is_present (line_at empty_lines n).state)
+    no_step (frames_below n (cache_of_lines empty_lines) sets s) (nat_eq (n % sets) s) (is_present (line_at empty_lines n).state)
     (no_frame n sets s) (ap (λ (l : Line). is_present l.state) (empty-at n))
 
-pub none-taken : (sets b : ℕ) → frames_taken (closed empty_lines) sets b ≡ 0
+pub none-taken : (sets b : ℕ) → frames_taken (cache_of_lines empty_lines) sets b ≡ 0
 unfolding frames_taken
 none-taken sets b = no_frame block_count sets (b % sets)

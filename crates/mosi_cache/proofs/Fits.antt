@@ -6,14 +6,14 @@ use Rattle.std.specs.Option.{option_map}
 use Rattle.std.proofs.lemmas.Bool.{cases_Bool}
 use Rattle.std.proofs.lemmas.Bool.Decides.{nat_tests}
 use Rattle.atomicity_point.specs.declared.Txn.{Txn}
-use Rattle.atomicity_point.specs.Txn.{Open, answered, acknowledged as counted}
+use Rattle.atomicity_point.specs.Txn.{Open, txn_with_answer, txn_with_ack as counted}
 use Rattle.sn_model.specs.declared.cache.Need.{Need}
 use Rattle.sn_model.specs.Caches.{Line, Cache, Miss, no_line, is_present, is_owned, is_writable_state, empty_lines, misses_on, takes_frame}
 use Rattle.sn_model.specs.Caches.{block_count, frames_taken, frames_below}
 use Rattle.sn_model.specs.declared.cache.LineState.{LineState}
 use Rattle.sn_model.specs.declared.cache.LineState.TheVariants.{Absent, Shared, Owned, Modified, Exclusive}
-use Rattle.sn_model.specs.CacheRows.{fixed_at, acknowledged, AwaitsAnswer}
-use Rattle.mosi_cache.specs.Frames.{LinesData, HasFrame, closed, line_at}
+use Rattle.sn_model.specs.CacheRows.{fixed_at, miss_with_ack, AwaitsAnswer}
+use Rattle.mosi_cache.specs.Frames.{LinesData, HasFrame, cache_of_lines, line_at}
 use Rattle.mosi_cache.proofs.Counts.{none-taken}
 use Rattle.mosi_cache.specs.Controller.{miss_of, cache_of, FitsSets}
 use Rattle.mosi_cache.proofs.Taken.{TakesFewer, taken-fewer, taken-more, taken-same, taken-strictly, fewer-set}
@@ -78,16 +78,16 @@ fits-open need need' a o o' m f =
 -- what an answer or an acknowledgement makes of the miss
 
 pub miss-answered : (need : Need) (t : Option Txn) (tag due : ℕ) →
-    miss_of need (option_map (λ u. answered u tag due) t) ≡ fixed_at (miss_of need t) tag due
+    miss_of need (option_map (λ u. txn_with_answer u tag due) t) ≡ fixed_at (miss_of need t) tag due
 miss-answered need None tag due = refl
 miss-answered need (Some t) tag due = refl
 
-pub miss-counted : (need : Need) (t : Option Txn) → miss_of need (option_map counted t) ≡ acknowledged (miss_of need t)
+pub miss-counted : (need : Need) (t : Option Txn) → miss_of need (option_map counted t) ≡ miss_with_ack (miss_of need t)
 miss-counted need None = refl
 miss-counted need (Some t) = refl
 
 pub misses-answered : (need : Need) (t : Option Txn) (tag due y : ℕ) →
-    misses_on (miss_of need (option_map (λ u. answered u tag due) t)) y ≡ true → misses_on (miss_of need t) y ≡ true
+    misses_on (miss_of need (option_map (λ u. txn_with_answer u tag due) t)) y ≡ true → misses_on (miss_of need t) y ≡ true
 misses-answered need None tag due y h = h
 misses-answered need (Some t) tag due y h = h
 
@@ -101,7 +101,7 @@ misses-counted need (Some t) y h = h
 plain : (p : Bool) → (p || false) ≡ true → p ≡ true
 plain p h = grind arith
 
-closed_fewer : (ls : List Line) (c : Cache) → c.lines ≡ ls → TakesFewer (closed ls) c
+closed_fewer : (ls : List Line) (c : Cache) → c.lines ≡ ls → TakesFewer (cache_of_lines ls) c
 closed_fewer ls c e y h =
     left (is_present (line_at c.lines y).state) (misses_on c.miss y)
     (subst (λ (m : List Line). is_present (line_at m y).state ≡ true) (sym e) (plain (is_present (line_at ls y).state) h))
@@ -112,7 +112,7 @@ none_taken p h = grind arith
 pub room-for-miss : (need : Need) (a : LinesData) (o : Open) (x : ℕ) → misses_on (miss_of need o.miss) x ≡ true →
     FitsSets (cache_of need a o) a.sets a.ways → HasFrame a x
 room-for-miss need a o x m f n p =
-    let s = taken-strictly (closed a.lines) (cache_of need a o) a.sets x (closed_fewer a.lines (cache_of need a o) refl)
+    let s = taken-strictly (cache_of_lines a.lines) (cache_of need a o) a.sets x (closed_fewer a.lines (cache_of need a o) refl)
     (right (is_present (line_at a.lines x).state) (misses_on (miss_of need o.miss) x) m)
     (none_taken (is_present (line_at a.lines x).state) p) n in
     omega (arith, f x)
@@ -163,13 +163,13 @@ strip need t y false n h = absurd (none_missed need t y n h)
 
 -- where no miss is open, the lines alone take frames
 pub taken-closed : (need : Need) (a : LinesData) (o : Open) (y : ℕ) → IsNone (miss_of need o.miss) →
-    frames_taken (closed a.lines) a.sets y ≡ frames_taken (cache_of need a o) a.sets y
+    frames_taken (cache_of_lines a.lines) a.sets y ≡ frames_taken (cache_of need a o) a.sets y
 taken-closed need a o y n =
-    taken-same (closed a.lines) (cache_of need a o) a.sets y (closed_fewer a.lines (cache_of need a o) refl)
+    taken-same (cache_of_lines a.lines) (cache_of need a o) a.sets y (closed_fewer a.lines (cache_of need a o) refl)
     (λ b h. strip need o.miss b (is_present (line_at a.lines b).state) n h)
 
 -- a cache without a line takes no frame
-pub fits-none : (sets ways : ℕ) → FitsSets (closed empty_lines) sets ways
+pub fits-none : (sets ways : ℕ) → FitsSets (cache_of_lines empty_lines) sets ways
 fits-none sets ways y = omega (arith, none-taken sets y)
 
 -- a miss on a block that has a line, or whose set has a frame for one

@@ -7,7 +7,7 @@ use Rattle.std.proofs.lemmas.Bool.Decides.{nat_tests}
 use Rattle.std.proofs.lemmas.List.{get_or-set_same, get_or-set_other, get_or_past, get_or-replicate, length-replicate}
 use Rattle.std.proofs.lemmas.List.FromFn.{length-map-range_with_len, get_or-map-range_with_len, fill_by_all}
 use Rattle.std.proofs.lemmas.Option.{none-some, same_Some}
-use Rattle.cache_array.specs.Slots.{FrameSlots, AreSlots, block_at, IsOfSet, frame_of, taken, freed}
+use Rattle.cache_array.specs.Slots.{FrameSlots, AreSlots, block_at, IsOfSet, frame_of, slots_with_block, slots_without_block}
 use Rattle.cache_array.proofs.Slots.{frame-none, found-at, frame-taken, frame-freed}
 use Rattle.sn_model.specs.Caches.{Line, no_line, empty_lines, block_count}
 use Rattle.mosi_cache.specs.Frames.{FrameLine, line_at, line_kept, line_in_frame, line_in, lines_of}
@@ -107,9 +107,9 @@ after_taken ks f k false o p e l n = ap (line_in_frame (set ks f k)) e ∙ same_
 
 pub line-taken : (d : FrameSlots) (ks : List FrameLine) (f x : ℕ) (k : FrameLine) → AreSlots d → frame_of d x ≡ None → block_at d f ≡ None →
     IsOfSet d f x → f < length ks →
-    (b : ℕ) → line_in (taken d f x) (set ks f k) b ≡ (if nat_eq x b then line_kept k else line_in d ks b)
+    (b : ℕ) → line_in (slots_with_block d f x) (set ks f k) b ≡ (if nat_eq x b then line_kept k else line_in d ks b)
 line-taken d ks f x k h n z i l b =
-    after_taken ks f k (nat_eq x b) (frame_of (taken d f x) b) (frame_of d b) (frame-taken d f x b h n z i) l
+    after_taken ks f k (nat_eq x b) (frame_of (slots_with_block d f x) b) (frame_of d b) (frame-taken d f x b h n z i) l
     (λ e. none-some b (sym z ∙ found-at d f b e))
 
 -- a frame is freed
@@ -120,5 +120,5 @@ after_freed ks true o p e = ap (line_in_frame ks) e
 after_freed ks false o p e = ap (line_in_frame ks) e
 
 pub line-freed : (d : FrameSlots) (ks : List FrameLine) (f x : ℕ) → AreSlots d → frame_of d x ≡ Some f →
-    (b : ℕ) → line_in (freed d f) ks b ≡ (if nat_eq x b then no_line else line_in d ks b)
-line-freed d ks f x h e b = after_freed ks (nat_eq x b) (frame_of (freed d f) b) (frame_of d b) (frame-freed d f x b h e)
+    (b : ℕ) → line_in (slots_without_block d f) ks b ≡ (if nat_eq x b then no_line else line_in d ks b)
+line-freed d ks f x h e b = after_freed ks (nat_eq x b) (frame_of (slots_without_block d f) b) (frame_of d b) (frame-freed d f x b h e)

@@ -7,12 +7,12 @@ use Rattle.std.proofs.lemmas.Bool.Decides.{nat_tests}
 use Rattle.std.proofs.lemmas.List.{get_or-set_same, get_or-set_other, set_past}
 use Rattle.sn_base.specs.declared.log.Old.{Old}
 use Rattle.sn_base.specs.declared.log.Old.TheVariants.{NotOwned, Owned, WasHome, WasCache}
-use Rattle.rollback.specs.Unwound.{restored}
+use Rattle.rollback.specs.Unwound.{contents_with_old}
 use Rattle.sn_model.specs.declared.cache.LineState.{LineState}
 use Rattle.sn_model.specs.declared.cache.LineState.TheVariants.{Absent, Shared, Owned as InOwned, Modified, Exclusive}
 use Rattle.sn_model.specs.Caches.{Line, no_line, line_of, is_present, misses_on, takes_frame, block_count, frames_taken}
 use Rattle.sn_model.specs.Cuts.{owned_content}
-use Rattle.mosi_cache.specs.Frames.{closed, line_at}
+use Rattle.mosi_cache.specs.Frames.{cache_of_lines, line_at}
 use Rattle.mosi_cache.specs.Controller.{CacheData, FitsSets}
 use Rattle.mosi_cache.specs.Restored.{old_of, held_of, shared_copy, line_holding, cache_holding, HeldFits}
 use Rattle.mosi_cache.specs.PartsFit.{fits-within, holding-at, or-step, fewer-held}
@@ -99,7 +99,7 @@ none_open : (p q m : Bool) → (p ≡ true → q ≡ true) → (p || false) ≡ 
 none_open p q m h i = grind arith
 
 abbrev with_block : CacheData → ℕ → List ℕ → ℕ → Old
-with_block c x content = restored false (held_of c) x (Owned content)
+with_block c x content = contents_with_old false (held_of c) x (Owned content)
 
 plain : (p : Bool) → p ≡ false → (p || false) ≡ false
 plain p h = grind arith
@@ -118,10 +118,10 @@ takes_block c x content l =
     (taken_step (line_of c.cache x) (nat_eq x x) (misses_on c.cache.miss x) content (held_of c x) t)
 
 -- a block that is put back finds a frame
-pub room-held : (c : CacheData) (x : ℕ) (content : List ℕ) → HeldFits c (restored false (held_of c) x (Owned content)) → x < block_count →
-    is_present (line_of c.cache x).state ≡ false → frames_taken (closed c.cache.lines) c.sets x < c.ways
+pub room-held : (c : CacheData) (x : ℕ) (content : List ℕ) → HeldFits c (contents_with_old false (held_of c) x (Owned content)) → x < block_count →
+    is_present (line_of c.cache x).state ≡ false → frames_taken (cache_of_lines c.cache.lines) c.sets x < c.ways
 room-held c x content f l p =
-    let s = strictly-within (closed c.cache.lines) (cache_holding c.cache (with_block c x content)) c.sets x
+    let s = strictly-within (cache_of_lines c.cache.lines) (cache_holding c.cache (with_block c x content)) c.sets x
     (λ b m t. subst (λ (y : Line). (is_present y.state || misses_on c.cache.miss b) ≡ true)
     (sym (holding-at c.cache.lines (with_block c x content) b m))
     (none_open (is_present (line_of c.cache b).state) (is_present (line_holding (line_of c.cache b) (with_block c x content b)).state)
@@ -143,7 +143,7 @@ put_step c x b content l h =
     (get_or-set_other c.cache.lines x b (record { state = Modified; content = content }) no_line (λ j. i (sym j))) h))
     (cases_eq x b)
 
-pub fits-put : (c : CacheData) (x : ℕ) (content : List ℕ) → HeldFits c (restored false (held_of c) x (Owned content)) →
+pub fits-put : (c : CacheData) (x : ℕ) (content : List ℕ) → HeldFits c (contents_with_old false (held_of c) x (Owned content)) →
     FitsSets (changed c x (record { state = Modified; content = content })).cache c.sets c.ways
 fits-put c x content f =
     fits-within (changed c x (record { state = Modified; content = content })).cache

@@ -6,7 +6,7 @@ use Rattle.log_buffer.specs.Log.{LogData}
 use Rattle.sn_model.specs.declared.cache.Need.{Need}
 use Rattle.sn_model.specs.declared.cache.Need.TheVariants.{Read, Write}
 use Rattle.sn_model.specs.Caches.{line_of, is_present, is_writable_state, puts_on, frames_taken}
-use Rattle.mosi_cache.specs.declared.step.Probe1.TheVariants.{Ready, Waits, Miss, NeedsEvict, LogFull}
+use Rattle.mosi_cache.specs.declared.step.AccessProbe.TheVariants.{Ready, Waits, Miss, NeedsEvict, LogFull}
 use Rattle.mosi_cache.specs.Controller.{CacheData}
 use Rattle.mosi_cache.specs.Probe.{probe_by, log_with}
 

@@ -8,7 +8,7 @@ use Rattle.sn_base.specs.declared.log.LogEntry.{LogEntry}
 use Rattle.sn_base.specs.declared.log.Old.{Old}
 use Rattle.sn_base.specs.declared.log.Old.TheVariants.{NotOwned, Owned, WasHome, WasCache}
 use Rattle.log_buffer.specs.Log.{old_at}
-use Rattle.rollback.specs.Unwound.{unwound}
+use Rattle.rollback.specs.Unwound.{content_unwound}
 use Rattle.sn_model.specs.declared.cache.LineState.{LineState}
 use Rattle.sn_model.specs.declared.cache.LineState.TheVariants.{Absent, Shared, Owned as InOwned, Modified, Exclusive}
 use Rattle.sn_model.specs.Caches.{Line, Cache, Miss, no_line, line_of, is_present, misses_on, block_count}
@@ -87,7 +87,7 @@ unwound_content l (Some (WasCache node)) h e = refl
 
 -- the content that a block has after the unwinding, by the line that it had before the recovery
 content_then : (c : CacheData) (log : List LogEntry) (k b : ℕ) →
-    content_of (unwound log false k (held_of (begun c)) b) ≡ held_by (old_at log false b k) (line_of c.cache b)
+    content_of (content_unwound log false k (held_of (begun c)) b) ≡ held_by (old_at log false b k) (line_of c.cache b)
 content_then c log k b = unwound_content (line_of c.cache b) (old_at log false b k) (held_of (begun c) b) (held-begun c b)
 
 -- the machine's lines after a recovery
@@ -109,7 +109,7 @@ line_then e b h =
     let l = line_of e.cache b in
     sym (h b) ∙ ap restored_line (sym (content_old (owned_content l l.state)))
 
-lines_then : (c e : CacheData) (log : List LogEntry) (k : ℕ) → ((b : ℕ) → held_of e b ≡ unwound log false k (held_of (begun c)) b) →
+lines_then : (c e : CacheData) (log : List LogEntry) (k : ℕ) → ((b : ℕ) → held_of e b ≡ content_unwound log false k (held_of (begun c)) b) →
     StaysAsItIs (begun c) e → e.cache.lines ≡ restored_lines log k 0 c.cache.lines
 lines_then c e log k h s =
     let n : length e.cache.lines ≡ length c.cache.lines = s.blocks ∙ length-map c.cache.lines begun_line in
@@ -133,11 +133,11 @@ same_parts c e x n m s w l i p =
 
 -- what is left after the beginning and the unwinding is what the machine's recovery leaves
 pub unwound-restored : (c d e : CacheData) (log : List LogEntry) (k : ℕ) → d ≡ begun c →
-    ((b : ℕ) → held_of e b ≡ unwound log false k (held_of d) b) → StaysAsItIs d e → e ≡ record c { cache = restored_cache log k c.cache }
+    ((b : ℕ) → held_of e b ≡ content_unwound log false k (held_of d) b) → StaysAsItIs d e → e ≡ record c { cache = restored_cache log k c.cache }
 unwound-restored c d e log k q h s =
     let i : (b : ℕ) → held_of e b
-    ≡ unwound log false k (held_of (begun c)) b = subst
-    (λ (x : CacheData). (b : ℕ) → held_of e b ≡ unwound log false k (held_of x) b) q h in
+    ≡ content_unwound log false k (held_of (begun c)) b = subst
+    (λ (x : CacheData). (b : ℕ) → held_of e b ≡ content_unwound log false k (held_of x) b) q h in
     let t : StaysAsItIs (begun c) e = subst (λ (x : CacheData). StaysAsItIs x e) q s in
     same_parts c e (restored_cache log k c.cache) t.node t.nodes t.sets t.ways (lines_then c e log k i t) t.miss t.put
 
@@ -154,11 +154,11 @@ holding-restored (Some x) (WasHome content) = refl
 holding-restored (Some x) (WasCache node) = refl
 
 line_wanted : (c : CacheData) (log : List LogEntry) (k b : ℕ) → b < block_count → length c.cache.lines ≡ block_count →
-    line_at (lines_holding (map begun_line c.cache.lines) (unwound log false k (held_of (begun c)))) b
+    line_at (lines_holding (map begun_line c.cache.lines) (content_unwound log false k (held_of (begun c)))) b
     ≡ line_at (restored_lines log k 0 c.cache.lines) b
 line_wanted c log k b l n =
     let x = line_of c.cache b in
-    let m = unwound log false k (held_of (begun c)) in
+    let m = content_unwound log false k (held_of (begun c)) in
     holding-at (map begun_line c.cache.lines) m b l
     ∙ ap (λ (y : Line). line_holding y (m b)) (begun-at c.cache.lines b)
     ∙ holding-restored (owned_content x x.state) (m b)
@@ -166,8 +166,8 @@ line_wanted c log k b l n =
     ∙ sym (restored_at log k 0 b b c.cache.lines (omega (arith, n)) (omega arith))
 
 pub fits-unwound : (c d : CacheData) (log : List LogEntry) (k : ℕ) → d ≡ begun c → length c.cache.lines ≡ block_count →
-    FitsSets (restored_cache log k c.cache) c.sets c.ways → HeldFits d (unwound log false k (held_of d))
+    FitsSets (restored_cache log k c.cache) c.sets c.ways → HeldFits d (content_unwound log false k (held_of d))
 fits-unwound c d log k q n f =
-    subst (λ (x : CacheData). HeldFits x (unwound log false k (held_of x))) (sym q)
-    (fits-within (cache_holding (begun c).cache (unwound log false k (held_of (begun c)))) (restored_cache log k c.cache) c.sets c.ways
+    subst (λ (x : CacheData). HeldFits x (content_unwound log false k (held_of x))) (sym q)
+    (fits-within (cache_holding (begun c).cache (content_unwound log false k (held_of (begun c)))) (restored_cache log k c.cache) c.sets c.ways
     (λ b l t. subst (λ (m : Line). (is_present m.state || false) ≡ true) (line_wanted c log k b l n) t) f)

@@ -10,7 +10,7 @@ use Rattle.sn_model.specs.declared.cache.LineState.TheVariants.{Modified}
 use Rattle.sn_model.specs.Caches.{Line, no_line, is_present}
 use Rattle.sn_model.specs.Access.{written_in}
 use Rattle.mosi_cache.specs.Frames.{LinesData, line_at}
-use Rattle.mosi_cache.specs.Probe.{stored}
+use Rattle.mosi_cache.specs.Probe.{cache_after_write}
 use Rattle.mosi_cache.proofs.CompletedOrWaiting.{data_by}
 
 absent : is_present no_line.state ≡ true → ⊥
@@ -36,7 +36,7 @@ stored-lines ls b l w h =
 pub store-done : (node nodes : ℕ) (need : Need) (a b : LinesData) (o : Open) (w : Write) (x : ℕ) (content : List ℕ) →
     b ≡ record a { lines = set a.lines x (record { state = Modified; content = content }) } →
     x ≡ block_of w.address → content ≡ written_in (line_at a.lines x).content w → is_present (line_at a.lines x).state ≡ true →
-    data_by node nodes need b o ≡ stored (data_by node nodes need a o) w
+    data_by node nodes need b o ≡ cache_after_write (data_by node nodes need a o) w
 store-done node nodes need a b o w x content e f g h =
     ap (λ (c : LinesData). data_by node nodes need c o) e
     ∙ ap (λ (k : List ℕ). data_by node nodes need (record a { lines = set a.lines x (record { state = Modified; content = k }) }) o) g

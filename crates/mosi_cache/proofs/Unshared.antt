@@ -13,17 +13,17 @@ use Rattle.sn_model.specs.declared.cache.LineState.TheVariants.{Absent, Shared, 
 use Rattle.sn_model.specs.Caches.{no_line, is_present, block_count}
 use Rattle.mosi_cache.specs.Frames.{FrameLine, kept_at, line_kept, line_in_frame, line_in, lines_of, AreLines}
 use Rattle.mosi_cache.specs.Restored.{begun_line}
-use Rattle.mosi_cache.specs.Unshared.{unshared, AreUnshared, modified}
+use Rattle.mosi_cache.specs.Unshared.{slot_unless_shared, AreUnshared, as_modified}
 use Rattle.mosi_cache.proofs.Frames.{length-lines, line-at}
 
-pub not-shared : (s : LineState) (o : Option ℕ) → (s ≡ Shared → ⊥) → unshared s o ≡ o
+pub not-shared : (s : LineState) (o : Option ℕ) → (s ≡ Shared → ⊥) → slot_unless_shared s o ≡ o
 not-shared Absent o h = refl
 not-shared Shared o h = absurd (h refl)
 not-shared Owned o h = refl
 not-shared Modified o h = refl
 not-shared Exclusive o h = refl
 
-pub unshared-none : (s : LineState) → unshared s None ≡ None
+pub unshared-none : (s : LineState) → slot_unless_shared s None ≡ None
 unshared-none Absent = refl
 unshared-none Shared = refl
 unshared-none Owned = refl
@@ -33,33 +33,33 @@ unshared-none Exclusive = refl
 -- one more frame
 
 done_step : (d e f : FrameSlots) (ks : List FrameLine) (n g : ℕ) → AreUnshared d e ks n → n < length e.slots →
-    f ≡ record e { slots = set e.slots n (unshared (kept_at ks n).state (block_at e n)) } → g < n + 1 →
-    block_at f g ≡ unshared (kept_at ks g).state (block_at d g)
+    f ≡ record e { slots = set e.slots n (slot_unless_shared (kept_at ks n).state (block_at e n)) } → g < n + 1 →
+    block_at f g ≡ slot_unless_shared (kept_at ks g).state (block_at d g)
 done_step d e f ks n g h l i m =
     ap (λ (x : FrameSlots). block_at x g) i
     ∙ ⊎_elim
-    (λ (j : g ≡ n). subst (λ (k : ℕ). get_or (set e.slots n (unshared (kept_at ks n).state (block_at e n))) k None
-    ≡ unshared (kept_at ks k).state (block_at d k)) (sym j)
-    (get_or-set_same e.slots n (unshared (kept_at ks n).state (block_at e n)) None l
-    ∙ ap (unshared (kept_at ks n).state) (h.rest n (omega arith))))
-    (λ (j : g ≡ n → ⊥). get_or-set_other e.slots n g (unshared (kept_at ks n).state (block_at e n)) None j ∙ h.done g (omega arith))
+    (λ (j : g ≡ n). subst (λ (k : ℕ). get_or (set e.slots n (slot_unless_shared (kept_at ks n).state (block_at e n))) k None
+    ≡ slot_unless_shared (kept_at ks k).state (block_at d k)) (sym j)
+    (get_or-set_same e.slots n (slot_unless_shared (kept_at ks n).state (block_at e n)) None l
+    ∙ ap (slot_unless_shared (kept_at ks n).state) (h.rest n (omega arith))))
+    (λ (j : g ≡ n → ⊥). get_or-set_other e.slots n g (slot_unless_shared (kept_at ks n).state (block_at e n)) None j ∙ h.done g (omega arith))
     (cases_eq g n)
 
 pub unshared-more : (d e f : FrameSlots) (ks : List FrameLine) (n : ℕ) → AreUnshared d e ks n → n < length e.slots →
-    f ≡ record e { slots = set e.slots n (unshared (kept_at ks n).state (block_at e n)) } → AreSlots f → AreUnshared d f ks (n + 1)
+    f ≡ record e { slots = set e.slots n (slot_unless_shared (kept_at ks n).state (block_at e n)) } → AreSlots f → AreUnshared d f ks (n + 1)
 unshared-more d e f ks n h l i s = record {
   slots = s;
   sets = ap (λ (x : FrameSlots). x.sets) i ∙ h.sets;
   ways = ap (λ (x : FrameSlots). x.ways) i ∙ h.ways;
   done = λ g m. done_step d e f ks n g h l i m;
   rest = λ g m. ap (λ (x : FrameSlots). block_at x g) i
-      ∙ get_or-set_other e.slots n g (unshared (kept_at ks n).state (block_at e n)) None (λ (j : g ≡ n). absurd (omega arith))
+      ∙ get_or-set_other e.slots n g (slot_unless_shared (kept_at ks n).state (block_at e n)) None (λ (j : g ≡ n). absurd (omega arith))
       ∙ h.rest g (omega arith);
 }
 
 -- what is left
 
-still : (s : LineState) (o : Option ℕ) (b : ℕ) → unshared s o ≡ Some b → (o ≡ Some b) × (s ≡ Shared → ⊥)
+still : (s : LineState) (o : Option ℕ) (b : ℕ) → slot_unless_shared s o ≡ Some b → (o ≡ Some b) × (s ≡ Shared → ⊥)
 still Absent o b h = (h, λ e. cc)
 still Shared o b h = absurd (none-some b h)
 still Owned o b h = (h, λ e. cc)
@@ -71,10 +71,10 @@ pub record IsBegun (d e : FrameSlots) (ks ms : List FrameLine) : Type 0 where
   pub old : AreLines d ks
   pub unshared : AreUnshared d e ks (length ks)
   pub whole : length ms ≡ length ks
-  pub kept : (f : ℕ) → f < length ks → kept_at ms f ≡ modified (kept_at ks f)
+  pub kept : (f : ℕ) → f < length ks → kept_at ms f ≡ as_modified (kept_at ks f)
 
-pub kept-begun : (ks ms : List FrameLine) → ((f : ℕ) (x : FrameLine) → f < length ks → get_or ms f x ≡ modified (get_or ks f x)) → (f : ℕ) →
-    f < length ks → kept_at ms f ≡ modified (kept_at ks f)
+pub kept-begun : (ks ms : List FrameLine) → ((f : ℕ) (x : FrameLine) → f < length ks → get_or ms f x ≡ as_modified (get_or ks f x)) → (f : ℕ) →
+    f < length ks → kept_at ms f ≡ as_modified (kept_at ks f)
 kept-begun ks ms h f l = h f (record { state = Absent; content = [] }) l
 
 same_length : (d e : FrameSlots) (ks : List FrameLine) → AreLines d ks → AreUnshared d e ks (length ks) → length ks ≡ length e.slots
@@ -104,7 +104,7 @@ absent h = cc
 -- a line that is there is Shared, or becomes Modified and keeps its frame
 shared_or_owned : (s : LineState) (x : List ℕ) → is_present s ≡ true →
     (s ≡ Shared) ⊎ ((begun_line (record { state = s; content = x }) ≡ record { state = Modified; content = x })
-    × ((o : Option ℕ) → unshared s o ≡ o))
+    × ((o : Option ℕ) → slot_unless_shared s o ≡ o))
 shared_or_owned Absent x h = absurd (absent h)
 shared_or_owned Shared x h = inl refl
 shared_or_owned Owned x h = inr (refl, λ o. refl)
@@ -131,7 +131,7 @@ line_step d e ks ms b (Some f) h i =
     w.2 (sym (ap (λ (n : ℕ). (kept_at ks n).state) (h.old.slots.apart f g b a w.1)) ∙ s)))
     ∙ sym (none_left (kept_at ks f).state (kept_at ks f).content s))
     (λ (s : (begun_line (line_kept (kept_at ks f)) ≡ record { state = Modified; content = (kept_at ks f).content })
-    × ((p : Option ℕ) → unshared (kept_at ks f).state p ≡ p)).
+    × ((p : Option ℕ) → slot_unless_shared (kept_at ks f).state p ≡ p)).
     ap (line_in_frame ms) (frame-found e f b h.unshared.slots (h.unshared.done f l ∙ s.1 (block_at d f) ∙ a))
     ∙ ap line_kept (h.kept f l)
     ∙ sym s.0)

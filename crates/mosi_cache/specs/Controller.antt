@@ -34,5 +34,5 @@ abbrev pub FitsSets : Cache → ℕ → ℕ → Type 0
 FitsSets cache sets ways = (block : ℕ) → frames_taken cache sets block ≤ ways
 
 -- the controller's cache with entries of its node's log
-abbrev pub logged : CacheData → List LogEntry → Logged
-logged c entries = record { cache = c.cache; log = entries }
+abbrev pub with_entries : CacheData → List LogEntry → Logged
+with_entries c entries = record { cache = c.cache; log = entries }

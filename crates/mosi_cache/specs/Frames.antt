@@ -21,17 +21,17 @@ abbrev pub line_at : List Line → ℕ → Line
 line_at lines block = slice_index_or lines block no_line
 
 -- a cache of these lines, with nothing open
-abbrev pub closed : List Line → Cache
-closed lines = record { lines = lines; miss = None; put = None }
+abbrev pub cache_of_lines : List Line → Cache
+cache_of_lines lines = record { lines = lines; miss = None; put = None }
 
 -- a block of memory has a line, or its set has a frame for one
 abbrev pub HasFrame : LinesData → ℕ → Type 0
 HasFrame d block =
-    block < block_count → is_present (line_at d.lines block).state ≡ false → frames_taken (closed d.lines) d.sets block < d.ways
+    block < block_count → is_present (line_at d.lines block).state ≡ false → frames_taken (cache_of_lines d.lines) d.sets block < d.ways
 
 -- a line when the miss on its block is complete
-abbrev pub completed : Line → Need → Line
-completed l need = record l { state = line_when_done l.state need }
+abbrev pub line_after_miss : Line → Need → Line
+line_after_miss l need = record l { state = line_when_done l.state need }
 
 -- what a frame keeps
 abbrev pub kept_at : List FrameLine → ℕ → FrameLine

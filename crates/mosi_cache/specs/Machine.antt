@@ -6,12 +6,12 @@ use Rattle.sn_base.specs.declared.event.Answer.TheVariants.{Retired, Waits, Need
 use Rattle.sn_msg.specs.declared.Body.TheVariants.{PutReq}
 use Rattle.log_buffer.specs.Log.{LogData}
 use Rattle.sn_model.specs.CacheRows.{send}
-use Rattle.sn_model.specs.Fabric.{Fabric, Moved, node_at, with_node, home_node, refused, answered}
+use Rattle.sn_model.specs.Fabric.{Fabric, FabricStep, node_at, with_node, home_node, step_refused, step_with_answer}
 use Rattle.sn_model.specs.Net.{sending, is_full}
 use Rattle.sn_model.specs.NodeEvents.{drops_copy, with_put}
-use Rattle.mosi_cache.specs.declared.step.Probe1.{Probe1}
-use Rattle.mosi_cache.specs.declared.step.Probe1.TheVariants.{Ready, Waits as HasToWait, Miss, NeedsEvict as HasNoFrame}
-use Rattle.mosi_cache.specs.declared.step.Probe1.TheVariants.{LogFull as HasNoRoom}
+use Rattle.mosi_cache.specs.declared.step.AccessProbe.{AccessProbe}
+use Rattle.mosi_cache.specs.declared.step.AccessProbe.TheVariants.{Ready, Waits as HasToWait, Miss, NeedsEvict as HasNoFrame}
+use Rattle.mosi_cache.specs.declared.step.AccessProbe.TheVariants.{LogFull as HasNoRoom}
 use Rattle.mosi_cache.specs.Controller.{CacheData}
 
 -- the controller of a node, and its log
@@ -22,20 +22,20 @@ abbrev pub log_at : Config → Fabric → ℕ → LogData
 log_at config s n = record { entries = (node_at s n).log; limit = config.log }
 
 -- what an access comes to by the answer to its probe: its line serves it, it misses, or it is refused
-abbrev pub access_by_probe : Fabric → Moved → Probe1 → Moved
-access_by_probe s misses Ready = answered s Retired
-access_by_probe s misses Miss = if is_full s 1 then refused s NetFull else misses
-access_by_probe s misses HasToWait = refused s Waits
-access_by_probe s misses HasNoFrame = refused s NeedsEvict
-access_by_probe s misses HasNoRoom = refused s LogFull
+abbrev pub access_by_probe : Fabric → FabricStep → AccessProbe → FabricStep
+access_by_probe s misses Ready = step_with_answer s Retired
+access_by_probe s misses Miss = if is_full s 1 then step_refused s NetFull else misses
+access_by_probe s misses HasToWait = step_refused s Waits
+access_by_probe s misses HasNoFrame = step_refused s NeedsEvict
+access_by_probe s misses HasNoRoom = step_refused s LogFull
 
 -- what an eviction comes to by the controller's answer
-abbrev pub evicted_by : Fabric → ℕ → ℕ → Answer → Moved
+abbrev pub evicted_by : Fabric → ℕ → ℕ → Answer → FabricStep
 evicted_by s n block Evicted = drops_copy s n block
 evicted_by s n block PutBegun =
-    if is_full s 1 then refused s NetFull
+    if is_full s 1 then step_refused s NetFull
     else sending (with_node s n (with_put (node_at s n) block)) n block (send (home_node s block) PutReq ∷ []) PutBegun
-evicted_by s n block answer = refused s answer
+evicted_by s n block answer = step_refused s answer
 
 -- an interval, or that of what is open where that is less
 abbrev pub at_most : ℕ → Option ℕ → ℕ

@@ -6,7 +6,7 @@ use Rattle.sn_base.specs.declared.event.Answer.{Answer}
 use Rattle.sn_base.specs.declared.event.Answer.TheVariants.{Evicted, PutBegun, NotCached, PutOpen, MissOpen}
 use Rattle.sn_base.specs.declared.log.LogEntry.{LogEntry}
 use Rattle.sn_base.specs.declared.log.Old.TheVariants.{Owned as WasOwned}
-use Rattle.log_buffer.specs.Log.{LogData, noted}
+use Rattle.log_buffer.specs.Log.{LogData, log_with_note}
 use Rattle.rv_core.specs.Core.{block_of}
 use Rattle.sn_model.specs.declared.cache.LineState.{LineState}
 use Rattle.sn_model.specs.declared.cache.LineState.TheVariants.{Absent, Shared, Owned, Modified, Exclusive}
@@ -15,22 +15,22 @@ use Rattle.sn_model.specs.declared.cache.Need.TheVariants.{Read, Write as ToWrit
 use Rattle.sn_model.specs.Caches.{Cache, Miss, Put, line_of, with_line, is_present, is_writable_state, misses_on, puts_on, frames_taken}
 use Rattle.sn_model.specs.Access.{new_miss, written_to}
 use Rattle.sn_model.specs.NodeEvents.{has_put}
-use Rattle.mosi_cache.specs.declared.step.Probe1.{Probe1}
-use Rattle.mosi_cache.specs.declared.step.Probe1.TheVariants.{Ready, Waits, Miss as NeedsMiss, NeedsEvict, LogFull}
+use Rattle.mosi_cache.specs.declared.step.AccessProbe.{AccessProbe}
+use Rattle.mosi_cache.specs.declared.step.AccessProbe.TheVariants.{Ready, Waits, Miss as NeedsMiss, NeedsEvict, LogFull}
 use Rattle.mosi_cache.specs.Controller.{CacheData}
 
 -- an access
 
 -- the log after the block's content is noted as owned
 abbrev pub log_with : CacheData → List LogEntry → ℕ → ℕ → List LogEntry
-log_with c entries block now = noted entries now block (WasOwned (line_of c.cache block).content)
+log_with c entries block now = log_with_note entries now block (WasOwned (line_of c.cache block).content)
 
-abbrev pub probe_miss : CacheData → ℕ → Probe1
+abbrev pub probe_miss : CacheData → ℕ → AccessProbe
 probe_miss c block =
     if not (is_present (line_of c.cache block).state) && nat_le c.ways (frames_taken c.cache c.sets block) then NeedsEvict else NeedsMiss
 
 -- the first of the step's tests that applies, from the open put on
-abbrev pub probe_by : CacheData → LogData → ℕ → ℕ → Need → Probe1
+abbrev pub probe_by : CacheData → LogData → ℕ → ℕ → Need → AccessProbe
 probe_by c log block now Read =
     if puts_on c.cache.put block then Waits
     else if is_present (line_of c.cache block).state then Ready
@@ -46,8 +46,8 @@ abbrev pub with_miss : CacheData → ℕ → Need → ℕ → CacheData
 with_miss c block need now = record c { cache = record c.cache { miss = Some (new_miss block need now) } }
 
 -- the cache after a write to a line that may be written
-abbrev pub stored : CacheData → Write → CacheData
-stored c w =
+abbrev pub cache_after_write : CacheData → Write → CacheData
+cache_after_write c w =
     record c { cache = written_to (with_line c.cache (block_of w.address) Modified (line_of c.cache (block_of w.address)).content) w }
 
 -- an eviction

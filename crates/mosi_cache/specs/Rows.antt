@@ -14,7 +14,7 @@ use Rattle.mosi_cache.specs.declared.step.CacheStep.{CacheStep}
 use Rattle.mosi_cache.specs.declared.step.CacheStep.TheVariants.{Took, LogFull}
 use Rattle.sn_model.specs.declared.look.Look.{Look}
 use Rattle.sn_model.specs.declared.look.Look.TheVariants.{Sends, LogFull as SeesLogFull}
-use Rattle.mosi_cache.specs.Controller.{CacheData, logged}
+use Rattle.mosi_cache.specs.Controller.{CacheData, with_entries}
 
 -- a message for which the cache has no row does nothing
 abbrev pub no_row : Logged → CacheReply
@@ -42,7 +42,7 @@ row_by at home block now tag (Advance k) = no_row at
 
 -- the row of a message at a controller
 abbrev pub row_of : CacheData → LogData → ℕ → Message → CacheReply
-row_of c log now m = row_by (logged c log.entries) (m.block % c.nodes) m.block now m.tag m.body
+row_of c log now m = row_by (with_entries c log.entries) (m.block % c.nodes) m.block now m.tag m.body
 
 -- the condition of the row
 abbrev pub MeetsRow : Logged → ℕ → Body → Type 0
@@ -73,9 +73,9 @@ noted_in now tag (DataE content) = Some tag
 noted_in now tag _ = None
 
 -- no entry of the block in the log is of a later interval than the one that the row notes in
-abbrev pub NotesLast : List LogEntry → ℕ → Option ℕ → Type 0
-NotesLast entries block None = Unit {0}
-NotesLast entries block (Some interval) = logged_to entries false block ≤ interval + 1
+abbrev pub NotesInLogOrder : List LogEntry → ℕ → Option ℕ → Type 0
+NotesInLogOrder entries block None = Unit {0}
+NotesInLogOrder entries block (Some interval) = logged_to entries false block ≤ interval + 1
 
 -- the one message that a row sends, where it sends one
 abbrev pub first_of : List Out → Option Out

@@ -6,21 +6,21 @@ use Rattle.sn_model.specs.declared.cache.LineState.TheVariants.{Absent, Shared, 
 use Rattle.mosi_cache.specs.Frames.{FrameLine, kept_at}
 
 -- a slot once it is freed where the line in it is Shared
-abbrev pub unshared : LineState → Option ℕ → Option ℕ
-unshared Absent slot = slot
-unshared Shared slot = None
-unshared Owned slot = slot
-unshared Modified slot = slot
-unshared Exclusive slot = slot
+abbrev pub slot_unless_shared : LineState → Option ℕ → Option ℕ
+slot_unless_shared Absent slot = slot
+slot_unless_shared Shared slot = None
+slot_unless_shared Owned slot = slot
+slot_unless_shared Modified slot = slot
+slot_unless_shared Exclusive slot = slot
 
 -- frames after others: those before the end are freed where what they keep is Shared, and the rest are as they were
 pub record AreUnshared (before after : FrameSlots) (kept : List FrameLine) (end : ℕ) : Type 0 where
   pub slots : AreSlots after
   pub sets : after.sets ≡ before.sets
   pub ways : after.ways ≡ before.ways
-  pub done : (frame : ℕ) → frame < end → block_at after frame ≡ unshared (kept_at kept frame).state (block_at before frame)
+  pub done : (frame : ℕ) → frame < end → block_at after frame ≡ slot_unless_shared (kept_at kept frame).state (block_at before frame)
   pub rest : (frame : ℕ) → end ≤ frame → block_at after frame ≡ block_at before frame
 
 -- what a frame keeps, as Modified
-abbrev pub modified : FrameLine → FrameLine
-modified kept = record kept { state = Modified }
+abbrev pub as_modified : FrameLine → FrameLine
+as_modified kept = record kept { state = Modified }

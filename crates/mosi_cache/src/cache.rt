@@ -5,9 +5,9 @@ ghost use Rattle.std.specs.Prelude.{◌≡◌, ℕ, ◌+◌, ◌<◌, ◌≤◌,
 ghost use Rattle.sn_base.specs.Config.{config_fits};
 ghost use Rattle.sn_base.specs.declared.log.LogEntry.{LogEntry};
 ghost use Rattle.sn_model.specs.Caches.{empty_cache};
-ghost use Rattle.sn_model.specs.CacheRows.{Logged, fixed_at, acknowledged, completed_or_waiting};
-ghost use Rattle.mosi_cache.specs.Controller.{CacheData, logged};
-ghost use Rattle.mosi_cache.specs.Rows.{row_by, row_of, MeetsRow, NotesLast, noted_in, is_over, step_by, look_by, cache_by, log_by};
+ghost use Rattle.sn_model.specs.CacheRows.{Logged, fixed_at, miss_with_ack, reply_or_wait};
+ghost use Rattle.mosi_cache.specs.Controller.{CacheData, with_entries};
+ghost use Rattle.mosi_cache.specs.Rows.{row_by, row_of, MeetsRow, NotesInLogOrder, noted_in, is_over, step_by, look_by, cache_by, log_by};
 ghost use Rattle.mosi_cache.specs.Rows.{IsRowDone};
 
 mod access;
@@ -86,8 +86,8 @@ impl Cache {
     pub fn look(&self, message: &Message, now: Interval, log: &LogBuffer) -> Look
         requires here { message.now.to ≡ self.now.node }
         requires come { message.now.tag ≤ now }
-        requires row { MeetsRow (logged self.now log.now.entries) message.now.block message.now.body }
-        requires last { NotesLast log.now.entries message.now.block (noted_in now message.now.tag message.now.body) }
+        requires row { MeetsRow (with_entries self.now log.now.entries) message.now.block message.now.body }
+        requires last { NotesInLogOrder log.now.entries message.now.block (noted_in now message.now.tag message.now.body) }
         ensures { result ≡ look_by log.now (row_of self.now log.now now message.now) }
     {
         let room = log.room();
@@ -105,8 +105,8 @@ impl Cache {
     pub fn receive(&mut self, message: &Message, now: Interval, log: &mut LogBuffer) -> CacheStep
         requires here { message.now.to ≡ self.old.node }
         requires come { message.now.tag ≤ now }
-        requires row { MeetsRow (logged self.old log.old.entries) message.now.block message.now.body }
-        requires last { NotesLast log.old.entries message.now.block (noted_in now message.now.tag message.now.body) }
+        requires row { MeetsRow (with_entries self.old log.old.entries) message.now.block message.now.body }
+        requires last { NotesInLogOrder log.old.entries message.now.block (noted_in now message.now.tag message.now.body) }
         ensures answer { result ≡ step_by log.old (row_of self.old log.old now message.now) }
         ensures cache { self.new ≡ cache_by self.old log.old (row_of self.old log.old now message.now) }
         ensures log { log.new ≡ log_by log.old (row_of self.old log.old now message.now) }
@@ -119,8 +119,8 @@ impl Cache {
 
     /// Does the row of the message, for which the log has room.
     fn take(&mut self, message: &Message, now: Interval, log: &mut LogBuffer) -> CacheStep
-        requires row { MeetsRow (logged self.old log.old.entries) message.now.block message.now.body }
-        requires last { NotesLast log.old.entries message.now.block (noted_in now message.now.tag message.now.body) }
+        requires row { MeetsRow (with_entries self.old log.old.entries) message.now.block message.now.body }
+        requires last { NotesInLogOrder log.old.entries message.now.block (noted_in now message.now.tag message.now.body) }
         requires room { is_over log.old (row_of self.old log.old now message.now) ≡ false }
         ensures done { IsRowDone self.old self.new result (row_of self.old log.old now message.now) }
         ensures log { log.new ≡ record log.old { entries = (row_of self.old log.old now message.now).after.log } }
@@ -144,7 +144,7 @@ impl Cache {
     /// How many messages the row of the message sends.
     fn sends(&self, message: &Message) -> u8
         ensures { (entries : List LogEntry) (home now : ℕ) →
-            result ≡ length (row_by (logged self.now entries) home message.now.block now message.now.tag message.now.body).sends }
+            result ≡ length (row_by (with_entries self.now entries) home message.now.block now message.now.tag message.now.body).sends }
     {
         match message.body {
             Body::FwdGetS(_) | Body::FwdGetM(_, _) | Body::Inv(_) | Body::PutGo => 1,
@@ -157,7 +157,7 @@ impl Cache {
 
     fn sends_when_answered(&self, due: u8) -> u8
         ensures { (at : Logged) (home tag : ℕ) →
-            result ≡ length (completed_or_waiting at home (fixed_at self.now.cache.miss tag due)).sends }
+            result ≡ length (reply_or_wait at home (fixed_at self.now.cache.miss tag due)).sends }
     {
         match self.transactions.miss() {
             Some(miss) if miss.acks_in == due => 1,
@@ -166,7 +166,7 @@ impl Cache {
     }
 
     fn sends_when_acknowledged(&self) -> u8
-        ensures { (at : Logged) (home : ℕ) → result ≡ length (completed_or_waiting at home (acknowledged self.now.cache.miss)).sends }
+        ensures { (at : Logged) (home : ℕ) → result ≡ length (reply_or_wait at home (miss_with_ack self.now.cache.miss)).sends }
     {
         match self.transactions.miss() {
             Some(miss)

@@ -24,4 +24,4 @@ pub use laws::{
 };
 pub use looks::{Line, OpenMiss, OpenPut};
 pub use sn_model::{LineState, Look, Need, Out};
-pub use step::{CacheStep, Probe1};
+pub use step::{AccessProbe, CacheStep};

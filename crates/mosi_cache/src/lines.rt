@@ -6,7 +6,7 @@
 ghost use Rattle.std.specs.Prelude.{◌≡◌, ℕ, ◌*◌, ◌+◌, ◌<◌, ◌≤◌, ◌%◌, ◌&&◌, true, false, nat_le, length, slice_set, IfOk, IfSome, IsNone};
 ghost use Rattle.std.specs.Prelude.{not, Some};
 ghost use Rattle.sn_model.specs.Caches.{no_line, empty_lines, is_present, block_count, frames_taken};
-ghost use Rattle.mosi_cache.specs.Frames.{LinesData, HasFrame, closed, line_at, line_kept, completed, is_spared, may_leave, leaves};
+ghost use Rattle.mosi_cache.specs.Frames.{LinesData, HasFrame, cache_of_lines, line_at, line_kept, line_after_miss, is_spared, may_leave, leaves};
 ghost use Rattle.mosi_cache.specs.Frames.{lesser_of, leaving_at, IsLeastLeaving};
 
 mod restore;
@@ -190,7 +190,7 @@ impl Lines {
 
     /// The block's miss is complete: where it was for a write, the block's line is Modified, if it has one.
     pub fn complete(&mut self, block: BlockNo, need: Need)
-        ensures { self.new ≡ record self.old { lines = slice_set self.old.lines block (completed (line_at self.old.lines block) need) } }
+        ensures { self.new ≡ record self.old { lines = slice_set self.old.lines block (line_after_miss (line_at self.old.lines block) need) } }
     {
         if need == Need::Write
             && let Some(kept) = self.find(block)
@@ -202,7 +202,7 @@ impl Lines {
 
     /// Whether the lines take all frames of the block's set.
     pub fn is_full(&self, block: BlockNo) -> bool
-        ensures { result ≡ nat_le self.now.ways (frames_taken (closed self.now.lines) self.now.sets block) }
+        ensures { result ≡ nat_le self.now.ways (frames_taken (cache_of_lines self.now.lines) self.now.sets block) }
     {
         self.frames.set_full(block)
     }

@@ -5,7 +5,7 @@ use sn_model::Out;
 /// What a cache says of an access: the instruction may retire, it waits for the open put of its block, a miss is needed, a
 /// line of the set has to be evicted first, or the log has no room for the old content.
 #[derive(Clone, Copy, PartialEq, Eq, Debug)]
-pub enum Probe1 {
+pub enum AccessProbe {
     Ready,
     Waits,
     Miss,

@@ -11,11 +11,11 @@ use Rattle.sink_pieces.specs.Pieces.{Piece, Report, Ends, ends, after, Breaks}
 use Rattle.sink_pieces.proofs.PieceLaws.{after-append, after-nil, Breaks-more, Breaks-after}
 use Rattle.sink_pieces.proofs.SoFar.{SoFar, SoFar-more, SoFar-breaks, SoFar-whole}
 use Rattle.script_replay.specs.declared.job.ReportKind.TheVariants as replayed
-use Rattle.script_replay.specs.Played.{summed_up, end_now}
+use Rattle.script_replay.specs.Played.{summary_pieces_of, end_now}
 use Rattle.run_journals.specs.declared.entry.JournalEntry.{JournalEntry}
 use Rattle.node_run.specs.Pieces.{entry_lines, journal_pieces}
-use Rattle.node_run.specs.declared.job.RunReport.{RunReport}
-use Rattle.node_run.specs.declared.job.RunReport.TheVariants.{Summary, Trace, Journal}
+use Rattle.sn_base.specs.declared.report.RunReport.{RunReport}
+use Rattle.sn_base.specs.declared.report.RunReport.TheVariants.{Summary, Trace, Journal}
 use Rattle.node_run.specs.declared.job.RunShowing.{RunShowing}
 use Rattle.node_run.specs.Reported.{script_now, report_by_kind, report_now, HaveNumbers}
 
@@ -70,20 +70,20 @@ numbers-all journal i e h = subst (λ (l : List JournalEntry). HaveNumbers l) (t
 
 -- and then the summary
 module _ (m : MachineData) (journal : List JournalEntry) (watch : Option ℕ) (tallies : List (List ℕ)) where
-  pub script-all : (a b d : Ends) → b ≡ after a (journal_pieces journal) → d ≡ after b (summed_up (codes "# ") m watch tallies) →
+  pub script-all : (a b d : Ends) → b ≡ after a (journal_pieces journal) → d ≡ after b (summary_pieces_of (codes "# ") m watch tallies) →
       d ≡ after a (script_now m journal watch tallies)
   script-all a b d first second =
-      second ∙ ap (λ e. after e (summed_up (codes "# ") m watch tallies)) first
-      ∙ after-append a (journal_pieces journal) (summed_up (codes "# ") m watch tallies)
+      second ∙ ap (λ e. after e (summary_pieces_of (codes "# ") m watch tallies)) first
+      ∙ after-append a (journal_pieces journal) (summary_pieces_of (codes "# ") m watch tallies)
 
   pub script-breaks_first : (a b : Ends) → Breaks (journal_pieces journal) a b → Breaks (script_now m journal watch tallies) a b
-  script-breaks_first a b broken = Breaks-more (journal_pieces journal) (summed_up (codes "# ") m watch tallies) a b broken
+  script-breaks_first a b broken = Breaks-more (journal_pieces journal) (summary_pieces_of (codes "# ") m watch tallies) a b broken
 
-  pub script-breaks_second : (a b d : Ends) → b ≡ after a (journal_pieces journal) → Breaks (summed_up (codes "# ") m watch tallies) b d →
+  pub script-breaks_second : (a b d : Ends) → b ≡ after a (journal_pieces journal) → Breaks (summary_pieces_of (codes "# ") m watch tallies) b d →
       Breaks (script_now m journal watch tallies) a d
   script-breaks_second a b d first broken =
-      Breaks-after (journal_pieces journal) (summed_up (codes "# ") m watch tallies) a d
-      (subst (λ (e : Ends). Breaks (summed_up (codes "# ") m watch tallies) e d) first broken)
+      Breaks-after (journal_pieces journal) (summary_pieces_of (codes "# ") m watch tallies) a d
+      (subst (λ (e : Ends). Breaks (summary_pieces_of (codes "# ") m watch tallies) e d) first broken)
 
 -- a report that broke, of the kind that was asked for
 module _ (m : MachineData) (journal : List JournalEntry) (showing : RunShowing) (tallies : List (List ℕ)) (r : Result (Unit {0}) Failed) (before behind : Option (List ℕ)) where
@@ -94,7 +94,7 @@ module _ (m : MachineData) (journal : List JournalEntry) (showing : RunShowing) 
       BreaksIn (report_now m journal showing tallies)
   of_kind kind is h = subst (λ (k : RunReport). BreaksIn (report_by_kind k m journal showing tallies)) (sym is) h
 
-  pub summary-breaks : showing.report ≡ Summary → BreaksIn (summed_up [] m showing.watch tallies) →
+  pub summary-breaks : showing.report ≡ Summary → BreaksIn (summary_pieces_of [] m showing.watch tallies) →
       BreaksIn (report_now m journal showing tallies)
   summary-breaks is h = of_kind Summary is h
 

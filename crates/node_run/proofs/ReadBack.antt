@@ -7,7 +7,7 @@ use Rattle.sn_base.specs.Events.{event_fits}
 use Rattle.sn_base.specs.declared.event.Event.{Event}
 use Rattle.consistent_cuts.specs.Runs.{AllFit}
 use Rattle.text_lines.specs.Lines.{lines_from}
-use Rattle.sn_text.specs.Items.{most_items, is_skipped, followed, items_from}
+use Rattle.sn_text.specs.Items.{most_items, is_skipped, items_and, items_from}
 use Rattle.sn_text.specs.Script.{event_of, script_of}
 use Rattle.sn_text.specs.Text.{count_line, event_text, script_line}
 use Rattle.sn_text.specs.Written.{HasNumbers}
@@ -41,7 +41,7 @@ module _ (nodes : ℕ) (small : nodes ≤ 16) where
   unfolding items_from
   read-one line count text lines event events said back few h =
       let room : nat_le most_items count ≡ false = grind (arith, nat_tests, few) in
-      rw (said, back, room) (ap (followed (event ∷ [])) h)
+      rw (said, back, room) (ap (items_and (event ∷ [])) h)
 
   read-nothing : (count : ℕ) → Reads count [] []
   unfolding items_from lines_from

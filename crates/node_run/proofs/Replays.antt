@@ -16,7 +16,7 @@ use Rattle.script_replay.specs.declared.job.Showing.{Showing}
 use Rattle.script_replay.specs.declared.job.ReportKind.TheVariants.{Summary}
 use Rattle.script_replay.specs.Pieces.{summary_pieces, end_pieces, turn_pieces, turns_from}
 use Rattle.script_replay.specs.Pieces.{pieces_from, pieces_of}
-use Rattle.script_replay.specs.Probed.{answered, told_all as told_by_replay}
+use Rattle.script_replay.specs.Probed.{answers_along, told_all as told_by_replay}
 use Rattle.script_replay.proofs.Shown.{console_text-turn, console_text-turns}
 use Rattle.run_journals.specs.declared.entry.JournalEntry.{JournalEntry}
 use Rattle.run_journals.specs.Journal.{events_of, state_of, answers_of}
@@ -28,7 +28,7 @@ use Rattle.node_run.specs.Shown.{IsReplayedSo, output_by}
 
 -- what its probes are told
 told-answered : (image : ImageData) (config : Config) (s : State) (journal : List JournalEntry) →
-    told_in journal (map (λ step. step.answer) (run_of image config s (events_of journal))) ≡ answered image config s (events_of journal)
+    told_in journal (map (λ step. step.answer) (run_of image config s (events_of journal))) ≡ answers_along image config s (events_of journal)
 told-answered image config s [] = refl
 told-answered image config s (e ∷ journal) =
     ap (λ t. record { event = e.event; answer = (step_of image config s e.event).answer } ∷ t)

@@ -19,7 +19,7 @@ use Rattle.sink_pieces.specs.Pieces.{Piece, Ends, ends, after, Breaks, console_p
 use Rattle.sink_pieces.proofs.PieceLaws.{report_text-append, after-append, after-console_piece, Breaks-after}
 use Rattle.sink_pieces.proofs.Begun.{report-after, report-begun}
 use Rattle.script_replay.specs.Pieces.{trace_pieces, summary_pieces, end_pieces}
-use Rattle.script_replay.specs.Played.{summed_up}
+use Rattle.script_replay.specs.Played.{summary_pieces_of}
 use Rattle.script_replay.specs.Shown.{IsLawful}
 use Rattle.script_replay.proofs.Lawful.{run-lawful}
 use Rattle.script_replay.proofs.ReadBack.{trace-read}
@@ -33,8 +33,8 @@ use Rattle.node_threads.specs.Finishes.{IsRunOf, finish_by, Ends as EndsSo}
 use Rattle.node_threads.specs.Told.{told_all}
 use Rattle.node_run.specs.declared.ending.Ending.{Ending}
 use Rattle.node_run.specs.declared.job.Run.{Run}
-use Rattle.node_run.specs.declared.job.RunReport.{RunReport}
-use Rattle.node_run.specs.declared.job.RunReport.TheVariants.{Summary, Trace, Journal}
+use Rattle.sn_base.specs.declared.report.RunReport.{RunReport}
+use Rattle.sn_base.specs.declared.report.RunReport.TheVariants.{Summary, Trace, Journal}
 use Rattle.node_run.specs.Endings.{ending_by, flat_after, ending_of}
 use Rattle.node_run.specs.Pieces.{begins, tallies_by, entry_lines, journal_text, journal_pieces, summary_by, report_by}
 use Rattle.node_run.specs.Reported.{report_by_kind, report_now, HaveNumbers, ended_now, IsReported, IsUnreported}
@@ -98,11 +98,11 @@ module _ (r : Run) (began : Began) (m : MachineData) (journal : List JournalEntr
   -- the report
 
   summary-is : (mark : List ℕ) (probes : List Meter) (tallies : List (List ℕ)) → tallies ≡ tallies_by r probes journal →
-      summed_up mark m r.showing.watch tallies ≡ summary_by mark r probes journal
+      summary_pieces_of mark m r.showing.watch tallies ≡ summary_by mark r probes journal
   summary-is mark probes tallies are =
-      ap (λ (i : ImageData). summed_up mark (record m { image = i }) r.showing.watch tallies) by_run.image
-      ∙ ap (λ (c : Config). summed_up mark (record m { image = r.program; config = c }) r.showing.watch tallies) by_run.config
-      ∙ ap (λ (s : State). summed_up mark
+      ap (λ (i : ImageData). summary_pieces_of mark (record m { image = i }) r.showing.watch tallies) by_run.image
+      ∙ ap (λ (c : Config). summary_pieces_of mark (record m { image = r.program; config = c }) r.showing.watch tallies) by_run.config
+      ∙ ap (λ (s : State). summary_pieces_of mark
       (record m { image = r.program; config = r.config; state = s }) r.showing.watch tallies) by_run.state
       ∙ ap (λ (n : ℕ). summary_pieces mark r.program r.config r.showing.watch tallies n (state_of (begins r) journal)) by_run.applied
       ∙ ap (λ (t : List (List ℕ)). summary_pieces mark r.program r.config r.showing.watch t (length journal)
@@ -113,7 +113,7 @@ module _ (r : Run) (began : Began) (m : MachineData) (journal : List JournalEntr
   unfolding end_pieces
   report-by_kind Summary probes tallies are = summary-is [] probes tallies are
   report-by_kind Trace probes tallies are =
-      ap (λ (s : State). trace_pieces s.committed ++ summed_up (codes "# ") m r.showing.watch tallies) by_run.state
+      ap (λ (s : State). trace_pieces s.committed ++ summary_pieces_of (codes "# ") m r.showing.watch tallies) by_run.state
       ∙ ap (λ (t : List Piece). trace_pieces (state_of (begins r) journal).committed ++ t) (summary-is (codes "# ") probes tallies are)
   report-by_kind Journal probes tallies are =
       ap (λ (t : List Piece). journal_pieces journal ++ t) (summary-is (codes "# ") probes tallies are)
@@ -208,7 +208,7 @@ module _ (r : Run) (began : Began) (m : MachineData) (journal : List JournalEntr
         )
 
     run-cut_short : ((c : Option (List ℕ)) → Breaks (report_now m journal r.showing (tallies_of told)) (ends c report) (ends c shown)) →
-        IsBrokenOff r probes (ends console report) (ends written shown) told
+        IsBrokenOff r probes was is (ends console report) (ends written shown) told
     run-cut_short put =
         let part : Breaks (report_by r.showing.report r probes journal) (ends written report) (ends written shown) =
         subst (λ (t : List Piece). Breaks t (ends written report) (ends written shown)) (report-is probes told are) (put written) in (
@@ -241,23 +241,26 @@ module _ (r : Run) (began : Began) (m : MachineData) (journal : List JournalEntr
     stopped none =
         subst (λ (f : Finish). EndsSo began journal f m.state.released console written was is) (stopped-by m.config.nodes m found none) so
 
-    run-stopped : ended_now m found ≡ None → shown ≡ report → IsBrokenOff r probes (ends console report) (ends written shown) told
+    run-stopped : ended_now m found ≡ None → shown ≡ report → IsBrokenOff r probes was is (ends console report) (ends written shown) told
     run-stopped none same =
         let failed = stopped none in (
           journal,
           knows-all probes told are,
-          inl (record {
-            journal_is = its-journal;
-            lawful = lawful;
-            output =
-                record {
-                  put = failed.0.more;
-                  left = failed.0.begun.rest;
-                  whole = failed.0.begun.whole ∙ released-is;
-                  written = failed.0.put;
-                };
-            report = same;
-          }),
+          inl (
+            failed.1,
+            record {
+              journal_is = its-journal;
+              lawful = lawful;
+              output =
+                  record {
+                    put = failed.0.more;
+                    left = failed.0.begun.rest;
+                    whole = failed.0.begun.whole ∙ released-is;
+                    written = failed.0.put;
+                  };
+              report = same;
+            },
+          ),
         )
 
     pub run-reported : (ending : Ending) → IsReported m journal found r.showing (tallies_of told) ending report shown →
@@ -265,6 +268,6 @@ module _ (r : Run) (began : Began) (m : MachineData) (journal : List JournalEntr
     run-reported ending h = run-done found ending was is console written report shown probes told h.ended so are h.numbers h.values h.put
 
     pub run-unreported : IsUnreported m journal found r.showing (tallies_of told) report shown →
-        IsBrokenOff r probes (ends console report) (ends written shown) told
+        IsBrokenOff r probes was is (ends console report) (ends written shown) told
     run-unreported (inl none) = run-stopped none.0 none.1
     run-unreported (inr h) = run-cut_short found h.ending was is console written report shown probes told h.ended so are h.broken

@@ -11,8 +11,8 @@ use Rattle.script_replay.specs.Probed.{tallies_due}
 use Rattle.run_journals.specs.declared.entry.JournalEntry.{JournalEntry}
 use Rattle.run_journals.specs.Journal.{Began, events_of, state_of}
 use Rattle.node_run.specs.declared.job.Run.{Run}
-use Rattle.node_run.specs.declared.job.RunReport.{RunReport}
-use Rattle.node_run.specs.declared.job.RunReport.TheVariants.{Summary, Trace, Journal}
+use Rattle.sn_base.specs.declared.report.RunReport.{RunReport}
+use Rattle.sn_base.specs.declared.report.RunReport.TheVariants.{Summary, Trace, Journal}
 
 -- what a run begins with
 abbrev pub begins : Run → Began

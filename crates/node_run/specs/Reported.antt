@@ -5,23 +5,23 @@ use Rattle.sn_text.specs.Written.{HasNumbers, HasValues}
 use Rattle.sn_machine.specs.Machine.{MachineData, flat_of}
 use Rattle.sink_pieces.specs.Pieces.{Piece, ends, after, Breaks}
 use Rattle.script_replay.specs.declared.job.ReportKind.TheVariants as replayed
-use Rattle.script_replay.specs.Played.{summed_up, end_now}
+use Rattle.script_replay.specs.Played.{summary_pieces_of, end_now}
 use Rattle.run_journals.specs.declared.entry.JournalEntry.{JournalEntry}
 use Rattle.shared_machine.specs.declared.finish.Finish.{Finish}
 use Rattle.node_run.specs.declared.ending.Ending.{Ending}
-use Rattle.node_run.specs.declared.job.RunReport.{RunReport}
-use Rattle.node_run.specs.declared.job.RunReport.TheVariants.{Summary, Trace, Journal}
+use Rattle.sn_base.specs.declared.report.RunReport.{RunReport}
+use Rattle.sn_base.specs.declared.report.RunReport.TheVariants.{Summary, Trace, Journal}
 use Rattle.node_run.specs.declared.job.RunShowing.{RunShowing}
 use Rattle.node_run.specs.Endings.{ending_by}
 use Rattle.node_run.specs.Pieces.{journal_pieces}
 
 -- the journal, and then the summary
 abbrev pub script_now : MachineData → List JournalEntry → Option ℕ → List (List ℕ) → List Piece
-script_now m journal watch tallies = journal_pieces journal ++ summed_up (codes "# ") m watch tallies
+script_now m journal watch tallies = journal_pieces journal ++ summary_pieces_of (codes "# ") m watch tallies
 
 -- the report of a run with this journal, where these are the probes' tallies
 abbrev pub report_by_kind : RunReport → MachineData → List JournalEntry → RunShowing → List (List ℕ) → List Piece
-report_by_kind Summary m journal showing tallies = summed_up [] m showing.watch tallies
+report_by_kind Summary m journal showing tallies = summary_pieces_of [] m showing.watch tallies
 report_by_kind Trace m journal showing tallies = end_now m (record { report = replayed.Trace; watch = showing.watch }) tallies
 report_by_kind Journal m journal showing tallies = script_now m journal showing.watch tallies
 

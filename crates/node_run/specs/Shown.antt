@@ -5,7 +5,7 @@ use Rattle.rv_core.specs.Execution.{IsExecution, out_of}
 use Rattle.sn_base.specs.Config.{config_fits}
 use Rattle.sn_base.specs.Rules.{AreRules}
 use Rattle.consistent_cuts.specs.Runs.{AllFit}
-use Rattle.sn_io.specs.Outside.{followed_by}
+use Rattle.sn_io.specs.Outside.{Rose, followed_by}
 use Rattle.sn_text.specs.Script.{script_of}
 use Rattle.sn_text.specs.Trace.{trace_of}
 use Rattle.sn_text.specs.Written.{trace_text}
@@ -18,16 +18,17 @@ use Rattle.run_journals.specs.declared.entry.JournalEntry.{JournalEntry}
 use Rattle.run_journals.specs.Journal.{IsDue, events_of, state_of}
 use Rattle.node_run.specs.declared.ending.Ending.{Ending}
 use Rattle.node_run.specs.declared.job.Run.{Run}
-use Rattle.node_run.specs.declared.job.RunReport.TheVariants.{Trace, Journal}
+use Rattle.sn_base.specs.declared.report.RunReport.TheVariants.{Trace, Journal}
 use Rattle.node_run.specs.Endings.{ending_of}
 use Rattle.node_run.specs.Pieces.{begins, replay_of, journal_text, summary_by, report_by, run_pieces}
+use Rattle.sn_base.specs.declared.limits.TheConstants.{EVENTS}
 
 -- a run that may begin: its sizes fit, its rules are ones for so many nodes, there are at most a million events, and it watches a
 -- word of memory
 pub record MayBegin (r : Run) : Type 0 where
   pub fits : config_fits r.config ≡ true
   pub ruled : AreRules r.rules r.config.nodes
-  pub few : r.budget ≤ 1000000
+  pub few : r.budget ≤ EVENTS
   pub watched : IsWatchable r.showing.watch
 
 -- the journal of a run: each of its events was due for its worker, which is a node's, and fits the machine, and there are no more
@@ -113,6 +114,7 @@ abbrev pub IsDone : Run → List Meter → Ending → Ends → Ends → List Met
 IsDone r probes ending before behind told =
     (journal : List JournalEntry) × IsRunToEnd r probes ending journal before behind × KnowAll r journal probes told
 
-abbrev pub IsBrokenOff : Run → List Meter → Ends → Ends → List Meter → Type 0
-IsBrokenOff r probes before behind told = (journal : List JournalEntry) × KnowAll r journal probes told × (
-    IsStopped r journal before behind ⊎ ((ending : Ending) × IsCutShort r probes ending journal before behind))
+-- it is stopped only where the console's count of faults rose
+abbrev pub IsBrokenOff : Run → List Meter → ℕ → ℕ → Ends → Ends → List Meter → Type 0
+IsBrokenOff r probes was is before behind told = (journal : List JournalEntry) × KnowAll r journal probes told × (
+    (Rose was is × IsStopped r journal before behind) ⊎ ((ending : Ending) × IsCutShort r probes ending journal before behind))

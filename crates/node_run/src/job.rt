@@ -1,17 +1,5 @@
 //! What is to be run, and what is shown of it.
-use sn_base::{Config, Image, Rules};
-
-/// What the report has of a run before the summary, with which it ends in any case.
-#[derive(Clone, Copy, PartialEq, Eq, Debug)]
-pub enum RunReport {
-    /// Nothing.
-    Summary,
-    /// The committed trace, one record a line. The summary's lines are marked as comments of a trace.
-    Trace,
-    /// Each event as a line of a script, after a comment that names the worker in whose turn it was applied. The summary's
-    /// lines are marked as comments of a script.
-    Journal,
-}
+use sn_base::{Config, Image, Rules, RunReport};
 
 /// What a run shows: a report, and a word of memory besides.
 #[derive(Clone, Copy, PartialEq, Eq, Debug)]

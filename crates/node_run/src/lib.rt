@@ -13,6 +13,6 @@ mod reporting;
 mod running;
 
 pub use ending::Ending;
-pub use job::{Run, RunReport, RunShowing};
+pub use job::{Run, RunShowing};
 pub use running::{RunFault, run};
 pub use sn_base::Rules;

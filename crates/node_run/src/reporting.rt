@@ -9,10 +9,11 @@ ghost use Rattle.node_run.specs.Pieces.{entry_lines, journal_pieces};
 ghost use Rattle.node_run.specs.Reported.{script_now, report_now, HaveNumbers, ended_now, IsReported, IsUnreported};
 
 use crate::ending::{Ending, how_ended};
-use crate::job::{RunReport, RunShowing};
+use crate::job::RunShowing;
 use node_threads::{Finished, JournalEntry};
 use script_replay::{ReportKind, Showing, put_end, put_summary};
 use sink_pieces::put_report;
+use sn_base::RunReport;
 use sn_io::{Failed, Sink};
 use sn_machine::Machine;
 use sn_probe::ProbeSet;

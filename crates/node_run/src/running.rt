@@ -7,6 +7,7 @@ ghost use Rattle.sink_pieces.specs.Pieces.{ends};
 ghost use Rattle.sn_probe.specs.Probes.{meters_in};
 ghost use Rattle.shared_machine.specs.Shared.{begins_with};
 ghost use Rattle.node_run.specs.Shown.{MayBegin, IsDone, IsBrokenOff};
+ghost use Rattle.sn_base.specs.declared.limits.TheConstants.{EVENTS};
 
 use crate::ending::Ending;
 use crate::job::Run;
@@ -42,7 +43,7 @@ fn shared_for(
 ) -> Option<SharedMachine>
     requires sizes { config_fits config ≡ true }
     requires ruled { AreRules rules config.nodes }
-    requires few { budget ≤ 1000000 }
+    requires few { budget ≤ EVENTS }
     ensures { IfSome result
         (λ s. begins_with s ≡ record { image = program; config = config; rules = rules; seed = seed; budget = budget }) }
 {
@@ -75,6 +76,7 @@ pub fn run<T: Threads + Wait + Sync, C: Sink + Send, R: Sink, G: Gate + Sync>(
 
     // A sink broke: the console, and the report has nothing, or the report, after all of the console's text.
     ensures sink { result ≡ Err RunFault.Sink → IsBrokenOff job (meters_in first tally step probes.old.probes.items)
+        (C.faults console.old) (C.faults console.new)
         (ends (C.written console.old) (R.written report.old)) (ends (C.written console.new) (R.written report.new))
         (meters_in first tally step probes.new.probes.items) }
 

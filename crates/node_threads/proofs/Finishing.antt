@@ -12,7 +12,7 @@ use Rattle.run_journals.specs.Journal.{Began, state_of, numbers_of}
 use Rattle.shared_machine.specs.declared.finish.Finish.{Finish}
 use Rattle.shared_machine.specs.declared.finish.Finish.TheVariants.{Over, CutOff, Budget, Stopped}
 use Rattle.shared_machine.specs.Shared.{LockedData, began_with, refusal_of, cut_off_or_spent}
-use Rattle.shared_machine.specs.Kept.{FollowsJournal}
+use Rattle.shared_machine.specs.Invariant.{FollowsJournal}
 use Rattle.node_threads.specs.Finishes.{finish_by, IsRunOf, Put, Ends}
 
 pub run-of : (s : LockedData) (began : Began) (m : MachineData) (journal : List JournalEntry) (answers : List Answer) → FollowsJournal s →

@@ -3,12 +3,12 @@ use Rattle.std.proofs.Common.{◌≡◌, ℕ, ◌+◌, ◌<◌, ◌≤◌, List,
 use Rattle.std.proofs.lemmas.List.{drop_more, drop_all, map-id}
 use Rattle.std.proofs.lemmas.Simd.{map-map}
 use Rattle.sn_base.specs.declared.event.Answer.{Answer}
-use Rattle.sn_probe.specs.Probes.{Meter, Told, told_of, told_from}
+use Rattle.sn_probe.specs.Probes.{Meter, Observation, told_of, told_from}
 use Rattle.run_journals.specs.declared.entry.JournalEntry.{JournalEntry}
 use Rattle.node_threads.specs.Told.{told_in, told_all}
 
 -- what is left of a journal after its first entries
-abbrev pub left : List JournalEntry → List Answer → ℕ → List Told
+abbrev pub left : List JournalEntry → List Answer → ℕ → List Observation
 left journal answers place = told_in (drop place journal) (drop place answers)
 
 -- the first entries were told: told of what is left, the probes know all
@@ -30,8 +30,8 @@ pub told-next : (journal : List JournalEntry) (answers : List Answer) (place num
     e ≡ get_or journal place e → a ≡ get_or answers place a → number ≡ place + 1 → behind ≡ map (told_of number e.event a) now_ →
     IsToldUpTo journal answers place before now_ → IsToldUpTo journal answers (place + 1) before behind
 told-next journal answers place number e a before now_ behind there answered is_entry is_answer is_number told h =
-    let rest : List Told = left journal answers (place + 1) in
-    let one : Told = record { event = e.event; answer = a } in
+    let rest : List Observation = left journal answers (place + 1) in
+    let one : Observation = record { event = e.event; answer = a } in
     let split : left journal answers place ≡ one ∷ rest =
     left-more journal answers place e a there answered
     ∙ ap (λ (x : JournalEntry). record { event = x.event; answer = get_or answers place a } ∷ rest) (sym is_entry)

@@ -1,11 +1,11 @@
 -- What probes are told of a run, once its workers have ended.
 use Rattle.std.specs.Prelude.{ℕ, List, [], ◌∷◌, map}
 use Rattle.sn_base.specs.declared.event.Answer.{Answer}
-use Rattle.sn_probe.specs.Probes.{Meter, Told, told_from}
+use Rattle.sn_probe.specs.Probes.{Meter, Observation, told_from}
 use Rattle.run_journals.specs.declared.entry.JournalEntry.{JournalEntry}
 
 -- a journal's events, each with its answer
-abbrev pub told_in : List JournalEntry → List Answer → List Told
+abbrev pub told_in : List JournalEntry → List Answer → List Observation
 told_in [] answers = []
 told_in (e ∷ journal) [] = []
 told_in (e ∷ journal) (answer ∷ answers) = record { event = e.event; answer = answer } ∷ told_in journal answers

@@ -1,6 +1,6 @@
 //! The run's end, with all in one hand.
 ghost use Rattle.std.specs.Prelude.{◌≡◌, ℕ, ◌<◌, ◌≤◌, List, Option, Some, IsOk, IsErr, is_err, if◌then◌else◌, nat_le, length};
-ghost use Rattle.sn_console.specs.Ends.{passed, taken, AreEnds};
+ghost use Rattle.sn_console.specs.Ends.{bytes_passed, bytes_taken, AreEnds};
 ghost use Rattle.sn_console.specs.Handed.{IsFirstOf};
 ghost use Rattle.shared_machine.specs.Shared.{refusal_of};
 ghost use Rattle.node_threads.specs.Finishes.{Put};
@@ -54,9 +54,9 @@ pub(crate) fn put_rest<C: Sink>(
     console: &mut C,
 ) -> Result<(), Failed>
     requires ends { AreEnds outbox inbox }
-    requires passed { IsFirstOf (passed outbox) released.now }
+    requires passed { IsFirstOf (bytes_passed outbox) released.now }
     ensures failed { IsErr drained → IsErr result }
-    ensures put { (before : Option (List ℕ)) (was : ℕ) → Put drained (taken inbox) before (C.written console.old) was (C.faults console.old)
+    ensures put { (before : Option (List ℕ)) (was : ℕ) → Put drained (bytes_taken inbox) before (C.written console.old) was (C.faults console.old)
         → Put result released.now before (C.written console.new) was (C.faults console.new) }
     ensures later { C.faults console.old ≤ C.faults console.new }
 {

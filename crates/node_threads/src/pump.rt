@@ -1,7 +1,7 @@
 //! The console's worker.
 ghost use Rattle.std.specs.Prelude.{◌≤◌, OnOk, OnErr};
 ghost use Rattle.sn_io.specs.Outside.{Rose};
-ghost use Rattle.sn_console.specs.Ends.{taken, SameInbox};
+ghost use Rattle.sn_console.specs.Ends.{bytes_taken, SameInbox};
 ghost use Rattle.sn_console.specs.Handed.{IsHandedOn, IsBegun};
 
 use crate::bell::Bell;
@@ -19,8 +19,8 @@ pub(crate) fn pump<L: RunName, T: Wait, C: Sink>(
     bell: &Bell,
 ) -> Result<(), Failed>
     ensures end { SameInbox inbox.old inbox.new }
-    ensures ok { OnOk result (IsHandedOn (taken inbox.old) (taken inbox.new) (C.written console.old) (C.written console.new)) }
-    ensures err { OnErr result (IsBegun (taken inbox.old) (taken inbox.new) (C.written console.old) (C.written console.new)) }
+    ensures ok { OnOk result (IsHandedOn (bytes_taken inbox.old) (bytes_taken inbox.new) (C.written console.old) (C.written console.new)) }
+    ensures err { OnErr result (IsBegun (bytes_taken inbox.old) (bytes_taken inbox.new) (C.written console.old) (C.written console.new)) }
     ensures later { C.faults console.old ≤ C.faults console.new }
     ensures cause { OnErr result (Rose (C.faults console.old) (C.faults console.new)) }
 {

@@ -2,7 +2,7 @@
 ghost use Rattle.std.specs.Prelude.{◌≡◌, ℕ, ◌+◌, ◌<◌, ◌≤◌, List, [], length, Option, IfOk, OnErr};
 ghost use Rattle.sn_probe.specs.Probes.{meters_in};
 ghost use Rattle.sn_console.specs.declared.ends.Outbox.{Outbox};
-ghost use Rattle.sn_console.specs.Ends.{passed, taken, AreEnds, SameInbox};
+ghost use Rattle.sn_console.specs.Ends.{bytes_passed, bytes_taken, AreEnds, SameInbox};
 ghost use Rattle.shared_machine.specs.Shared.{begins_with};
 ghost use Rattle.node_threads.specs.Finishes.{IsRunOf, Ends, Put};
 ghost use Rattle.node_threads.specs.Told.{told_all};
@@ -39,8 +39,8 @@ fn turns<L: RunName + Send + Sync, T: Threads + Wait + Sync, C: Sink + Send, G: 
 ) -> Result<(), Failed>
     requires { 0 < length slots.old }
     ensures end { SameInbox inbox.old inbox.new }
-    ensures put { taken inbox.old ≡ [] →
-        Put result (taken inbox.new) (C.written console.old) (C.written console.new) (C.faults console.old) (C.faults console.new) }
+    ensures put { bytes_taken inbox.old ≡ [] →
+        Put result (bytes_taken inbox.new) (C.written console.old) (C.written console.new) (C.faults console.old) (C.faults console.new) }
     ensures later { C.faults console.old ≤ C.faults console.new }
 {
     let bell = Bell::new();
@@ -79,7 +79,7 @@ fn finish<L: RunName, C: Sink>(
     requires ends { (outbox : Outbox) → L.of_ring outbox → AreEnds outbox inbox }
     ensures run { IsRunOf L.began result.machine result.journal.items result.answers.items }
     ensures ends { (before : Option (List ℕ)) (was : ℕ) →
-        Put drained (taken inbox) before (C.written console.old) was (C.faults console.old)
+        Put drained (bytes_taken inbox) before (C.written console.old) was (C.faults console.old)
         → Ends L.began result.journal.items result.finish result.machine.state.released before (C.written console.new) was
         (C.faults console.new) }
     ensures later { C.faults console.old ≤ C.faults console.new }
@@ -127,7 +127,7 @@ fn run_named<L: RunName + Send + Sync, T: Threads + Wait + Sync, C: Sink + Send,
     requires began { begins_with shared ≡ L.began }
     requires ring { L.of_ring outbox }
     requires ends { (other : Outbox) → L.of_ring other → AreEnds other inbox }
-    requires fresh { (passed outbox ≡ []) × (taken inbox ≡ []) }
+    requires fresh { (bytes_passed outbox ≡ []) × (bytes_taken inbox ≡ []) }
     ensures memory { OnErr result (console.new ≡ console.old) }
     ensures run { IfOk result (λ f. IsRunOf L.began f.machine f.journal.items f.answers.items) }
     ensures ends { IfOk result (λ f. Ends L.began f.journal.items f.finish f.machine.state.released

@@ -7,18 +7,19 @@ use Rattle.sn_base.specs.Rules.{rules_fit}
 use Rattle.option_values.specs.Values.{Text, number_below, number_in, number_by}
 use Rattle.option_values.specs.declared.number.NumberRule.{NumberRule}
 use Rattle.option_values.specs.declared.run.RunRules.{RunRules}
+use Rattle.sn_base.specs.declared.limits.TheConstants.{EVENTS}
 
 abbrev pub interval_rule : NumberRule
-interval_rule = record { least = 1; greatest = 1000000; default = 100 }
+interval_rule = record { least = 1; greatest = EVENTS; default = 100 }
 
 abbrev pub wait_rule : NumberRule
-wait_rule = record { least = 1; greatest = 1000000; default = 20000 }
+wait_rule = record { least = 1; greatest = EVENTS; default = 20000 }
 
 abbrev pub budget_rule : NumberRule
-budget_rule = record { least = 1; greatest = 1000000; default = 1000000 }
+budget_rule = record { least = 1; greatest = EVENTS; default = EVENTS }
 
 abbrev pub lose_rule : NumberRule
-lose_rule = record { least = 0; greatest = 1000000; default = 0 }
+lose_rule = record { least = 0; greatest = EVENTS; default = 0 }
 
 abbrev pub seed_rule : NumberRule
 seed_rule = record { least = 0; greatest = 2 ^ 64 - 1; default = 1 }
@@ -39,7 +40,7 @@ switch_in nodes (letter ∷ node) =
 abbrev pub kill_in : ℕ → Text → Option (ℕ × ℕ)
 kill_in nodes text =
     option_and_then (λ switch. option_map (λ events. (switch, events))
-    (number_in 0 1000000 (after_first (λ c. c == 64) text))) (switch_in nodes (before_first (λ c. c == 64) text))
+    (number_in 0 EVENTS (after_first (λ c. c == 64) text))) (switch_in nodes (before_first (λ c. c == 64) text))
 
 -- the same of an option that is given or isn't
 abbrev pub kill_by : ℕ → Option Text → Option (Option (ℕ × ℕ))
@@ -57,4 +58,4 @@ run_rules_by nodes interval wait lose_every kill budget seed =
 
 -- whether a run on so many nodes can go by them
 abbrev pub run_rules_fit : ℕ → RunRules → Bool
-run_rules_fit nodes r = rules_fit nodes r.rules && lies_in 1 1000000 r.budget
+run_rules_fit nodes r = rules_fit nodes r.rules && lies_in 1 EVENTS r.budget

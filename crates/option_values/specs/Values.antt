@@ -8,6 +8,7 @@ use Rattle.sn_base.specs.Blocks.{ram_start, ram_size}
 use Rattle.sn_base.specs.Config.{lies_in}
 use Rattle.sn_base.specs.declared.config.Config.{Config}
 use Rattle.option_values.specs.declared.number.NumberRule.{NumberRule}
+use Rattle.sn_base.specs.declared.limits.TheConstants.{EVENTS}
 
 abbrev pub Text : Type 0
 Text = List ℕ
@@ -66,4 +67,4 @@ watch_by (Some text) = option_map (λ address. Some address) (address_in text)
 
 -- the size of a demonstration
 abbrev pub demo_size : Text → Option ℕ
-demo_size = number_in 1 1000000
+demo_size = number_in 1 EVENTS

@@ -2,8 +2,10 @@
 ghost use Rattle.std.specs.Prelude.{◌≡◌, ◌≤◌, true, IfSome, option_map};
 ghost use Rattle.sn_base.specs.Config.{lies_in};
 ghost use Rattle.option_values.specs.Values.{number_in, number_by, demo_size};
+ghost use Rattle.sn_base.specs.declared.limits.TheConstants.{EVENTS};
 
 use crate::digits::number_in_radix;
+use sn_base::EVENTS;
 
 /// How many digits a number may have.
 const DIGITS: usize = 20;
@@ -43,28 +45,28 @@ pub const LOG: NumberRule = NumberRule {
 
 pub const INTERVAL: NumberRule = NumberRule {
     least: 1,
-    greatest: 1_000_000,
+    greatest: EVENTS,
     default: 100,
 };
 
 pub const WAIT: NumberRule = NumberRule {
     least: 1,
-    greatest: 1_000_000,
+    greatest: EVENTS,
     default: 20_000,
 };
 
 /// Moves of messages between two that are lost; with 0 none is.
 pub const LOSE_EVERY: NumberRule = NumberRule {
     least: 0,
-    greatest: 1_000_000,
+    greatest: EVENTS,
     default: 0,
 };
 
 /// Events of a run.
 pub const BUDGET: NumberRule = NumberRule {
     least: 1,
-    greatest: 1_000_000,
-    default: 1_000_000,
+    greatest: EVENTS,
+    default: EVENTS,
 };
 
 pub const SEED: NumberRule = NumberRule {
@@ -105,16 +107,16 @@ impl NumberRule {
 /// How large a demonstration is: 1 to 1,000,000 events.
 pub fn read_demo_size(text: &str) -> Option<u32>
     ensures size { result ≡ demo_size text.now }
-    ensures inside { IfSome result (λ size. lies_in 1 1000000 size ≡ true) }
+    ensures inside { IfSome result (λ size. lies_in 1 EVENTS size ≡ true) }
 {
-    let size = read_number(text, 1, 1_000_000)?;
+    let size = read_number(text, 1, EVENTS)?;
     Some(size as u32)
 }
 
 /// After how many events something happens: 0 to 1,000,000.
 pub(crate) fn read_events(text: &str) -> Option<u32>
-    ensures { result ≡ number_in 0 1000000 text.now }
+    ensures { result ≡ number_in 0 EVENTS text.now }
 {
-    let events = read_number(text, 0, 1_000_000)?;
+    let events = read_number(text, 0, EVENTS)?;
     Some(events as u32)
 }

@@ -5,6 +5,7 @@ ghost use Rattle.sn_base.specs.Config.{lies_in};
 ghost use Rattle.sn_base.specs.Rules.{kill_fits};
 ghost use Rattle.option_values.specs.Runs.{interval_rule, wait_rule, budget_rule, lose_rule, node_in, switch_in, kill_in, kill_by};
 ghost use Rattle.option_values.specs.Runs.{run_rules_by, run_rules_fit};
+ghost use Rattle.sn_base.specs.declared.limits.TheConstants.{EVENTS};
 
 use crate::digits::number_in_radix;
 use crate::number::{BUDGET, INTERVAL, LOSE_EVERY, SEED, WAIT, read_events};
@@ -102,7 +103,7 @@ fn read_lose_every(given: Option<&str>) -> Option<u32>
 
 fn read_budget(given: Option<&str>) -> Option<u32>
     ensures budget { result ≡ number_by budget_rule (option_map (λ text. text.now) given.entry) }
-    ensures inside { IfSome result (λ budget. lies_in 1 1000000 budget ≡ true) }
+    ensures inside { IfSome result (λ budget. lies_in 1 EVENTS budget ≡ true) }
 {
     let budget = BUDGET.read(given)?;
     Some(budget as u32)

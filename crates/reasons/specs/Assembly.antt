@@ -5,7 +5,7 @@ use Rattle.std.specs.List.{position}
 use Rattle.rv_asm.specs.declared.fault.AsmCause.{AsmCause}
 use Rattle.rv_asm.specs.declared.fault.AsmCause.TheVariants.{TooLong, BadLine, OutOfRange, LabelTwice, TooManyWords, NoLabel}
 use Rattle.reasons.specs.declared.assembly.TheConstants.{PSEUDOS}
-use Rattle.reasons.specs.Reason.{shown, place, seen, too_long}
+use Rattle.reasons.specs.Reason.{escaped_text, place, seen, too_long}
 use Rattle.reasons.specs.Places.{line_at}
 use Rattle.reasons.specs.Hints.{front_to, back_from}
 
@@ -35,11 +35,11 @@ abbrev pub behind_comma : List ℕ → List ℕ
 behind_comma text = back_from (position (λ byte. nat_eq byte 44) text) text
 
 -- a byte of what stands for a pseudoinstruction: A, B and C are its operands
-abbrev pub filled : List ℕ → ℕ → List ℕ
-filled operands byte =
-    if nat_eq byte 65 then shown (word_in operands)
-    else if nat_eq byte 66 then shown (word_in (behind_comma operands))
-    else if nat_eq byte 67 then shown (word_in (behind_comma (behind_comma operands)))
+abbrev pub operand_or_byte : List ℕ → ℕ → List ℕ
+operand_or_byte operands byte =
+    if nat_eq byte 65 then escaped_text (word_in operands)
+    else if nat_eq byte 66 then escaped_text (word_in (behind_comma operands))
+    else if nat_eq byte 67 then escaped_text (word_in (behind_comma (behind_comma operands)))
     else byte ∷ []
 
 -- what stands for a mnemonic, by a table
@@ -52,16 +52,16 @@ pseudos = map (λ row. (row.0.now, row.1.now)) PSEUDOS.now
 
 -- a text, and then what to write in place of a pseudoinstruction
 unfoldable pub pseudo : List ℕ → List ℕ → List ℕ → List ℕ
-pseudo text line template = text ++ shown (word_in line) ++ codes " is a pseudoinstruction, which this assembler leaves out; write "
-    ++ flat_map (filled (behind_word line)) template
+pseudo text line template = text ++ escaped_text (word_in line) ++ codes " is a pseudoinstruction, which this assembler leaves out; write "
+    ++ flat_map (operand_or_byte (behind_word line)) template
 
 abbrev pub formless_by : List ℕ → List ℕ → Option (List ℕ) → List ℕ
 formless_by text line None = text ++ codes "this line is no instruction" ++ seen (Some line)
 formless_by text line (Some template) = pseudo text line template
 
-abbrev pub formless : List ℕ → Option (List ℕ) → List ℕ
-formless text None = text ++ codes "this line is no instruction"
-formless text (Some line) = formless_by text line (instead_of pseudos (word_in line))
+abbrev pub formless_text : List ℕ → Option (List ℕ) → List ℕ
+formless_text text None = text ++ codes "this line is no instruction"
+formless_text text (Some line) = formless_by text line (instead_of pseudos (word_in line))
 
 -- the line that is blamed
 abbrev pub line_of : AsmCause → Option ℕ
@@ -75,7 +75,7 @@ line_of (NoLabel number) = Some number
 -- what is wrong there
 abbrev pub what_of : List ℕ → List ℕ → AsmCause → List ℕ
 what_of text bytes TooLong = too_long text 16777216
-what_of text bytes (BadLine number) = formless text (line_at bytes number)
+what_of text bytes (BadLine number) = formless_text text (line_at bytes number)
 what_of text bytes (OutOfRange number) = text ++ codes "a number or an offset doesn't fit" ++ seen (line_at bytes number)
 what_of text bytes (LabelTwice number) = text ++ codes "this label stands on an earlier line too" ++ seen (line_at bytes number)
 what_of text bytes (TooManyWords number) = text ++ codes "more than 1048576 words don't fit memory"

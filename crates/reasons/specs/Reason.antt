@@ -9,26 +9,26 @@ abbrev pub is_plain : ℕ → Bool
 is_plain byte = nat_le 32 byte && nat_le byte 126 && not (nat_eq byte 34) && not (nat_eq byte 92)
 
 -- a byte as one can see it: as it is, or as its number
-abbrev pub escaped : ℕ → List ℕ
-escaped byte = if is_plain byte then byte ∷ [] else codes "\\x" ++ hex_byte byte
+abbrev pub escape_of : ℕ → List ℕ
+escape_of byte = if is_plain byte then byte ∷ [] else codes "\\x" ++ hex_byte byte
 
 -- bytes as one can see them
-abbrev pub shown : List ℕ → List ℕ
-shown found = flat_map escaped found
+abbrev pub escaped_text : List ℕ → List ℕ
+escaped_text found = flat_map escape_of found
 
 -- the first 60 bytes that were found, between quotation marks; two dots stand behind them where there are more
 unfoldable pub quoted : List ℕ → List ℕ
 quoted found =
-    if nat_lt 60 (length found) then codes "\"" ++ shown (take 60 found) ++ codes "\".."
-    else codes "\"" ++ shown found ++ codes "\""
+    if nat_lt 60 (length found) then codes "\"" ++ escaped_text (take 60 found) ++ codes "\".."
+    else codes "\"" ++ escaped_text found ++ codes "\""
 
 -- `NAME: `
 unfoldable pub of_file : List ℕ → List ℕ
-of_file name = shown name ++ codes ": "
+of_file name = escaped_text name ++ codes ": "
 
 -- `NAME:LINE: `
 unfoldable pub at_line : List ℕ → ℕ → List ℕ
-at_line name number = shown name ++ codes ":" ++ decimal number ++ codes ": "
+at_line name number = escaped_text name ++ codes ":" ++ decimal number ++ codes ": "
 
 -- a text, and then the file that is blamed, and the line in it, where there is one
 abbrev pub place : List ℕ → List ℕ → Option ℕ → List ℕ

@@ -2,8 +2,8 @@
 ghost use Rattle.std.specs.Prelude.{◌≡◌, ◌++◌, nat_eq, map, flat_map, option_map, OnOk};
 ghost use Rattle.std.specs.List.{position};
 ghost use Rattle.reasons.specs.Reason.{seen, begun, ended};
-ghost use Rattle.reasons.specs.Assembly.{is_mark, ends_word, behind_blanks, word_in, behind_word, behind_comma, filled, instead_of};
-ghost use Rattle.reasons.specs.Assembly.{pseudo, formless_by, formless, line_of, what_of, asm_reason};
+ghost use Rattle.reasons.specs.Assembly.{is_mark, ends_word, behind_blanks, word_in, behind_word, behind_comma, operand_or_byte, instead_of};
+ghost use Rattle.reasons.specs.Assembly.{pseudo, formless_by, formless_text, line_of, what_of, asm_reason};
 
 use crate::place::line_at;
 use crate::reason::Reason;
@@ -112,7 +112,7 @@ fn instead_of(rows: &[(&'static str, &'static str)], mnemonic: &[u8]) -> Option<
 }
 
 fn write_filled_byte(reason: &mut Reason, byte: u8, operands: &[u8]) -> Result<(), Memory>
-    ensures { OnOk result (reason.new ≡ reason.old ++ filled operands.now byte) }
+    ensures { OnOk result (reason.new ≡ reason.old ++ operand_or_byte operands.now byte) }
 {
     match byte {
         b'A' => reason.shown(word_in(operands)),
@@ -124,7 +124,7 @@ fn write_filled_byte(reason: &mut Reason, byte: u8, operands: &[u8]) -> Result<(
 
 /// What stands for a pseudoinstruction, with its operands.
 fn write_filled(reason: &mut Reason, template: &[u8], operands: &[u8]) -> Result<(), Memory>
-    ensures { OnOk result (reason.new ≡ reason.old ++ flat_map (filled operands.now) template.now) }
+    ensures { OnOk result (reason.new ≡ reason.old ++ flat_map (operand_or_byte operands.now) template.now) }
 {
     'bytes: for byte in template {
         write_filled_byte(reason, *byte, operands)?;
@@ -163,7 +163,7 @@ fn write_formless_line(
 }
 
 fn write_formless(reason: &mut Reason, line: Option<&[u8]>) -> Result<(), Memory>
-    ensures { OnOk result (reason.new ≡ formless reason.old (option_map (λ line. line.now) line.entry)) }
+    ensures { OnOk result (reason.new ≡ formless_text reason.old (option_map (λ line. line.now) line.entry)) }
 {
     match line {
         Some(line) => write_formless_line(reason, line, instead_of(PSEUDOS, word_in(line))),

@@ -1,7 +1,7 @@
 //! The buffer that a reason is written into, and its smallest parts.
 ghost use Rattle.std.specs.Prelude.{◌≡◌, [], ◌∷◌, ◌++◌, decimal, codes, option_map, OnOk};
 ghost use Rattle.text_lines.specs.Hex.{hex_word};
-ghost use Rattle.reasons.specs.Reason.{escaped, shown, quoted, of_file, at_line, place, seen, too_long, begun, ended};
+ghost use Rattle.reasons.specs.Reason.{escape_of, escaped_text, quoted, of_file, at_line, place, seen, too_long, begun, ended};
 
 use itoa::Buffer;
 use sn_base::Memory;
@@ -79,7 +79,7 @@ impl Reason {
 
     // A byte as it is where it can be printed and is neither a quotation mark nor a backslash.
     fn escaped(&mut self, byte: u8) -> Result<(), Memory>
-        ensures { OnOk result (self.new ≡ self.old ++ escaped byte) }
+        ensures { OnOk result (self.new ≡ self.old ++ escape_of byte) }
     {
         if (b' '..=b'~').contains(&byte) && byte != b'"' && byte != b'\\' {
             self.byte(byte)
@@ -91,7 +91,7 @@ impl Reason {
 
     /// Bytes of a file or of a word, each as one can see it.
     pub fn shown(&mut self, found: &[u8]) -> Result<(), Memory>
-        ensures { OnOk result (self.new ≡ self.old ++ shown found.now) }
+        ensures { OnOk result (self.new ≡ self.old ++ escaped_text found.now) }
     {
         'bytes: for byte in found {
             self.escaped(*byte)?;
@@ -100,7 +100,7 @@ impl Reason {
     }
 
     fn between(&mut self, found: &[u8], end: &str) -> Result<(), Memory>
-        ensures { OnOk result (self.new ≡ self.old ++ codes "\"" ++ shown found.now ++ end.now) }
+        ensures { OnOk result (self.new ≡ self.old ++ codes "\"" ++ escaped_text found.now ++ end.now) }
     {
         self.text("\"")?;
         self.shown(found)?;

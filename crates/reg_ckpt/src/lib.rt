@@ -9,7 +9,7 @@
 
 ghost use Rattle.std.specs.Prelude.{◌≡◌, ◌+◌, ◌-◌, ◌<◌, ◌≤◌, ◌^◌, [], ◌∷◌, ◌++◌, length, IfOk, Some};
 ghost use Rattle.circular_buffer.specs.Buffer.{buffer};
-ghost use Rattle.reg_ckpt.specs.Kept.{Checkpoints, HasCheckpoint, IsWithin, next, core_at, without_reservation, freed_below, dropped_above};
+ghost use Rattle.reg_ckpt.specs.Checkpoints.{Checkpoints, HasCheckpoint, IsWithin, next, core_at, without_reservation, freed_below, dropped_above};
 
 use circular_buffer::HeapCircularBuffer;
 use rv_core::CoreState;
@@ -26,7 +26,7 @@ pub struct RegCheckpoints {
 
 impl Model for RegCheckpoints {
     ghost use Rattle.std.specs.Prelude.{◌≡◌};
-    ghost use Rattle.reg_ckpt.specs.Kept.{Checkpoints, IsWithin};
+    ghost use Rattle.reg_ckpt.specs.Checkpoints.{Checkpoints, IsWithin};
 
     ghost Value = { Checkpoints };
 

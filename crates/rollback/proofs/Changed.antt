@@ -9,7 +9,7 @@ use Rattle.std.proofs.lemmas.Option.{get_or_from_slice_get}
 use Rattle.std.proofs.lemmas.Bool.Decides.{nat_tests}
 use Rattle.log_buffer.specs.Log.{is_home_side, is_about, earlier, entry_at, IsGrowing, entries_from}
 use Rattle.log_buffer.proofs.Entries.{entry_at-first, IsGrowing-drop}
-use Rattle.rollback.specs.Unwound.{LogEntry, Old, is_changed, unwound}
+use Rattle.rollback.specs.Unwound.{LogEntry, Old, is_changed, content_unwound}
 
 or_assoc : (p q r : Bool) → (p || (q || r)) ≡ ((p || q) || r)
 or_assoc true q r = refl
@@ -68,7 +68,7 @@ entry_at-unchanged (x ∷ xs) s b k h =
     (λ t. entry_at-unchanged xs s b k t)
 
 -- a block that no entry changes stays
-pub unwound-unchanged : (es : List LogEntry) (s : Bool) (b k : ℕ) (m : ℕ → Old) → is_changed es s b k ≡ false → unwound es s k m b ≡ m b
+pub unwound-unchanged : (es : List LogEntry) (s : Bool) (b k : ℕ) (m : ℕ → Old) → is_changed es s b k ≡ false → content_unwound es s k m b ≡ m b
 unwound-unchanged es s b k m h =
     ap (λ (o : Option LogEntry). unwrap_or (option_map (λ (e : LogEntry). e.old) o) (m b)) (entry_at-unchanged es s b k h)
 
@@ -79,7 +79,7 @@ first_here es rest s b k e g h a l = let g2 : IsGrowing (e ∷ rest) = subst IsG
 -- an entry that no earlier one of its side and block goes before is what unwinding gives
 pub unwound-oldest : (es : List LogEntry) (i : ℕ) (e : LogEntry) (s : Bool) (b k : ℕ) (m : ℕ → Old) → i < length es →
     slice_get es i ≡ Some e → IsGrowing es →
-    is_changed (take i es) s b k ≡ false → is_about s b e ≡ true → k ≤ e.interval → unwound es s k m b ≡ e.old
+    is_changed (take i es) s b k ≡ false → is_about s b e ≡ true → k ≤ e.interval → content_unwound es s k m b ≡ e.old
 unwound-oldest es i e s b k m l h g n a r =
     let d : drop i es ≡ e ∷ drop (suc i) es = drop-cons es i e l
     ∙ ap (λ (x : LogEntry). x ∷ drop (suc i) es) (get_or_from_slice_get es i e e h) in
@@ -145,7 +145,7 @@ some_step false t e o p x y h i = i h
 
 -- what is held now plays no part for a block that an entry changes
 pub unwound-changed : (es : List LogEntry) (s : Bool) (b k : ℕ) (m n : ℕ → Old) → is_changed es s b k ≡ true →
-    unwound es s k m b ≡ unwound es s k n b
+    content_unwound es s k m b ≡ content_unwound es s k n b
 unwound-changed [] s b k m n h = absurd (grind arith)
 unwound-changed (e ∷ es) s b k m n h =
     some_step (is_about s b e && nat_le k e.interval) (is_changed es s b k) (earlier e (entry_at es s b k)) (entry_at es s b k) None (m b)

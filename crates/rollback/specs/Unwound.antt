@@ -7,20 +7,20 @@ use Rattle.sn_base.specs.declared.log.Old.TheVariants.{NotOwned}
 
 -- what is held once the log is unwound to checkpoint k: each block has the old content of its entry of least interval
 -- that is at least k, and all others stay
-abbrev pub unwound : List LogEntry → Bool → ℕ → (ℕ → Old) → ℕ → Old
-unwound log home_side k held block = unwrap_or (old_at log home_side block k) (held block)
+abbrev pub content_unwound : List LogEntry → Bool → ℕ → (ℕ → Old) → ℕ → Old
+content_unwound log home_side k held block = unwrap_or (old_at log home_side block k) (held block)
 
 -- what forgetting leaves of what is held of a block: the cache's side nothing, the home's all
-abbrev pub left : Bool → Old → Old
-left home_side held = if home_side then held else NotOwned
+abbrev pub content_left : Bool → Old → Old
+content_left home_side held = if home_side then held else NotOwned
 
 -- what is held once an entry of this block and old content is forgotten; entries of the other side are passed over
-abbrev pub forgotten : Bool → (ℕ → Old) → ℕ → Old → ℕ → Old
-forgotten home_side held block old b = if is_of_side home_side old && nat_eq block b then left home_side (held b) else held b
+abbrev pub contents_after_loss : Bool → (ℕ → Old) → ℕ → Old → ℕ → Old
+contents_after_loss home_side held block old b = if is_of_side home_side old && nat_eq block b then content_left home_side (held b) else held b
 
 -- what is held once the old content is put back
-abbrev pub restored : Bool → (ℕ → Old) → ℕ → Old → ℕ → Old
-restored home_side held block old b = if is_of_side home_side old && nat_eq block b then old else held b
+abbrev pub contents_with_old : Bool → (ℕ → Old) → ℕ → Old → ℕ → Old
+contents_with_old home_side held block old b = if is_of_side home_side old && nat_eq block b then old else held b
 
 -- whether the log has an entry of this side and block whose interval is at least k
 abbrev pub is_changed : List LogEntry → Bool → ℕ → ℕ → Bool
@@ -29,11 +29,11 @@ is_changed (e ∷ es) home_side block k = (is_about home_side block e && nat_le 
 
 -- what is held once all entries from k on are forgotten
 abbrev pub all_forgotten : List LogEntry → Bool → ℕ → (ℕ → Old) → ℕ → Old
-all_forgotten log home_side k held b = if is_changed log home_side b k then left home_side (held b) else held b
+all_forgotten log home_side k held b = if is_changed log home_side b k then content_left home_side (held b) else held b
 
 -- what is held once the old contents of the first entries of a log are put back
 abbrev pub some_restored : List LogEntry → List LogEntry → Bool → ℕ → (ℕ → Old) → ℕ → Old
-some_restored first log home_side k held b = if is_changed first home_side b k then unwound log home_side k held b else held b
+some_restored first log home_side k held b = if is_changed first home_side b k then content_unwound log home_side k held b else held b
 
 -- a map that holds of each block what another holds, or nothing
 abbrev pub IsPart : (ℕ → Old) → (ℕ → Old) → Type 0
@@ -41,4 +41,4 @@ IsPart part whole = (b : ℕ) → (part b ≡ whole b) ⊎ (part b ≡ NotOwned)
 
 -- a map on the way from one to another: each block is held as it is at last, or as forgetting leaves it
 abbrev pub IsBetween : Bool → (ℕ → Old) → (ℕ → Old) → (ℕ → Old) → Type 0
-IsBetween home_side before after between = (b : ℕ) → (between b ≡ after b) ⊎ (between b ≡ left home_side (before b))
+IsBetween home_side before after between = (b : ℕ) → (between b ≡ after b) ⊎ (between b ≡ content_left home_side (before b))

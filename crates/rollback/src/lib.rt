@@ -12,7 +12,7 @@
 ghost use Rattle.std.specs.Prelude.{◌≡◌, ℕ, ◌+◌, ◌-◌, ◌<◌, ◌≤◌, ◌^◌, Bool, true, false, min, length, take, slice_get, Some};
 ghost use Rattle.std.specs.Prelude.{not, slice_index_or};
 ghost use Rattle.log_buffer.specs.Log.{IsGrowing, entries_from, is_home_side, is_about};
-ghost use Rattle.rollback.specs.Unwound.{LogEntry, Old, unwound, left, all_forgotten, is_changed};
+ghost use Rattle.rollback.specs.Unwound.{LogEntry, Old, content_unwound, content_left, all_forgotten, is_changed};
 
 #[cfg(test)]
 mod tests;
@@ -27,7 +27,7 @@ use sn_base::{BlockNo, Entries, Interval, LogEntry, Old};
 /// sizes, an unwinding leaves as it is, and the trait's relation says so of two values of it.
 pub trait Restore {
     ghost use Rattle.std.specs.Prelude.{◌≡◌, ℕ, Bool};
-    ghost use Rattle.rollback.specs.Unwound.{Old, forgotten, restored, IsPart, IsBetween};
+    ghost use Rattle.rollback.specs.Unwound.{Old, contents_after_loss, contents_with_old, IsPart, IsBetween};
 
     // the side whose entries it takes: the home's, or else the cache's
     ghost home_side: { Bool };
@@ -42,15 +42,15 @@ pub trait Restore {
     /// Forgets what is held of a block that has such an entry: a cache drops the block, a home does nothing. An entry of
     /// the other side is passed over.
     fn forget(&mut self, block: BlockNo, old: &Old)
-        ensures held { (b : ℕ) → holds self.new b ≡ forgotten home_side (holds self.old) block old.now b }
+        ensures held { (b : ℕ) → holds self.new b ≡ contents_after_loss home_side (holds self.old) block old.now b }
         ensures fits { fits self.new (holds self.new) }
         ensures room { (map : ℕ → Old) → fits self.old map → fits self.new map }
         ensures stays { stays self.old self.new };
 
     /// Holds a block as such an entry says. An entry of the other side is passed over.
     fn put_back(&mut self, block: BlockNo, old: &Old)
-        requires { fits self.old (restored home_side (holds self.old) block old.now) }
-        ensures held { (b : ℕ) → holds self.new b ≡ restored home_side (holds self.old) block old.now b }
+        requires { fits self.old (contents_with_old home_side (holds self.old) block old.now) }
+        ensures held { (b : ℕ) → holds self.new b ≡ contents_with_old home_side (holds self.old) block old.now b }
         ensures fits { fits self.new (holds self.new) }
         ensures room { (map : ℕ → Old) → fits self.old map → fits self.new map }
         ensures stays { stays self.old self.new };
@@ -72,8 +72,8 @@ pub trait Restore {
 /// type where there are more.
 pub fn unwind<E: Entries, T: Restore>(log: &E, k: Interval, target: &mut T) -> u32
     requires growing { IsGrowing (E.entries log.now) }
-    requires fits { T.fits target.old (unwound (E.entries log.now) T.home_side k (T.holds target.old)) }
-    ensures held { (b : ℕ) → T.holds target.new b ≡ unwound (E.entries log.now) T.home_side k (T.holds target.old) b }
+    requires fits { T.fits target.old (content_unwound (E.entries log.now) T.home_side k (T.holds target.old)) }
+    ensures held { (b : ℕ) → T.holds target.new b ≡ content_unwound (E.entries log.now) T.home_side k (T.holds target.old) b }
     ensures room { (map : ℕ → Old) → T.fits target.old map → T.fits target.new map }
     ensures stays { T.stays target.old target.new }
     ensures count { result ≡ min (length (entries_from k (E.entries log.now))) (2 ^ 32 - 1) }
@@ -101,11 +101,11 @@ fn forget_all<E: Entries, T: Restore>(log: &E, k: Interval, target: &mut T)
 fn put_back_oldest<E: Entries, T: Restore>(log: &E, k: Interval, target: &mut T)
     requires growing { IsGrowing (E.entries log.now) }
     requires gone { (b : ℕ) → is_changed (E.entries log.now) T.home_side b k ≡ true →
-        left T.home_side (T.holds target.old b) ≡ T.holds target.old b }
+        content_left T.home_side (T.holds target.old b) ≡ T.holds target.old b }
     requires fits { (i : ℕ) (d : LogEntry) → i < length (E.entries log.now) → k ≤ (slice_index_or (E.entries log.now) i d).interval →
         T.fits target.old (T.holds target.old) }
-    requires last { T.fits target.old (unwound (E.entries log.now) T.home_side k (T.holds target.old)) }
-    ensures held { (b : ℕ) → T.holds target.new b ≡ unwound (E.entries log.now) T.home_side k (T.holds target.old) b }
+    requires last { T.fits target.old (content_unwound (E.entries log.now) T.home_side k (T.holds target.old)) }
+    ensures held { (b : ℕ) → T.holds target.new b ≡ content_unwound (E.entries log.now) T.home_side k (T.holds target.old) b }
     ensures room { (map : ℕ → Old) → T.fits target.old map → T.fits target.new map }
     ensures stays { T.stays target.old target.new }
 {

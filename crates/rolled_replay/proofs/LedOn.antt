@@ -7,13 +7,13 @@ use Rattle.sn_base.specs.declared.config.Config.{Config}
 use Rattle.sn_base.specs.declared.event.Event.{Event}
 use Rattle.sn_base.specs.declared.event.Event.TheVariants.{Recover}
 use Rattle.sn_machine.specs.Machine.{MachineData}
-use Rattle.consistent_cuts.specs.Headline.{IsRun, reached}
+use Rattle.consistent_cuts.specs.Headline.{IsRun, state_of_run}
 use Rattle.script_replay.specs.Played.{after_event}
 use Rattle.rolling_recovery.specs.declared.answers.FinishFault.{FinishFault}
 use Rattle.rolling_recovery.specs.declared.controls.Control.{Control}
 use Rattle.rolling_recovery.specs.declared.controls.Control.TheVariants.{Order, Repeat, Lose, Deliver, Finish}
 use Rattle.rolling_recovery.specs.Controls.{control_fits}
-use Rattle.rolling_recovery.specs.Rolling.{RollingData, begun, finish_fault, after_control, after_controls}
+use Rattle.rolling_recovery.specs.Rolling.{RollingData, rolling_start, finish_fault, after_control, after_controls}
 use Rattle.rolling_recovery.specs.Recovered.{IsLedTo}
 use Rattle.rolling_recovery.proofs.Calls.{after-last}
 use Rattle.rolling_recovery.proofs.Led.{calls-machine, each-led}
@@ -34,16 +34,16 @@ stays m (call ∷ calls) = stays m calls
 abbrev AllFitting : MachineData → List Control → Type 0
 AllFitting m calls = All (λ call. control_fits m.config.nodes call ≡ true) calls
 
-module _ (m : MachineData) (promise : (calls : List Control) → AllFitting m calls → IsLedTo (after_controls (begun m) calls) calls) where
-  led-by : (calls : List Control) (r : RollingData) → AllFitting m calls → r ≡ after_controls (begun m) calls → IsLedBy m calls r
+module _ (m : MachineData) (promise : (calls : List Control) → AllFitting m calls → IsLedTo (after_controls (rolling_start m) calls) calls) where
+  led-by : (calls : List Control) (r : RollingData) → AllFitting m calls → r ≡ after_controls (rolling_start m) calls → IsLedBy m calls r
   led-by calls r fit by = record {
     by = by;
     promised = subst (λ (t : RollingData). IsLedTo t calls) (sym by) (promise calls fit);
   }
 
   -- it holds the machine that was handed in
-  same-machine : (calls : List Control) (r : RollingData) → r ≡ after_controls (begun m) calls → r.machine ≡ m
-  same-machine calls r by = ap (λ (t : RollingData). t.machine) by ∙ calls-machine (begun m) calls
+  same-machine : (calls : List Control) (r : RollingData) → r ≡ after_controls (rolling_start m) calls → r.machine ≡ m
+  same-machine calls r by = ap (λ (t : RollingData). t.machine) by ∙ calls-machine (rolling_start m) calls
 
   -- a finish ends it, or leaves it as it was
   finish-led : (done calls : List Control) (r : RollingData) (o : Option FinishFault) → finish_fault r ≡ o → IsLedBy m done r →
@@ -61,9 +61,9 @@ module _ (m : MachineData) (promise : (calls : List Control) → AllFitting m ca
         back = ap (λ (t : MachineData). after_event t Recover) (same-machine done r led.by);
       })
 
-  next-by : (done : List Control) (r : RollingData) (call : Control) → r ≡ after_controls (begun m) done →
-      after_control r call ≡ after_controls (begun m) (done ++ call ∷ [])
-  next-by done r call by = ap (λ (t : RollingData). after_control t call) by ∙ sym (after-last (begun m) done call)
+  next-by : (done : List Control) (r : RollingData) (call : Control) → r ≡ after_controls (rolling_start m) done →
+      after_control r call ≡ after_controls (rolling_start m) (done ++ call ∷ [])
+  next-by done r call by = ap (λ (t : RollingData). after_control t call) by ∙ sym (after-last (rolling_start m) done call)
 
   next-fit : (done : List Control) (call : Control) (calls : List Control) → AllFitting m done → AllFitting m (call ∷ calls) →
       AllFitting m (done ++ call ∷ [])
@@ -84,7 +84,7 @@ module _ (m : MachineData) (promise : (calls : List Control) → AllFitting m ca
   one-more done calls r Finish led on = finish-led done calls r (finish_fault r) refl led on
 
   -- after some controls these are left
-  stage-from : (calls done : List Control) (r : RollingData) → r ≡ after_controls (begun m) done → AllFitting m done →
+  stage-from : (calls done : List Control) (r : RollingData) → r ≡ after_controls (rolling_start m) done → AllFitting m done →
       AllFitting m calls → IsStageBy m (done ++ calls) (stage_after (UnderWay r) calls)
   stage-from [] done r by fit left =
       subst (λ (t : List Control). IsStageBy m t (UnderWay r)) (sym (append-nil done)) (led-by done r fit by)
@@ -96,7 +96,7 @@ module _ (m : MachineData) (promise : (calls : List Control) → AllFitting m ca
 
 -- controls that fit a machine fit the recovery of what events leave of it
 pub fit-left : (m left : MachineData) (rolling : RollingData) (events : List Event) (calls : List Control) → left ≡ after_events m events →
-    rolling ≡ begun left → All (λ call. control_fits m.config.nodes call ≡ true) calls →
+    rolling ≡ rolling_start left → All (λ call. control_fits m.config.nodes call ≡ true) calls →
     All (λ call. control_fits rolling.machine.config.nodes call ≡ true) calls
 fit-left m left rolling events calls is begins fit =
     subst (λ (c : Config). All (λ call. control_fits c.nodes call ≡ true) calls)
@@ -110,11 +110,11 @@ left-program r = left-image (machine_for r.program r.config r.script) r.script
 left-sizes : (r : Roll) → (left_by r).config ≡ r.config
 left-sizes r = left-config (machine_for r.program r.config r.script) r.script
 
-left-reached : (r : Roll) → (left_by r).state ≡ reached (left_by r).image (left_by r).config r.script
+left-reached : (r : Roll) → (left_by r).state ≡ state_of_run (left_by r).image (left_by r).config r.script
 left-reached r =
     left-state (machine_for r.program r.config r.script) r.script
-    ∙ ap (λ (i : ImageData). reached i r.config r.script) (sym (left-program r))
-    ∙ ap (λ (c : Config). reached (left_by r).image c r.script) (sym (left-sizes r))
+    ∙ ap (λ (i : ImageData). state_of_run i r.config r.script) (sym (left-program r))
+    ∙ ap (λ (c : Config). state_of_run (left_by r).image c r.script) (sym (left-sizes r))
 
 module _ (r : Roll) (may : MayRoll r) where
   left-run : IsRun (left_by r).config r.script
@@ -126,5 +126,5 @@ module _ (r : Roll) (may : MayRoll r) where
   pub is-led : IsLed r
   is-led i =
       stage-from (left_by r) (λ calls fit. each-led (left_by r) r.script calls left-run (left-reached r) fit) (take i r.controls) []
-      (begun (left_by r)) refl (All-nil (λ call. control_fits (left_by r).config.nodes call ≡ true))
+      (rolling_start (left_by r)) refl (All-nil (λ call. control_fits (left_by r).config.nodes call ≡ true))
       (All-take (λ call. control_fits (left_by r).config.nodes call ≡ true) i r.controls left-fit)

@@ -10,7 +10,7 @@ use Rattle.sink_pieces.proofs.Begun.{console-after, console-begun, report-begun}
 use Rattle.script_replay.specs.Pieces.{turns_of}
 use Rattle.script_replay.specs.Probed.{told_of_run}
 use Rattle.script_replay.specs.Played.{turns_left, told_left, StopsAt}
-use Rattle.rolling_recovery.specs.Rolling.{RollingData, begun}
+use Rattle.rolling_recovery.specs.Rolling.{RollingData, rolling_start}
 use Rattle.rolled_replay.specs.declared.job.Roll.{Roll}
 use Rattle.rolled_replay.specs.declared.stage.Stage.{Stage}
 use Rattle.rolled_replay.specs.declared.stage.Stage.TheVariants.{UnderWay}
@@ -100,11 +100,11 @@ module _ (m : MachineData) (r : Roll) (probes : List Meter) (may : MayRoll r) (i
     events-known = inl (i, stopped-at)
 
   -- all events were put and told, and they left this machine, whose recovery is led
-  module _ (before middle behind : Ends) (left : MachineData) (now_ : List Meter) (rolling : RollingData) (events : ℕ) (put : middle ≡ after before (turns_left m (quietly r.watch) r.script)) (told : now_ ≡ told_left m r.script probes) (left_is : left ≡ after_events m r.script) (begins : rolling ≡ begun left) (count : events ≡ length r.script) where
+  module _ (before middle behind : Ends) (left : MachineData) (now_ : List Meter) (rolling : RollingData) (events : ℕ) (put : middle ≡ after before (turns_left m (quietly r.watch) r.script)) (told : now_ ≡ told_left m r.script probes) (left_is : left ≡ after_events m r.script) (begins : rolling ≡ rolling_start left) (count : events ≡ length r.script) where
     stage-is : UnderWay rolling ≡ first_stage r.program r.config r.script
     stage-is =
         ap UnderWay begins
-        ∙ ap (λ (t : MachineData). UnderWay (begun t)) (left_is ∙ ap (λ (t : MachineData). after_events t r.script) is)
+        ∙ ap (λ (t : MachineData). UnderWay (rolling_start t)) (left_is ∙ ap (λ (t : MachineData). after_events t r.script) is)
 
     rest-is : recovery_pieces (UnderWay rolling) r.controls r.watch (tallies_of now_) events ≡ rest_due r probes
     rest-is =

@@ -11,7 +11,7 @@ use Rattle.script_replay.specs.declared.job.ReportKind.TheVariants.{Summary}
 use Rattle.script_replay.specs.Pieces.{summary_pieces, turns_of}
 use Rattle.script_replay.specs.Played.{after_event}
 use Rattle.rolling_recovery.specs.declared.controls.Control.{Control}
-use Rattle.rolling_recovery.specs.Rolling.{begun}
+use Rattle.rolling_recovery.specs.Rolling.{rolling_start}
 use Rattle.rolled_replay.specs.declared.stage.Stage.{Stage}
 use Rattle.rolled_replay.specs.declared.stage.Stage.TheVariants.{UnderWay}
 use Rattle.rolled_replay.specs.Stages.{reply_to, next_stage, stage_after, machine_of}
@@ -37,7 +37,7 @@ after_events m (event ∷ events) = after_events (after_event m event) events
 
 -- the recovery of what they leave begins
 abbrev pub first_stage : ImageData → Config → List Event → Stage
-first_stage image config events = UnderWay (begun (after_events (machine_for image config events) events))
+first_stage image config events = UnderWay (rolling_start (after_events (machine_for image config events) events))
 
 -- the lines of controls, after so many others
 unfoldable pub control_pieces : ℕ → Stage → List Control → List Piece

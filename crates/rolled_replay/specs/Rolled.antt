@@ -1,7 +1,7 @@
 -- What the sinks show of a replay with a recovery.
 use Rattle.std.specs.Prelude.{◌≡◌, ℕ, ◌+◌, ◌<◌, ◌≤◌, ◌⊎◌, true, List, ◌++◌, take, length, Option}
 use Rattle.std.specs.List.{All}
-use Rattle.consistent_cuts.specs.Headline.{IsRun, IsConsistent, reached, retirements}
+use Rattle.consistent_cuts.specs.Headline.{IsRun, IsConsistent, state_of_run, retirements}
 use Rattle.sn_base.specs.declared.event.Event.{Event}
 use Rattle.sn_io.specs.Outside.{followed_by}
 use Rattle.sn_machine.specs.Machine.{MachineData}
@@ -17,13 +17,14 @@ use Rattle.rolled_replay.specs.declared.job.Roll.{Roll}
 use Rattle.rolled_replay.specs.Stages.{stage_after}
 use Rattle.rolled_replay.specs.Pieces.{machine_for, after_events, first_stage, quietly, rolled_pieces}
 use Rattle.rolled_replay.specs.Led.{IsStageBy}
+use Rattle.sn_base.specs.declared.limits.TheConstants.{EVENTS}
 
 -- one that may begin: its sizes, events and controls fit, of either at most a million, and it watches a word of memory
 pub record MayRoll (r : Roll) : Type 0 where
   pub run : IsRun r.config r.script
-  pub few : length r.script ≤ 1000000
+  pub few : length r.script ≤ EVENTS
   pub fit : All (λ call. control_fits r.config.nodes call ≡ true) r.controls
-  pub short : length r.controls ≤ 1000000
+  pub short : length r.controls ≤ EVENTS
   pub watched : IsWatchable r.watch
 
 -- events and controls for this machine, where it is at its program's start
@@ -41,7 +42,7 @@ pieces_due r probes = rolled_pieces r.program r.config r.watch (tallies_of (told
 -- once these events, the first of its script, are applied
 pub record IsMoment (r : Roll) (probes : List Meter) (first : List Event) : Type 0 where
   -- the committed trace is an execution without faults, and the recovery point a cut of it
-  pub consistent : IsConsistent r.program r.config.nodes (reached r.program r.config first) (retirements r.program r.config first)
+  pub consistent : IsConsistent r.program r.config.nodes (state_of_run r.program r.config first) (retirements r.program r.config first)
   -- these pieces are put before all others
   pub others : List Piece
   pub order : turns_of r.program r.config (quietly r.watch) first ++ others ≡ pieces_due r probes

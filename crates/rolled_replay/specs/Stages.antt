@@ -9,8 +9,8 @@ use Rattle.rolling_recovery.specs.declared.answers.FinishFault.{FinishFault}
 use Rattle.rolling_recovery.specs.declared.answers.FinishFault.TheVariants as fault
 use Rattle.rolling_recovery.specs.declared.answers.RepeatFault.{RepeatFault}
 use Rattle.rolling_recovery.specs.declared.answers.RepeatFault.TheVariants as refused
-use Rattle.rolling_recovery.specs.declared.answers.Told.{Told}
-use Rattle.rolling_recovery.specs.declared.answers.Told.TheVariants as told
+use Rattle.rolling_recovery.specs.declared.answers.ControlDelivery.{ControlDelivery}
+use Rattle.rolling_recovery.specs.declared.answers.ControlDelivery.TheVariants as told
 use Rattle.rolling_recovery.specs.declared.controls.Control.{Control}
 use Rattle.rolling_recovery.specs.declared.controls.Control.TheVariants.{Order, Repeat, Lose, Deliver, Finish}
 use Rattle.rolling_recovery.specs.Messages.{is_full}
@@ -27,7 +27,7 @@ repeat_reply (Ok id) = reply.Repeated id
 repeat_reply (Err refused.NoMessage) = reply.NoMessage
 repeat_reply (Err refused.Full) = reply.Full
 
-abbrev pub deliver_reply : Told → Reply
+abbrev pub deliver_reply : ControlDelivery → Reply
 deliver_reply told.NoMessage = reply.NoMessage
 deliver_reply (told.Restored count) = reply.Restored count
 deliver_reply told.Again = reply.Again

@@ -10,6 +10,7 @@ ghost use Rattle.script_replay.specs.Played.{turns_left, told_left, StopsAt, IsW
 ghost use Rattle.rolling_recovery.specs.Controls.{control_fits};
 ghost use Rattle.rolled_replay.specs.Stages.{IsNumbered, machine_of, stage_after};
 ghost use Rattle.rolled_replay.specs.Pieces.{after_events, control_pieces, machine_with_room, quietly};
+ghost use Rattle.sn_base.specs.declared.limits.TheConstants.{EVENTS};
 
 use crate::lines::write_line;
 use crate::stage::Stage;
@@ -43,7 +44,7 @@ pub struct Ready {
 /// A machine of these sizes at the start of the program, with room for so many events and a recovery, and the room of that.
 pub fn ready_for(alloc: Global, program: Image, config: Config, events: u32) -> Option<Ready>
     requires sizes { config_fits config ≡ true }
-    requires few { events ≤ 1000000 }
+    requires few { events ≤ EVENTS }
     ensures { IfSome result (λ r. r.machine ≡ machine_with_room program config (events + 1)) }
 {
     let Ok(line) = Line::new(alloc) else {
@@ -109,7 +110,7 @@ pub fn put_controls<R: Sink>(
     report: &mut R,
 ) -> Result<Stage, Failed>
     requires fit { All (λ call. control_fits (machine_of stage).config.nodes call ≡ true) controls.now }
-    requires few { length controls.now ≤ 1000000 }
+    requires few { length controls.now ≤ EVENTS }
     requires numbers { IsNumbered stage 1 }
     ensures stage { IfOk result (λ last. last ≡ stage_after stage controls.now) }
     ensures ok { OnOk result ((c : Option (List ℕ)) → ends c (R.written report.new)

@@ -2,6 +2,7 @@
 ghost use Rattle.std.specs.Prelude.{◌≡◌, ◌+◌, ◌≤◌, ◌++◌, length};
 ghost use Rattle.sn_text.specs.Text.{named_number};
 ghost use Rattle.rolled_replay.specs.Text.{control_text, reply_text, control_line};
+ghost use Rattle.sn_text.specs.declared.line.TheConstants.{LINE_ROOM};
 
 use crate::reply::Reply;
 use rolling_recovery::Control;
@@ -9,7 +10,7 @@ use sn_base::NodeId;
 use sn_text::Line;
 
 fn write_node(line: &mut Line, name: &str, node: NodeId)
-    requires { length line.old + length name.now + 21 ≤ 8192 }
+    requires { length line.old + length name.now + 21 ≤ LINE_ROOM }
     ensures text { line.new ≡ line.old ++ named_number name.now node }
     ensures short { length line.new ≤ length line.old + length name.now + 21 }
 {
@@ -17,7 +18,7 @@ fn write_node(line: &mut Line, name: &str, node: NodeId)
 }
 
 fn write_control(line: &mut Line, control: &Control)
-    requires { length line.old + 40 ≤ 8192 }
+    requires { length line.old + 40 ≤ LINE_ROOM }
     ensures text { line.new ≡ line.old ++ control_text control.now }
     ensures short { length line.new ≤ length line.old + 40 }
 {
@@ -31,7 +32,7 @@ fn write_control(line: &mut Line, control: &Control)
 }
 
 fn write_reply(line: &mut Line, reply: &Reply)
-    requires { length line.old + 100 ≤ 8192 }
+    requires { length line.old + 100 ≤ LINE_ROOM }
     ensures text { line.new ≡ line.old ++ reply_text reply.now }
     ensures short { length line.new ≤ length line.old + 100 }
 {

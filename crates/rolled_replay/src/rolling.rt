@@ -9,6 +9,7 @@ ghost use Rattle.rolling_recovery.specs.Controls.{control_fits};
 ghost use Rattle.rolled_replay.specs.Stages.{IsNumbered, machine_of};
 ghost use Rattle.rolled_replay.specs.Pieces.{machine_for, recovery_pieces};
 ghost use Rattle.rolled_replay.specs.Rolled.{MayRoll, roll_of, told_script, IsRolled, IsBrokenOff, KnowApplied};
+ghost use Rattle.sn_base.specs.declared.limits.TheConstants.{EVENTS};
 
 use crate::job::Roll;
 use crate::leading::{Ready, RollFault, put_controls, put_events, ready_for};
@@ -32,7 +33,7 @@ fn put_recovery<R: Sink>(
     report: &mut R,
 ) -> Result<(), Failed>
     requires fit { All (λ call. control_fits (machine_of stage).config.nodes call ≡ true) controls.now }
-    requires few { length controls.now ≤ 1000000 }
+    requires few { length controls.now ≤ EVENTS }
     requires numbers { IsNumbered stage 1 }
     requires watched { IsWatchable watch }
     ensures ok { OnOk result ((c : Option (List ℕ)) → ends c (R.written report.new) ≡ after (ends c (R.written report.old))

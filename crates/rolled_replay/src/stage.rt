@@ -7,7 +7,7 @@ ghost use Rattle.sn_machine.specs.Machine.{next_of};
 ghost use Rattle.rolled_replay.specs.Stages.{is_finish, led_reply, finish_reply, finished_by, IsNumbered, machine_of, next_stage, reply_to};
 
 use crate::reply::Reply;
-use rolling_recovery::{Control, FinishFault, RepeatFault, Rolling, Told};
+use rolling_recovery::{Control, ControlDelivery, FinishFault, RepeatFault, Rolling};
 use sn_base::Event;
 use sn_machine::Machine;
 
@@ -44,10 +44,10 @@ fn lead(rolling: &mut Rolling, control: &Control) -> Reply
             }
         }
         Control::Deliver(id) => match rolling.deliver(*id) {
-            Told::NoMessage => Reply::NoMessage,
-            Told::Restored(count) => Reply::Restored(count),
-            Told::Again => Reply::Again,
-            Told::Noted => Reply::Noted,
+            ControlDelivery::NoMessage => Reply::NoMessage,
+            ControlDelivery::Restored(count) => Reply::Restored(count),
+            ControlDelivery::Again => Reply::Again,
+            ControlDelivery::Noted => Reply::Noted,
         },
         Control::Finish => unreachable!(),
     }

@@ -15,10 +15,10 @@ use Rattle.rolling_recovery.specs.declared.messages.ControlMessage.TheVariants.{
 use Rattle.rolling_recovery.specs.declared.messages.Flight.{Flight}
 use Rattle.rolling_recovery.specs.Controls.{control_fits}
 use Rattle.rolling_recovery.specs.Messages.{is_full}
-use Rattle.rolling_recovery.specs.Rolling.{RollingData, begun, no_nodes, has_part, is_noted, message_of, losing, lost_by, sending, repeated_by}
+use Rattle.rolling_recovery.specs.Rolling.{RollingData, rolling_start, no_nodes, has_part, is_noted, message_of, losing, lost_by, sending, repeated_by}
 use Rattle.rolling_recovery.specs.Rolling.{restoring, noting, delivered_by, after_control, after_controls}
 use Rattle.rolling_recovery.specs.Recovered.{is_order_to, delivers_order, was_ordered}
-use Rattle.rolling_recovery.specs.Kept.{HasCalls}
+use Rattle.rolling_recovery.specs.Invariant.{HasCalls}
 use Rattle.rolling_recovery.proofs.Flights.{found}
 use Rattle.rolling_recovery.proofs.Marks.{or_false, marked, marked-more, marked-itself, marked-within}
 
@@ -60,8 +60,8 @@ pub led-on : (r : RollingData) (calls : List Control) (call : Control) → contr
 led-on r calls call fits h = record {
   fit = subst (λ (m : MachineData). All (λ c. control_fits m.config.nodes c ≡ true) (calls ++ call ∷ [])) (sym (call-machine r call))
       (All-push (λ c. control_fits r.machine.config.nodes c ≡ true) calls call h.fit fits);
-  led = ap (λ (x : RollingData). after_control x call) h.led ∙ sym (after-last (begun r.machine) calls call)
-      ∙ ap (λ (m : MachineData). after_controls (begun m) (calls ++ call ∷ [])) (sym (call-machine r call));
+  led = ap (λ (x : RollingData). after_control x call) h.led ∙ sym (after-last (rolling_start r.machine) calls call)
+      ∙ ap (λ (m : MachineData). after_controls (rolling_start m) (calls ++ call ∷ [])) (sym (call-machine r call));
 }
 
 -- an order in flight goes to a node that is there, and one that is done is there and has its part; so has each that is noted
@@ -83,7 +83,7 @@ nobody n e = let l = marked-within no_nodes n e in none n l e
     none : (k : ℕ) → k < length no_nodes → has_node no_nodes k ≡ true → ⊥
     none k l e = false≢true (sym (get_or-replicate 16 k false false (omega (arith, l))) ∙ e)
 
-begun-follows : (m : MachineData) → Follows m.config.nodes (begun m)
+begun-follows : (m : MachineData) → Follows m.config.nodes (rolling_start m)
 begun-follows m = record {
   marks = length-replicate 16 false;
   notes = length-replicate 16 false;
@@ -241,12 +241,12 @@ module _ (nodes : ℕ) (few : nodes ≤ 16) where
 module _ (r : RollingData) (calls : List Control) (few : r.machine.config.nodes ≤ 16) (h : HasCalls r calls) where
   pub follows : Follows r.machine.config.nodes r
   follows = subst (Follows r.machine.config.nodes) (sym h.led)
-      (calls-follow r.machine.config.nodes few (begun r.machine) calls h.fit (begun-follows r.machine))
+      (calls-follow r.machine.config.nodes few (rolling_start r.machine) calls h.fit (begun-follows r.machine))
 
-  no_part : (n : ℕ) → has_part (begun r.machine) n || was_ordered (begun r.machine) n calls ≡ was_ordered (begun r.machine) n calls
-  no_part n = ap (λ b. b || was_ordered (begun r.machine) n calls) (false_from_ne_true (has_part (begun r.machine) n) (λ e. nobody n e))
+  no_part : (n : ℕ) → has_part (rolling_start r.machine) n || was_ordered (rolling_start r.machine) n calls ≡ was_ordered (rolling_start r.machine) n calls
+  no_part n = ap (λ b. b || was_ordered (rolling_start r.machine) n calls) (false_from_ne_true (has_part (rolling_start r.machine) n) (λ e. nobody n e))
 
-  pub part-ordered : (n : ℕ) → has_part r n ≡ was_ordered (begun r.machine) n calls
+  pub part-ordered : (n : ℕ) → has_part r n ≡ was_ordered (rolling_start r.machine) n calls
   part-ordered n =
       ap (λ (x : RollingData). has_part x n) h.led
-      ∙ calls-part r.machine.config.nodes few (begun r.machine) calls n h.fit (begun-follows r.machine) ∙ no_part n
+      ∙ calls-part r.machine.config.nodes few (rolling_start r.machine) calls n h.fit (begun-follows r.machine) ∙ no_part n

@@ -12,14 +12,14 @@ use Rattle.sn_model.specs.Machine.{State, start_of}
 use Rattle.sn_model.specs.RecoveryPoint.{IsCut}
 use Rattle.sn_model.specs.Trace.{TraceEntry}
 use Rattle.fabric_coherence.specs.Steps.{IsShaped}
-use Rattle.consistent_cuts.specs.Headline.{IsRun, IsConsistent, IsStepOfRun, reached, retirements}
-use Rattle.consistent_cuts.specs.Joined.{Holds}
+use Rattle.consistent_cuts.specs.Headline.{IsRun, IsConsistent, IsStepOfRun, state_of_run, retirements}
+use Rattle.consistent_cuts.specs.RunInvariant.{Holds}
 use Rattle.consistent_cuts.proofs.Run.{run_holds, start_holds, reached_consistent, reached_next}
 use Rattle.sn_machine.specs.Machine.{MachineData, next_of, flat_of}
 use Rattle.rolling_recovery.specs.declared.controls.Control.{Control}
 use Rattle.rolling_recovery.specs.Controls.{control_fits}
-use Rattle.rolling_recovery.specs.Rolling.{RollingData, begun, after_control, after_controls}
-use Rattle.rolling_recovery.specs.Kept.{HasCalls}
+use Rattle.rolling_recovery.specs.Rolling.{RollingData, rolling_start, after_control, after_controls}
+use Rattle.rolling_recovery.specs.Invariant.{HasCalls}
 use Rattle.rolling_recovery.specs.Recovered.{IsLedTo}
 use Rattle.rolling_recovery.proofs.Calls.{follows, part-ordered, call-machine}
 use Rattle.rolling_recovery.proofs.Parted.{apart}
@@ -54,16 +54,16 @@ module _ (image : ImageData) (config : Config) (events : List Event) (run : IsRu
   few-nodes : (fits : config_fits config ≡ true) → config.nodes ≤ 16
   few-nodes fits = grind (arith, nat_tests)
 
-  shape : IsShaped (reached image config events).fabric
+  shape : IsShaped (state_of_run image config events).fabric
   shape =
-      shape_of image config.nodes (reached image config events) (retirements image config events)
+      shape_of image config.nodes (state_of_run image config events) (retirements image config events)
       (run_holds image config config.nodes (start_of image config.nodes) [] events run.events_fit
       (start_holds image config.nodes (some-nodes run.fits) (few-nodes run.fits)))
 
-  consistent : IsConsistent image config.nodes (reached image config events) (retirements image config events)
+  consistent : IsConsistent image config.nodes (state_of_run image config events) (retirements image config events)
   consistent = reached_consistent image config events run
 
-  pub whole-run : (m : MachineData) → m.image ≡ image → m.config ≡ config → m.state ≡ reached image config events → IsWhole m
+  pub whole-run : (m : MachineData) → m.image ≡ image → m.config ≡ config → m.state ≡ state_of_run image config events → IsWhole m
   whole-run m i c s = record {
     count = ap (λ (x : State). length x.fabric.nodes) s ∙ consistent.count ∙ ap (λ (x : Config). x.nodes) (sym c);
     some = subst (λ (x : Config). 1 ≤ x.nodes) (sym c) (some-nodes run.fits);
@@ -78,15 +78,15 @@ calls-machine r [] = refl
 calls-machine r (call ∷ calls) = calls-machine (after_control r call) calls ∙ call-machine r call
 
 pub has-calls : (m : MachineData) (calls : List Control) → All (λ call. control_fits m.config.nodes call ≡ true) calls →
-    HasCalls (after_controls (begun m) calls) calls
+    HasCalls (after_controls (rolling_start m) calls) calls
 has-calls m calls fit = record {
-  fit = subst (λ (x : MachineData). All (λ call. control_fits x.config.nodes call ≡ true) calls) (sym (calls-machine (begun m) calls)) fit;
-  led = ap (λ (x : MachineData). after_controls (begun x) calls) (sym (calls-machine (begun m) calls));
+  fit = subst (λ (x : MachineData). All (λ call. control_fits x.config.nodes call ≡ true) calls) (sym (calls-machine (rolling_start m) calls)) fit;
+  led = ap (λ (x : MachineData). after_controls (rolling_start x) calls) (sym (calls-machine (rolling_start m) calls));
 }
 
 pub each-led : (m : MachineData) (events : List Event) (calls : List Control) → IsRun m.config events →
-    m.state ≡ reached m.image m.config events → All (λ call. control_fits m.config.nodes call ≡ true) calls →
-    IsLedTo (after_controls (begun m) calls) calls
+    m.state ≡ state_of_run m.image m.config events → All (λ call. control_fits m.config.nodes call ≡ true) calls →
+    IsLedTo (after_controls (rolling_start m) calls) calls
 each-led m events calls run s fit =
-    led-to (after_controls (begun m) calls) calls
-    (subst IsWhole (sym (calls-machine (begun m) calls)) (whole-run m.image m.config events run m refl refl s)) (has-calls m calls fit)
+    led-to (after_controls (rolling_start m) calls) calls
+    (subst IsWhole (sym (calls-machine (rolling_start m) calls)) (whole-run m.image m.config events run m refl refl s)) (has-calls m calls fit)

@@ -6,4 +6,4 @@ pub mod Sizes
 pub mod Restored
 pub mod Led
 pub mod Example
-pub mod Kept
+pub mod Invariant

@@ -15,7 +15,7 @@ use Rattle.sn_model.specs.Homes.{Holder, Itself, OfCache}
 use Rattle.sn_model.specs.RecoveryPoint.{HasOneHolderWith, IsCut, block_in}
 use Rattle.sn_machine.specs.Machine.{MachineData, flat_of}
 use Rattle.rolling_recovery.specs.Parts.{keeper, keeper_at_cut, is_in_part}
-use Rattle.rolling_recovery.specs.Rolling.{RollingData, has_part, is_noted, block_in_part, unnoted}
+use Rattle.rolling_recovery.specs.Rolling.{RollingData, has_part, is_noted, block_in_part, first_not_noted}
 
 in_part : (has here : Bool) (content : List ℕ) → is_some (cond has (cond here (Some content) None) None) ≡ true → here ≡ true
 in_part true true content e = refl
@@ -39,7 +39,7 @@ none_missing marks i e l =
     (not_within (nat_lt (position_or_len not marks) (length marks)) (position_or_len not marks) e) in
     not-false (get_or marks i false) (fails_before_first not marks i false (omega (arith, past, l)))
 
-pub all-noted : (r : RollingData) → unnoted r ≡ None → r.machine.config.nodes ≤ length r.noted → (n : ℕ) → n < r.machine.config.nodes →
+pub all-noted : (r : RollingData) → first_not_noted r ≡ None → r.machine.config.nodes ≤ length r.noted → (n : ℕ) → n < r.machine.config.nodes →
     is_noted r n ≡ true
 all-noted r e few n l =
     sym (get_or-take r.machine.config.nodes r.noted n false l)

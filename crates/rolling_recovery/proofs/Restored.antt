@@ -18,7 +18,7 @@ use Rattle.sn_model.specs.Caches.{Line, block_count, line_of}
 use Rattle.sn_model.specs.Cuts.{names_at, owned_content}
 use Rattle.sn_model.specs.Fabric.{Fabric, node_at, home_of}
 use Rattle.sn_model.specs.Homes.{Holder, Itself, OfCache}
-use Rattle.sn_model.specs.Instructions.{Stepped}
+use Rattle.sn_model.specs.Instructions.{MachineStep}
 use Rattle.sn_model.specs.Machine.{State, processor_at}
 use Rattle.sn_model.specs.MachineEvents.{restores}
 use Rattle.sn_model.specs.PointEvents.{recovers, restored, restored_node, living_switches}
@@ -29,14 +29,14 @@ use Rattle.consistent_cuts.specs.Headline.{IsStepOfRun}
 use Rattle.sn_machine.specs.Machine.{MachineData, next_of, flat_of}
 use Rattle.rolling_recovery.specs.declared.answers.FinishFault.TheVariants as fault
 use Rattle.rolling_recovery.specs.Parts.{keeper, keeper_at_cut}
-use Rattle.rolling_recovery.specs.Rolling.{RollingData, has_part, core_in_part, block_in_part, unnoted, cut_off_by, fault_by, finish_fault}
+use Rattle.rolling_recovery.specs.Rolling.{RollingData, has_part, core_in_part, block_in_part, first_not_noted, cut_off_by, fault_by, finish_fault}
 use Rattle.rolling_recovery.specs.Recovered.{home_owns, owned_by, IsMadeOfParts}
 use Rattle.rolling_recovery.proofs.Calls.{Follows}
 use Rattle.rolling_recovery.proofs.Parted.{all-noted, keeper-there, with-keeper}
 
 -- a recovery that isn't cut off is done
 
-pub record Goes (s : State) (next : Stepped) : Type 0 where
+pub record Goes (s : State) (next : MachineStep) : Type 0 where
   pub undo : Undo
   pub answer : next.answer ≡ Recovered undo
   pub fabric : next.state.fabric ≡ restored s.fabric s.fabric.point
@@ -102,7 +102,7 @@ module _ (r : RollingData) (count : length r.machine.state.fabric.nodes ≡ r.ma
   after = (next_of r.machine Recover).state
 
   went : Goes r.machine.state (next_of r.machine Recover)
-  went = goes r.machine (noted-by (unnoted r) (next_of r.machine Recover).answer clear).1
+  went = goes r.machine (noted-by (first_not_noted r) (next_of r.machine Recover).answer clear).1
 
   back : IsRestored after (flat_of r.machine)
   back = (run.restored went.undo went.answer).0
@@ -112,7 +112,7 @@ module _ (r : RollingData) (count : length r.machine.state.fabric.nodes ≡ r.ma
 
   has : (n : ℕ) → n < r.machine.config.nodes → has_part r n ≡ true
   has n l = follows.noted n
-      (all-noted r (noted-by (unnoted r) (next_of r.machine Recover).answer clear).0 (let e = follows.notes in omega (arith, e, few)) n l)
+      (all-noted r (noted-by (first_not_noted r) (next_of r.machine Recover).answer clear).0 (let e = follows.notes in omega (arith, e, few)) n l)
 
   low : (n : ℕ) → n < r.machine.config.nodes → n < length after.fabric.nodes
   low n l = let a = nodes in omega (arith, a, count, l)

@@ -17,18 +17,18 @@ control_fits nodes (Deliver id) = true
 control_fits nodes Finish = true
 
 -- the control of a number that is good
-abbrev pub said : (ℕ → Control) → Result ℕ Fault → Result Control Fault
-said control_with (Ok number) = Ok (control_with number)
-said control_with (Err fault) = Err fault
+abbrev pub control_said : (ℕ → Control) → Result ℕ Fault → Result Control Fault
+control_said control_with (Ok number) = Ok (control_with number)
+control_said control_with (Err fault) = Err fault
 
 -- the control that a line says, in a machine of so many nodes
 unfoldable pub control_of : ℕ → List ℕ → Result Control Fault
 control_of nodes line =
     if bytes_eq line (codes "finish") then Ok Finish
-    else if begins (codes "order ") line then said Order (node_in nodes (after (codes "order ") line))
-    else if begins (codes "repeat ") line then said Repeat (message_in (after (codes "repeat ") line))
-    else if begins (codes "lose ") line then said Lose (message_in (after (codes "lose ") line))
-    else if begins (codes "deliver ") line then said Deliver (message_in (after (codes "deliver ") line))
+    else if begins (codes "order ") line then control_said Order (node_in nodes (after (codes "order ") line))
+    else if begins (codes "repeat ") line then control_said Repeat (message_in (after (codes "repeat ") line))
+    else if begins (codes "lose ") line then control_said Lose (message_in (after (codes "lose ") line))
+    else if begins (codes "deliver ") line then control_said Deliver (message_in (after (codes "deliver ") line))
     else Err NotOfForm
 
 -- the controls of a text, or the first cause for which it is refused

@@ -1,11 +1,11 @@
 -- A recovery of two nodes with an order that is lost, one that is repeated, and one that comes after its node is noted.
 use Rattle.std.specs.Prelude.{◌≡◌, ℕ, true, List, [], ◌∷◌, take, Some, None, Ok}
 use Rattle.sn_machine.specs.Machine.{MachineData}
-use Rattle.rolling_recovery.specs.declared.answers.Told.TheVariants.{Again}
+use Rattle.rolling_recovery.specs.declared.answers.ControlDelivery.TheVariants.{Again}
 use Rattle.rolling_recovery.specs.declared.controls.Control.{Control}
 use Rattle.rolling_recovery.specs.declared.controls.Control.TheVariants as control
 use Rattle.rolling_recovery.specs.declared.messages.ControlMessage.TheVariants.{Order}
-use Rattle.rolling_recovery.specs.Rolling.{RollingData, begun, is_noted, message_of, repeat_answer, deliver_answer, unnoted, after_controls}
+use Rattle.rolling_recovery.specs.Rolling.{RollingData, rolling_start, is_noted, message_of, repeat_answer, deliver_answer, first_not_noted, after_controls}
 
 abbrev pub example : List Control
 example =
@@ -14,7 +14,7 @@ example =
     ∷ control.Order 1 ∷ control.Order 1 ∷ control.Deliver 6 ∷ control.Deliver 8 ∷ control.Deliver 7 ∷ []
 
 abbrev pub after_first : ℕ → MachineData → RollingData
-after_first calls m = after_controls (begun m) (take calls example)
+after_first calls m = after_controls (rolling_start m) (take calls example)
 
 -- what comes of it, with any machine of two nodes
 pub record IsLedThrough (m : MachineData) : Type 0 where
@@ -28,4 +28,4 @@ pub record IsLedThrough (m : MachineData) : Type 0 where
   pub before : is_noted (after_first 11 m) 1 ≡ true
   pub late : deliver_answer (after_first 11 m) (message_of (after_first 11 m) 7) ≡ Again
   -- and then every node is noted
-  pub noted : unnoted (after_first 12 m) ≡ None
+  pub noted : first_not_noted (after_first 12 m) ≡ None

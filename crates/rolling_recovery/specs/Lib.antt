@@ -2,6 +2,6 @@ pub mod Controls
 pub mod Messages
 pub mod Parts
 pub mod Rolling
-pub mod Kept
+pub mod Invariant
 pub mod Recovered
 pub mod Example

@@ -17,8 +17,8 @@ abbrev pub without : List Flight → ℕ → List Flight
 without flights id = filter (λ f. not (nat_eq f.id id)) flights
 
 -- after a message is sent, under the next number
-abbrev pub sent : MessagesData → ControlMessage → MessagesData
-sent m message = record { flights = m.flights ++ record { id = m.next; message = message } ∷ []; next = m.next + 1 }
+abbrev pub messages_with : MessagesData → ControlMessage → MessagesData
+messages_with m message = record { flights = m.flights ++ record { id = m.next; message = message } ∷ []; next = m.next + 1 }
 
 -- no more may be in flight
 abbrev pub is_full : MessagesData → Bool

@@ -12,7 +12,7 @@ use Rattle.rolling_recovery.specs.declared.controls.Control.{Control}
 use Rattle.rolling_recovery.specs.declared.controls.Control.TheVariants.{Deliver}
 use Rattle.rolling_recovery.specs.declared.messages.ControlMessage.{ControlMessage}
 use Rattle.rolling_recovery.specs.declared.messages.ControlMessage.TheVariants.{Order, Done}
-use Rattle.rolling_recovery.specs.Rolling.{RollingData, begun, has_part, is_noted, core_in_part, block_in_part, message_of, finish_fault}
+use Rattle.rolling_recovery.specs.Rolling.{RollingData, rolling_start, has_part, is_noted, core_in_part, block_in_part, message_of, finish_fault}
 use Rattle.rolling_recovery.specs.Rolling.{after_control}
 
 -- whether one of these calls delivers an order to node n
@@ -49,7 +49,7 @@ pub record IsMadeOfParts (r : RollingData) (s : State) : Type 0 where
 -- after these calls
 pub record IsLedTo (r : RollingData) (calls : List Control) : Type 0 where
   -- a node has a part exactly where an order to it was delivered
-  pub parts : (n : ℕ) → has_part r n ≡ was_ordered (begun r.machine) n calls
+  pub parts : (n : ℕ) → has_part r n ≡ was_ordered (rolling_start r.machine) n calls
   -- a node is noted only where it has a part
   pub noted : (n : ℕ) → is_noted r n ≡ true → has_part r n ≡ true
   -- each block is in at most one part

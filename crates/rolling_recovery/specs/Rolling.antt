@@ -7,8 +7,8 @@ use Rattle.sn_base.specs.declared.event.Answer.{Answer}
 use Rattle.sn_base.specs.declared.event.Answer.TheVariants as answer
 use Rattle.rv_core.specs.declared.state.CoreState.{CoreState}
 use Rattle.sn_machine.specs.Machine.{MachineData, next_of}
-use Rattle.rolling_recovery.specs.declared.answers.Told.{Told}
-use Rattle.rolling_recovery.specs.declared.answers.Told.TheVariants as told
+use Rattle.rolling_recovery.specs.declared.answers.ControlDelivery.{ControlDelivery}
+use Rattle.rolling_recovery.specs.declared.answers.ControlDelivery.TheVariants as told
 use Rattle.rolling_recovery.specs.declared.answers.RepeatFault.{RepeatFault}
 use Rattle.rolling_recovery.specs.declared.answers.RepeatFault.TheVariants.{NoMessage, Full}
 use Rattle.rolling_recovery.specs.declared.answers.FinishFault.{FinishFault}
@@ -17,7 +17,7 @@ use Rattle.rolling_recovery.specs.declared.controls.Control.{Control}
 use Rattle.rolling_recovery.specs.declared.controls.Control.TheVariants as control
 use Rattle.rolling_recovery.specs.declared.messages.ControlMessage.{ControlMessage}
 use Rattle.rolling_recovery.specs.declared.messages.ControlMessage.TheVariants.{Order, Done}
-use Rattle.rolling_recovery.specs.Messages.{MessagesData, message_in, without, sent, is_full}
+use Rattle.rolling_recovery.specs.Messages.{MessagesData, message_in, without, messages_with, is_full}
 use Rattle.rolling_recovery.specs.Parts.{part_core, part_block, part_size}
 
 -- the machine that was handed in, the control messages, and a mark for each node that has its part and for each that is noted
@@ -30,8 +30,8 @@ pub record RollingData : Type 0 where
 abbrev pub no_nodes : List Bool
 no_nodes = replicate 16 false
 
-abbrev pub begun : MachineData → RollingData
-begun m = record { machine = m; messages = record { flights = []; next = 1 }; restored = no_nodes; noted = no_nodes }
+abbrev pub rolling_start : MachineData → RollingData
+rolling_start m = record { machine = m; messages = record { flights = []; next = 1 }; restored = no_nodes; noted = no_nodes }
 
 abbrev pub has_part : RollingData → ℕ → Bool
 has_part r n = has_node r.restored n
@@ -54,15 +54,15 @@ abbrev pub losing : RollingData → ℕ → RollingData
 losing r id = record r { messages = record r.messages { flights = without r.messages.flights id } }
 
 abbrev pub sending : RollingData → ControlMessage → RollingData
-sending r message = record r { messages = sent r.messages message }
+sending r message = record r { messages = messages_with r.messages message }
 
 -- lose id
 abbrev pub lost_by : RollingData → ℕ → Option ControlMessage → RollingData
 lost_by r id None = r
 lost_by r id (Some message) = losing r id
 
-abbrev pub lost : RollingData → ℕ → RollingData
-lost r id = lost_by r id (message_of r id)
+abbrev pub rolling_after_loss : RollingData → ℕ → RollingData
+rolling_after_loss r id = lost_by r id (message_of r id)
 
 -- order n
 abbrev pub ordered : RollingData → ℕ → RollingData
@@ -77,11 +77,11 @@ abbrev pub repeated_by : RollingData → Option ControlMessage → RollingData
 repeated_by r None = r
 repeated_by r (Some message) = if is_full r.messages then r else sending r message
 
-abbrev pub repeated : RollingData → ℕ → RollingData
-repeated r id = repeated_by r (message_of r id)
+abbrev pub rolling_after_repeat : RollingData → ℕ → RollingData
+rolling_after_repeat r id = repeated_by r (message_of r id)
 
 -- deliver id: a node that gets an order makes its part, where it has none, and says that it is done; one that is done is noted
-abbrev pub deliver_answer : RollingData → Option ControlMessage → Told
+abbrev pub deliver_answer : RollingData → Option ControlMessage → ControlDelivery
 deliver_answer r None = told.NoMessage
 deliver_answer r (Some (Order n)) = if has_part r n then told.Again else told.Restored (part_size r.machine n)
 deliver_answer r (Some (Done n)) = told.Noted
@@ -97,12 +97,12 @@ delivered_by r id None = r
 delivered_by r id (Some (Order n)) = sending (restoring (losing r id) n) (Done n)
 delivered_by r id (Some (Done n)) = noting (losing r id) n
 
-abbrev pub delivered : RollingData → ℕ → RollingData
-delivered r id = delivered_by r id (message_of r id)
+abbrev pub rolling_after_delivery : RollingData → ℕ → RollingData
+rolling_after_delivery r id = delivered_by r id (message_of r id)
 
 -- finish: the least node that isn't noted, or else two nodes that are cut off, are in its way
-abbrev pub unnoted : RollingData → Option ℕ
-unnoted r = position not (take r.machine.config.nodes r.noted)
+abbrev pub first_not_noted : RollingData → Option ℕ
+first_not_noted r = position not (take r.machine.config.nodes r.noted)
 
 abbrev pub cut_off_by : Answer → Option FinishFault
 cut_off_by (answer.CutOff a b) = Some (CutOff a b)
@@ -113,14 +113,14 @@ fault_by (Some n) answer = Some (NotDone n)
 fault_by None answer = cut_off_by answer
 
 abbrev pub finish_fault : RollingData → Option FinishFault
-finish_fault r = fault_by (unnoted r) (next_of r.machine Recover).answer
+finish_fault r = fault_by (first_not_noted r) (next_of r.machine Recover).answer
 
 -- the recovery after a call, and after some of them; one that a fault keeps from its finish is as it was
 abbrev pub after_control : RollingData → Control → RollingData
 after_control r (control.Order n) = ordered r n
-after_control r (control.Repeat id) = repeated r id
-after_control r (control.Lose id) = lost r id
-after_control r (control.Deliver id) = delivered r id
+after_control r (control.Repeat id) = rolling_after_repeat r id
+after_control r (control.Lose id) = rolling_after_loss r id
+after_control r (control.Deliver id) = rolling_after_delivery r id
 after_control r control.Finish = r
 
 abbrev pub after_controls : RollingData → List Control → RollingData

@@ -3,7 +3,7 @@ use sn_base::NodeId;
 
 /// What became of a message that was to be delivered.
 #[derive(Clone, Copy, PartialEq, Eq, Debug)]
-pub enum Told {
+pub enum ControlDelivery {
     /// No message in flight has this number.
     NoMessage,
     /// An order, and the node made its part: of so many blocks.

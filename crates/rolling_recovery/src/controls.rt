@@ -2,6 +2,7 @@
 ghost use Rattle.std.specs.Prelude.{◌≡◌, ◌<◌, ◌≤◌, ◌^◌, true, All, IfOk, IfErr, length, Ok};
 ghost use Rattle.sn_text.specs.Items.{IsRefusedAs};
 ghost use Rattle.rolling_recovery.specs.Controls.{control_fits, control_of, controls_of};
+ghost use Rattle.sn_base.specs.declared.limits.TheConstants.{EVENTS};
 
 use sn_base::{MsgId, NodeId};
 use sn_text::{Fault, Form, ScriptFault, message_in, node_in, read_items, rest_after};
@@ -83,7 +84,7 @@ pub fn read_control(alloc: Global, bytes: &[u8], nodes: u8) -> Result<Vec<Contro
     requires length { length bytes.now < 2 ^ 62 }
     ensures ok { IfOk result (λ controls. controls_of nodes bytes.now ≡ Ok controls.items) }
     ensures fit { IfOk result (λ controls. All (λ control. control_fits nodes control ≡ true) controls.items) }
-    ensures few { IfOk result (λ controls. length controls.items ≤ 1000000) }
+    ensures few { IfOk result (λ controls. length controls.items ≤ EVENTS) }
     ensures refused { IfErr result (IsRefusedAs (controls_of nodes bytes.now)) }
 {
     read_items(alloc, &ControlForm { nodes }, bytes)

@@ -3,10 +3,10 @@ ghost use Rattle.std.specs.Prelude.{◌≡◌, ℕ, true, List};
 ghost use Rattle.std.specs.List.{All};
 ghost use Rattle.sn_base.specs.declared.event.Event.{Event};
 ghost use Rattle.sn_machine.specs.Machine.{MachineData};
-ghost use Rattle.consistent_cuts.specs.Headline.{IsRun, reached};
+ghost use Rattle.consistent_cuts.specs.Headline.{IsRun, state_of_run};
 ghost use Rattle.rolling_recovery.specs.declared.controls.Control.{Control};
 ghost use Rattle.rolling_recovery.specs.Controls.{control_fits};
-ghost use Rattle.rolling_recovery.specs.Rolling.{begun, after_controls};
+ghost use Rattle.rolling_recovery.specs.Rolling.{rolling_start, after_controls};
 ghost use Rattle.rolling_recovery.specs.Recovered.{IsLedTo};
 ghost use Rattle.rolling_recovery.specs.Example.{IsLedThrough};
 
@@ -15,8 +15,8 @@ ghost use Rattle.rolling_recovery.specs.Example.{IsLedThrough};
 /// definitions' recovery leaves just the parts.
 pub fn each_recovery_is_the_cut()
     ensures { (m : MachineData) (events : List Event) (calls : List Control) → IsRun m.config events
-        → m.state ≡ reached m.image m.config events → All (λ call. control_fits m.config.nodes call ≡ true) calls
-        → IsLedTo (after_controls (begun m) calls) calls }
+        → m.state ≡ state_of_run m.image m.config events → All (λ call. control_fits m.config.nodes call ≡ true) calls
+        → IsLedTo (after_controls (rolling_start m) calls) calls }
 {}
 
 /// There are such calls with an order that is lost, one that is repeated and one that comes after its node is noted, at

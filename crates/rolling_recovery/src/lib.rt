@@ -16,7 +16,7 @@ mod messages;
 mod parts;
 mod rolling;
 
-pub use answers::{FinishFault, Full, RepeatFault, Told};
+pub use answers::{ControlDelivery, FinishFault, Full, RepeatFault};
 pub use controls::{Control, read_control};
 pub use laws::{each_recovery_is_the_cut, orders_may_be_lost_repeated_and_late};
 pub use messages::{ControlMessage, Flight};

@@ -1,6 +1,6 @@
 //! Control messages in flight, in order of their numbers.
 ghost use Rattle.std.specs.Prelude.{◌≡◌, ◌+◌, ◌<◌, ◌≤◌, ◌^◌, [], vec_capacity, length, IfOk, IfNone, OnSome};
-ghost use Rattle.rolling_recovery.specs.Messages.{message_in, without, sent, is_full};
+ghost use Rattle.rolling_recovery.specs.Messages.{message_in, without, messages_with, is_full};
 
 use sn_base::{Memory, MsgId, NodeId};
 use std::alloc::Global;
@@ -98,7 +98,7 @@ impl Messages {
         requires room { length self.old.flights < 64 }
         requires numbers { self.old.next ≤ 2 ^ 63 }
         ensures number { result ≡ self.old.next }
-        ensures sent { self.new ≡ sent self.old message }
+        ensures sent { self.new ≡ messages_with self.old message }
     {
         let id = self.next;
         self.flights.push(Flight { id, message }).unwrap();

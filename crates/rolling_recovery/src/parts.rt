@@ -3,7 +3,7 @@ ghost use Rattle.std.specs.Prelude.{◌≡◌, ◌<◌, true, if◌then◌else�
 ghost use Rattle.sn_base.specs.Nodes.{has_node};
 ghost use Rattle.rolling_recovery.specs.Parts.{keeper_at_cut, is_in_part, part_size};
 
-use crate::answers::Told;
+use crate::answers::ControlDelivery;
 use sn_base::{BLOCKS, BlockNo, NodeId};
 use sn_machine::{Machine, Owner};
 
@@ -38,16 +38,16 @@ pub fn part_size(machine: &Machine, node: NodeId) -> u32
 }
 
 /// A node gets an order: where it has no part it has one from then on.
-pub fn obey(restored: &mut [bool; 16], machine: &Machine, node: NodeId) -> Told
+pub fn obey(restored: &mut [bool; 16], machine: &Machine, node: NodeId) -> ControlDelivery
     requires here { node < length restored.old }
     ensures mark { restored.new ≡ slice_set restored.old node true }
-    ensures told { result ≡ (if has_node restored.old node then Told.Again else Told.Restored (part_size machine.now node)) }
+    ensures told { result ≡ (if has_node restored.old node then ControlDelivery.Again else ControlDelivery.Restored (part_size machine.now node)) }
 {
     let place = usize::from(node.number());
     let had = restored[place];
     restored[place] = true;
     if had {
-        return Told::Again;
+        return ControlDelivery::Again;
     }
-    Told::Restored(part_size(machine, node))
+    ControlDelivery::Restored(part_size(machine, node))
 }

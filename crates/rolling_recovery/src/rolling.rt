@@ -3,12 +3,12 @@ ghost use Rattle.std.specs.Prelude.{◌≡◌, ℕ, ◌<◌, ◌≤◌, ◌^◌,
 ghost use Rattle.sn_machine.specs.Machine.{IsApplied};
 ghost use Rattle.rolling_recovery.specs.declared.controls.Control.{Control as Call};
 ghost use Rattle.rolling_recovery.specs.Messages.{is_full};
-ghost use Rattle.rolling_recovery.specs.Rolling.{begun, ordered, repeated, repeat_answer, lost, delivered, deliver_answer, message_of};
-ghost use Rattle.rolling_recovery.specs.Rolling.{has_part, core_in_part, block_in_part, unnoted, finish_fault};
-ghost use Rattle.rolling_recovery.specs.Kept.{HasCalls};
+ghost use Rattle.rolling_recovery.specs.Rolling.{rolling_start, ordered, rolling_after_repeat, repeat_answer, rolling_after_loss, rolling_after_delivery, deliver_answer, message_of};
+ghost use Rattle.rolling_recovery.specs.Rolling.{has_part, core_in_part, block_in_part, first_not_noted, finish_fault};
+ghost use Rattle.rolling_recovery.specs.Invariant.{HasCalls};
 ghost use Rattle.rolling_recovery.specs.Recovered.{IsLedTo, IsMadeOfParts};
 
-use crate::answers::{FinishFault, Full, RepeatFault, Told};
+use crate::answers::{ControlDelivery, FinishFault, Full, RepeatFault};
 use crate::messages::{ControlMessage, Messages};
 use crate::parts::{keeper, obey};
 use rv_core::CoreState;
@@ -42,7 +42,7 @@ pub struct Rolling {
 }
 
 impl Model for Rolling {
-    ghost use Rattle.rolling_recovery.specs.Kept.{IsRolling};
+    ghost use Rattle.rolling_recovery.specs.Invariant.{IsRolling};
     ghost use Rattle.rolling_recovery.specs.Rolling.{RollingData};
 
     ghost Value = { RollingData };
@@ -66,7 +66,7 @@ impl Rolling {
     /// Begins a recovery of the machine. No message is in flight, and no node has a part.
     pub fn start(room: Room, machine: Machine) -> Rolling
         requires { 1 ≤ machine.spare }
-        ensures { result ≡ begun machine }
+        ensures { result ≡ rolling_start machine }
     {
         let Room { messages } = room;
         machine.recovered().is_cut();
@@ -110,7 +110,7 @@ impl Rolling {
     pub fn repeat(&mut self, id: MsgId) -> Result<MsgId, RepeatFault>
         requires { self.old.messages.next ≤ 2 ^ 63 }
         ensures answer { result ≡ repeat_answer self.old (message_of self.old id) }
-        ensures after { self.new ≡ repeated self.old id }
+        ensures after { self.new ≡ rolling_after_repeat self.old id }
     {
         let Some(message) = self.messages.get(id) else {
             return Err(RepeatFault::NoMessage);
@@ -124,19 +124,19 @@ impl Rolling {
     /// Loses a message. False where none in flight has this number.
     pub fn lose(&mut self, id: MsgId) -> bool
         ensures answer { result ≡ is_some (message_of self.old id) }
-        ensures after { self.new ≡ lost self.old id }
+        ensures after { self.new ≡ rolling_after_loss self.old id }
     {
         self.messages.take(id).is_some()
     }
 
     /// Its receiver takes a message. What an order's node answers takes the order's place.
-    pub fn deliver(&mut self, id: MsgId) -> Told
+    pub fn deliver(&mut self, id: MsgId) -> ControlDelivery
         requires { self.old.messages.next ≤ 2 ^ 63 }
         ensures answer { result ≡ deliver_answer self.old (message_of self.old id) }
-        ensures after { self.new ≡ delivered self.old id }
+        ensures after { self.new ≡ rolling_after_delivery self.old id }
     {
         let Some(message) = self.messages.take(id) else {
-            return Told::NoMessage;
+            return ControlDelivery::NoMessage;
         };
         match message {
             ControlMessage::Order(node) => {
@@ -146,7 +146,7 @@ impl Rolling {
             }
             ControlMessage::Done(node) => {
                 self.noted[usize::from(node.number())] = true;
-                Told::Noted
+                ControlDelivery::Noted
             }
         }
     }
@@ -218,7 +218,7 @@ impl Rolling {
 
     /// The least node that isn't noted.
     fn unnoted(&self) -> Option<NodeId>
-        ensures { result ≡ unnoted self.now }
+        ensures { result ≡ first_not_noted self.now }
     {
         let nodes = usize::from(self.machine.config().nodes);
         let place = first_unmarked(&self.noted[..nodes])?;

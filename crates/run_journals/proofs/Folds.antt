@@ -5,7 +5,7 @@ use Rattle.sn_base.specs.Image.{ImageData}
 use Rattle.sn_base.specs.declared.config.Config.{Config}
 use Rattle.sn_base.specs.declared.event.Event.{Event}
 use Rattle.sn_model.specs.Machine.{State}
-use Rattle.sn_model.specs.Instructions.{Stepped}
+use Rattle.sn_model.specs.Instructions.{MachineStep}
 use Rattle.sn_model.specs.Step.{step_of, state_after, run_of}
 use Rattle.due_events.specs.Numbers.{Numbers, first_numbers, numbers_after}
 use Rattle.due_events.specs.Runs.{numbers_along}
@@ -25,7 +25,7 @@ run_of-snoc : (image : ImageData) (config : Config) (s : State) (events : List E
     ++ step_of image config (state_after image config s events) event ∷ []
 run_of-snoc image config s [] event = refl
 run_of-snoc image config s (first ∷ events) event =
-    ap (λ (l : List Stepped). step_of image config s first ∷ l) (run_of-snoc image config (step_of image config s first).state events event)
+    ap (λ (l : List MachineStep). step_of image config s first ∷ l) (run_of-snoc image config (step_of image config s first).state events event)
 
 numbers_along-snoc : (image : ImageData) (config : Config) (s : State) (x : Numbers) (events : List Event) (event : Event) →
     numbers_along image config s x (events ++ event ∷ [])
@@ -50,11 +50,11 @@ module _ (began : Began) (journal : List JournalEntry) (worker : ℕ) (event : E
       ++ (step_of began.image began.config (state_of began journal) event).answer ∷ []
   unfolding state_of answers_of
   answers_of-snoc =
-      ap (λ (l : List Event). map (λ (t : Stepped). t.answer) (run_of began.image began.config (start began) l))
+      ap (λ (l : List Event). map (λ (t : MachineStep). t.answer) (run_of began.image began.config (start began) l))
       (events_of-snoc journal (entry_of worker event))
-      ∙ ap (λ (l : List Stepped). map (λ (t : Stepped). t.answer) l)
+      ∙ ap (λ (l : List MachineStep). map (λ (t : MachineStep). t.answer) l)
       (run_of-snoc began.image began.config (start began) (events_of journal) event)
-      ∙ map-append (λ (t : Stepped). t.answer) (run_of began.image began.config (start began) (events_of journal))
+      ∙ map-append (λ (t : MachineStep). t.answer) (run_of began.image began.config (start began) (events_of journal))
       (step_of began.image began.config (state_after began.image began.config (start began) (events_of journal)) event ∷ [])
 
   pub numbers_of-snoc : numbers_of began (journal ++ entry_of worker event ∷ [])
@@ -74,5 +74,5 @@ length-run_of image config s (first ∷ events) = ap (λ n. suc n) (length-run_o
 pub length-answers_of : (began : Began) (journal : List JournalEntry) → length (answers_of began journal) ≡ length journal
 unfolding answers_of
 length-answers_of began journal =
-    length-map (run_of began.image began.config (start began) (events_of journal)) (λ (t : Stepped). t.answer)
+    length-map (run_of began.image began.config (start began) (events_of journal)) (λ (t : MachineStep). t.answer)
     ∙ length-run_of began.image began.config (start began) (events_of journal) ∙ length-map journal (λ (e : JournalEntry). e.event)

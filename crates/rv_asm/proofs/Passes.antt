@@ -12,7 +12,7 @@ use Rattle.rv_statement.specs.Lines.{bare}
 use Rattle.rv_statement.specs.Reading.{statement_of}
 use Rattle.rv_asm.specs.Assembly.{Item, Listing, IsRefusedAs, with_line, listed_from, nothing_listed, item_word, words_from}
 use Rattle.rv_asm.specs.declared.assembling.Item as code
-use Rattle.rv_asm.specs.Kept.{place_in, item_seen, listing_of}
+use Rattle.rv_asm.specs.Lists.{place_in, item_seen, listing_of}
 
 -- a line that adds to the listing
 listed_from-next : (number : ℕ) (listing longer : Listing) (line : List ℕ) (lines : List (List ℕ)) →

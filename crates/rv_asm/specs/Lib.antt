@@ -1,3 +1,3 @@
 pub mod Text
 pub mod Assembly
-pub mod Kept
+pub mod Lists

@@ -14,8 +14,8 @@ abbrev pub register_text : ℕ → List ℕ
 register_text number = codes "x" ++ decimal number
 
 -- two operands with `, ` between them
-abbrev pub listed : List ℕ → List ℕ → List ℕ
-listed one other = one ++ codes ", " ++ other
+abbrev pub with_comma : List ℕ → List ℕ → List ℕ
+with_comma one other = one ++ codes ", " ++ other
 
 -- (xN)
 abbrev pub address_text : ℕ → List ℕ
@@ -27,21 +27,21 @@ place_text number base = signed_decimal number ++ address_text base
 
 -- the operands, in order, after one blank
 abbrev pub operands_text : Instr → List ℕ
-operands_text (Lui rd imm) = codes " " ++ listed (register_text rd) (decimal (imm / 4096))
-operands_text (Auipc rd imm) = codes " " ++ listed (register_text rd) (decimal (imm / 4096))
-operands_text (Jal rd offset) = codes " " ++ listed (register_text rd) (signed_decimal offset)
-operands_text (Jalr rd rs1 imm) = codes " " ++ listed (register_text rd) (place_text imm rs1)
-operands_text (Branch o rs1 rs2 offset) = codes " " ++ listed (register_text rs1) (listed (register_text rs2) (signed_decimal offset))
-operands_text (Load o rd rs1 imm) = codes " " ++ listed (register_text rd) (place_text imm rs1)
-operands_text (Store o rs1 rs2 imm) = codes " " ++ listed (register_text rs2) (place_text imm rs1)
-operands_text (OpImm o rd rs1 imm) = codes " " ++ listed (register_text rd) (listed (register_text rs1) (signed_decimal imm))
-operands_text (Op o rd rs1 rs2) = codes " " ++ listed (register_text rd) (listed (register_text rs1) (register_text rs2))
+operands_text (Lui rd imm) = codes " " ++ with_comma (register_text rd) (decimal (imm / 4096))
+operands_text (Auipc rd imm) = codes " " ++ with_comma (register_text rd) (decimal (imm / 4096))
+operands_text (Jal rd offset) = codes " " ++ with_comma (register_text rd) (signed_decimal offset)
+operands_text (Jalr rd rs1 imm) = codes " " ++ with_comma (register_text rd) (place_text imm rs1)
+operands_text (Branch o rs1 rs2 offset) = codes " " ++ with_comma (register_text rs1) (with_comma (register_text rs2) (signed_decimal offset))
+operands_text (Load o rd rs1 imm) = codes " " ++ with_comma (register_text rd) (place_text imm rs1)
+operands_text (Store o rs1 rs2 imm) = codes " " ++ with_comma (register_text rs2) (place_text imm rs1)
+operands_text (OpImm o rd rs1 imm) = codes " " ++ with_comma (register_text rd) (with_comma (register_text rs1) (signed_decimal imm))
+operands_text (Op o rd rs1 rs2) = codes " " ++ with_comma (register_text rd) (with_comma (register_text rs1) (register_text rs2))
 operands_text Fence = []
 operands_text Ecall = []
 operands_text Ebreak = []
-operands_text (Lr rd rs1) = codes " " ++ listed (register_text rd) (address_text rs1)
-operands_text (Sc rd rs1 rs2) = codes " " ++ listed (register_text rd) (listed (register_text rs2) (address_text rs1))
-operands_text (Amo o rd rs1 rs2) = codes " " ++ listed (register_text rd) (listed (register_text rs2) (address_text rs1))
+operands_text (Lr rd rs1) = codes " " ++ with_comma (register_text rd) (address_text rs1)
+operands_text (Sc rd rs1 rs2) = codes " " ++ with_comma (register_text rd) (with_comma (register_text rs2) (address_text rs1))
+operands_text (Amo o rd rs1 rs2) = codes " " ++ with_comma (register_text rd) (with_comma (register_text rs2) (address_text rs1))
 
 -- an instruction's line, without its end
 unfoldable pub instr_text : Instr → List ℕ

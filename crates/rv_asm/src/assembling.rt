@@ -6,7 +6,7 @@ ghost use Rattle.rv_statement.specs.Lines.{bare};
 ghost use Rattle.rv_statement.specs.Seen.{operation_seen};
 ghost use Rattle.rv_asm.specs.Assembly.{asm_of, IsRefusedAs, with_item, with_operation, with_line, with_label, with_place, item_word};
 ghost use Rattle.rv_asm.specs.Assembly.{led_word, words_from, listed_from, nothing_listed};
-ghost use Rattle.rv_asm.specs.Kept.{item_seen, place_in, listing_of};
+ghost use Rattle.rv_asm.specs.Lists.{item_seen, place_in, listing_of};
 
 use crate::fault::{AsmCause, AsmFault};
 use rv_decode::Instr;

@@ -2,7 +2,7 @@
 ghost use Rattle.std.specs.Prelude.{◌≡◌, ◌+◌, ◌<◌, ◌/◌, ◌++◌, codes, decimal, IfOk, OnOk};
 ghost use Rattle.std.specs.Fmt.{signed_decimal};
 ghost use Rattle.text_lines.specs.Hex.{hex_word};
-ghost use Rattle.rv_asm.specs.Text.{register_text, listed, address_text, place_text, operands_text, instr_text};
+ghost use Rattle.rv_asm.specs.Text.{register_text, with_comma, address_text, place_text, operands_text, instr_text};
 ghost use Rattle.rv_asm.specs.Text.{word_text, written, dis_of};
 
 use itoa::Buffer;
@@ -89,7 +89,7 @@ fn add_operands(text: &mut Vec<u8>, instr: &Instr) -> Result<(), Memory>
 }
 
 fn add_upper(text: &mut Vec<u8>, rd: u8, imm: u32) -> Result<(), Memory>
-    ensures { OnOk result (text.new.items ≡ text.old.items ++ (codes " " ++ listed (register_text rd) (decimal (imm / 4096)))) }
+    ensures { OnOk result (text.new.items ≡ text.old.items ++ (codes " " ++ with_comma (register_text rd) (decimal (imm / 4096)))) }
 {
     add_register(text, " ", rd)?;
     add(text, ", ")?;
@@ -98,7 +98,7 @@ fn add_upper(text: &mut Vec<u8>, rd: u8, imm: u32) -> Result<(), Memory>
 }
 
 fn add_jump(text: &mut Vec<u8>, rd: u8, offset: i32) -> Result<(), Memory>
-    ensures { OnOk result (text.new.items ≡ text.old.items ++ (codes " " ++ listed (register_text rd) (signed_decimal offset))) }
+    ensures { OnOk result (text.new.items ≡ text.old.items ++ (codes " " ++ with_comma (register_text rd) (signed_decimal offset))) }
 {
     add_register(text, " ", rd)?;
     add(text, ", ")?;
@@ -107,7 +107,7 @@ fn add_jump(text: &mut Vec<u8>, rd: u8, offset: i32) -> Result<(), Memory>
 
 fn add_numbered(text: &mut Vec<u8>, one: u8, other: u8, number: i32) -> Result<(), Memory>
     ensures { OnOk result (text.new.items ≡
-        text.old.items ++ (codes " " ++ listed (register_text one) (listed (register_text other) (signed_decimal number)))) }
+        text.old.items ++ (codes " " ++ with_comma (register_text one) (with_comma (register_text other) (signed_decimal number)))) }
 {
     add_register(text, " ", one)?;
     add_register(text, ", ", other)?;
@@ -117,7 +117,7 @@ fn add_numbered(text: &mut Vec<u8>, one: u8, other: u8, number: i32) -> Result<(
 
 fn add_registers(text: &mut Vec<u8>, rd: u8, rs1: u8, rs2: u8) -> Result<(), Memory>
     ensures { OnOk result (text.new.items ≡
-        text.old.items ++ (codes " " ++ listed (register_text rd) (listed (register_text rs1) (register_text rs2)))) }
+        text.old.items ++ (codes " " ++ with_comma (register_text rd) (with_comma (register_text rs1) (register_text rs2)))) }
 {
     add_register(text, " ", rd)?;
     add_register(text, ", ", rs1)?;
@@ -125,7 +125,7 @@ fn add_registers(text: &mut Vec<u8>, rd: u8, rs1: u8, rs2: u8) -> Result<(), Mem
 }
 
 fn add_place(text: &mut Vec<u8>, one: u8, number: i32, base: u8) -> Result<(), Memory>
-    ensures { OnOk result (text.new.items ≡ text.old.items ++ (codes " " ++ listed (register_text one) (place_text number base))) }
+    ensures { OnOk result (text.new.items ≡ text.old.items ++ (codes " " ++ with_comma (register_text one) (place_text number base))) }
 {
     add_register(text, " ", one)?;
     add(text, ", ")?;
@@ -134,7 +134,7 @@ fn add_place(text: &mut Vec<u8>, one: u8, number: i32, base: u8) -> Result<(), M
 }
 
 fn add_reserved(text: &mut Vec<u8>, rd: u8, base: u8) -> Result<(), Memory>
-    ensures { OnOk result (text.new.items ≡ text.old.items ++ (codes " " ++ listed (register_text rd) (address_text base))) }
+    ensures { OnOk result (text.new.items ≡ text.old.items ++ (codes " " ++ with_comma (register_text rd) (address_text base))) }
 {
     add_register(text, " ", rd)?;
     add(text, ", ")?;
@@ -143,7 +143,7 @@ fn add_reserved(text: &mut Vec<u8>, rd: u8, base: u8) -> Result<(), Memory>
 
 fn add_atomic(text: &mut Vec<u8>, rd: u8, rs2: u8, base: u8) -> Result<(), Memory>
     ensures { OnOk result (text.new.items ≡
-        text.old.items ++ (codes " " ++ listed (register_text rd) (listed (register_text rs2) (address_text base)))) }
+        text.old.items ++ (codes " " ++ with_comma (register_text rd) (with_comma (register_text rs2) (address_text base)))) }
 {
     add_register(text, " ", rd)?;
     add_register(text, ", ", rs2)?;

@@ -5,7 +5,7 @@ use Rattle.std.proofs.Common.{nat_eq, if◌then◌else◌}
 use Rattle.std.proofs.lemmas.Bool.{eqb-true}
 use Rattle.std.proofs.lemmas.Bool.Decides.{nat_tests}
 use Rattle.sn_base.specs.Blocks.{ram_start, ram_size, bytes_of}
-use Rattle.sn_base.specs.Image.{ImageData, fetched, all_writable}
+use Rattle.sn_base.specs.Image.{ImageData, word_fetched, all_writable}
 use Rattle.sn_base.specs.declared.block.Width.{Width}
 use Rattle.sn_base.specs.declared.block.Width.TheVariants.{Byte, Half, Word}
 use Rattle.rv_decode.specs.declared.instr.Instr.{Instr}
@@ -51,7 +51,7 @@ wants_next_bare image (Err cause) c = refl
 
 pub want_bare : (image : ImageData) (c : CoreState) → want_of image (bare c) ≡ want_of image c
 unfolding want_of
-want_bare image c = wants_next_bare image (instruction_of (fetched image.segments c.pc)) c
+want_bare image c = wants_next_bare image (instruction_of (word_fetched image.segments c.pc)) c
 
 -- ---- nor does what it does
 
@@ -86,12 +86,12 @@ does_next_alike image (Err cause) c seen done read = record { core = refl; effec
 pub next_bare : (image : ImageData) (c : CoreState) (seen : ℕ) (done : Bool) (read : Option ℕ) →
     bare (next_of image (bare c) seen done read).core ≡ bare (next_of image c seen done read).core
 unfolding next_of
-next_bare image c seen done read = (does_next_alike image (instruction_of (fetched image.segments c.pc)) c seen done read).core
+next_bare image c seen done read = (does_next_alike image (instruction_of (word_fetched image.segments c.pc)) c seen done read).core
 
 pub effect_bare : (image : ImageData) (c : CoreState) (seen : ℕ) (done : Bool) (read : Option ℕ) →
     (next_of image (bare c) seen done read).effect ≡ (next_of image c seen done read).effect
 unfolding next_of
-effect_bare image c seen done read = (does_next_alike image (instruction_of (fetched image.segments c.pc)) c seen done read).effect
+effect_bare image c seen done read = (does_next_alike image (instruction_of (word_fetched image.segments c.pc)) c seen done read).effect
 
 -- ---- the reservation, and what is written
 
@@ -195,16 +195,16 @@ lawful-next image (Err cause) c seen done read = record { inside = tt; reservati
 -- what is wanted lies in memory
 pub want_inside : (image : ImageData) (c : CoreState) → IsInside (want_of image c)
 unfolding want_of
-want_inside image c = (lawful-next image (instruction_of (fetched image.segments c.pc)) c 0 false None).inside
+want_inside image c = (lawful-next image (instruction_of (word_fetched image.segments c.pc)) c 0 false None).inside
 
 -- only LR and SC change the reservation
 pub next_reservation : (image : ImageData) (c : CoreState) (seen : ℕ) (done : Bool) (read : Option ℕ) →
     (next_of image c seen done read).core.reservation ≡ reservation_after (want_of image c) c.reservation
 unfolding next_of want_of
-next_reservation image c seen done read = (lawful-next image (instruction_of (fetched image.segments c.pc)) c seen done read).reservation
+next_reservation image c seen done read = (lawful-next image (instruction_of (word_fetched image.segments c.pc)) c seen done read).reservation
 
 -- a write is there exactly where one is wanted, and where it is
 pub write_fits : (image : ImageData) (c : CoreState) (seen : ℕ) (done : Bool) (read : Option ℕ) →
     WriteFits (want_of image c) done (next_of image c seen done read).effect.write
 unfolding next_of want_of
-write_fits image c seen done read = (lawful-next image (instruction_of (fetched image.segments c.pc)) c seen done read).write
+write_fits image c seen done read = (lawful-next image (instruction_of (word_fetched image.segments c.pc)) c seen done read).write

@@ -102,9 +102,9 @@ abbrev pub sign_extended : ℕ → ℕ → ℕ
 sign_extended half n = if nat_lt n half then n else n + (2 ^ 32 - 2 * half)
 
 -- what a load gives, of the aligned word that it saw
-abbrev pub loaded : LoadOp → ℕ → ℕ → ℕ
-loaded Lb address seen = sign_extended 128 (byte_of address seen)
-loaded Lh address seen = sign_extended 32768 (half_of address seen)
-loaded Lw address seen = seen
-loaded Lbu address seen = byte_of address seen
-loaded Lhu address seen = half_of address seen
+abbrev pub load_result : LoadOp → ℕ → ℕ → ℕ
+load_result Lb address seen = sign_extended 128 (byte_of address seen)
+load_result Lh address seen = sign_extended 32768 (half_of address seen)
+load_result Lw address seen = seen
+load_result Lbu address seen = byte_of address seen
+load_result Lhu address seen = half_of address seen

@@ -60,9 +60,9 @@ abbrev pub HasStep : ImageData → FlatState → Record → Type 0
 HasStep image flat r = HasStepWanting flat (want_of image (core_at flat r.core)) r
 
 -- memory after a write
-abbrev pub written : List ℕ → Option Write → List ℕ
-written memory None = memory
-written memory (Some w) = stored_in memory (w.address - ram_start) (little_bytes (bytes_of w.width) w.value)
+abbrev pub memory_after_write : List ℕ → Option Write → List ℕ
+memory_after_write memory None = memory
+memory_after_write memory (Some w) = stored_in memory (w.address - ram_start) (little_bytes (bytes_of w.width) w.value)
 
 -- a core after a write of somebody else: it has no reservation on that block
 abbrev pub after_write : Option Write → CoreState → CoreState
@@ -72,7 +72,7 @@ after_write (Some w) core = if is_reserved core.reservation (block_of w.address)
 -- the flat machine after a core's step
 abbrev pub flat_after : FlatState → ℕ → Next → FlatState
 flat_after flat node next = record {
-  memory = written flat.memory next.effect.write;
+  memory = memory_after_write flat.memory next.effect.write;
   cores = slice_set (map (after_write next.effect.write) flat.cores) node next.core;
 }
 

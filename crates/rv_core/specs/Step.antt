@@ -2,7 +2,7 @@
 -- modulo 2^32. (RISC-V Unprivileged ISA, "RV32I Base Integer Instruction Set" and "A" Standard Extension.)
 use Rattle.std.specs.Prelude.{ℕ, ◌+◌, ◌*◌, ◌/◌, ◌%◌, ◌^◌, Bool, true, false, nat_eq, if◌then◌else◌, Option, Some, None, Result, Ok, Err}
 use Rattle.std.specs.Prelude.{ok_or, unwrap_or}
-use Rattle.sn_base.specs.Image.{ImageData, fetched}
+use Rattle.sn_base.specs.Image.{ImageData, word_fetched}
 use Rattle.sn_base.specs.declared.block.Width.{Width}
 use Rattle.sn_base.specs.declared.block.Width.TheVariants.{Word}
 use Rattle.rv_decode.specs.declared.instr.Instr.{Instr}
@@ -18,7 +18,7 @@ use Rattle.rv_core.specs.declared.step.Want.TheVariants.{Nothing, Load as LoadAt
 use Rattle.rv_core.specs.declared.step.Want.TheVariants.{Input}
 use Rattle.rv_core.specs.declared.step.Effect.{Effect}
 use Rattle.rv_core.specs.Core.{register, with_register, trapped, block_of}
-use Rattle.rv_core.specs.Arithmetic.{sum, as_word, is_taken, imm_result, reg_result, amo_result, loaded}
+use Rattle.rv_core.specs.Arithmetic.{sum, as_word, is_taken, imm_result, reg_result, amo_result, load_result}
 use Rattle.rv_core.specs.Access.{width_of, fault_of}
 
 -- the next core, and what the instruction does outside
@@ -43,8 +43,8 @@ abbrev pub after : CoreState → ℕ
 after core = (core.pc + 4) % 2 ^ 32
 
 -- the core at the next instruction in order, alone or with a register written
-abbrev pub passed : CoreState → CoreState
-passed core = record core { pc = after core }
+abbrev pub core_in_order : CoreState → CoreState
+core_in_order core = record core { pc = after core }
 
 abbrev pub gets : CoreState → ℕ → ℕ → CoreState
 gets core rd value = record core { pc = after core; x = with_register core rd value }
@@ -78,15 +78,15 @@ conditionally false core rd address value = becomes (ends_reserved core rd 1)
 
 -- the low byte of a0 is put out
 abbrev pub put_out : CoreState → Next
-put_out core = record { core = passed core; effect = record { write = None; out = Some (register core 10 % 256) } }
+put_out core = record { core = core_in_order core; effect = record { write = None; out = Some (register core 10 % 256) } }
 
 -- the byte read is in a0
 abbrev pub took_in : CoreState → Option ℕ → CoreState
 took_in core read = gets core 10 (unwrap_or read 0)
 
 -- a call by its number in a7: 1 puts a byte out, 2 reads one, 93 ends the core with the code in a0
-abbrev pub called : CoreState → Option ℕ → Next
-called core read =
+abbrev pub next_of_call : CoreState → Option ℕ → Next
+next_of_call core read =
     if nat_eq (register core 17) 1 then put_out core
     else if nat_eq (register core 17) 2 then becomes (took_in core read)
     else if nat_eq (register core 17) 93 then becomes (record core { end = Exited (register core 10) })
@@ -104,17 +104,17 @@ does image (Auipc rd imm) core seen sc_done read = becomes (gets core rd (sum co
 does image (Jal rd offset) core seen sc_done read = becomes (jumps core rd (sum core.pc (as_word offset)))
 does image (Jalr rd rs1 imm) core seen sc_done read = becomes (jumps core rd (even (address_in core rs1 (as_word imm))))
 does image (Branch op rs1 rs2 offset) core seen sc_done read =
-    becomes (if is_taken op (register core rs1) (register core rs2) then branches core (sum core.pc (as_word offset)) else passed core)
+    becomes (if is_taken op (register core rs1) (register core rs2) then branches core (sum core.pc (as_word offset)) else core_in_order core)
 does image (Load op rd rs1 imm) core seen sc_done read =
     unless_fault (fault_of image (width_of op) false (address_in core rs1 (as_word imm))) core
-    (becomes (gets core rd (loaded op (address_in core rs1 (as_word imm)) seen)))
+    (becomes (gets core rd (load_result op (address_in core rs1 (as_word imm)) seen)))
 does image (Store width rs1 rs2 imm) core seen sc_done read =
     unless_fault (fault_of image width true (address_in core rs1 (as_word imm))) core
-    (writing (passed core) (address_in core rs1 (as_word imm)) width (register core rs2))
+    (writing (core_in_order core) (address_in core rs1 (as_word imm)) width (register core rs2))
 does image (OpImm op rd rs1 imm) core seen sc_done read = becomes (gets core rd (imm_result op (register core rs1) (as_word imm)))
 does image (Op op rd rs1 rs2) core seen sc_done read = becomes (gets core rd (reg_result op (register core rs1) (register core rs2)))
-does image Fence core seen sc_done read = becomes (passed core)
-does image Ecall core seen sc_done read = called core read
+does image Fence core seen sc_done read = becomes (core_in_order core)
+does image Ecall core seen sc_done read = next_of_call core read
 does image Ebreak core seen sc_done read = becomes (trapped core Break)
 does image (Lr rd rs1) core seen sc_done read =
     unless_fault (fault_of image Word false (register core rs1)) core (becomes (reserves core rd (register core rs1) seen))
@@ -135,7 +135,7 @@ does_next image (Err cause) core seen sc_done read = becomes (trapped core cause
 
 -- the next core, with the word seen, whether a store-conditional is done, and the byte read
 unfoldable pub next_of : ImageData → CoreState → ℕ → Bool → Option ℕ → Next
-next_of image core seen sc_done read = does_next image (instruction_of (fetched image.segments core.pc)) core seen sc_done read
+next_of image core seen sc_done read = does_next image (instruction_of (word_fetched image.segments core.pc)) core seen sc_done read
 
 -- an access is wanted where it doesn't trap
 abbrev pub wants_unless : Option Cause → Want → Want
@@ -159,4 +159,4 @@ wants_next image (Err cause) core = Nothing
 
 -- what the next instruction wants
 unfoldable pub want_of : ImageData → CoreState → Want
-want_of image core = wants_next image (instruction_of (fetched image.segments core.pc)) core
+want_of image core = wants_next image (instruction_of (word_fetched image.segments core.pc)) core

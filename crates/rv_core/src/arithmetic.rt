@@ -2,7 +2,7 @@
 //! Instructions" and "Atomic Memory Operations" of the RISC-V Unprivileged ISA manual).
 ghost use Rattle.std.specs.Prelude.{◌≡◌, ◌<◌, ◌*◌, ◌≤◌, ◌^◌};
 ghost use Rattle.rv_core.specs.Arithmetic.{less_with_sign, shifted_left, shifted_right, shifted_with_sign, is_taken, imm_result};
-ghost use Rattle.rv_core.specs.Arithmetic.{reg_result, amo_result, sign_extended, loaded};
+ghost use Rattle.rv_core.specs.Arithmetic.{reg_result, amo_result, sign_extended, load_result};
 
 use rv_decode::{AmoOp, BranchOp, ImmOp, LoadOp, RegOp};
 
@@ -110,7 +110,7 @@ fn sign_extended(half: u32, number: u32) -> u32
 
 /// What a load gives, of the aligned word that holds the accessed bytes.
 pub(crate) fn loaded(op: LoadOp, address: u32, seen: u32) -> u32
-    ensures { result ≡ loaded op address seen }
+    ensures { result ≡ load_result op address seen }
 {
     let from = seen >> (8 * (address % 4));
     match op {

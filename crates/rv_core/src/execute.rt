@@ -2,10 +2,10 @@
 ghost use Rattle.std.specs.Prelude.{◌≡◌, ◌<◌, true, false, Option, Some};
 ghost use Rattle.rv_decode.specs.Table.{instr_fits};
 ghost use Rattle.rv_core.specs.Core.{register, with_register, trapped};
-ghost use Rattle.rv_core.specs.Arithmetic.{as_word, loaded, amo_result};
+ghost use Rattle.rv_core.specs.Arithmetic.{as_word, load_result, amo_result};
 ghost use Rattle.rv_core.specs.Access.{fault_of, width_of};
-ghost use Rattle.rv_core.specs.Step.{does, becomes, writing, passed, gets, branches, jumps, address_in, reserves, conditionally};
-ghost use Rattle.rv_core.specs.Step.{called, unless_fault};
+ghost use Rattle.rv_core.specs.Step.{does, becomes, writing, core_in_order, gets, branches, jumps, address_in, reserves, conditionally};
+ghost use Rattle.rv_core.specs.Step.{next_of_call, unless_fault};
 
 use crate::access::{fault, width_of};
 use crate::arithmetic::{amo_result, imm_result, is_taken, loaded, reg_result};
@@ -132,7 +132,7 @@ impl CoreState {
     }
 
     fn pass(&mut self) -> Effect
-        ensures core { self.new ≡ passed self.old }
+        ensures core { self.new ≡ core_in_order self.old }
         ensures effect { result ≡ (becomes self.old).effect }
     {
         self.pc = self.pc.wrapping_add(4);
@@ -187,7 +187,7 @@ impl CoreState {
         requires { rd < 32 }
         ensures core { self.new
             ≡ (unless_fault (fault_of image.now (width_of op) false address) self.old
-            (becomes (gets self.old rd (loaded op address seen)))).core }
+            (becomes (gets self.old rd (load_result op address seen)))).core }
         ensures effect { result ≡ (becomes self.old).effect }
     {
         match fault(image, width_of(op), false, address) {
@@ -198,9 +198,9 @@ impl CoreState {
 
     fn store(&mut self, image: &Image, width: Width, address: u32, value: u32) -> Effect
         ensures core { self.new
-            ≡ (unless_fault (fault_of image.now width true address) self.old (writing (passed self.old) address width value)).core }
+            ≡ (unless_fault (fault_of image.now width true address) self.old (writing (core_in_order self.old) address width value)).core }
         ensures effect { result
-            ≡ (unless_fault (fault_of image.now width true address) self.old (writing (passed self.old) address width value)).effect }
+            ≡ (unless_fault (fault_of image.now width true address) self.old (writing (core_in_order self.old) address width value)).effect }
     {
         if let Some(cause) = fault(image, width, true, address) {
             return self.trap(cause);
@@ -274,8 +274,8 @@ impl CoreState {
 
     /// ECALL: the number of the call stands in a7.
     fn call(&mut self, read: Option<u8>) -> Effect
-        ensures core { self.new ≡ (called self.old read).core }
-        ensures effect { result ≡ (called self.old read).effect }
+        ensures core { self.new ≡ (next_of_call self.old read).core }
+        ensures effect { result ≡ (next_of_call self.old read).effect }
     {
         match self.register(17) {
             1 => {

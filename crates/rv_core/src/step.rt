@@ -1,6 +1,6 @@
 //! One instruction: what it wants, and what it does.
 ghost use Rattle.std.specs.Prelude.{◌≡◌, true, is_some, IfOk};
-ghost use Rattle.sn_base.specs.Image.{fetched};
+ghost use Rattle.sn_base.specs.Image.{word_fetched};
 ghost use Rattle.rv_decode.specs.Table.{instr_fits};
 ghost use Rattle.rv_core.specs.Core.{is_running, is_input, holds_reservation};
 ghost use Rattle.rv_core.specs.Step.{want_of, next_of, instruction_of, wants, wants_next, wants_unless, does_next};
@@ -44,7 +44,7 @@ impl CoreState {
     /// The instruction of the word at the program counter, or why there is none. `want` and `finish` fetch and decode it
     /// each for itself; a caller of both may do so once, and hand it to `want_by` and `finish_by`.
     pub fn instruction(&self, image: &Image) -> Result<Instr, Cause>
-        ensures same { result ≡ instruction_of (fetched image.now.segments self.now.pc) }
+        ensures same { result ≡ instruction_of (word_fetched image.now.segments self.now.pc) }
         ensures fits { IfOk result (λ instr. instr_fits instr ≡ true) }
     {
         let Some(word) = image.fetch(self.pc) else {

@@ -4,7 +4,7 @@ use Rattle.std.specs.Bool.{⊤}
 use Rattle.std.proofs.Math.Nat.{mul-add-mod_self_right, mul_assoc, mod-eq_of_lt}
 use Rattle.std.proofs.lemmas.Nat.{pow-add, field_of, shr_high, mul-add-lt, pow_pos, mod_below}
 use Rattle.rv_decode.specs.Parts.{part}
-use Rattle.rv_decode.specs.Table.{Cell, width, Reads, placed}
+use Rattle.rv_decode.specs.Table.{Cell, width, Reads, word_of_cells}
 use Rattle.rv_decode.specs.Table.Cell.{bits, free}
 
 -- each value has room in its bits
@@ -40,18 +40,18 @@ Reads-above (free n value ∷ cells) high word h =
 joined-lt : (n value low rest : ℕ) → value < 2 ^ n → rest < 2 ^ low → value * 2 ^ low + rest < 2 ^ (n + low)
 joined-lt n value low rest v r = omega (arith, pow-add 2 n low, mul-add-lt value (2 ^ low) rest (2 ^ n) v r)
 
-pub placed-lt : (cells : List Cell) → HasRoom cells → placed cells < 2 ^ width cells
+pub placed-lt : (cells : List Cell) → HasRoom cells → word_of_cells cells < 2 ^ width cells
 placed-lt [] h = omega arith
-placed-lt (bits n value ∷ cells) h = joined-lt n value (width cells) (placed cells) h.0 (placed-lt cells h.1)
-placed-lt (free n value ∷ cells) h = joined-lt n value (width cells) (placed cells) h.0 (placed-lt cells h.1)
+placed-lt (bits n value ∷ cells) h = joined-lt n value (width cells) (word_of_cells cells) h.0 (placed-lt cells h.1)
+placed-lt (free n value ∷ cells) h = joined-lt n value (width cells) (word_of_cells cells) h.0 (placed-lt cells h.1)
 
 part-placed : (n value low rest : ℕ) → value < 2 ^ n → rest < 2 ^ low → part low n (value * 2 ^ low + rest) ≡ value
 part-placed n value low rest v r = ap (λ m. m % 2 ^ n) (shr_high value low rest r) ∙ mod-eq_of_lt v
 
-pub Reads-placed : (cells : List Cell) → HasRoom cells → Reads cells (placed cells)
+pub Reads-placed : (cells : List Cell) → HasRoom cells → Reads cells (word_of_cells cells)
 Reads-placed [] h = tt
 Reads-placed (bits n value ∷ cells) h = (
-  part-placed n value (width cells) (placed cells) h.0 (placed-lt cells h.1),
-  Reads-above cells value (placed cells) (Reads-placed cells h.1),
+  part-placed n value (width cells) (word_of_cells cells) h.0 (placed-lt cells h.1),
+  Reads-above cells value (word_of_cells cells) (Reads-placed cells h.1),
 )
-Reads-placed (free n value ∷ cells) h = Reads-above cells value (placed cells) (Reads-placed cells h.1)
+Reads-placed (free n value ∷ cells) h = Reads-above cells value (word_of_cells cells) (Reads-placed cells h.1)

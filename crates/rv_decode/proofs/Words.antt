@@ -9,7 +9,7 @@ use Rattle.rv_decode.specs.declared.instr.Instr.TheVariants.{Lui, Auipc, Jal, Ja
 use Rattle.rv_decode.specs.declared.instr.Instr.TheVariants.{Lr, Sc, Amo}
 use Rattle.rv_decode.specs.Parts.{twos}
 use Rattle.rv_decode.specs.Codes.{jalr, load, op_imm, op, load_code, imm_code, is_shift, shift_top, reg_code, reg_top, amo_code}
-use Rattle.rv_decode.specs.Table.{IsWordOf, layout, width, placed, word_of, instr_fits, is_signed, is_target, is_operand, is_register}
+use Rattle.rv_decode.specs.Table.{IsWordOf, layout, width, word_of_cells, word_of, instr_fits, is_signed, is_target, is_operand, is_register}
 use Rattle.rv_decode.specs.Table.{is_upper, r_form, i_form, amo_form}
 use Rattle.rv_decode.specs.Decoded.{decoded}
 use Rattle.rv_decode.proofs.Cells.{HasRoom, part-lt, placed-lt, Reads-placed}
@@ -108,7 +108,7 @@ width-layout (Amo o rd rs1 rs2) = refl
 
 pub word_of-lt : (instr : Instr) → instr_fits instr ≡ true → word_of instr < 2 ^ 32
 unfolding word_of
-word_of-lt instr h = subst (λ n. placed (layout instr) < 2 ^ n) (width-layout instr) (placed-lt (layout instr) (has-room instr h))
+word_of-lt instr h = subst (λ n. word_of_cells (layout instr) < 2 ^ n) (width-layout instr) (placed-lt (layout instr) (has-room instr h))
 
 -- the word that is written is one of the instruction's
 pub word_of-right : (instr : Instr) → instr_fits instr ≡ true → IsWordOf instr (word_of instr)

@@ -111,10 +111,10 @@ Reads (bits n value ∷ cells) word = (part (width cells) n word ≡ value) × R
 Reads (free n value ∷ cells) word = Reads cells word
 
 -- the word that is written of cells
-abbrev pub placed : List Cell → ℕ
-placed [] = 0
-placed (bits n value ∷ cells) = value * 2 ^ width cells + placed cells
-placed (free n value ∷ cells) = value * 2 ^ width cells + placed cells
+abbrev pub word_of_cells : List Cell → ℕ
+word_of_cells [] = 0
+word_of_cells (bits n value ∷ cells) = value * 2 ^ width cells + word_of_cells cells
+word_of_cells (free n value ∷ cells) = value * 2 ^ width cells + word_of_cells cells
 
 -- the words of an instruction
 pub record IsWordOf (instr : Instr) (word : ℕ) : Type 0 where
@@ -123,4 +123,4 @@ pub record IsWordOf (instr : Instr) (word : ℕ) : Type 0 where
 
 -- the one that is written
 unfoldable pub word_of : Instr → ℕ
-word_of instr = placed (layout instr)
+word_of instr = word_of_cells (layout instr)

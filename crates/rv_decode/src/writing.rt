@@ -1,6 +1,6 @@
 //! From instructions to words.
 ghost use Rattle.std.specs.Prelude.{◌≡◌, ◌<◌, ◌^◌, ◌+◌, ◌*◌, true};
-ghost use Rattle.rv_decode.specs.Table.{IsWordOf, word_of, instr_fits, placed, r_form, i_form, s_form, b_form, u_form, j_form, amo_form};
+ghost use Rattle.rv_decode.specs.Table.{IsWordOf, word_of, instr_fits, word_of_cells, r_form, i_form, s_form, b_form, u_form, j_form, amo_form};
 ghost use Rattle.rv_decode.specs.Table.{is_upper};
 ghost use Rattle.rv_decode.specs.Decoded.{decoded};
 
@@ -58,7 +58,7 @@ fn r_type(funct7: u32, rs2: u8, rs1: u8, funct3: u32, rd: u8, opcode: u32) -> u3
     requires funct3 { funct3 < 8 }
     requires rd { rd < 32 }
     requires opcode { opcode < 128 }
-    ensures { result ≡ placed (r_form funct7 rs2 rs1 funct3 rd opcode) }
+    ensures { result ≡ word_of_cells (r_form funct7 rs2 rs1 funct3 rd opcode) }
 {
     (funct7 << 25)
         + (u32::from(rs2) << 20)
@@ -73,7 +73,7 @@ fn i_type(imm: i32, rs1: u8, funct3: u32, rd: u8, opcode: u32) -> u32
     requires funct3 { funct3 < 8 }
     requires rd { rd < 32 }
     requires opcode { opcode < 128 }
-    ensures { result ≡ placed (i_form imm rs1 funct3 rd opcode) }
+    ensures { result ≡ word_of_cells (i_form imm rs1 funct3 rd opcode) }
 {
     let imm = imm.cast_unsigned() % 4096;
     (imm << 20) + (u32::from(rs1) << 15) + (funct3 << 12) + (u32::from(rd) << 7) + opcode
@@ -83,7 +83,7 @@ fn s_type(imm: i32, rs2: u8, rs1: u8, funct3: u32) -> u32
     requires rs2 { rs2 < 32 }
     requires rs1 { rs1 < 32 }
     requires funct3 { funct3 < 8 }
-    ensures { result ≡ placed (s_form imm rs2 rs1 funct3 35) }
+    ensures { result ≡ word_of_cells (s_form imm rs2 rs1 funct3 35) }
 {
     let imm = imm.cast_unsigned();
     let (high, low) = ((imm >> 5) % 128, imm % 32);
@@ -99,7 +99,7 @@ fn b_type(offset: i32, rs2: u8, rs1: u8, funct3: u32) -> u32
     requires rs2 { rs2 < 32 }
     requires rs1 { rs1 < 32 }
     requires funct3 { funct3 < 8 }
-    ensures { result ≡ placed (b_form offset rs2 rs1 funct3 99) }
+    ensures { result ≡ word_of_cells (b_form offset rs2 rs1 funct3 99) }
 {
     let offset = offset.cast_unsigned();
     let high = ((offset >> 12) % 2 << 31) + ((offset >> 5) % 64 << 25);
@@ -111,14 +111,14 @@ fn u_type(imm: u32, rd: u8, opcode: u32) -> u32
     requires imm { is_upper imm ≡ true }
     requires rd { rd < 32 }
     requires opcode { opcode < 128 }
-    ensures { result ≡ placed (u_form imm rd opcode) }
+    ensures { result ≡ word_of_cells (u_form imm rd opcode) }
 {
     imm + (u32::from(rd) << 7) + opcode
 }
 
 fn j_type(offset: i32, rd: u8) -> u32
     requires rd { rd < 32 }
-    ensures { result ≡ placed (j_form offset rd 111) }
+    ensures { result ≡ word_of_cells (j_form offset rd 111) }
 {
     let offset = offset.cast_unsigned();
     let high = ((offset >> 20) % 2 << 31) + ((offset >> 1) % 1024 << 21);
@@ -132,7 +132,7 @@ fn amo_type(funct5: u32, rs2: u8, rs1: u8, rd: u8) -> u32
     requires rs2 { rs2 < 32 }
     requires rs1 { rs1 < 32 }
     requires rd { rd < 32 }
-    ensures { result ≡ placed (amo_form funct5 rs2 rs1 rd) }
+    ensures { result ≡ word_of_cells (amo_form funct5 rs2 rs1 rd) }
 {
     (funct5 << 27)
         + (u32::from(rs2) << 20)

@@ -4,53 +4,53 @@ use Rattle.rv_statement.specs.Lines.{trimmed, cut}
 use Rattle.rv_statement.specs.Operands.{register_of, number_of}
 
 -- what follows from something, where it is there
-abbrev pub chained : {A B : Type 0} → Option A → (A → Option B) → Option B
-chained None next = None
-chained (Some a) next = next a
+abbrev pub and_then : {A B : Type 0} → Option A → (A → Option B) → Option B
+and_then None next = None
+and_then (Some a) next = next a
 
 -- a register before a comma, and what follows the comma
 unfoldable pub register_then : List ℕ → Option (ℕ × List ℕ)
 register_then text =
-    chained (cut (λ byte. nat_eq byte 44) text) (λ parts. option_map (λ number. (number, trimmed parts.1)) (register_of (trimmed parts.0)))
+    and_then (cut (λ byte. nat_eq byte 44) text) (λ parts. option_map (λ number. (number, trimmed parts.1)) (register_of (trimmed parts.0)))
 
 -- REGISTER, REGISTER, REGISTER
 unfoldable pub registers_of : List ℕ → Option (ℕ × ℕ × ℕ)
-registers_of text = chained (register_then text) (λ a. chained (register_then a.1) (λ b. option_map (λ c. (a.0, b.0, c)) (register_of b.1)))
+registers_of text = and_then (register_then text) (λ a. and_then (register_then a.1) (λ b. option_map (λ c. (a.0, b.0, c)) (register_of b.1)))
 
 -- REGISTER, REGISTER, NUMBER
 unfoldable pub numbered_of : List ℕ → Option (ℕ × ℕ × ℤ)
-numbered_of text = chained (register_then text) (λ a. chained (register_then a.1) (λ b. option_map (λ n. (a.0, b.0, n)) (number_of b.1)))
+numbered_of text = and_then (register_then text) (λ a. and_then (register_then a.1) (λ b. option_map (λ n. (a.0, b.0, n)) (number_of b.1)))
 
 -- REGISTER, NUMBER
 unfoldable pub upper_of : List ℕ → Option (ℕ × ℤ)
-upper_of text = chained (register_then text) (λ a. option_map (λ n. (a.0, n)) (number_of a.1))
+upper_of text = and_then (register_then text) (λ a. option_map (λ n. (a.0, n)) (number_of a.1))
 
 -- REGISTER)
 unfoldable pub closed_of : List ℕ → Option ℕ
 closed_of text =
-    chained (cut (λ byte. nat_eq byte 41) text) (λ parts. if nat_eq (length parts.1) 0 then register_of (trimmed parts.0) else None)
+    and_then (cut (λ byte. nat_eq byte 41) text) (λ parts. if nat_eq (length parts.1) 0 then register_of (trimmed parts.0) else None)
 
 -- NUMBER(REGISTER), where the number may be of another kind
 unfoldable pub based_of : List ℕ → Option (List ℕ × ℕ)
-based_of text = chained (cut (λ byte. nat_eq byte 40) text) (λ parts. option_map (λ base. (trimmed parts.0, base)) (closed_of parts.1))
+based_of text = and_then (cut (λ byte. nat_eq byte 40) text) (λ parts. option_map (λ base. (trimmed parts.0, base)) (closed_of parts.1))
 
 -- (REGISTER)
 unfoldable pub address_of : List ℕ → Option ℕ
-address_of text = chained (based_of text) (λ a. if nat_eq (length a.0) 0 then Some a.1 else None)
+address_of text = and_then (based_of text) (λ a. if nat_eq (length a.0) 0 then Some a.1 else None)
 
 -- REGISTER, NUMBER(REGISTER)
 unfoldable pub placed_of : List ℕ → Option (ℕ × ℤ × ℕ)
-placed_of text = chained (register_then text) (λ a. chained (based_of a.1) (λ b. option_map (λ n. (a.0, n, b.1)) (number_of b.0)))
+placed_of text = and_then (register_then text) (λ a. and_then (based_of a.1) (λ b. option_map (λ n. (a.0, n, b.1)) (number_of b.0)))
 
 -- REGISTER, (REGISTER)
 unfoldable pub reserved_of : List ℕ → Option (ℕ × ℕ)
-reserved_of text = chained (register_then text) (λ a. option_map (λ base. (a.0, base)) (address_of a.1))
+reserved_of text = and_then (register_then text) (λ a. option_map (λ base. (a.0, base)) (address_of a.1))
 
 -- REGISTER, REGISTER, (REGISTER)
 unfoldable pub atomic_of : List ℕ → Option (ℕ × ℕ × ℕ)
 atomic_of text =
-    chained (register_then text) (λ a. chained (register_then a.1) (λ b. option_map (λ base. (a.0, b.0, base)) (address_of b.1)))
+    and_then (register_then text) (λ a. and_then (register_then a.1) (λ b. option_map (λ base. (a.0, b.0, base)) (address_of b.1)))
 
 -- REGISTER, REGISTER, TARGET
 unfoldable pub compared_of : List ℕ → Option (ℕ × ℕ × List ℕ)
-compared_of text = chained (register_then text) (λ a. option_map (λ b. (a.0, b.0, b.1)) (register_then a.1))
+compared_of text = and_then (register_then text) (λ a. option_map (λ b. (a.0, b.0, b.1)) (register_then a.1))

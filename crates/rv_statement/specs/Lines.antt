@@ -7,13 +7,13 @@ abbrev pub is_blank : ℕ → Bool
 is_blank byte = nat_eq byte 32 || nat_eq byte 9
 
 -- without the blanks at its front
-abbrev pub skipped : List ℕ → List ℕ
-skipped [] = []
-skipped (byte ∷ text) = if is_blank byte then skipped text else byte ∷ text
+abbrev pub without_blanks : List ℕ → List ℕ
+without_blanks [] = []
+without_blanks (byte ∷ text) = if is_blank byte then without_blanks text else byte ∷ text
 
 -- without the blanks at both ends
 unfoldable pub trimmed : List ℕ → List ℕ
-trimmed text = reverse (skipped (reverse (skipped text)))
+trimmed text = reverse (without_blanks (reverse (without_blanks text)))
 
 -- what stands before a place, and what stands after it
 abbrev pub cut_at : List ℕ → Option ℕ → Option (List ℕ × List ℕ)

@@ -15,7 +15,7 @@ use Rattle.rv_decode.specs.Table.{word_of, instr_fits}
 use Rattle.rv_statement.specs.Names.{mnemonic}
 use Rattle.rv_statement.specs.Lines.{is_blank, trimmed, cut}
 use Rattle.rv_statement.specs.Operands.{number_of, is_name}
-use Rattle.rv_statement.specs.Forms.{chained, register_then, registers_of, numbered_of, upper_of, placed_of, reserved_of, atomic_of}
+use Rattle.rv_statement.specs.Forms.{and_then, register_then, registers_of, numbered_of, upper_of, placed_of, reserved_of, atomic_of}
 use Rattle.rv_statement.specs.Forms.{compared_of}
 
 -- the rows of the table: each instruction, with its operands 0
@@ -81,9 +81,9 @@ alone instr text = if nat_eq (length text) 0 then Some (whole instr) else None
 unfoldable pub named_as : Instr → List ℕ → Option Named
 named_as (Lui _ _) text = option_map (λ a. upper (Lui a.0) a.1) (upper_of text)
 named_as (Auipc _ _) text = option_map (λ a. upper (Auipc a.0) a.1) (upper_of text)
-named_as (Jal _ _) text = chained (register_then text) (λ a. target (Jal a.0) a.1)
+named_as (Jal _ _) text = and_then (register_then text) (λ a. target (Jal a.0) a.1)
 named_as (Jalr _ _ _) text = option_map (λ a. whole (Jalr a.0 a.2 a.1)) (placed_of text)
-named_as (Branch o _ _ _) text = chained (compared_of text) (λ a. target (Branch o a.0 a.1) a.2)
+named_as (Branch o _ _ _) text = and_then (compared_of text) (λ a. target (Branch o a.0 a.1) a.2)
 named_as (Load o _ _ _) text = option_map (λ a. whole (Load o a.0 a.2 a.1)) (placed_of text)
 named_as (Store o _ _ _) text = option_map (λ a. whole (Store o a.2 a.0 a.1)) (placed_of text)
 named_as (OpImm o _ _ _) text = option_map (λ a. whole (OpImm o a.0 a.1 a.2)) (numbered_of text)
@@ -97,7 +97,7 @@ named_as (Amo o _ _ _) text = option_map (λ a. whole (Amo o a.0 a.2 a.1)) (atom
 
 -- the instruction of a mnemonic and its operands
 abbrev pub named_by : List ℕ → List ℕ → Option Named
-named_by name operands = chained (row_of name) (λ row. named_as row operands)
+named_by name operands = and_then (row_of name) (λ row. named_as row operands)
 
 -- what a line gives: a word, or None where a number is out of its range; or an instruction that leads to a label, and its
 -- offset isn't known yet

@@ -1,7 +1,7 @@
 //! The parts of a line.
 ghost use Rattle.std.specs.Prelude.{◌≡◌, ℕ, ◌+◌, ◌<◌, nat_eq, length, take, drop, reverse, option_map, IfSome};
 ghost use Rattle.std.specs.List.{position};
-ghost use Rattle.rv_statement.specs.Lines.{is_blank, skipped, trimmed, cut, bare};
+ghost use Rattle.rv_statement.specs.Lines.{is_blank, without_blanks, trimmed, cut, bare};
 
 fn is_blank(byte: u8) -> bool
     ensures { result ≡ is_blank byte }
@@ -10,7 +10,7 @@ fn is_blank(byte: u8) -> bool
 }
 
 fn skipped(text: &[u8]) -> &[u8]
-    ensures { result.now ≡ skipped text.entry.now }
+    ensures { result.now ≡ without_blanks text.entry.now }
 {
     'bytes: for (i, byte) in text.iter().enumerate() {
         if !is_blank(*byte) {
@@ -21,7 +21,7 @@ fn skipped(text: &[u8]) -> &[u8]
 }
 
 fn trimmed_end(text: &[u8]) -> &[u8]
-    ensures { result.now ≡ reverse (skipped (reverse text.entry.now)) }
+    ensures { result.now ≡ reverse (without_blanks (reverse text.entry.now)) }
 {
     let mut end = text.len();
     'bytes: while end > 0 && is_blank(text[end - 1]) {

@@ -4,7 +4,7 @@ ghost use Rattle.std.specs.Str.{bytes_eq};
 ghost use Rattle.rv_decode.specs.declared.instr.Instr.{Instr};
 ghost use Rattle.rv_statement.specs.Reading.{fixed, whole, read_of, upper, target, alone, named_as, word_in, operation_of, instruction_of};
 ghost use Rattle.rv_statement.specs.Reading.{statement_of, label_or};
-ghost use Rattle.rv_statement.specs.Forms.{chained, register_then, registers_of, numbered_of, upper_of, placed_of, reserved_of, atomic_of};
+ghost use Rattle.rv_statement.specs.Forms.{and_then, register_then, registers_of, numbered_of, upper_of, placed_of, reserved_of, atomic_of};
 ghost use Rattle.rv_statement.specs.Forms.{compared_of};
 ghost use Rattle.rv_statement.specs.Lines.{bare};
 ghost use Rattle.rv_statement.specs.Operands.{number_of};
@@ -66,7 +66,7 @@ fn aimed_jal<'a>(rd: u8, text: &'a [u8]) -> Option<Operation<'a>>
 
 fn read_jal<'a>(text: &'a [u8]) -> Option<Operation<'a>>
     ensures { option_map operation_seen result
-        ≡ option_map read_of (chained (register_then text.entry.now) (λ a. target (Instr.Jal a.0) a.1)) }
+        ≡ option_map read_of (and_then (register_then text.entry.now) (λ a. target (Instr.Jal a.0) a.1)) }
 {
     let (rd, rest) = register_then(text)?;
     aimed_jal(rd, rest)
@@ -93,7 +93,7 @@ fn aimed_branch<'a>(op: BranchOp, rs1: u8, rs2: u8, text: &'a [u8]) -> Option<Op
 
 fn read_branch<'a>(op: BranchOp, text: &'a [u8]) -> Option<Operation<'a>>
     ensures { option_map operation_seen result
-        ≡ option_map read_of (chained (compared_of text.entry.now) (λ a. target (Instr.Branch op a.0 a.1) a.2)) }
+        ≡ option_map read_of (and_then (compared_of text.entry.now) (λ a. target (Instr.Branch op a.0 a.1) a.2)) }
 {
     let (rs1, rs2, rest) = compared_of(text)?;
     aimed_branch(op, rs1, rs2, rest)

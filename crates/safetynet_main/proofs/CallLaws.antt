@@ -14,20 +14,34 @@ use Rattle.node_run.specs.declared.ending.Ending.{Ending}
 use Rattle.node_run.specs.declared.ending.Ending.TheVariants as ending
 use Rattle.node_run.specs.declared.job.Run.{Run}
 use Rattle.node_run.specs.Shown.{IsDone as IsRunDone, IsBrokenOff as IsRunBroken}
-use Rattle.safetynet_main.specs.Errand.{Loads}
-use Rattle.safetynet_main.specs.Call.{Fetches, AsksNothing, errand_of, due_of, EndsIn, ComesTo, Follows, Comes}
-use Rattle.safetynet_main.specs.Outcome.{Outcome, Finished, Judged, Ran, IsVerdict, verdict_line, verdict_status, ending_status, status_of}
+use Rattle.monitor_run.specs.declared.job.Monitor.{Monitor}
+use Rattle.monitor_run.specs.Shown.{IsDone as IsWatchDone, IsBrokenOff as IsWatchBroken}
+use Rattle.safetynet_main.specs.LoadPlan.{Loads}
+use Rattle.safetynet_main.specs.Call.{Fetches, AsksNothing, plan_of, due_of, EndsIn, ComesTo, Follows, Comes}
+use Rattle.safetynet_main.specs.Outcome.{Outcome, Finished, Judged, Ran, Watched, IsVerdict, verdict_line, verdict_status, ending_status}
+use Rattle.safetynet_main.specs.Outcome.{status_of}
 use Rattle.safetynet_main.specs.declared.job.Check.{Check}
 use Rattle.safetynet_main.specs.declared.job.Job.{Job}
-use Rattle.safetynet_main.specs.declared.job.Job.TheVariants.{Run as RunJob, Check as CheckJob}
+use Rattle.safetynet_main.specs.declared.job.Job.TheVariants.{Run as RunJob, Monitor as MonitorJob, Check as CheckJob}
 use Rattle.safetynet_main.specs.declared.job.Verdict.{Verdict}
 use Rattle.safetynet_main.specs.declared.job.Verdict.TheVariants as verdict
 use Rattle.safetynet_main.specs.declared.status.Status.{Status}
 use Rattle.safetynet_main.specs.declared.status.Status.TheVariants.{Done, Usage, StoreFault, BadProgram, BadScript, BadAsm, SinkFault}
 use Rattle.safetynet_main.specs.declared.status.Status.TheVariants.{Budget, Memory, CutOff, Refused, Trapped}
-use Rattle.safetynet_main.proofs.Errands.{errand-of_words, if_some-intro, loads-sure, loads-told, loads-rose, loads-usage, refused-at_once}
+use Rattle.safetynet_main.proofs.LoadPlans.{plan-of_words, if_some-intro, loads-sure, loads-told, loads-rose, loads-usage, refused-at_once}
 
--- a job ends in no refusal
+-- a run ends in no refusal
+ending-not_refused : (ending : Ending) (refusal : Status) → (refusal ≡ StoreFault) ⊎ (refusal ≡ Usage) → ending_status ending ≡ refusal → ⊥
+ending-not_refused ending.Exited refusal (inl w) e = cc
+ending-not_refused ending.Exited refusal (inr w) e = cc
+ending-not_refused (ending.Trapped node cause) refusal (inl w) e = cc
+ending-not_refused (ending.Trapped node cause) refusal (inr w) e = cc
+ending-not_refused (ending.CutOff a b) refusal (inl w) e = cc
+ending-not_refused (ending.CutOff a b) refusal (inr w) e = cc
+ending-not_refused ending.Spent refusal (inl w) e = cc
+ending-not_refused ending.Spent refusal (inr w) e = cc
+
+-- nor does a job
 not_refused : (outcome : Outcome) (refusal : Status) → (refusal ≡ StoreFault) ⊎ (refusal ≡ Usage) → status_of outcome ≡ refusal → ⊥
 not_refused Finished refusal (inl w) e = cc
 not_refused Finished refusal (inr w) e = cc
@@ -35,14 +49,8 @@ not_refused (Judged verdict.Legal) refusal (inl w) e = cc
 not_refused (Judged verdict.Legal) refusal (inr w) e = cc
 not_refused (Judged (verdict.Refused place)) refusal (inl w) e = cc
 not_refused (Judged (verdict.Refused place)) refusal (inr w) e = cc
-not_refused (Ran journal ending.Exited) refusal (inl w) e = cc
-not_refused (Ran journal ending.Exited) refusal (inr w) e = cc
-not_refused (Ran journal (ending.Trapped node cause)) refusal (inl w) e = cc
-not_refused (Ran journal (ending.Trapped node cause)) refusal (inr w) e = cc
-not_refused (Ran journal (ending.CutOff a b)) refusal (inl w) e = cc
-not_refused (Ran journal (ending.CutOff a b)) refusal (inr w) e = cc
-not_refused (Ran journal ending.Spent) refusal (inl w) e = cc
-not_refused (Ran journal ending.Spent) refusal (inr w) e = cc
+not_refused (Ran journal ending) refusal which e = ending-not_refused ending refusal which e
+not_refused (Watched journal seen ending) refusal which e = ending-not_refused ending refusal which e
 
 -- nor is a broken sink one
 not_sink : (status refusal : Status) → status ≡ SinkFault → (refusal ≡ StoreFault) ⊎ (refusal ≡ Usage) → status ≡ refusal → ⊥
@@ -50,18 +58,18 @@ not_sink status refusal s (inl w) e = cc
 not_sink status refusal s (inr w) e = cc
 
 -- the status of a job that is refused is its refusal
-refused-job : (probes : List Meter) (status refusal : Status) (job : Result Job Status) (before behind : Ends) →
-    Follows probes job status before behind → status ≡ refusal → (refusal ≡ StoreFault) ⊎ (refusal ≡ Usage) → job ≡ Err refusal
-refused-job probes status refusal (Err s) before behind h e which = ap (λ t. Err t) (sym h.0 ∙ e)
-refused-job probes status refusal (Ok job) before behind (inl (outcome, (is, inl h))) e which =
+refused-job : (probes : List Meter) (status refusal : Status) (job : Result Job Status) (was is : ℕ) (before behind : Ends) →
+    Follows probes job status was is before behind → status ≡ refusal → (refusal ≡ StoreFault) ⊎ (refusal ≡ Usage) → job ≡ Err refusal
+refused-job probes status refusal (Err s) was is before behind h e which = ap (λ t. Err t) (sym h.0 ∙ e)
+refused-job probes status refusal (Ok job) was is before behind (inl (outcome, (due, inl h))) e which =
     absurd (not_refused outcome refusal which (sym h.0 ∙ e))
-refused-job probes status refusal (Ok job) before behind (inl (outcome, (is, inr h))) e which = absurd (not_sink status refusal h.0 which e)
-refused-job probes status refusal (Ok job) before behind (inr h) e which = absurd (not_sink status refusal h.0 which e)
+refused-job probes status refusal (Ok job) was is before behind (inl (outcome, (due, inr h))) e which = absurd (not_sink status refusal h.0 which e)
+refused-job probes status refusal (Ok job) was is before behind (inr h) e which = absurd (not_sink status refusal h.0 which e)
 
-store_fault-status : (probes : List Meter) (status : Status) (job : Result Job Status) (before behind : Ends) →
-    Follows probes job status before behind → job ≡ Err StoreFault → status ≡ StoreFault
-store_fault-status probes status (Err s) before behind h e = h.0 ∙ cc
-store_fault-status probes status (Ok job) before behind h e = absurd cc
+store_fault-status : (probes : List Meter) (status : Status) (job : Result Job Status) (was is : ℕ) (before behind : Ends) →
+    Follows probes job status was is before behind → job ≡ Err StoreFault → status ≡ StoreFault
+store_fault-status probes status (Err s) was is before behind h e = h.0 ∙ cc
+store_fault-status probes status (Ok job) was is before behind h e = absurd cc
 
 is_memory : (status : Status) → (status ≡ Memory) ⊎ (status ≡ Memory → ⊥)
 is_memory Memory = inl refl
@@ -77,129 +85,142 @@ is_memory (CutOff a b) = inr (λ e. cc)
 is_memory (Refused place) = inr (λ e. cc)
 is_memory (Trapped node cause) = inr (λ e. cc)
 
-done-or_fault : (probes : List Meter) (job : Job) (status : Status) (before behind : Ends) (R : Type 0) →
-    Follows probes (Ok job) status before behind → (status ≡ SinkFault → R) → (R → ⊥) → EndsIn job status
-done-or_fault probes job status before behind R (inl (outcome, (is, inl h))) cause quiet = (outcome, is, h.0)
-done-or_fault probes job status before behind R (inl (outcome, (is, inr h))) cause quiet = absurd (quiet (cause h.0))
-done-or_fault probes job status before behind R (inr h) cause quiet = absurd (quiet (cause h.0))
+done-or_fault : (probes : List Meter) (job : Job) (status : Status) (was is : ℕ) (before behind : Ends) (R : Type 0) →
+    Follows probes (Ok job) status was is before behind → (status ≡ SinkFault → R) → (R → ⊥) → EndsIn job status
+done-or_fault probes job status was is before behind R (inl (outcome, (due, inl h))) cause quiet = (outcome, due, h.0)
+done-or_fault probes job status was is before behind R (inl (outcome, (due, inr h))) cause quiet = absurd (quiet (cause h.0))
+done-or_fault probes job status was is before behind R (inr h) cause quiet = absurd (quiet (cause h.0))
 
 -- where all is good and no sink's count rose
-is-complete : (probes : List Meter) (due : Result Job Status) (status : Status) (before behind : Ends) (R : Type 0) →
-    ((status ≡ Memory → ⊥) → Follows probes due status before behind) → (status ≡ SinkFault → R) →
+is-complete : (probes : List Meter) (due : Result Job Status) (status : Status) (was is : ℕ) (before behind : Ends) (R : Type 0) →
+    ((status ≡ Memory → ⊥) → Follows probes due status was is before behind) → (status ≡ SinkFault → R) →
     IfOk due (λ job. (R → ⊥) → EndsIn job status ⊎ (status ≡ Memory))
-is-complete probes (Err refusal) status before behind R follows cause = tt
-is-complete probes (Ok job) status before behind R follows cause = λ quiet. by_memory quiet (is_memory status) where
+is-complete probes (Err refusal) status was is before behind R follows cause = tt
+is-complete probes (Ok job) status was is before behind R follows cause = λ quiet. by_memory quiet (is_memory status) where
   by_memory : (R → ⊥) → (status ≡ Memory) ⊎ (status ≡ Memory → ⊥) → EndsIn job status ⊎ (status ≡ Memory)
   by_memory quiet (inl m) = inr m
-  by_memory quiet (inr m) = inl (done-or_fault probes job status before behind R (follows m) cause quiet)
+  by_memory quiet (inr m) = inl (done-or_fault probes job status was is before behind R (follows m) cause quiet)
 
-module _ {S : Type 0} (files : S → Option (List ℕ → Option (List ℕ))) (sure : S → Type 0) (faults : S → ℕ) (gave : S → List ℕ → Found → S → Type 0) (old new : S) (probes : List Meter) (ask : Option Request) (status : Status) (before behind : Ends) where
+module _ {S : Type 0} (files : S → Option (List ℕ → Option (List ℕ))) (sure : S → Type 0) (faults : S → ℕ) (gave : S → List ℕ → Found → S → Type 0) (old new : S) (probes : List Meter) (ask : Option Request) (status : Status) (was is : ℕ) (before behind : Ends) where
   -- the call knows its probes by the set that it makes of them
-  of_given : (given : List Meter) → given ≡ probes → Comes (Fetches files sure faults gave) given ask status old new before behind →
-      Comes (Fetches files sure faults gave) probes ask status old new before behind
-  of_given given same h = subst (λ (p : List Meter). Comes (Fetches files sure faults gave) p ask status old new before behind) same h
+  of_given : (given : List Meter) → given ≡ probes → Comes (Fetches files sure faults gave) given ask status old new was is before behind →
+      Comes (Fetches files sure faults gave) probes ask status old new was is before behind
+  of_given given same h = subst (λ (p : List Meter). Comes (Fetches files sure faults gave) p ask status old new was is before behind) same h
 
-  pub comes-rose : Comes (Fetches files sure faults gave) probes ask status old new before behind → status ≡ StoreFault →
+  pub comes-rose : Comes (Fetches files sure faults gave) probes ask status old new was is before behind → status ≡ StoreFault →
       Rose (faults old) (faults new)
   comes-rose h e =
-      loads-rose files sure faults gave (errand_of ask) h.0 old new (errand-of_words ask) h.1
-      (refused-job probes status StoreFault h.0 before behind h.2 e (inl refl))
+      loads-rose files sure faults gave (plan_of ask) h.0 old new (plan-of_words ask) h.1
+      (refused-job probes status StoreFault h.0 was is before behind h.2 e (inl refl))
 
-  pub comes-usage : Comes (Fetches files sure faults gave) probes ask status old new before behind → status ≡ Usage → AsksNothing ask
+  pub comes-usage : Comes (Fetches files sure faults gave) probes ask status old new was is before behind → status ≡ Usage → AsksNothing ask
   comes-usage h e =
-      refused-at_once ask (loads-usage files sure faults gave (errand_of ask) h.0 old new (errand-of_words ask) h.1
-      (refused-job probes status Usage h.0 before behind h.2 e (inr refl)))
+      refused-at_once ask (loads-usage files sure faults gave (plan_of ask) h.0 old new (plan-of_words ask) h.1
+      (refused-job probes status Usage h.0 was is before behind h.2 e (inr refl)))
 
   -- over a sure store a call does what is due
-  comes-sure : (held : List ℕ → Option (List ℕ)) → Comes (Fetches files sure faults gave) probes ask status old new before behind →
-      sure old → files old ≡ Some held → Follows probes (due_of held ask) status before behind
+  comes-sure : (held : List ℕ → Option (List ℕ)) → Comes (Fetches files sure faults gave) probes ask status old new was is before behind →
+      sure old → files old ≡ Some held → Follows probes (due_of held ask) status was is before behind
   comes-sure held h s e =
-      subst (λ (j : Result Job Status). Follows probes j status before behind)
-      (loads-sure files sure faults gave (errand_of ask) h.0 old new held h.1 s e) h.2
+      subst (λ (j : Result Job Status). Follows probes j status was is before behind)
+      (loads-sure files sure faults gave (plan_of ask) h.0 old new held h.1 s e) h.2
 
-  comes-told : (held : List ℕ → Option (List ℕ)) → Comes (Fetches files sure faults gave) probes ask status old new before behind →
-      files old ≡ Some held → (status ≡ StoreFault → ⊥) → Follows probes (due_of held ask) status before behind
+  comes-told : (held : List ℕ → Option (List ℕ)) → Comes (Fetches files sure faults gave) probes ask status old new was is before behind →
+      files old ≡ Some held → (status ≡ StoreFault → ⊥) → Follows probes (due_of held ask) status was is before behind
   comes-told held h e fine =
-      subst (λ (j : Result Job Status). Follows probes j status before behind)
-      (loads-told files sure faults gave (errand_of ask) h.0 old new held (errand-of_words ask) h.1 e
-      (λ m. fine (store_fault-status probes status h.0 before behind h.2 m))) h.2
+      subst (λ (j : Result Job Status). Follows probes j status was is before behind)
+      (loads-told files sure faults gave (plan_of ask) h.0 old new held (plan-of_words ask) h.1 e
+      (λ m. fine (store_fault-status probes status h.0 was is before behind h.2 m))) h.2
 
   -- these, as the clauses of the call have them
   pub clause-comes : (given : List Meter) →
-      ((status ≡ Memory → ⊥) → Comes (Fetches files sure faults gave) given ask status old new before behind) → given ≡ probes →
-      (status ≡ Memory → ⊥) → Comes (Fetches files sure faults gave) probes ask status old new before behind
+      ((status ≡ Memory → ⊥) → Comes (Fetches files sure faults gave) given ask status old new was is before behind) → given ≡ probes →
+      (status ≡ Memory → ⊥) → Comes (Fetches files sure faults gave) probes ask status old new was is before behind
   clause-comes given h same m = of_given given same (h m)
 
   pub clause-sure : (given : List Meter) →
-      ((status ≡ Memory → ⊥) → Comes (Fetches files sure faults gave) given ask status old new before behind) → given ≡ probes → sure old →
-      IfSome (files old) (λ held. (status ≡ Memory → ⊥) → Follows probes (due_of held ask) status before behind)
+      ((status ≡ Memory → ⊥) → Comes (Fetches files sure faults gave) given ask status old new was is before behind) → given ≡ probes → sure old →
+      IfSome (files old) (λ held. (status ≡ Memory → ⊥) → Follows probes (due_of held ask) status was is before behind)
   clause-sure given h same s =
-      if_some-intro (files old) (λ held. (status ≡ Memory → ⊥) → Follows probes (due_of held ask) status before behind)
+      if_some-intro (files old) (λ held. (status ≡ Memory → ⊥) → Follows probes (due_of held ask) status was is before behind)
       (λ held e m. comes-sure held (of_given given same (h m)) s e)
 
   pub clause-told : (given : List Meter) →
-      ((status ≡ Memory → ⊥) → Comes (Fetches files sure faults gave) given ask status old new before behind) → given ≡ probes →
-      IfSome (files old) (λ held. (status ≡ Memory → ⊥) → (status ≡ StoreFault → ⊥) → Follows probes (due_of held ask) status before behind)
+      ((status ≡ Memory → ⊥) → Comes (Fetches files sure faults gave) given ask status old new was is before behind) → given ≡ probes →
+      IfSome (files old) (λ held. (status ≡ Memory → ⊥) → (status ≡ StoreFault → ⊥) → Follows probes (due_of held ask) status was is before behind)
   clause-told given h same =
       if_some-intro (files old)
-      (λ held. (status ≡ Memory → ⊥) → (status ≡ StoreFault → ⊥) → Follows probes (due_of held ask) status before behind)
+      (λ held. (status ≡ Memory → ⊥) → (status ≡ StoreFault → ⊥) → Follows probes (due_of held ask) status was is before behind)
       (λ held e m fine. comes-told held (of_given given same (h m)) e fine)
 
   pub clause-complete : (R : Type 0) →
-      ((status ≡ Memory → ⊥) → Comes (Fetches files sure faults gave) probes ask status old new before behind) → (status ≡ SinkFault → R) →
+      ((status ≡ Memory → ⊥) → Comes (Fetches files sure faults gave) probes ask status old new was is before behind) → (status ≡ SinkFault → R) →
       sure old → IfSome (files old) (λ held. IfOk (due_of held ask) (λ job. (R → ⊥) → EndsIn job status ⊎ (status ≡ Memory)))
   clause-complete R h cause s =
       if_some-intro (files old) (λ held. IfOk (due_of held ask) (λ job. (R → ⊥) → EndsIn job status ⊎ (status ≡ Memory)))
-      (λ held e. is-complete probes (due_of held ask) status before behind R (λ m. comes-sure held (h m) s e) cause)
+      (λ held e. is-complete probes (due_of held ask) status was is before behind R (λ m. comes-sure held (h m) s e) cause)
 
 -- words that ask for nothing: nothing is fetched, and the status is Usage
 pub comes-none : {S : Type 0} (fetches : S → List ℕ → ℕ → Found → S → Type 0) (probes : List Meter) (ask : Option Request) (old : S)
-    (before : Ends) → ask ≡ None → Comes fetches probes ask Usage old old before before
-comes-none fetches probes ask old before e =
-    (Err Usage, subst (λ (a : Option Request). Loads fetches (errand_of a) (Err Usage) old old) (sym e) (refl, refl), (refl, refl))
+    (was is : ℕ) (before : Ends) → ask ≡ None → Comes fetches probes ask Usage old old was is before before
+comes-none fetches probes ask old was is before e =
+    (Err Usage, subst (λ (a : Option Request). Loads fetches (plan_of a) (Err Usage) old old) (sym e) (refl, refl), (refl, refl))
 
 -- words that ask for something
 pub comes-some : {S : Type 0} (fetches : S → List ℕ → ℕ → Found → S → Type 0) (probes : List Meter) (ask : Option Request) (r : Request)
-    (job : Result Job Status) (status : Status) (old new : S) (before behind : Ends) → ask ≡ Some r →
-    Loads fetches (errand_of (Some r)) job old new → Follows probes job status before behind →
-    Comes fetches probes ask status old new before behind
-comes-some fetches probes ask r job status old new before behind e h follows =
-    (job, subst (λ (a : Option Request). Loads fetches (errand_of a) job old new) (sym e) h, follows)
+    (job : Result Job Status) (status : Status) (old new : S) (was is : ℕ) (before behind : Ends) → ask ≡ Some r →
+    Loads fetches (plan_of (Some r)) job old new → Follows probes job status was is before behind →
+    Comes fetches probes ask status old new was is before behind
+comes-some fetches probes ask r job status old new was is before behind e h follows =
+    (job, subst (λ (a : Option Request). Loads fetches (plan_of a) job old new) (sym e) h, follows)
 
 -- a job that is a check puts no probe's numbers
-pub follows-check : (probes : List Meter) (job : Job) (c : Check) (status : Status) (before behind : Ends) → job ≡ CheckJob c →
-    ((given : List Meter) → Follows given (Ok (CheckJob c)) status before behind) → Follows probes (Ok job) status before behind
-follows-check probes job c status before behind e h = subst (λ (j : Job). Follows probes (Ok j) status before behind) (sym e) (h probes)
+pub follows-check : (probes : List Meter) (job : Job) (c : Check) (status : Status) (was is : ℕ) (before behind : Ends) → job ≡ CheckJob c →
+    ((given : List Meter) → Follows given (Ok (CheckJob c)) status was is before behind) → Follows probes (Ok job) status was is before behind
+follows-check probes job c status was is before behind e h = subst (λ (j : Job). Follows probes (Ok j) status was is before behind) (sym e) (h probes)
 
 -- how each job comes to its outcome
 
-pub follows-verdict_done : (probes : List Meter) (c : Check) (verdict : Verdict) (status : Status) (before behind : Ends) →
+pub follows-verdict_done : (probes : List Meter) (c : Check) (verdict : Verdict) (status : Status) (was is : ℕ) (before behind : Ends) →
     IsVerdict c verdict → status ≡ verdict_status verdict → behind ≡ after before (Report (verdict_line c verdict) ∷ []) →
-    Follows probes (Ok (CheckJob c)) status before behind
-follows-verdict_done probes c verdict status before behind is s put = inl (Judged verdict, (is, inl (s, put, tt)))
+    Follows probes (Ok (CheckJob c)) status was is before behind
+follows-verdict_done probes c verdict status was is before behind right s put = inl (Judged verdict, (right, inl (s, put, tt)))
 
-pub follows-verdict_broken : (probes : List Meter) (c : Check) (verdict : Verdict) (status : Status) (before behind : Ends) →
+pub follows-verdict_broken : (probes : List Meter) (c : Check) (verdict : Verdict) (status : Status) (was is : ℕ) (before behind : Ends) →
     IsVerdict c verdict → status ≡ SinkFault → Breaks (Report (verdict_line c verdict) ∷ []) before behind →
-    Follows probes (Ok (CheckJob c)) status before behind
-follows-verdict_broken probes c verdict status before behind is s broken = inl (Judged verdict, (is, inr (s, broken, tt)))
+    Follows probes (Ok (CheckJob c)) status was is before behind
+follows-verdict_broken probes c verdict status was is before behind right s broken = inl (Judged verdict, (right, inr (s, broken, tt)))
 
-pub follows-run_done : (probes told : List Meter) (job : Job) (r : Run) (ending : Ending) (status : Status) (before behind : Ends) →
+pub follows-run_done : (probes told : List Meter) (job : Job) (r : Run) (ending : Ending) (status : Status) (was is : ℕ) (before behind : Ends) →
     job ≡ RunJob r → status ≡ ending_status ending → IsRunDone r probes ending before behind told →
-    Follows probes (Ok job) status before behind
-follows-run_done probes told job r ending status before behind e s (journal, h, knows) =
-    subst (λ (j : Job). Follows probes (Ok j) status before behind) (sym e)
+    Follows probes (Ok job) status was is before behind
+follows-run_done probes told job r ending status was is before behind e s (journal, h, knows) =
+    subst (λ (j : Job). Follows probes (Ok j) status was is before behind) (sym e)
     (inl (Ran journal ending, ((h.journal_is, h.ended), inl (s, h.put, h.shown))))
 
-broken-run : (probes told : List Meter) (r : Run) (status : Status) (before behind : Ends) → status ≡ SinkFault →
-    IsRunBroken r probes before behind told → Follows probes (Ok (RunJob r)) status before behind
-broken-run probes told r status before behind s (journal, knows, inl h) = inr (s, (journal, h))
-broken-run probes told r status before behind s (journal, knows, inr (ending, h)) =
+broken-run : (probes told : List Meter) (r : Run) (status : Status) (was is : ℕ) (before behind : Ends) → status ≡ SinkFault →
+    IsRunBroken r probes was is before behind told → Follows probes (Ok (RunJob r)) status was is before behind
+broken-run probes told r status was is before behind s (journal, knows, inl (rose, h)) = inr (s, (rose, (journal, h)))
+broken-run probes told r status was is before behind s (journal, knows, inr (ending, h)) =
     inl (Ran journal ending, ((h.journal_is, h.ended), inr (s, h.broken, h.shown)))
 
-pub follows-run_broken : (probes told : List Meter) (job : Job) (r : Run) (status : Status) (before behind : Ends) → job ≡ RunJob r →
-    status ≡ SinkFault → IsRunBroken r probes before behind told → Follows probes (Ok job) status before behind
-follows-run_broken probes told job r status before behind e s h =
-    subst (λ (j : Job). Follows probes (Ok j) status before behind) (sym e) (broken-run probes told r status before behind s h)
+pub follows-run_broken : (probes told : List Meter) (job : Job) (r : Run) (status : Status) (was is : ℕ) (before behind : Ends) →
+    job ≡ RunJob r → status ≡ SinkFault → IsRunBroken r probes was is before behind told → Follows probes (Ok job) status was is before behind
+follows-run_broken probes told job r status was is before behind e s h =
+    subst (λ (j : Job). Follows probes (Ok j) status was is before behind) (sym e) (broken-run probes told r status was is before behind s h)
+
+pub follows-watch_done : (probes told : List Meter) (job : Job) (r : Monitor) (ending : Ending) (status : Status) (was is : ℕ)
+    (before behind : Ends) → job ≡ MonitorJob r → status ≡ ending_status ending → IsWatchDone r probes ending before behind told →
+    Follows probes (Ok job) status was is before behind
+follows-watch_done probes told job r ending status was is before behind e s (journal, seen, h, knows) =
+    subst (λ (j : Job). Follows probes (Ok j) status was is before behind) (sym e)
+    (inl (Watched journal seen ending, ((h.watched, h.ended), inl (s, h.put, h))))
+
+pub follows-watch_broken : (probes told : List Meter) (job : Job) (r : Monitor) (status : Status) (was is : ℕ) (before behind : Ends) →
+    job ≡ MonitorJob r → status ≡ SinkFault → IsWatchBroken r probes before behind told → Follows probes (Ok job) status was is before behind
+follows-watch_broken probes told job r status was is before behind e s (journal, seen, ending, h, knows) =
+    subst (λ (j : Job). Follows probes (Ok j) status was is before behind) (sym e)
+    (inl (Watched journal seen ending, ((h.watched, h.ended), inr (s, h.broken, h))))
 
 -- the same probes in the same boxes
 pub meters-same : {I : Type 0} {D : I → Type 0} (first tally : (x : I) × D x → List ℕ)

@@ -32,28 +32,28 @@ program-is = refl
 abbrev summary_alone : Showing
 summary_alone = record { report = Summary; watch = None }
 
-module _ (size : ℕ) (showing : Showing) (probes : List Meter) (before behind : Ends) (is : showing ≡ record { report = Summary; watch = None }) where
+module _ (size : ℕ) (showing : Showing) (probes : List Meter) (was is : ℕ) (before behind : Ends) (alone : showing ≡ record { report = Summary; watch = None }) where
   pub follows-demo : IsReplayed (generated_replay size showing) probes before behind →
-      Follows probes (generated_job size (program_of (words_text counting_words))) Done before behind
+      Follows probes (generated_job size (program_of (words_text counting_words))) Done was is before behind
   follows-demo h =
       let r : IsReplayed (generated_replay size summary_alone) probes before behind = subst
-      (λ (t : Showing). IsReplayed (generated_replay size t) probes before behind) is h in
-      subst (λ (p : Result ImageData Status). Follows probes (generated_job size p) Done before behind) (sym program-is)
+      (λ (t : Showing). IsReplayed (generated_replay size t) probes before behind) alone h in
+      subst (λ (p : Result ImageData Status). Follows probes (generated_job size p) Done was is before behind) (sym program-is)
       (inl (Finished, (refl, inl (refl, r.put, r.shown))))
 
   pub follows-demo_broken : IsBrokenOff (generated_replay size showing) probes before behind →
-      Follows probes (generated_job size (program_of (words_text counting_words))) SinkFault before behind
+      Follows probes (generated_job size (program_of (words_text counting_words))) SinkFault was is before behind
   follows-demo_broken h =
       let r : IsBrokenOff (generated_replay size summary_alone) probes before behind = subst
-      (λ (t : Showing). IsBrokenOff (generated_replay size t) probes before behind) is h in
-      subst (λ (p : Result ImageData Status). Follows probes (generated_job size p) SinkFault before behind) (sym program-is)
+      (λ (t : Showing). IsBrokenOff (generated_replay size t) probes before behind) alone h in
+      subst (λ (p : Result ImageData Status). Follows probes (generated_job size p) SinkFault was is before behind) (sym program-is)
       (inl (Finished, (refl, inr (refl, r.broken, r.shown))))
 
 -- words that ask for it fetch nothing
 pub comes-demo : {S : Type 0} (fetches : S → List ℕ → ℕ → Found → S → Type 0) (probes : List Meter) (ask : Option Request)
-    (asked : CodeRequest) (size : ℕ) (status : Status) (old : S) (before behind : Ends) → ask ≡ Some (as_request asked) →
-    asked ≡ AskedDemo size → Follows probes (generated_job size (program_of (words_text counting_words))) status before behind →
-    Comes fetches probes ask status old old before behind
-comes-demo fetches probes ask asked size status old before behind e is follows =
-    comes-some fetches probes ask (Demo size) (generated_job size (program_of (words_text counting_words))) status old old before behind
-    (e ∙ ap (λ r. Some (as_request r)) is) (refl, refl) follows
+    (asked : CodeRequest) (size : ℕ) (status : Status) (old : S) (was is : ℕ) (before behind : Ends) → ask ≡ Some (as_request asked) →
+    asked ≡ AskedDemo size → Follows probes (generated_job size (program_of (words_text counting_words))) status was is before behind →
+    Comes fetches probes ask status old old was is before behind
+comes-demo fetches probes ask asked size status old was is before behind e same follows =
+    comes-some fetches probes ask (Demo size) (generated_job size (program_of (words_text counting_words))) status old old was is before behind
+    (e ∙ ap (λ r. Some (as_request r)) same) (refl, refl) follows

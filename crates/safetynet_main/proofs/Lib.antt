@@ -1,5 +1,5 @@
 pub mod Scripts
-pub mod Errands
+pub mod LoadPlans
 pub mod CallLaws
 pub mod Watched
 pub mod Verdicts

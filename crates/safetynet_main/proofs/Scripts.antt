@@ -10,8 +10,8 @@ use Rattle.sn_text.specs.declared.cause.Fault.{Fault}
 use Rattle.sn_text.specs.declared.cause.Fault.TheVariants.{NotOfForm, NotThere}
 use Rattle.sn_text.specs.declared.cause.ScriptCause.{ScriptCause}
 use Rattle.sn_text.specs.declared.cause.ScriptCause.TheVariants.{TooMany}
-use Rattle.sn_text.specs.Items.{most_items, is_skipped, followed, with_item, items_from}
-use Rattle.sn_text.specs.Script.{said, node_in, message_in, switch_in, parted, evicted_at, eviction_by, given_to, input_by, begins, after}
+use Rattle.sn_text.specs.Items.{most_items, is_skipped, items_and, with_item, items_from}
+use Rattle.sn_text.specs.Script.{event_said, node_in, message_in, switch_in, parts_at_blank, evicted_at, eviction_by, given_to, input_by, begins, after}
 use Rattle.sn_text.specs.Script.{event_of, script_of}
 use Rattle.text_lines.specs.Lines.{lines_of}
 use Rattle.consistent_cuts.specs.Runs.{block_fits, AllFit}
@@ -30,7 +30,7 @@ good-if : (b : Bool) (x y : Result Event Fault) → IsGood x → IsGood y → Is
 good-if true x y g h = g
 good-if false x y g h = h
 
-good-said : (event_with : ℕ → Event) (r : Result ℕ Fault) → ((n : ℕ) → block_fits (event_with n) ≡ true) → IsGood (said event_with r)
+good-said : (event_with : ℕ → Event) (r : Result ℕ Fault) → ((n : ℕ) → block_fits (event_with n) ≡ true) → IsGood (event_said event_with r)
 good-said event_with (Ok n) h = good-ok (event_with n) (h n)
 good-said event_with (Err fault) h = good-err fault
 
@@ -69,8 +69,8 @@ good-line nodes line =
     (good-if (begins (codes "deliver ") line) _ _ (good-said event.Deliver (message_in (after (codes "deliver ") line)) (λ n. refl))
     (good-if (begins (codes "lose ") line) _ _ (good-said event.Lose (message_in (after (codes "lose ") line)) (λ n. refl))
     (good-if (begins (codes "kill ") line) _ _ (good-said event.Kill (switch_in nodes (after (codes "kill ") line)) (λ n. refl))
-    (good-if (begins (codes "evict ") line) _ _ (good-eviction nodes (parted (after (codes "evict ") line)))
-    (good-if (begins (codes "input ") line) _ _ (good-input nodes (parted (after (codes "input ") line))) (good-err NotOfForm)))))))))))
+    (good-if (begins (codes "evict ") line) _ _ (good-eviction nodes (parts_at_blank (after (codes "evict ") line)))
+    (good-if (begins (codes "input ") line) _ _ (good-input nodes (parts_at_blank (after (codes "input ") line))) (good-err NotOfForm)))))))))))
 
 -- so do all of a script
 abbrev AllGood : List Event → Type 0
@@ -78,7 +78,7 @@ AllGood [] = ⊤
 AllGood (e ∷ events) = (block_fits e ≡ true) × AllGood events
 
 followed-good : (e : Event) (full : Bool) (rest : Result (List Event) ScriptCause) (events : List Event) → block_fits e ≡ true →
-    ((others : List Event) → rest ≡ Ok others → AllGood others) → (if full then Err TooMany else followed (e ∷ []) rest) ≡ Ok events →
+    ((others : List Event) → rest ≡ Ok others → AllGood others) → (if full then Err TooMany else items_and (e ∷ []) rest) ≡ Ok events →
     AllGood events
 followed-good e true rest events good h is = absurd cc
 followed-good e false (Err cause) events good h is = absurd cc

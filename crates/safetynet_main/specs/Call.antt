@@ -8,9 +8,8 @@ use Rattle.sn_base.specs.declared.event.Event.{Event}
 use Rattle.rv_core.specs.declared.step.Record.{Record}
 use Rattle.sn_io.specs.Outside.{Found, File, TooLong, Missing, Rose, found_in}
 use Rattle.option_values.specs.declared.run.RunRules.{RunRules}
-use Rattle.command_words.specs.Request.{Request, Replay, Roll as RollRequest, Run as RunRequest, Check, Demo, Assemble, Disassemble}
-use Rattle.command_words.specs.declared.request.RunReport.{RunReport as AskedReport}
-use Rattle.command_words.specs.declared.request.RunReport.TheVariants as asked
+use Rattle.command_words.specs.Request.{Request, Replay, Roll as RollRequest, Run as RunRequest, Monitor as MonitorRequest, Check, Demo}
+use Rattle.command_words.specs.Request.{Assemble, Disassemble}
 use Rattle.sn_probe.specs.Probes.{Meter}
 use Rattle.sink_pieces.specs.Pieces.{Piece, Report, Ends, after, Breaks, console_piece}
 use Rattle.script_replay.specs.declared.job.Showing.{Showing}
@@ -24,21 +23,24 @@ use Rattle.rolled_replay.specs.declared.job.Roll.{Roll}
 use Rattle.rolled_replay.specs.Rolled.{MayRoll, IsRolled, IsBrokenOff as IsRollBrokenOff, pieces_due as rolled_pieces}
 use Rattle.run_journals.specs.declared.entry.JournalEntry.{JournalEntry}
 use Rattle.node_run.specs.declared.job.Run.{Run}
-use Rattle.node_run.specs.declared.job.RunReport.{RunReport}
-use Rattle.node_run.specs.declared.job.RunReport.TheVariants as shown
+use Rattle.sn_base.specs.declared.report.RunReport.{RunReport}
 use Rattle.node_run.specs.Endings.{ending_of}
 use Rattle.node_run.specs.Pieces.{begins, run_pieces}
 use Rattle.node_run.specs.Shown.{MayBegin as MayRun, IsJournal, IsShown as IsRunShown, IsShownInPart as IsRunShownInPart, IsStopped}
+use Rattle.monitor_run.specs.declared.job.Monitor.{Monitor}
+use Rattle.monitor_run.specs.Shown.{MayBegin as MayMonitor, run_of as watched_as, monitor_pieces, IsWatched, IsShown as IsMonitorShown}
+use Rattle.monitor_run.specs.Shown.{IsCutShort as IsMonitorCutShort}
 use Rattle.asm_texts.specs.Texts.{words_text}
 use Rattle.counting_program.specs.Program.{counting_words}
 use Rattle.generated_runs.specs.Generated.{generated_config, generated_events}
 use Rattle.safetynet_main.specs.Files.{program_limit, script_limit, program_of, program_in, script_in, control_in, trace_in, assembly_in}
 use Rattle.safetynet_main.specs.Files.{listing_of}
-use Rattle.safetynet_main.specs.Errand.{Errand, Due, Fetch, due_by, Loads}
-use Rattle.safetynet_main.specs.Outcome.{Outcome, Finished, Judged, Ran, IsVerdict, verdict_line, status_of}
+use Rattle.safetynet_main.specs.LoadPlan.{LoadPlan, Due, Fetch, due_by, Loads}
+use Rattle.safetynet_main.specs.Outcome.{Outcome, Finished, Judged, Ran, Watched, IsVerdict, verdict_line, status_of}
 use Rattle.safetynet_main.specs.declared.job.Check.{Check as Judging}
 use Rattle.safetynet_main.specs.declared.job.Job.{Job}
-use Rattle.safetynet_main.specs.declared.job.Job.TheVariants.{Replay as ReplayJob, Roll as RollJob, Run as RunJob, Check as CheckJob, Text}
+use Rattle.safetynet_main.specs.declared.job.Job.TheVariants.{Replay as ReplayJob, Roll as RollJob, Run as RunJob, Monitor as MonitorJob}
+use Rattle.safetynet_main.specs.declared.job.Job.TheVariants.{Check as CheckJob, Text}
 use Rattle.safetynet_main.specs.declared.files.Unread.{Unread}
 use Rattle.safetynet_main.specs.declared.files.Unread.TheVariants.{Missing as UnreadMissing, TooLong as UnreadTooLong}
 use Rattle.safetynet_main.specs.declared.files.Unread.TheVariants.{Memory as UnreadMemory}
@@ -83,47 +85,56 @@ abbrev pub text_job : Result (List ℕ) Status → Result Job Status
 text_job (Ok text) = Ok (Text text)
 text_job (Err status) = Err status
 
--- what a run shows, by the words
-abbrev pub report_shown : AskedReport → RunReport
-report_shown asked.Summary = shown.Summary
-report_shown asked.Trace = shown.Trace
-report_shown asked.Journal = shown.Journal
-
 -- the job of a run, by what was read of the program
-abbrev pub run_of : Config → RunRules → AskedReport → Option ℕ → ImageData → Run
+abbrev pub run_of : Config → RunRules → RunReport → Option ℕ → ImageData → Run
 run_of config rules report watch image = record {
   program = image;
   config = config;
   rules = rules.rules;
   seed = rules.seed;
   budget = rules.budget;
-  showing = record { report = report_shown report; watch = watch };
+  showing = record { report = report; watch = watch };
 }
 
-abbrev pub run_with : Config → RunRules → AskedReport → Option ℕ → Result ImageData Status → Result Job Status
+abbrev pub run_with : Config → RunRules → RunReport → Option ℕ → Result ImageData Status → Result Job Status
 run_with config rules report watch (Ok image) = Ok (RunJob (run_of config rules report watch image))
 run_with config rules report watch (Err status) = Err status
 
+-- the job of a run that is watched
+abbrev pub monitor_of : Config → RunRules → Option ℕ → ImageData → Monitor
+monitor_of config rules watch image = record {
+  program = image;
+  config = config;
+  rules = rules.rules;
+  seed = rules.seed;
+  budget = rules.budget;
+  watch = watch;
+}
+
+abbrev pub monitor_with : Config → RunRules → Option ℕ → Result ImageData Status → Result Job Status
+monitor_with config rules watch (Ok image) = Ok (MonitorJob (monitor_of config rules watch image))
+monitor_with config rules watch (Err status) = Err status
+
 -- a program that is refused leaves the script alone, or the trace
-abbrev pub script_errand : Config → Showing → List ℕ → Result ImageData Status → Errand
-script_errand config showing script (Ok image) =
+abbrev pub script_plan : Config → Showing → List ℕ → Result ImageData Status → LoadPlan
+script_plan config showing script (Ok image) =
     Fetch script script_limit (λ found. Due (job_with config showing image (script_in config.nodes found)))
-script_errand config showing script (Err status) = Due (Err status)
+script_plan config showing script (Err status) = Due (Err status)
 
 -- a script that is refused leaves the control file alone
-abbrev pub control_errand : Config → Option ℕ → List ℕ → ImageData → Result (List Event) Status → Errand
-control_errand config watch control image (Ok events) =
+abbrev pub control_plan : Config → Option ℕ → List ℕ → ImageData → Result (List Event) Status → LoadPlan
+control_plan config watch control image (Ok events) =
     Fetch control script_limit (λ found. Due (roll_with config watch image events (control_in config.nodes found)))
-control_errand config watch control image (Err status) = Due (Err status)
+control_plan config watch control image (Err status) = Due (Err status)
 
-abbrev pub rolled_errand : Config → Option ℕ → List ℕ → List ℕ → Result ImageData Status → Errand
-rolled_errand config watch script control (Ok image) =
-    Fetch script script_limit (λ found. control_errand config watch control image (script_in config.nodes found))
-rolled_errand config watch script control (Err status) = Due (Err status)
+abbrev pub rolled_plan : Config → Option ℕ → List ℕ → List ℕ → Result ImageData Status → LoadPlan
+rolled_plan config watch script control (Ok image) =
+    Fetch script script_limit (λ found. control_plan config watch control image (script_in config.nodes found))
+rolled_plan config watch script control (Err status) = Due (Err status)
 
-abbrev pub trace_errand : ℕ → List ℕ → Result ImageData Status → Errand
-trace_errand nodes trace (Ok image) = Fetch trace script_limit (λ found. Due (check_with nodes image (trace_in nodes found)))
-trace_errand nodes trace (Err status) = Due (Err status)
+abbrev pub trace_plan : ℕ → List ℕ → Result ImageData Status → LoadPlan
+trace_plan nodes trace (Ok image) = Fetch trace script_limit (λ found. Due (check_with nodes image (trace_in nodes found)))
+trace_plan nodes trace (Err status) = Due (Err status)
 
 -- the report that the words ask for
 abbrev pub report_of : Bool → ReportKind
@@ -131,25 +142,28 @@ report_of true = TraceReport
 report_of false = Events
 
 -- what each command fetches, and what is due then
-abbrev pub replay_errand : Config → Showing → List ℕ → List ℕ → Errand
-replay_errand config showing program script = Fetch program program_limit (λ found. script_errand config showing script (program_in found))
+abbrev pub replay_plan : Config → Showing → List ℕ → List ℕ → LoadPlan
+replay_plan config showing program script = Fetch program program_limit (λ found. script_plan config showing script (program_in found))
 
-abbrev pub roll_errand : Config → Option ℕ → List ℕ → List ℕ → List ℕ → Errand
-roll_errand config watch program script control =
-    Fetch program program_limit (λ found. rolled_errand config watch script control (program_in found))
+abbrev pub roll_plan : Config → Option ℕ → List ℕ → List ℕ → List ℕ → LoadPlan
+roll_plan config watch program script control =
+    Fetch program program_limit (λ found. rolled_plan config watch script control (program_in found))
 
-abbrev pub run_errand : Config → RunRules → AskedReport → Option ℕ → List ℕ → Errand
-run_errand config rules report watch program =
+abbrev pub run_plan : Config → RunRules → RunReport → Option ℕ → List ℕ → LoadPlan
+run_plan config rules report watch program =
     Fetch program program_limit (λ found. Due (run_with config rules report watch (program_in found)))
 
-abbrev pub check_errand : ℕ → List ℕ → List ℕ → Errand
-check_errand nodes program trace = Fetch program program_limit (λ found. trace_errand nodes trace (program_in found))
+abbrev pub monitor_plan : Config → RunRules → Option ℕ → List ℕ → LoadPlan
+monitor_plan config rules watch program = Fetch program program_limit (λ found. Due (monitor_with config rules watch (program_in found)))
 
-abbrev pub assembly_errand : List ℕ → Errand
-assembly_errand text = Fetch text program_limit (λ found. Due (text_job (assembly_in found)))
+abbrev pub check_plan : ℕ → List ℕ → List ℕ → LoadPlan
+check_plan nodes program trace = Fetch program program_limit (λ found. trace_plan nodes trace (program_in found))
 
-abbrev pub listing_errand : List ℕ → Errand
-listing_errand program = Fetch program program_limit (λ found. Due (text_job (listing_of (program_in found))))
+abbrev pub assembly_plan : List ℕ → LoadPlan
+assembly_plan text = Fetch text program_limit (λ found. Due (text_job (assembly_in found)))
+
+abbrev pub listing_plan : List ℕ → LoadPlan
+listing_plan program = Fetch program program_limit (λ found. Due (text_job (listing_of (program_in found))))
 
 -- the job of a generated run, of which the summary alone is shown
 abbrev pub generated_job : ℕ → Result ImageData Status → Result Job Status
@@ -157,20 +171,21 @@ generated_job size (Ok image) = job_with generated_config (record { report = Sum
 generated_job size (Err status) = Err status
 
 -- it needs no file: its program is a text of this repository's own
-abbrev pub demo_errand : ℕ → Errand
-demo_errand size = Due (generated_job size (program_of (words_text counting_words)))
+abbrev pub demo_plan : ℕ → LoadPlan
+demo_plan size = Due (generated_job size (program_of (words_text counting_words)))
 
 -- words that aren't a command's are refused
-abbrev pub errand_of : Option Request → Errand
-errand_of (Some (Replay config trace watch program script)) =
-    replay_errand config (record { report = report_of trace; watch = watch }) program script
-errand_of (Some (RollRequest config watch program script control)) = roll_errand config watch program script control
-errand_of (Some (RunRequest config rules report watch program)) = run_errand config rules report watch program
-errand_of (Some (Check nodes program trace)) = check_errand nodes program trace
-errand_of (Some (Demo size)) = demo_errand size
-errand_of (Some (Assemble text)) = assembly_errand text
-errand_of (Some (Disassemble program)) = listing_errand program
-errand_of None = Due (Err Usage)
+abbrev pub plan_of : Option Request → LoadPlan
+plan_of (Some (Replay config trace watch program script)) =
+    replay_plan config (record { report = report_of trace; watch = watch }) program script
+plan_of (Some (RollRequest config watch program script control)) = roll_plan config watch program script control
+plan_of (Some (RunRequest config rules report watch program)) = run_plan config rules report watch program
+plan_of (Some (MonitorRequest config rules watch program)) = monitor_plan config rules watch program
+plan_of (Some (Check nodes program trace)) = check_plan nodes program trace
+plan_of (Some (Demo size)) = demo_plan size
+plan_of (Some (Assemble text)) = assembly_plan text
+plan_of (Some (Disassemble program)) = listing_plan program
+plan_of None = Due (Err Usage)
 
 -- the words are no command's
 abbrev pub AsksNothing : Option Request → Type 0
@@ -178,12 +193,17 @@ AsksNothing ask = ask ≡ None
 
 -- what is due over these files, by the words
 abbrev pub due_of : (List ℕ → Option (List ℕ)) → Option Request → Result Job Status
-due_of held ask = due_by held (errand_of ask)
+due_of held ask = due_by held (plan_of ask)
 
 -- a due journal, and the end that it says
 abbrev pub RunsTo : Run → Outcome → Type 0
 RunsTo r (Ran journal ending) = IsJournal r journal × (ending_of (begins r) journal ≡ Some ending)
 RunsTo r _ = ⊥
+
+-- the same of a run that was watched, in rounds of its workers, with what was seen of what it published
+abbrev pub RunsWatchedTo : Monitor → Outcome → Type 0
+RunsWatchedTo r (Watched journal seen ending) = IsWatched r journal seen × (ending_of (begins (watched_as r)) journal ≡ Some ending)
+RunsWatchedTo r _ = ⊥
 
 abbrev pub IsJudged : Judging → Outcome → Type 0
 IsJudged c (Judged verdict) = IsVerdict c verdict
@@ -194,13 +214,18 @@ abbrev pub IsOutcome : Job → Outcome → Type 0
 IsOutcome (ReplayJob r) outcome = outcome ≡ Finished
 IsOutcome (RollJob r) outcome = outcome ≡ Finished
 IsOutcome (RunJob r) outcome = RunsTo r outcome
+IsOutcome (MonitorJob r) outcome = RunsWatchedTo r outcome
 IsOutcome (CheckJob c) outcome = IsJudged c outcome
 IsOutcome (Text text) outcome = outcome ≡ Finished
 
--- the pieces of a run that had this journal, and of a trace of which this was found
+-- the pieces of a run that had this journal, of one of which this was seen besides, and of a trace of which this was found
 abbrev pub journal_pieces : List Meter → Run → Outcome → List Piece
 journal_pieces probes r (Ran journal ending) = run_pieces r probes journal
 journal_pieces probes r _ = []
+
+abbrev pub watched_pieces : List Meter → Monitor → Outcome → List Piece
+watched_pieces probes r (Watched journal seen ending) = monitor_pieces r probes journal seen
+watched_pieces probes r _ = []
 
 abbrev pub verdict_pieces : Judging → Outcome → List Piece
 verdict_pieces c (Judged verdict) = Report (verdict_line c verdict) ∷ []
@@ -211,6 +236,7 @@ abbrev pub pieces_of_job : List Meter → Job → Outcome → List Piece
 pieces_of_job probes (ReplayJob r) outcome = pieces_due r probes
 pieces_of_job probes (RollJob r) outcome = rolled_pieces r probes
 pieces_of_job probes (RunJob r) outcome = journal_pieces probes r outcome
+pieces_of_job probes (MonitorJob r) outcome = watched_pieces probes r outcome
 pieces_of_job probes (CheckJob c) outcome = verdict_pieces c outcome
 pieces_of_job probes (Text text) outcome = console_piece text
 
@@ -227,11 +253,21 @@ abbrev pub ShowsRunInPart : List Meter → Run → Outcome → Ends → Ends →
 ShowsRunInPart probes r (Ran journal ending) old new = IsRunShownInPart r probes journal old new
 ShowsRunInPart probes r _ old new = ⊥
 
+-- the same of one that was watched
+abbrev pub ShowsWatched : List Meter → Monitor → Outcome → Ends → Ends → Type 0
+ShowsWatched probes r (Watched journal seen ending) old new = IsMonitorShown r probes ending journal seen old new
+ShowsWatched probes r _ old new = ⊥
+
+abbrev pub ShowsWatchedInPart : List Meter → Monitor → Outcome → Ends → Ends → Type 0
+ShowsWatchedInPart probes r (Watched journal seen ending) old new = IsMonitorCutShort r probes ending journal seen old new
+ShowsWatchedInPart probes r _ old new = ⊥
+
 -- what the sinks show of a job that was done, and of one that a sink broke
 abbrev pub Shows : List Meter → Job → Outcome → Ends → Ends → Type 0
 Shows probes (ReplayJob r) outcome old new = IsShown r.program r.config r.showing (tallies_due r probes) r.script old new
 Shows probes (RollJob r) outcome old new = IsRolled r probes old new
 Shows probes (RunJob r) outcome old new = ShowsRun probes r outcome old new
+Shows probes (MonitorJob r) outcome old new = ShowsWatched probes r outcome old new
 Shows probes (CheckJob c) outcome old new = ⊤
 Shows probes (Text text) outcome old new = ⊤
 
@@ -239,13 +275,15 @@ abbrev pub ShowsInPart : List Meter → Job → Outcome → Ends → Ends → Ty
 ShowsInPart probes (ReplayJob r) outcome old new = IsShownInPart r.program r.config r.showing (tallies_due r probes) r.script old new
 ShowsInPart probes (RollJob r) outcome old new = IsRollBrokenOff r probes old new
 ShowsInPart probes (RunJob r) outcome old new = ShowsRunInPart probes r outcome old new
+ShowsInPart probes (MonitorJob r) outcome old new = ShowsWatchedInPart probes r outcome old new
 ShowsInPart probes (CheckJob c) outcome old new = ⊤
 ShowsInPart probes (Text text) outcome old new = ⊤
 
--- a job that came to no outcome: a run whose console failed, of a due journal of whose output the console has the beginning
-abbrev pub BrokeOff : Job → Ends → Ends → Type 0
-BrokeOff (RunJob r) old new = (journal : List JournalEntry) × IsStopped r journal old new
-BrokeOff _ old new = ⊥
+-- a job that came to no outcome: a run of which the console failed, whose count of faults rose from one number to another; of a due
+-- journal's output the console has the beginning
+abbrev pub BrokeOff : Job → ℕ → ℕ → Ends → Ends → Type 0
+BrokeOff (RunJob r) was is old new = Rose was is × ((journal : List JournalEntry) × IsStopped r journal old new)
+BrokeOff _ was is old new = ⊥
 
 -- the job came to this, and all pieces are put, or a sink broke
 abbrev pub ComesTo : List Meter → Job → Status → Ends → Ends → Outcome → Type 0
@@ -253,22 +291,24 @@ ComesTo probes job status old new outcome = IsOutcome job outcome × (
     ((status ≡ status_of outcome) × (new ≡ after old (pieces_of_job probes job outcome)) × Shows probes job outcome old new)
     ⊎ ((status ≡ SinkFault) × Breaks (pieces_of_job probes job outcome) old new × ShowsInPart probes job outcome old new))
 
--- what is due is done: a refusal is the status and nothing is written; else the job came to its outcome, or a sink broke before
-abbrev pub Follows : List Meter → Result Job Status → Status → Ends → Ends → Type 0
-Follows probes (Err refusal) status old new = (status ≡ refusal) × (new ≡ old)
-Follows probes (Ok job) status old new =
-    ((outcome : Outcome) × ComesTo probes job status old new outcome) ⊎ ((status ≡ SinkFault) × BrokeOff job old new)
+-- what is due is done: a refusal is the status and nothing is written; else the job came to its outcome, or the console broke before,
+-- whose faults were so many and are so many
+abbrev pub Follows : List Meter → Result Job Status → Status → ℕ → ℕ → Ends → Ends → Type 0
+Follows probes (Err refusal) status was is old new = (status ≡ refusal) × (new ≡ old)
+Follows probes (Ok job) status was is old new =
+    ((outcome : Outcome) × ComesTo probes job status old new outcome) ⊎ ((status ≡ SinkFault) × BrokeOff job was is old new)
 
--- what a call comes to that is given these probes, over any store
-abbrev pub Comes : {S : Type 0} → (S → List ℕ → ℕ → Found → S → Type 0) → List Meter → Option Request → Status → S → S → Ends → Ends →
-    Type 0
-Comes fetches probes ask status old new before behind =
-    (job : Result Job Status) × Loads fetches (errand_of ask) job old new × Follows probes job status before behind
+-- what a call comes to that is given these probes, over any store and a console whose faults were so many and are so many
+abbrev pub Comes : {S : Type 0} → (S → List ℕ → ℕ → Found → S → Type 0) → List Meter → Option Request → Status → S → S → ℕ → ℕ → Ends →
+    Ends → Type 0
+Comes fetches probes ask status old new was is before behind =
+    (job : Result Job Status) × Loads fetches (plan_of ask) job old new × Follows probes job status was is before behind
 
 -- a job that may begin
 abbrev pub IsRead : Job → Type 0
 IsRead (ReplayJob r) = MayBegin r
 IsRead (RollJob r) = MayRoll r
 IsRead (RunJob r) = MayRun r
+IsRead (MonitorJob r) = MayMonitor r
 IsRead (CheckJob c) = (1 ≤ c.nodes) × (c.nodes ≤ 16)
 IsRead (Text text) = ⊤

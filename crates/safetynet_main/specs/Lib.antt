@@ -1,5 +1,5 @@
 pub mod Status
 pub mod Files
-pub mod Errand
+pub mod LoadPlan
 pub mod Outcome
 pub mod Call

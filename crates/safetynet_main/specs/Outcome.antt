@@ -5,6 +5,7 @@ use Rattle.rv_core.specs.Execution.{IsExecution}
 use Rattle.sn_consistency.specs.Projections.{FirstWithoutStep}
 use Rattle.sn_text.specs.Text.{count_line}
 use Rattle.run_journals.specs.declared.entry.JournalEntry.{JournalEntry}
+use Rattle.snap_board.specs.Snap.{SnapData}
 use Rattle.node_run.specs.declared.ending.Ending.{Ending}
 use Rattle.node_run.specs.declared.ending.Ending.TheVariants.{Exited, Trapped, CutOff, Spent}
 use Rattle.safetynet_main.specs.declared.job.Check.{Check}
@@ -21,6 +22,8 @@ pub data Outcome : Type 0 where
   Judged : (verdict : Verdict) → Outcome
   -- workers ran up to this end of their run, and this is its journal
   Ran : (journal : List JournalEntry) → (ending : Ending) → Outcome
+  -- the same, and these snapshots were seen of it
+  Watched : (journal : List JournalEntry) → (seen : List SnapData) → (ending : Ending) → Outcome
 
 -- a trace is an execution of its program without faults, or its record at a place, counted from 1, is the first that the
 -- flat machine doesn't do after those before it
@@ -48,3 +51,4 @@ abbrev pub status_of : Outcome → Status
 status_of Finished = Done
 status_of (Judged verdict) = verdict_status verdict
 status_of (Ran journal ending) = ending_status ending
+status_of (Watched journal seen ending) = ending_status ending

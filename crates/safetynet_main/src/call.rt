@@ -13,6 +13,7 @@ use crate::files::load;
 use crate::job::Job;
 use crate::status::{Status, ended_as};
 use command_words::{Request, WordsFault, read_words};
+use monitor_run::monitor;
 use node_run::{RunFault, run};
 use rolled_replay::{RollFault, roll};
 use script_replay::{ReplayFault, replay};
@@ -35,6 +36,7 @@ fn perform<T: Threads + Wait + Sync, C: Sink + Send, R: Sink, G: Gate + Sync>(
 ) -> Status
     requires { IsRead job }
     ensures follows { result ≢ Status.Memory → Follows (meters_in first tally step probes.old.probes.items) (Ok job) result
+        (C.faults console.old) (C.faults console.new)
         (ends (C.written console.old) (R.written report.old)) (ends (C.written console.new) (R.written report.new)) }
     ensures nothing { has_written result ≡ false → (console.new ≡ console.old) × (report.new ≡ report.old) }
     ensures cause { result ≡ Status.SinkFault
@@ -52,6 +54,11 @@ fn perform<T: Threads + Wait + Sync, C: Sink + Send, R: Sink, G: Gate + Sync>(
             Err(RollFault::Memory) => Status::Memory,
         },
         Job::Run(job) => match run(rt, alloc, job, probes, console, report, gate) {
+            Ok(ending) => ended_as(ending),
+            Err(RunFault::Sink) => Status::SinkFault,
+            Err(RunFault::Memory) => Status::Memory,
+        },
+        Job::Monitor(job) => match monitor(rt, alloc, job, probes, console, report) {
             Ok(ending) => ended_as(ending),
             Err(RunFault::Sink) => Status::SinkFault,
             Err(RunFault::Memory) => Status::Memory,
@@ -76,6 +83,7 @@ fn answer<T: Threads + Wait + Sync, S: Store, C: Sink + Send, R: Sink, G: Gate +
 ) -> Status
     ensures comes { result ≢ Status.Memory → Comes (Fetches S.files S.sure S.faults S.gave)
         (meters_in first tally step probes.old.probes.items) (ask_of (map string_bytes words.now)) result store.old store.new
+        (C.faults console.old) (C.faults console.new)
         (ends (C.written console.old) (R.written report.old)) (ends (C.written console.new) (R.written report.new)) }
     ensures nothing { has_written result ≡ false → (console.new ≡ console.old) × (report.new ≡ report.old) }
     ensures sink_fault { result ≡ Status.SinkFault
@@ -103,7 +111,7 @@ fn answer<T: Threads + Wait + Sync, S: Store, C: Sink + Send, R: Sink, G: Gate +
 /// command writes to the console and the report. The first word is the program's name. In a replay and in a run each probe is
 /// told each event that is applied, and each is dropped once, however the call ends. A trace is judged in threads, one for each
 /// core, and each passes the gate once. A run has a thread for each node, which passes the gate before each turn, and one that
-/// writes to the console beside them.
+/// writes to the console beside them. A run that is watched has its turns on the caller's thread, and one thread for the watcher.
 pub fn safetynet<T: Threads + Wait + Sync, S: Store, C: Sink + Send, R: Sink, G: Gate + Sync>(
     rt: &T,
     alloc: Global,
@@ -117,16 +125,19 @@ pub fn safetynet<T: Threads + Wait + Sync, S: Store, C: Sink + Send, R: Sink, G:
     // Over any store "the file" is what a fetch of its name gave.
     ensures comes { result ≢ Status.Memory → Comes (Fetches S.files S.sure S.faults S.gave)
         (meters_of first tally step probes.items) (ask_of (map string_bytes words.now)) result store.old store.new
+        (C.faults console.old) (C.faults console.new)
         (ends (C.written console.old) (R.written report.old)) (ends (C.written console.new) (R.written report.new)) }
 
     // Over told files the words and the files say what is done.
     ensures told { IfSome (S.files store.old) (λ held. result ≢ Status.Memory → result ≢ Status.StoreFault
         → Follows (meters_of first tally step probes.items) (due_of held (ask_of (map string_bytes words.now))) result
+        (C.faults console.old) (C.faults console.new)
         (ends (C.written console.old) (R.written report.old)) (ends (C.written console.new) (R.written report.new))) }
 
     // Over a sure store the words and the files that it holds say what is done.
     ensures sure { S.sure store.old → IfSome (S.files store.old) (λ held. result ≢ Status.Memory
         → Follows (meters_of first tally step probes.items) (due_of held (ask_of (map string_bytes words.now))) result
+        (C.faults console.old) (C.faults console.new)
         (ends (C.written console.old) (R.written report.old)) (ends (C.written console.new) (R.written report.new))) }
 
     // Where all is good and no sink's count rose, the job is done, or memory was lacking.

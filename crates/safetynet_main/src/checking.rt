@@ -67,7 +67,8 @@ pub fn check<T: Threads + Sync, R: Sink, G: Gate + Sync>(
     gate: &G,
 ) -> Status
     requires { IsRead (Job.Check job.now) }
-    ensures follows { result ≢ Status.Memory → (probes : List Meter) (c : Option (List ℕ)) → Follows probes (Ok (Job.Check job.now)) result
+    ensures follows { result ≢ Status.Memory → (probes : List Meter) (was is : ℕ) (c : Option (List ℕ)) →
+        Follows probes (Ok (Job.Check job.now)) result was is
         (ends c (R.written report.old)) (ends c (R.written report.new)) }
     ensures nothing { has_written result ≡ false → report.new ≡ report.old }
     ensures cause { result ≡ Status.SinkFault → Rose (R.faults report.old) (R.faults report.new) }

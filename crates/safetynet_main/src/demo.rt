@@ -9,6 +9,7 @@ ghost use Rattle.counting_program.specs.Program.{counting_words};
 ghost use Rattle.safetynet_main.specs.Files.{program_of};
 ghost use Rattle.safetynet_main.specs.Status.{has_written};
 ghost use Rattle.safetynet_main.specs.Call.{generated_job, Follows};
+ghost use Rattle.sn_base.specs.declared.limits.TheConstants.{EVENTS};
 
 use crate::status::Status;
 use generated_runs::replay_generated;
@@ -25,9 +26,10 @@ pub fn demo<C: Sink, R: Sink>(
     report: &mut R,
     probes: &mut ProbeSet,
 ) -> Status
-    requires { lies_in 1 1000000 size ≡ true }
+    requires { lies_in 1 EVENTS size ≡ true }
     ensures follows { result ≢ Status.Memory → Follows (meters_in first tally step probes.old.probes.items)
         (generated_job size (program_of (words_text counting_words))) result
+        (C.faults console.old) (C.faults console.new)
         (ends (C.written console.old) (R.written report.old)) (ends (C.written console.new) (R.written report.new)) }
     ensures nothing { has_written result ≡ false → (console.new ≡ console.old) × (report.new ≡ report.old) }
     ensures cause { result ≡ Status.SinkFault

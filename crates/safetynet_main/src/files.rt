@@ -7,9 +7,10 @@ ghost use Rattle.rolling_recovery.specs.Controls.{control_fits};
 ghost use Rattle.command_words.specs.Request.{as_request, watch_fits, request_fits};
 ghost use Rattle.option_values.specs.Runs.{run_rules_fit};
 ghost use Rattle.safetynet_main.specs.Files.{program_in, script_in, control_in, trace_in, assembly_in};
-ghost use Rattle.safetynet_main.specs.Errand.{Loads};
-ghost use Rattle.safetynet_main.specs.Call.{Fetches, found_by, report_of, report_shown, errand_of, replay_errand, roll_errand};
-ghost use Rattle.safetynet_main.specs.Call.{run_errand, check_errand, assembly_errand, listing_errand, IsRead};
+ghost use Rattle.safetynet_main.specs.LoadPlan.{Loads};
+ghost use Rattle.safetynet_main.specs.Call.{Fetches, found_by, report_of, plan_of, replay_plan, roll_plan};
+ghost use Rattle.safetynet_main.specs.Call.{run_plan, monitor_plan, check_plan, assembly_plan, listing_plan, IsRead};
+ghost use Rattle.sn_base.specs.declared.limits.TheConstants.{EVENTS};
 
 use crate::job::{Check, Job, Text, Trace};
 use crate::reading::{
@@ -18,7 +19,8 @@ use crate::reading::{
 };
 use crate::status::{ProgramCause, Status};
 use command_words::Request;
-use node_run::{Run, RunReport, RunShowing};
+use monitor_run::Monitor;
+use node_run::{Run, RunShowing};
 use rolled_replay::{Controls, Roll};
 use rv_asm::AsmCause;
 use script_replay::{Replay, ReportKind, Script, Showing};
@@ -80,7 +82,7 @@ fn fetch_script<S: Store>(
         × Fetches S.files S.sure S.faults S.gave store.old name.now 33554432 found store.new
         × (result ≡ script_in nodes found) }
     ensures fit { IfOk result (λ script. AllFit nodes script) }
-    ensures few { IfOk result (λ script. length script ≤ 1000000) }
+    ensures few { IfOk result (λ script. length script ≤ EVENTS) }
     ensures files { S.files store.new ≡ S.files store.old }
     ensures stays_sure { S.sure store.old → S.sure store.new }
 {
@@ -103,7 +105,7 @@ fn fetch_control<S: Store>(
         × Fetches S.files S.sure S.faults S.gave store.old name.now 33554432 found store.new
         × (result ≡ control_in nodes found) }
     ensures fit { IfOk result (λ controls. All (λ control. control_fits nodes control ≡ true) controls) }
-    ensures few { IfOk result (λ controls. length controls ≤ 1000000) }
+    ensures few { IfOk result (λ controls. length controls ≤ EVENTS) }
     ensures files { S.files store.new ≡ S.files store.old }
     ensures stays_sure { S.sure store.old → S.sure store.new }
 {
@@ -171,7 +173,7 @@ fn load_replay<S: Store>(
     requires sizes { config_fits asked.now.config ≡ true }
     requires watched { watch_fits asked.now.watch ≡ true }
     ensures loads { result ≢ Err Status.Memory → Loads (Fetches S.files S.sure S.faults S.gave)
-        (replay_errand asked.now.config (record { report = report_of asked.now.trace; watch = asked.now.watch })
+        (replay_plan asked.now.config (record { report = report_of asked.now.trace; watch = asked.now.watch })
         (string_bytes asked.now.program) (string_bytes asked.now.script))
         result store.old store.new }
     ensures read { IfOk result IsRead }
@@ -208,7 +210,7 @@ fn load_roll<S: Store>(
     requires sizes { config_fits asked.now.config ≡ true }
     requires watched { watch_fits asked.now.watch ≡ true }
     ensures loads { result ≢ Err Status.Memory → Loads (Fetches S.files S.sure S.faults S.gave)
-        (roll_errand asked.now.config asked.now.watch (string_bytes asked.now.program) (string_bytes asked.now.script)
+        (roll_plan asked.now.config asked.now.watch (string_bytes asked.now.program) (string_bytes asked.now.script)
         (string_bytes asked.now.control))
         result store.old store.new }
     ensures read { IfOk result IsRead }
@@ -237,16 +239,6 @@ fn load_roll<S: Store>(
     }
 }
 
-fn report_shown(report: command_words::RunReport) -> RunReport
-    ensures { result ≡ report_shown report }
-{
-    match report {
-        command_words::RunReport::Summary => RunReport::Summary,
-        command_words::RunReport::Trace => RunReport::Trace,
-        command_words::RunReport::Journal => RunReport::Journal,
-    }
-}
-
 // The program of a run.
 #[tactic(auto, using(crate::proofs::Watched::watched_is, crate::proofs::Watched::rules_are, crate::proofs::Watched::budget_is))]
 fn load_run<S: Store>(
@@ -258,7 +250,7 @@ fn load_run<S: Store>(
     requires ruled { run_rules_fit asked.now.config.nodes asked.now.rules ≡ true }
     requires watched { watch_fits asked.now.watch ≡ true }
     ensures loads { result ≢ Err Status.Memory → Loads (Fetches S.files S.sure S.faults S.gave)
-        (run_errand asked.now.config asked.now.rules asked.now.report asked.now.watch (string_bytes asked.now.program))
+        (run_plan asked.now.config asked.now.rules asked.now.report asked.now.watch (string_bytes asked.now.program))
         result store.old store.new }
     ensures read { IfOk result IsRead }
     ensures files { S.files store.new ≡ S.files store.old }
@@ -274,7 +266,7 @@ fn load_run<S: Store>(
     let budget = asked.rules.budget;
     let asked_report = asked.report;
     let showing = RunShowing {
-        report: report_shown(asked_report),
+        report: asked_report,
         watch: asked.watch,
     };
     Ok(Job::Run(Run {
@@ -287,6 +279,37 @@ fn load_run<S: Store>(
     }))
 }
 
+// The program of a run that is watched.
+#[tactic(auto, using(crate::proofs::Watched::watched_is, crate::proofs::Watched::rules_are, crate::proofs::Watched::budget_is))]
+fn load_monitor<S: Store>(
+    alloc: Global,
+    store: &mut S,
+    asked: &command_words::Monitor,
+) -> Result<Job, Status>
+    requires sizes { config_fits asked.now.config ≡ true }
+    requires ruled { run_rules_fit asked.now.config.nodes asked.now.rules ≡ true }
+    requires watched { watch_fits asked.now.watch ≡ true }
+    ensures loads { result ≢ Err Status.Memory → Loads (Fetches S.files S.sure S.faults S.gave)
+        (monitor_plan asked.now.config asked.now.rules asked.now.watch (string_bytes asked.now.program))
+        result store.old store.new }
+    ensures read { IfOk result IsRead }
+    ensures files { S.files store.new ≡ S.files store.old }
+    ensures stays_sure { S.sure store.old → S.sure store.new }
+{
+    let program = match fetch_program(alloc, store, asked.program.as_str()) {
+        Ok(program) => program,
+        Err(status) => return Err(status),
+    };
+    Ok(Job::Monitor(Monitor {
+        program,
+        config: asked.config,
+        rules: asked.rules.rules,
+        seed: asked.rules.seed,
+        budget: asked.rules.budget,
+        watch: asked.watch,
+    }))
+}
+
 // The program and the trace of a check, in this order.
 fn load_check<S: Store>(
     alloc: Global,
@@ -295,7 +318,7 @@ fn load_check<S: Store>(
 ) -> Result<Job, Status>
     requires { lies_in 1 16 asked.now.nodes ≡ true }
     ensures loads { result ≢ Err Status.Memory → Loads (Fetches S.files S.sure S.faults S.gave)
-        (check_errand asked.now.nodes (string_bytes asked.now.program) (string_bytes asked.now.trace)) result store.old store.new }
+        (check_plan asked.now.nodes (string_bytes asked.now.program) (string_bytes asked.now.trace)) result store.old store.new }
     ensures read { IfOk result IsRead }
     ensures files { S.files store.new ≡ S.files store.old }
     ensures stays_sure { S.sure store.old → S.sure store.new }
@@ -317,7 +340,7 @@ fn load_check<S: Store>(
 
 fn load_assembly<S: Store>(alloc: Global, store: &mut S, text: &str) -> Result<Job, Status>
     ensures loads { result ≢ Err Status.Memory →
-        Loads (Fetches S.files S.sure S.faults S.gave) (assembly_errand text.now) result store.old store.new }
+        Loads (Fetches S.files S.sure S.faults S.gave) (assembly_plan text.now) result store.old store.new }
     ensures read { IfOk result IsRead }
     ensures files { S.files store.new ≡ S.files store.old }
     ensures stays_sure { S.sure store.old → S.sure store.new }
@@ -330,7 +353,7 @@ fn load_assembly<S: Store>(alloc: Global, store: &mut S, text: &str) -> Result<J
 
 fn load_listing<S: Store>(alloc: Global, store: &mut S, program: &str) -> Result<Job, Status>
     ensures loads { result ≢ Err Status.Memory →
-        Loads (Fetches S.files S.sure S.faults S.gave) (listing_errand program.now) result store.old store.new }
+        Loads (Fetches S.files S.sure S.faults S.gave) (listing_plan program.now) result store.old store.new }
     ensures read { IfOk result IsRead }
     ensures files { S.files store.new ≡ S.files store.old }
     ensures stays_sure { S.sure store.old → S.sure store.new }
@@ -351,7 +374,7 @@ pub fn load<S: Store>(alloc: Global, store: &mut S, request: &Request) -> Result
     requires fits { request_fits (as_request request.now) ≡ true }
     requires files { (size : ℕ) → request.now ≡ Request.Demo size → ⊥ }
     ensures loads { result ≢ Err Status.Memory →
-        Loads (Fetches S.files S.sure S.faults S.gave) (errand_of (Some (as_request request.now))) result store.old store.new }
+        Loads (Fetches S.files S.sure S.faults S.gave) (plan_of (Some (as_request request.now))) result store.old store.new }
     ensures read { IfOk result IsRead }
     ensures files { S.files store.new ≡ S.files store.old }
     ensures stays_sure { S.sure store.old → S.sure store.new }
@@ -360,6 +383,7 @@ pub fn load<S: Store>(alloc: Global, store: &mut S, request: &Request) -> Result
         Request::Replay(asked) => load_replay(alloc, store, asked),
         Request::Roll(asked) => load_roll(alloc, store, asked),
         Request::Run(asked) => load_run(alloc, store, asked),
+        Request::Monitor(asked) => load_monitor(alloc, store, asked),
         Request::Check(asked) => load_check(alloc, store, asked),
         Request::Assemble(text) => load_assembly(alloc, store, text.as_str()),
         Request::Disassemble(program) => load_listing(alloc, store, program.as_str()),

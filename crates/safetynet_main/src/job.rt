@@ -3,6 +3,7 @@ ghost use Rattle.std.specs.Prelude.{◌≡◌};
 ghost use Rattle.safetynet_main.specs.Outcome.{verdict_status};
 
 use crate::status::Status;
+use monitor_run::Monitor;
 use node_run::Run;
 use rolled_replay::Roll;
 use rv_core::Record;
@@ -84,6 +85,8 @@ pub enum Job {
     Roll(Roll),
     /// Workers run a machine, each in a thread of its own.
     Run(Run),
+    /// Workers run a machine in turn, and a watcher looks at it beside them.
+    Monitor(Monitor),
     /// A trace is judged, and the verdict is put to the report.
     Check(Check),
     /// A text is put to the console, and nothing to the report.

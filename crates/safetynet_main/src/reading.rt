@@ -4,6 +4,7 @@ ghost use Rattle.consistent_cuts.specs.Runs.{AllFit};
 ghost use Rattle.asm_texts.specs.Texts.{words_text};
 ghost use Rattle.rolling_recovery.specs.Controls.{control_fits};
 ghost use Rattle.safetynet_main.specs.Files.{program_of, events_of, steps_of, records_of, assembly_of, listing_of};
+ghost use Rattle.sn_base.specs.declared.limits.TheConstants.{EVENTS};
 
 use crate::job::{Text, Trace};
 use crate::status::{ProgramCause, Status};
@@ -41,7 +42,7 @@ pub fn read_script(alloc: Global, bytes: &[u8], nodes: u8) -> Result<Script, Sta
     requires { nodes ≤ 16 }
     ensures read { result ≢ Err Status.Memory → result ≡ events_of nodes bytes.now }
     ensures fit { IfOk result (λ script. AllFit nodes script) }
-    ensures few { IfOk result (λ script. length script ≤ 1000000) }
+    ensures few { IfOk result (λ script. length script ≤ EVENTS) }
 {
     if bytes.len() > SCRIPT_LIMIT {
         return Err(Status::BadScript(ScriptCause::TooLong));
@@ -58,7 +59,7 @@ pub fn read_control(alloc: Global, bytes: &[u8], nodes: u8) -> Result<Controls, 
     requires { nodes ≤ 16 }
     ensures read { result ≢ Err Status.Memory → result ≡ steps_of nodes bytes.now }
     ensures fit { IfOk result (λ controls. All (λ control. control_fits nodes control ≡ true) controls) }
-    ensures few { IfOk result (λ controls. length controls ≤ 1000000) }
+    ensures few { IfOk result (λ controls. length controls ≤ EVENTS) }
 {
     if bytes.len() > SCRIPT_LIMIT {
         return Err(Status::BadScript(ScriptCause::TooLong));

@@ -1,6 +1,9 @@
 //! Calls, each with what it leaves: texts that come from the rules and not from this program, and each way in which a call ends.
 mod checks;
+mod failing;
 mod generated;
+mod monitors;
+mod probes;
 mod replays;
 mod runs;
 mod statuses;

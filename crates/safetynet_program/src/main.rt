@@ -4,21 +4,23 @@
 //! the report on standard error, calls `safetynet` with the words that it was given, and exits with the status's
 //! number. One probe is told the events, a tally of how often each kind came. Where the status isn't Done a line on standard
 //! error says why, and the last one names it; of a replay that is done a terminal gets notes. Calls for help or the version are
-//! its own to answer.
+//! its own to answer. On a terminal that shows both streams no line of the console runs into the report's.
 #![tactic(auto)]
 
+mod terminal;
 mod twice;
 mod why;
 
 ghost use Rattle.std.specs.Prelude.{◌≡◌, ◌≢◌, false, map, string_bytes};
 ghost use Rattle.command_words.specs.Command.{the_app};
-ghost use Rattle.own_pages.specs.Pages.{command_pages, page_by};
-ghost use Rattle.own_pages.specs.Texts.{text_on};
+ghost use Rattle.help_pages.specs.Pages.{command_pages, page_by};
+ghost use Rattle.help_pages.specs.Texts.{text_on};
 ghost use Rattle.safetynet_main.specs.Status.{has_written};
 ghost use Rattle.sn_io.specs.Outside.{Rose, followed_by};
 
+use crate::terminal::{Console, Report};
 use crate::why::{write_notes_on, write_why};
-use own_pages::{Page, page_of, show};
+use help_pages::{Page, page_of, show};
 use reasons::{Lack, Reason, write_lack};
 use safetynet_main::{Status, safetynet};
 use sn_base::Memory;
@@ -31,6 +33,7 @@ use std::io::{BufWriter, ErrorKind, IsTerminal, Write};
 use std::process::ExitCode;
 use std::rt::Files;
 use std::sync::Wait;
+use std::sync::atomic::{AtomicBool, Ordering};
 use std::thread::Threads;
 
 /// How many bytes of the report are held back until they go out together.
@@ -73,14 +76,18 @@ fn finished<R: Write + Drop>(report: &mut StdSink<R>, status: Status) -> Status
 }
 
 // Does a command over the system's files and streams. The report goes out in large pieces, which spares a call of the
-// system for each event, but at once where it goes to a terminal.
+// system for each event, but at once where it goes to a terminal. Where one terminal shows both, the report, and what is said
+// after it, begin on a line of their own.
 fn perform<T, C, R>(rt: &T, alloc: Global, words: &[String], console: C, report: R) -> Status
 where
     T: Files + Threads + Wait + Sync,
-    C: Write + Drop + Send,
+    C: Write + IsTerminal + Drop + Send,
     R: Write + IsTerminal + Drop,
 {
+    let is_open = AtomicBool::new(false);
+    let is_shared = console.is_terminal() && report.is_terminal();
     let held_back = if report.is_terminal() { 0 } else { HELD_BACK };
+    let report = Report::new(report, &is_open);
     let Ok(writer) = BufWriter::with_capacity(alloc, held_back, report) else {
         return Status::Memory;
     };
@@ -92,7 +99,7 @@ where
         return Status::Memory;
     }
     let mut report = StdSink::new(writer);
-    let mut console = StdSink::new(console);
+    let mut console = StdSink::new(Console::new(console, is_shared, &is_open));
     let mut store = FileStore::new(rt);
     let gate = OpenGate::new();
     let status = safetynet(
@@ -105,7 +112,11 @@ where
         probes,
         &gate,
     );
-    finished(&mut report, status)
+    let status = finished(&mut report, status);
+    if is_open.load(Ordering::Relaxed) {
+        let _ = console.put(b"\n");
+    }
+    status
 }
 
 // Names on standard error the status of a call in which not all is done, a trace is refused, or a run didn't end with all

@@ -6,7 +6,7 @@ use Rattle.sn_base.specs.declared.event.Event.{Event}
 use Rattle.sn_model.specs.Machine.{State, start_of}
 use Rattle.sn_machine.specs.Machine.{MachineData}
 use Rattle.sn_model.specs.Step.{state_after}
-use Rattle.consistent_cuts.specs.Headline.{reached}
+use Rattle.consistent_cuts.specs.Headline.{state_of_run}
 use Rattle.sn_text.specs.Written.{HasValues}
 use Rattle.sink_pieces.specs.Pieces.{Piece, Ends, after, Breaks}
 use Rattle.sn_probe.specs.Probes.{Meter, told_from, tallies_of}
@@ -14,7 +14,7 @@ use Rattle.script_replay.specs.declared.job.Showing.{Showing}
 use Rattle.script_replay.specs.declared.job.ReportKind.TheVariants.{Trace}
 use Rattle.script_replay.specs.declared.job.Replay.{Replay}
 use Rattle.script_replay.specs.Pieces.{turns_from, turns_of, pieces_from, pieces_of}
-use Rattle.script_replay.specs.Probed.{answered, told_of_run, told_all, tallies_due}
+use Rattle.script_replay.specs.Probed.{answers_along, told_of_run, told_all, tallies_due}
 use Rattle.script_replay.specs.Played.{pieces_left, told_left, turns_left, state_left, StopsAt, StopsAtEnd, Stops}
 use Rattle.script_replay.specs.Played.{MayBegin, IsAtStart}
 use Rattle.script_replay.specs.Scheduled.{replay_of}
@@ -25,14 +25,14 @@ use Rattle.script_replay.proofs.Shown.{shown-all, shown-part}
 ready-told : (m : MachineData) (image : ImageData) (config : Config) (events : List Event) (probes : List Meter) (room : ℕ) →
     IsAtStart m image config room → told_left m events probes ≡ told_of_run image config events probes
 ready-told m image config events probes room ready =
-    ap (λ n. map (told_from (n + 1) (answered m.image m.config m.state events)) probes) ready.new
-    ∙ ap (λ (t : State). map (told_from 1 (answered m.image m.config t events)) probes) ready.start
-    ∙ ap (λ (t : Config). map (told_from 1 (answered m.image t (start_of image config.nodes) events)) probes) ready.sizes
-    ∙ ap (λ (t : ImageData). map (told_from 1 (answered t config (start_of image config.nodes) events)) probes) ready.program
+    ap (λ n. map (told_from (n + 1) (answers_along m.image m.config m.state events)) probes) ready.new
+    ∙ ap (λ (t : State). map (told_from 1 (answers_along m.image m.config t events)) probes) ready.start
+    ∙ ap (λ (t : Config). map (told_from 1 (answers_along m.image t (start_of image config.nodes) events)) probes) ready.sizes
+    ∙ ap (λ (t : ImageData). map (told_from 1 (answers_along t config (start_of image config.nodes) events)) probes) ready.program
 
 -- the state that they leave, and their pieces
 ready-reached : (m : MachineData) (image : ImageData) (config : Config) (events : List Event) (room : ℕ) →
-    IsAtStart m image config room → state_left m events ≡ reached image config events
+    IsAtStart m image config room → state_left m events ≡ state_of_run image config events
 ready-reached m image config events room ready =
     ap (λ (t : State). state_after m.image m.config t events) ready.start
     ∙ ap (λ (t : Config). state_after m.image t (start_of image config.nodes) events) ready.sizes

@@ -15,7 +15,7 @@ use Rattle.script_replay.specs.declared.job.Showing.{Showing}
 use Rattle.script_replay.specs.declared.job.ReportKind.{ReportKind}
 use Rattle.script_replay.specs.declared.job.ReportKind.TheVariants.{Events, Trace, Summary}
 use Rattle.script_replay.specs.Pieces.{group_of, group_pieces, trace_pieces, tally_pieces, end_pieces, last_pieces, turn_pieces}
-use Rattle.script_replay.specs.Played.{group_now, summary_now, summed_up, end_now, turn_now, IsAlone}
+use Rattle.script_replay.specs.Played.{group_now, summary_now, summary_pieces_of, end_now, turn_now, IsAlone}
 use Rattle.script_replay.proofs.Recoveries.{recovery_is_alone}
 use Rattle.script_replay.proofs.Releases.{released-grows}
 
@@ -147,58 +147,58 @@ trace-whole records i a b e h =
 -- the summary: what it says of the machine, and then of the probes
 module _ (m : MachineData) (watch : Option ℕ) (before : List ℕ) (tallies : List (List ℕ)) (bytes : List ℕ) (same : bytes ≡ summary_now before m watch) where
   pub summed-all : (a b d : Ends) → b ≡ after a (Report bytes ∷ []) → d ≡ after b (tally_pieces before 0 tallies) →
-      d ≡ after a (summed_up before m watch tallies)
+      d ≡ after a (summary_pieces_of before m watch tallies)
   summed-all a b d first second =
       second ∙ ap (λ e. after e (tally_pieces before 0 tallies)) (first ∙ ap (λ t. after a (Report t ∷ [])) same)
       ∙ after-append a (Report (summary_now before m watch) ∷ []) (tally_pieces before 0 tallies)
 
-  pub summed-breaks_first : (a b : Ends) → Breaks (Report bytes ∷ []) a b → Breaks (summed_up before m watch tallies) a b
+  pub summed-breaks_first : (a b : Ends) → Breaks (Report bytes ∷ []) a b → Breaks (summary_pieces_of before m watch tallies) a b
   summed-breaks_first a b broken =
       Breaks-more (Report (summary_now before m watch) ∷ []) (tally_pieces before 0 tallies) a b
       (subst (λ (t : List ℕ). Breaks (Report t ∷ []) a b) same broken)
 
   pub summed-breaks_second : (a b d : Ends) → b ≡ after a (Report bytes ∷ []) → Breaks (tally_pieces before 0 tallies) b d →
-      Breaks (summed_up before m watch tallies) a d
+      Breaks (summary_pieces_of before m watch tallies) a d
   summed-breaks_second a b d first broken =
       Breaks-after (Report (summary_now before m watch) ∷ []) (tally_pieces before 0 tallies) a d
       (subst (λ (e : Ends). Breaks (tally_pieces before 0 tallies) e d) (first ∙ ap (λ t. after a (Report t ∷ [])) same) broken)
 
 -- the end: the summary alone
 plain-is : (m : MachineData) (watch : Option ℕ) (tallies : List (List ℕ)) (kind : ReportKind) → (kind ≡ Trace → ⊥) →
-    last_pieces kind m.image m.config watch tallies m.applied m.state ≡ summed_up [] m watch tallies
+    last_pieces kind m.image m.config watch tallies m.applied m.state ≡ summary_pieces_of [] m watch tallies
 plain-is m watch tallies Events not = refl
 plain-is m watch tallies Trace not = absurd (not refl)
 plain-is m watch tallies Summary not = refl
 
 module _ (m : MachineData) (showing : Showing) (tallies : List (List ℕ)) (not : showing.report ≡ Trace → ⊥) where
-  pub end-plain : (a b : Ends) → b ≡ after a (summed_up [] m showing.watch tallies) → b ≡ after a (end_now m showing tallies)
+  pub end-plain : (a b : Ends) → b ≡ after a (summary_pieces_of [] m showing.watch tallies) → b ≡ after a (end_now m showing tallies)
   unfolding end_pieces
   end-plain a b put = put ∙ ap (after a) (sym (plain-is m showing.watch tallies showing.report not))
 
-  pub end-plain_breaks : (a b : Ends) → Breaks (summed_up [] m showing.watch tallies) a b → Breaks (end_now m showing tallies) a b
+  pub end-plain_breaks : (a b : Ends) → Breaks (summary_pieces_of [] m showing.watch tallies) a b → Breaks (end_now m showing tallies) a b
   unfolding end_pieces
   end-plain_breaks a b broken =
       subst (λ (ps : List Piece). Breaks ps a b) (sym (plain-is m showing.watch tallies showing.report not)) broken
 
 -- the end: the trace, and then the summary
 module _ (m : MachineData) (showing : Showing) (tallies : List (List ℕ)) (records : List Record) (is : showing.report ≡ Trace) (same : records ≡ m.state.committed) where
-  pub end-traced : (a b d : Ends) → b ≡ after a (trace_pieces records) → d ≡ after b (summed_up (codes "# ") m showing.watch tallies) →
+  pub end-traced : (a b d : Ends) → b ≡ after a (trace_pieces records) → d ≡ after b (summary_pieces_of (codes "# ") m showing.watch tallies) →
       d ≡ after a (end_now m showing tallies)
   unfolding end_pieces
   end-traced a b d first second =
-      rw is (second ∙ ap (λ e. after e (summed_up (codes "# ") m showing.watch tallies)) (first ∙ ap (λ t. after a (trace_pieces t)) same)
-      ∙ after-append a (trace_pieces m.state.committed) (summed_up (codes "# ") m showing.watch tallies))
+      rw is (second ∙ ap (λ e. after e (summary_pieces_of (codes "# ") m showing.watch tallies)) (first ∙ ap (λ t. after a (trace_pieces t)) same)
+      ∙ after-append a (trace_pieces m.state.committed) (summary_pieces_of (codes "# ") m showing.watch tallies))
 
   pub end-traced_breaks_first : (a b : Ends) → Breaks (trace_pieces records) a b → Breaks (end_now m showing tallies) a b
   unfolding end_pieces
   end-traced_breaks_first a b broken =
-      rw is (Breaks-more (trace_pieces m.state.committed) (summed_up (codes "# ") m showing.watch tallies) a b
+      rw is (Breaks-more (trace_pieces m.state.committed) (summary_pieces_of (codes "# ") m showing.watch tallies) a b
       (subst (λ (t : List Record). Breaks (trace_pieces t) a b) same broken))
 
   pub end-traced_breaks_second : (a b d : Ends) → b ≡ after a (trace_pieces records) →
-      Breaks (summed_up (codes "# ") m showing.watch tallies) b d → Breaks (end_now m showing tallies) a d
+      Breaks (summary_pieces_of (codes "# ") m showing.watch tallies) b d → Breaks (end_now m showing tallies) a d
   unfolding end_pieces
   end-traced_breaks_second a b d first broken =
-      rw is (Breaks-after (trace_pieces m.state.committed) (summed_up (codes "# ") m showing.watch tallies) a d
-      (subst (λ (e : Ends). Breaks (summed_up (codes "# ") m showing.watch tallies) e d)
+      rw is (Breaks-after (trace_pieces m.state.committed) (summary_pieces_of (codes "# ") m showing.watch tallies) a d
+      (subst (λ (e : Ends). Breaks (summary_pieces_of (codes "# ") m showing.watch tallies) e d)
       (first ∙ ap (λ t. after a (trace_pieces t)) same) broken))

@@ -16,8 +16,8 @@ use Rattle.rv_core.specs.Flat.{FlatState, first_cores, flat_start, flat_step, af
 use Rattle.rv_core.specs.Execution.{Executes}
 use Rattle.sn_model.specs.Machine.{State, start_of}
 use Rattle.sn_model.specs.Step.{step_of}
-use Rattle.sn_model.specs.Trace.{TraceEntry, entry_at, with_event, traced, trace_after, of_interval, below}
-use Rattle.consistent_cuts.specs.Headline.{IsRun, reached, retirements}
+use Rattle.sn_model.specs.Trace.{TraceEntry, entry_at, with_event, trace_after_event, trace_after, of_interval, below}
+use Rattle.consistent_cuts.specs.Headline.{IsRun, state_of_run, retirements}
 use Rattle.consistent_cuts.proofs.Run.{reached_consistent}
 use Rattle.sn_text.specs.Items.{most_items}
 use Rattle.sn_text.specs.Trace.{trace_of}
@@ -47,7 +47,7 @@ with_event-few image s (event.Step n) trace = omega (arith, length_push trace (e
 with_event-few image s _ trace = omega arith
 
 traced-few : (image : ImageData) (s : State) (e : Event) (a : Answer) (trace : List TraceEntry) →
-    length (traced image s e a trace) ≤ length trace + 1
+    length (trace_after_event image s e a trace) ≤ length trace + 1
 traced-few image s e Retired trace = with_event-few image s e trace
 traced-few image s e (Recovered undo) trace = omega (arith, filter-few (λ t. nat_lt t.interval undo.to) trace)
 traced-few image s e _ trace = omega arith
@@ -58,7 +58,7 @@ trace_after-few image config s [] trace = omega arith
 trace_after-few image config s (e ∷ events) trace =
     let next = step_of image config s e in
     let one = traced-few image s e next.answer trace in
-    let more = trace_after-few image config next.state events (traced image s e next.answer trace) in
+    let more = trace_after-few image config next.state events (trace_after_event image s e next.answer trace) in
     omega (arith, one, more)
 
 -- none is in two intervals
@@ -100,7 +100,7 @@ module _ (image : ImageData) (config : Config) (events : List Event) (run : IsRu
   pub committed-few : length (committed_by image config events) ≤ length events
   committed-few =
       let trace : List TraceEntry = retirements image config events in
-      let point : ℕ = (reached image config events).fabric.point in
+      let point : ℕ = (state_of_run image config events).fabric.point in
       let made = ap length (reached_consistent image config events run).made ∙ length-map (below trace point) (λ e. e.did) in
       omega (
         arith,

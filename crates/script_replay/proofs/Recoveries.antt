@@ -9,14 +9,14 @@ use Rattle.sn_base.specs.declared.event.Answer.{Answer}
 use Rattle.sn_base.specs.declared.event.Answer.TheVariants as answer
 use Rattle.route_plan.specs.Routes.{first_cut_off}
 use Rattle.sn_model.specs.declared.cache.Need.{Need}
-use Rattle.sn_model.specs.Access.{accessed, misses}
+use Rattle.sn_model.specs.Access.{step_of_access, misses}
 use Rattle.sn_model.specs.Fabric.{Fabric}
 use Rattle.sn_model.specs.Net.{flight_of}
-use Rattle.sn_model.specs.NodeEvents.{edged, reported}
-use Rattle.sn_model.specs.NetEvents.{killed}
-use Rattle.sn_model.specs.PointEvents.{advanced, recovers, living_switches}
+use Rattle.sn_model.specs.NodeEvents.{step_of_edge, step_of_report}
+use Rattle.sn_model.specs.NetEvents.{step_of_kill}
+use Rattle.sn_model.specs.PointEvents.{step_of_advance, recovers, living_switches}
 use Rattle.sn_model.specs.Machine.{State}
-use Rattle.sn_model.specs.Instructions.{Stepped, stepped}
+use Rattle.sn_model.specs.Instructions.{MachineStep, step_of_instruction}
 use Rattle.sn_model.specs.MachineEvents.{validates, unready_node, restores}
 use Rattle.sn_model.specs.Step.{step_of}
 use Rattle.sn_model.proofs.EachStep.{each_step}
@@ -29,7 +29,7 @@ abbrev goes_back : Answer → Bool
 goes_back (answer.Recovered undo) = true
 goes_back _ = false
 
-abbrev GoesOn : Stepped → Type 0
+abbrev GoesOn : MachineStep → Type 0
 GoesOn step = goes_back step.answer ≡ false
 
 never_back : (a : Answer) → is_point_answer a ≡ false → goes_back a ≡ false
@@ -44,24 +44,24 @@ never said undo on is = true≢false (sym (ap goes_back is) ∙ on)
 misses_on : (config : Config) (s : Fabric) (n block : ℕ) (access : Need) → goes_back (misses config s n block access).answer ≡ false
 misses_on config s n block access = grind arith
 
-accessed_on : (config : Config) (s : Fabric) (n block : ℕ) (access : Need) → goes_back (accessed config s n block access).answer ≡ false
+accessed_on : (config : Config) (s : Fabric) (n block : ℕ) (access : Need) → goes_back (step_of_access config s n block access).answer ≡ false
 accessed_on config s n block access = grind (arith, misses_on config s n block access)
 
-stepped_on : (image : ImageData) (config : Config) (s : State) (n : ℕ) → GoesOn (stepped image config s n)
+stepped_on : (image : ImageData) (config : Config) (s : State) (n : ℕ) → GoesOn (step_of_instruction image config s n)
 stepped_on image config s n = each_step image config s n GoesOn refl (accessed_on config s.fabric n) refl refl refl
 
 -- the other events
 
-edged_on : (s : Fabric) (n : ℕ) → goes_back (edged s n).answer ≡ false
+edged_on : (s : Fabric) (n : ℕ) → goes_back (step_of_edge s n).answer ≡ false
 edged_on s n = grind arith
 
-reported_on : (s : Fabric) (n : ℕ) → goes_back (reported s n).answer ≡ false
+reported_on : (s : Fabric) (n : ℕ) → goes_back (step_of_report s n).answer ≡ false
 reported_on s n = grind arith
 
-killed_on : (s : Fabric) (switch : ℕ) → goes_back (killed s switch).answer ≡ false
+killed_on : (s : Fabric) (switch : ℕ) → goes_back (step_of_kill s switch).answer ≡ false
 killed_on s switch = grind arith
 
-advanced_on : (s : Fabric) (k : ℕ) → goes_back (advanced s k).answer ≡ false
+advanced_on : (s : Fabric) (k : ℕ) → goes_back (step_of_advance s k).answer ≡ false
 advanced_on s k = grind arith
 
 validates_on : (s : State) (node : Option ℕ) → GoesOn (validates s node)

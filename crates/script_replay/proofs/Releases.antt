@@ -6,7 +6,7 @@ use Rattle.sn_base.specs.declared.event.Event.{Event}
 use Rattle.sn_base.specs.declared.event.Answer.{Answer}
 use Rattle.sn_base.specs.declared.event.Answer.TheVariants.{Validated}
 use Rattle.sn_model.specs.Machine.{State}
-use Rattle.sn_model.specs.Instructions.{Stepped}
+use Rattle.sn_model.specs.Instructions.{MachineStep}
 use Rattle.consistent_cuts.specs.Headline.{IsStepOfRun}
 
 abbrev is_validation : Answer → Bool
@@ -17,7 +17,7 @@ validation-is : (a : Answer) → is_validation a ≡ true → (k : ℕ) × (a �
 validation-is (Validated k) e = (k, refl)
 validation-is _ e = absurd cc
 
-pub released-grows : (image : ImageData) (config : Config) (s : State) (event : Event) (next : Stepped) →
+pub released-grows : (image : ImageData) (config : Config) (s : State) (event : Event) (next : MachineStep) →
     IsStepOfRun image config s event next → (fresh : List ℕ) × (next.state.released ≡ s.released ++ fresh)
 released-grows image config s event next says = by_answer (is_validation next.answer) refl
   where

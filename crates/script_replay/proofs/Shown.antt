@@ -10,13 +10,13 @@ use Rattle.sn_base.specs.declared.event.Event.{Event}
 use Rattle.rv_core.specs.declared.step.Record.{Record}
 use Rattle.sn_model.specs.Machine.{State, start_of}
 use Rattle.sn_model.specs.Step.{step_of, state_after}
-use Rattle.sn_model.specs.Trace.{TraceEntry, traced}
+use Rattle.sn_model.specs.Trace.{TraceEntry, trace_after_event}
 use Rattle.sn_io.specs.Outside.{followed_by}
 use Rattle.sn_text.specs.Text.{trace_line}
 use Rattle.sn_text.specs.Items.{most_items}
 use Rattle.sn_text.specs.Written.{HasValues, trace_text}
-use Rattle.consistent_cuts.specs.Headline.{IsRun, IsStepOfRun, reached}
-use Rattle.consistent_cuts.specs.Joined.{Holds}
+use Rattle.consistent_cuts.specs.Headline.{IsRun, IsStepOfRun, state_of_run}
+use Rattle.consistent_cuts.specs.RunInvariant.{Holds}
 use Rattle.consistent_cuts.specs.Runs.{AllFit}
 use Rattle.consistent_cuts.proofs.Run.{step_holds, holds_next, start_holds, reached_consistent}
 use Rattle.sink_pieces.specs.Pieces.{Piece, console_text, report_text, Ends, after, Breaks, HasBeginning, console_piece}
@@ -87,7 +87,7 @@ unfolding turns_from
 released-turns image config showing done s trace [] fit holds = sym (append-nil s.released)
 released-turns image config showing done s trace (event ∷ events) fit holds =
     let next : State = (step_of image config s event).state in
-    released-turns image config showing (done + 1) next (traced image s event (step_of image config s event).answer trace) events fit.1
+    released-turns image config showing (done + 1) next (trace_after_event image s event (step_of image config s event).answer trace) events fit.1
     (step_holds image config config.nodes s trace event holds fit.0)
     ∙ ap (λ t. t ++ console_text (turns_from image config showing (done + 1) next events))
     (released-turn image config showing (done + 1) s event (holds_next image config s trace event holds fit.0))
@@ -218,9 +218,9 @@ module _ (image : ImageData) (config : Config) (showing : Showing) (tallies : Li
         written = report-after before behind (pieces_of image config showing tallies events) put
             ∙ ap (followed_by before.report) (report_text-from image config showing tallies 0 (start_of image config.nodes) events is
             ∙ ap (λ n. trace_text (committed_by image config events)
-            ++ report_text (summary_pieces (codes "# ") image config showing.watch tallies n (reached image config events))) same);
+            ++ report_text (summary_pieces (codes "# ") image config showing.watch tallies n (state_of_run image config events))) same);
         read =
-            trace-read image config events run few values showing.watch tallies (length events) (reached image config events);
+            trace-read image config events run few values showing.watch tallies (length events) (state_of_run image config events);
       }
 
   pub shown-all : length events ≤ most_items → (showing.report ≡ Trace → All HasValues (committed_by image config events)) →

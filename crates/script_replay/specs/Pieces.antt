@@ -10,7 +10,7 @@ use Rattle.rv_core.specs.declared.step.Record.{Record}
 use Rattle.rv_core.specs.Flat.{FlatState, core_at, word_at}
 use Rattle.rv_core.specs.Execution.{end_of}
 use Rattle.sn_model.specs.Machine.{State, start_of}
-use Rattle.sn_model.specs.Instructions.{Stepped}
+use Rattle.sn_model.specs.Instructions.{MachineStep}
 use Rattle.sn_model.specs.Step.{step_of}
 use Rattle.sn_text.specs.Text.{event_line, sent_lines, core_line, count_line, watch_line, probe_line, trace_line}
 use Rattle.sink_pieces.specs.Pieces.{Piece, Report, console_piece}
@@ -42,7 +42,7 @@ recovered_lines image config watch (Recovered undo) s = cut_lines (codes "  ") (
 recovered_lines image config watch _ s = []
 
 -- the group of an event: its line, the messages that it sent, and after a recovery the lines of the cut
-unfoldable pub group_of : ImageData → Config → Option ℕ → ℕ → Event → Stepped → List ℕ
+unfoldable pub group_of : ImageData → Config → Option ℕ → ℕ → Event → MachineStep → List ℕ
 group_of image config watch place event step =
     event_line place event step.answer ++ sent_lines step.sent ++ recovered_lines image config watch step.answer step.state
 

@@ -18,7 +18,8 @@ use Rattle.sn_probe.specs.Probes.{Meter, told_of, told_from, tallies_of}
 use Rattle.script_replay.specs.declared.job.Showing.{Showing}
 use Rattle.script_replay.specs.declared.job.Replay.{Replay}
 use Rattle.script_replay.specs.Pieces.{group_of, summary_of, summary_pieces, end_pieces, turn_pieces, turns_from, pieces_from}
-use Rattle.script_replay.specs.Probed.{answered}
+use Rattle.script_replay.specs.Probed.{answers_along}
+use Rattle.sn_base.specs.declared.limits.TheConstants.{EVENTS}
 
 -- the machine after an event
 abbrev pub after_event : MachineData → Event → MachineData
@@ -42,8 +43,8 @@ IsAlone answer sent = (undo : Undo) → answer ≡ Recovered undo → sent ≡ [
 abbrev pub summary_now : List ℕ → MachineData → Option ℕ → List ℕ
 summary_now before m watch = summary_of before m.image m.config watch m.applied m.state
 
-abbrev pub summed_up : List ℕ → MachineData → Option ℕ → List (List ℕ) → List Piece
-summed_up before m watch tallies = summary_pieces before m.image m.config watch tallies m.applied m.state
+abbrev pub summary_pieces_of : List ℕ → MachineData → Option ℕ → List (List ℕ) → List Piece
+summary_pieces_of before m watch tallies = summary_pieces before m.image m.config watch tallies m.applied m.state
 
 -- the pieces of its end, of its next event, and of all events that are left
 abbrev pub end_now : MachineData → Showing → List (List ℕ) → List Piece
@@ -60,7 +61,7 @@ abbrev pub told_next : MachineData → Event → List Meter → List Meter
 told_next m event probes = map (told_of (m.applied + 1) event (next_of m event).answer) probes
 
 abbrev pub told_left : MachineData → List Event → List Meter → List Meter
-told_left m events probes = map (told_from (m.applied + 1) (answered m.image m.config m.state events)) probes
+told_left m events probes = map (told_from (m.applied + 1) (answers_along m.image m.config m.state events)) probes
 
 -- the pieces of the events that are left, without the end
 abbrev pub turns_left : MachineData → Showing → List Event → List Piece
@@ -101,7 +102,7 @@ IsWatchable watch = IfSome watch IsWord
 -- a replay that may begin: its sizes and events fit, of which there are at most a million, and it watches a word of memory
 pub record MayBegin (r : Replay) : Type 0 where
   pub run : IsRun r.config r.script
-  pub few : length r.script ≤ 1000000
+  pub few : length r.script ≤ EVENTS
   pub watched : IsWatchable r.showing.watch
 
 -- a machine of these sizes at the start of a program, with room for so many events

@@ -6,7 +6,7 @@ use Rattle.sn_base.specs.declared.config.Config.{Config}
 use Rattle.sn_base.specs.declared.event.Event.{Event}
 use Rattle.rv_core.specs.declared.step.Record.{Record}
 use Rattle.rv_core.specs.Execution.{IsExecution, out_of}
-use Rattle.consistent_cuts.specs.Headline.{IsConsistent, reached, retirements}
+use Rattle.consistent_cuts.specs.Headline.{IsConsistent, state_of_run, retirements}
 use Rattle.sn_io.specs.Outside.{followed_by}
 use Rattle.sn_text.specs.Trace.{trace_of}
 use Rattle.sn_text.specs.Written.{trace_text}
@@ -20,7 +20,7 @@ use Rattle.script_replay.specs.Probed.{told_of_run, told_all, tallies_due}
 
 -- the committed trace after all events, and its output
 abbrev pub committed_by : ImageData → Config → List Event → List Record
-committed_by image config events = (reached image config events).committed
+committed_by image config events = (state_of_run image config events).committed
 
 abbrev pub output_of : ImageData → Config → List Event → List ℕ
 output_of image config events = out_of image config.nodes (committed_by image config events)
@@ -29,7 +29,7 @@ output_of image config events = out_of image config.nodes (committed_by image co
 -- the recovery point a cut of it
 abbrev pub IsLawful : ImageData → Config → List Event → Type 0
 IsLawful image config events =
-    (i : ℕ) → IsConsistent image config.nodes (reached image config (take i events)) (retirements image config (take i events))
+    (i : ℕ) → IsConsistent image config.nodes (state_of_run image config (take i events)) (retirements image config (take i events))
 
 -- what is put once these events, the first of a replay's, are applied
 pub record IsMoment (image : ImageData) (config : Config) (showing : Showing) (tallies : List (List ℕ)) (first all : List Event) : Type 0 where
@@ -46,7 +46,7 @@ IsInStep image config showing tallies events = (i : ℕ) → IsMoment image conf
 -- the committed trace, and then the summary, marked as comments
 abbrev pub written_trace : ImageData → Config → Option ℕ → List (List ℕ) → List Event → List ℕ
 written_trace image config watch tallies events = trace_text (committed_by image config events)
-    ++ report_text (summary_pieces (codes "# ") image config watch tallies (length events) (reached image config events))
+    ++ report_text (summary_pieces (codes "# ") image config watch tallies (length events) (state_of_run image config events))
 
 -- the report is this text, which is read as the records of an execution of the program
 pub record IsTrace (image : ImageData) (config : Config) (watch : Option ℕ) (tallies : List (List ℕ)) (events : List Event) (before behind : Option (List ℕ)) : Type 0 where

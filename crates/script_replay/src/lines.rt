@@ -4,6 +4,7 @@ ghost use Rattle.sn_machine.specs.Machine.{flat_of};
 ghost use Rattle.sn_probe.specs.Probes.{meters_in};
 ghost use Rattle.script_replay.specs.Pieces.{core_lines, watch_lines, cut_lines, summary_of, tally_lines};
 ghost use Rattle.script_replay.specs.Played.{group_now, IsAlone, IsWatchable};
+ghost use Rattle.sn_text.specs.declared.line.TheConstants.{LINE_ROOM};
 
 use sn_base::{Answer, Event, NodeId};
 use sn_machine::Machine;
@@ -15,7 +16,7 @@ const PLACES: usize = 16;
 
 // The lines of all cores at the recovery point.
 fn write_cores(line: &mut Line, before: &str, machine: &Machine)
-    requires room { length line.old + 7808 ≤ 8192 }
+    requires room { length line.old + 7808 ≤ LINE_ROOM }
     requires before_short { length before.now ≤ 2 }
     ensures text { line.new ≡ line.old ++ core_lines before.now (flat_of machine.now) machine.now.config.nodes }
     ensures short { length line.new ≤ length line.old + 7808 }
@@ -29,7 +30,7 @@ fn write_cores(line: &mut Line, before: &str, machine: &Machine)
 
 // The line of the watched word at the recovery point, where one is watched.
 fn write_watch(line: &mut Line, before: &str, machine: &Machine, watch: Option<u32>)
-    requires room { length line.old + 32 ≤ 8192 }
+    requires room { length line.old + 32 ≤ LINE_ROOM }
     requires before_short { length before.now ≤ 2 }
     requires watched { IsWatchable watch }
     ensures { line.new ≡ line.old ++ watch_lines before.now (flat_of machine.now) watch }
@@ -42,7 +43,7 @@ fn write_watch(line: &mut Line, before: &str, machine: &Machine, watch: Option<u
 
 // The lines of both.
 fn write_cut(line: &mut Line, before: &str, machine: &Machine, watch: Option<u32>)
-    requires room { length line.old + 7840 ≤ 8192 }
+    requires room { length line.old + 7840 ≤ LINE_ROOM }
     requires before_short { length before.now ≤ 2 }
     requires watched { IsWatchable watch }
     ensures { line.new ≡ line.old ++ cut_lines before.now (flat_of machine.now) machine.now.config.nodes watch }

@@ -7,7 +7,7 @@ ghost use Rattle.sn_machine.specs.Machine.{next_of};
 ghost use Rattle.sn_text.specs.Written.{HasValues};
 ghost use Rattle.sn_probe.specs.Probes.{meters_in, tallies_of};
 ghost use Rattle.script_replay.specs.Pieces.{group_pieces, trace_pieces, tally_pieces, summary_pieces};
-ghost use Rattle.script_replay.specs.Played.{after_event, group_now, summed_up, end_now, turn_now, told_next};
+ghost use Rattle.script_replay.specs.Played.{after_event, group_now, summary_pieces_of, end_now, turn_now, told_next};
 ghost use Rattle.script_replay.specs.Played.{IsAlone, IsWatchable, IsAtStart, MayBegin};
 ghost use Rattle.script_replay.specs.Probed.{told_all};
 ghost use Rattle.script_replay.specs.Scheduled.{left_on, replay_of};
@@ -145,9 +145,9 @@ pub fn put_summary<R: Sink>(
     requires before_short { length before.now ≤ 2 }
     requires watched { IsWatchable watch }
     ensures ok { OnOk result ((c : Option (List ℕ)) → ends c (R.written report.new) ≡ after (ends c (R.written report.old))
-        (summed_up before.now machine.now watch (tallies_of (meters_in first tally step probes.now.probes.items)))) }
+        (summary_pieces_of before.now machine.now watch (tallies_of (meters_in first tally step probes.now.probes.items)))) }
     ensures err { OnErr result ((c : Option (List ℕ)) →
-        Breaks (summed_up before.now machine.now watch (tallies_of (meters_in first tally step probes.now.probes.items)))
+        Breaks (summary_pieces_of before.now machine.now watch (tallies_of (meters_in first tally step probes.now.probes.items)))
         (ends c (R.written report.old)) (ends c (R.written report.new))) }
     ensures later { R.faults report.old ≤ R.faults report.new }
     ensures cause { OnErr result (Rose (R.faults report.old) (R.faults report.new)) }

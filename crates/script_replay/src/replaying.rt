@@ -8,6 +8,7 @@ ghost use Rattle.script_replay.specs.Played.{MayBegin, IsAtStart};
 ghost use Rattle.script_replay.specs.Probed.{told_all};
 ghost use Rattle.script_replay.specs.Scheduled.{left_on, replay_of};
 ghost use Rattle.script_replay.specs.Shown.{IsReplayed, IsBrokenOff, KnowApplied};
+ghost use Rattle.sn_base.specs.declared.limits.TheConstants.{EVENTS};
 
 use crate::job::{Replay, Showing};
 use crate::play::play;
@@ -30,7 +31,7 @@ pub enum ReplayFault {
 // A machine of these sizes at the start of the program, with room for so many events.
 fn machine_for(alloc: Global, program: Image, config: Config, events: u32) -> Option<Machine>
     requires sizes { config_fits config ≡ true }
-    requires few { events ≤ 1000000 }
+    requires few { events ≤ EVENTS }
     ensures { IfSome result (λ m. IsAtStart m program config events) }
 {
     let Ok(mut machine) = Machine::new(alloc, program, config) else {

@@ -19,7 +19,7 @@ use Rattle.run_journals.proofs.Folds.{events_of-snoc, state_of-snoc, answers_of-
 use Rattle.run_journals.proofs.Dues.{IsDue-snoc}
 use Rattle.run_journals.proofs.Released.{released-grows}
 use Rattle.shared_machine.specs.Shared.{LockedData, began_with, Did}
-use Rattle.shared_machine.specs.Kept.{FollowsJournal, HasRoomForRest}
+use Rattle.shared_machine.specs.Invariant.{FollowsJournal, HasRoomForRest}
 use Rattle.shared_machine.proofs.Fits.{due-fits, all_fit-push}
 
 -- the locked value after a turn that left this machine and this driver

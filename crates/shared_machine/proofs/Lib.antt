@@ -1,6 +1,6 @@
 pub mod Refusals
 pub mod Goes
 pub mod Draws
-pub mod Drawings
+pub mod Pickers
 pub mod Starts
 pub mod Fits

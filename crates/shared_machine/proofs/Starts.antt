@@ -5,11 +5,11 @@ use Rattle.sn_base.specs.declared.event.Answer.{Answer}
 use Rattle.due_events.specs.Numbers.{Numbers}
 use Rattle.run_journals.specs.declared.entry.JournalEntry.{JournalEntry}
 use Rattle.run_journals.specs.Journal.{IsDue, state_of, answers_of, numbers_of, draws_of}
-use Rattle.shared_machine.specs.declared.drawing.Drawing.{Drawing}
+use Rattle.shared_machine.specs.declared.picker.Picker.{Picker}
 use Rattle.shared_machine.specs.Shared.{SharedData, LockedData, locked}
-use Rattle.shared_machine.specs.Kept.{FollowsJournal, HasRoomForRest, CanBegin}
+use Rattle.shared_machine.specs.Invariant.{FollowsJournal, HasRoomForRest, CanBegin}
 
-module _ (s : SharedData) (drawings : List Drawing) (free : ℕ) (ready : CanBegin s drawings) where
+module _ (s : SharedData) (pickers : List Picker) (free : ℕ) (ready : CanBegin s pickers) where
   pub kept-first : FollowsJournal (locked free s)
   unfolding IsDue state_of answers_of numbers_of draws_of
   kept-first = record {

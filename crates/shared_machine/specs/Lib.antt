@@ -1,3 +1,3 @@
-pub mod Drawn
+pub mod Pickers
 pub mod Shared
-pub mod Kept
+pub mod Invariant

@@ -6,9 +6,9 @@
 //! workers; nothing here waits, and no turn takes memory.
 #![tactic(auto)]
 
-mod drawing;
 mod finish;
 mod locked;
+mod picker;
 mod run_name;
 mod shared;
 #[cfg(test)]

@@ -1,14 +1,14 @@
 //! The value behind the lock.
 ghost use Rattle.std.specs.Prelude.{◌≡◌, ◌+◌, ◌<◌, ◌≤◌, true, false, nat_le, Some, None, [], ◌∷◌, ◌++◌, IfOk, IfErr, MatchResult, length};
 ghost use Rattle.std.specs.Prelude.{vec_len, vec_capacity};
-ghost use Rattle.sn_console.specs.Ends.{passed, free_places, SameOutbox};
+ghost use Rattle.sn_console.specs.Ends.{bytes_passed, free_places, SameOutbox};
 ghost use Rattle.sn_console.specs.Handed.{IsFirstOf};
 ghost use Rattle.run_journals.specs.Journal.{entry_of};
 ghost use Rattle.shared_machine.specs.Shared.{began_with, finish_of, IsTurn, Passes, refusal_of, Did};
-ghost use Rattle.shared_machine.specs.Kept.{FollowsJournal};
+ghost use Rattle.shared_machine.specs.Invariant.{FollowsJournal};
 
-use crate::drawing::{Drawing, draw, pick_of};
 use crate::finish::Finish;
+use crate::picker::{Picker, draw, pick_of};
 use crate::run_name::RunName;
 use run_journals::JournalEntry;
 use sn_base::{Answer, Event};
@@ -24,7 +24,7 @@ use std::sync::ledger::{Book, Share};
 pub struct Locked<L: RunName> {
     pub(crate) machine: Machine,
     pub(crate) driver: Driver,
-    pub(crate) drawings: Vec<Drawing>,
+    pub(crate) pickers: Vec<Picker>,
     pub(crate) journal: Vec<JournalEntry>,
     pub(crate) answers: Vec<Answer>,
     pub(crate) seed: u64,
@@ -36,10 +36,10 @@ pub struct Locked<L: RunName> {
 
 impl<L: RunName> Model for Locked<L> {
     ghost use Rattle.std.specs.Prelude.{◌≡◌, ◌≤◌, length, vec_capacity};
-    ghost use Rattle.sn_console.specs.Ends.{passed, free_places};
+    ghost use Rattle.sn_console.specs.Ends.{bytes_passed, free_places};
     ghost use Rattle.shared_machine.specs.Shared.{LockedData, began_with};
-    ghost use Rattle.shared_machine.specs.Kept.{FollowsJournal, HasRoomForRest};
-    ghost use Rattle.shared_machine.specs.Drawn.{AreDrawn};
+    ghost use Rattle.shared_machine.specs.Invariant.{FollowsJournal, HasRoomForRest};
+    ghost use Rattle.shared_machine.specs.Pickers.{AreDrawn};
 
     ghost Value = { LockedData };
 
@@ -50,7 +50,7 @@ impl<L: RunName> Model for Locked<L> {
       budget = l.budget;
       journal = l.journal.items;
       answers = l.answers.items;
-      passed = passed l.outbox;
+      passed = bytes_passed l.outbox;
       free = free_places l.outbox;
       stopped = l.stopped;
     } };
@@ -63,13 +63,13 @@ impl<L: RunName> Model for Locked<L> {
           budget = l.budget;
           journal = l.journal.items;
           answers = l.answers.items;
-          passed = passed l.outbox;
+          passed = bytes_passed l.outbox;
           free = free_places l.outbox;
           stopped = l.stopped;
         } in
         FollowsJournal s × HasRoomForRest s × (l.budget ≤ vec_capacity l.journal) × (l.budget ≤ vec_capacity l.answers)
         × (length l.answers.items ≡ length l.journal.items)
-        × AreDrawn l.seed l.journal.items l.drawings.items × (length l.drawings.items ≡ l.machine.config.nodes)
+        × AreDrawn l.seed l.journal.items l.pickers.items × (length l.pickers.items ≡ l.machine.config.nodes)
         × (began_with s ≡ L.began) × (length l.journal.items ≡ l.book.total) × L.of_ring l.outbox };
 }
 
@@ -139,11 +139,11 @@ fn note(
 
 /// Passes on what is released, where something was validated.
 fn pass(outbox: &mut Outbox, machine: &Machine, answer: &Answer)
-    requires { IsFirstOf (passed outbox.old) machine.now.state.released }
+    requires { IsFirstOf (bytes_passed outbox.old) machine.now.state.released }
     ensures end { SameOutbox outbox.old outbox.new }
-    ensures passes { Passes answer.now machine.now.state.released (passed outbox.old) (free_places outbox.old) (passed outbox.new)
+    ensures passes { Passes answer.now machine.now.state.released (bytes_passed outbox.old) (free_places outbox.old) (bytes_passed outbox.new)
         (free_places outbox.new) }
-    ensures first { IsFirstOf (passed outbox.new) machine.now.state.released }
+    ensures first { IsFirstOf (bytes_passed outbox.new) machine.now.state.released }
 {
     if let Answer::Validated(_) = answer {
         outbox.offer(machine.recovered().released());
@@ -167,7 +167,7 @@ impl<L: RunName> Locked<L> {
         let Locked {
             machine,
             driver,
-            drawings,
+            pickers,
             journal,
             answers,
             seed: _,
@@ -177,9 +177,9 @@ impl<L: RunName> Locked<L> {
             outbox,
         } = self;
         let spent = is_spent(journal, *budget);
-        let pick = pick_of(drawings, worker);
+        let pick = pick_of(pickers, worker);
         let (event, answer) = drive(machine, driver, worker, pick, spent)?;
-        draw(drawings, worker);
+        draw(pickers, worker);
         note(journal, answers, worker, &event, &answer);
         book.add(share, 1);
         pass(outbox, machine, &answer);
@@ -223,7 +223,7 @@ impl<L: RunName> Locked<L> {
     /// What the run leaves, once no worker has it any more.
     pub fn end(self) -> Ended
         ensures same { (result.machine ≡ self.machine) × (result.journal.items ≡ self.journal) × (result.answers.items ≡ self.answers)
-            × (passed result.outbox ≡ self.passed) }
+            × (bytes_passed result.outbox ≡ self.passed) }
         ensures kept { FollowsJournal self }
         ensures began { began_with self ≡ L.began }
         ensures ring { L.of_ring result.outbox }
@@ -231,7 +231,7 @@ impl<L: RunName> Locked<L> {
         let Locked {
             machine,
             driver: _,
-            drawings: _,
+            pickers: _,
             journal,
             answers,
             seed: _,

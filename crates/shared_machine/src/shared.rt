@@ -2,12 +2,13 @@
 ghost use Rattle.std.specs.Prelude.{◌≡◌, ◌+◌, ◌≤◌, [], max, vec_len, vec_capacity, IfOk, OnOk};
 ghost use Rattle.sn_model.specs.Machine.{start_of};
 ghost use Rattle.due_events.specs.Numbers.{first_numbers};
-ghost use Rattle.sn_console.specs.Ends.{passed, free_places};
-ghost use Rattle.shared_machine.specs.Drawn.{AreDrawn};
+ghost use Rattle.sn_console.specs.Ends.{bytes_passed, free_places};
+ghost use Rattle.shared_machine.specs.Pickers.{AreDrawn};
 ghost use Rattle.shared_machine.specs.Shared.{begins_with, locked};
+ghost use Rattle.sn_base.specs.declared.limits.TheConstants.{EVENTS};
 
-use crate::drawing::Drawing;
 use crate::locked::Locked;
+use crate::picker::Picker;
 use crate::run_name::RunName;
 use run_journals::JournalEntry;
 use sn_base::{Answer, Memory};
@@ -24,7 +25,7 @@ use std::sync::ledger::Book;
 pub struct SharedMachine {
     machine: Machine,
     driver: Driver,
-    drawings: Vec<Drawing>,
+    pickers: Vec<Picker>,
     journal: Vec<JournalEntry>,
     answers: Vec<Answer>,
     seed: u64,
@@ -34,32 +35,32 @@ pub struct SharedMachine {
 impl Model for SharedMachine {
     ghost use Rattle.std.specs.Prelude.{◌≡◌, ◌≤◌, [], vec_capacity};
     ghost use Rattle.shared_machine.specs.Shared.{SharedData};
-    ghost use Rattle.shared_machine.specs.Kept.{CanBegin};
+    ghost use Rattle.shared_machine.specs.Invariant.{CanBegin};
 
     ghost Value = { SharedData };
 
     ghost view = { λ s. record { machine = s.machine; driver = s.driver; seed = s.seed; budget = s.budget } };
 
     ghost invariant = { λ s.
-        CanBegin (record { machine = s.machine; driver = s.driver; seed = s.seed; budget = s.budget }) s.drawings.items
+        CanBegin (record { machine = s.machine; driver = s.driver; seed = s.seed; budget = s.budget }) s.pickers.items
         × (s.journal.items ≡ []) × (s.answers.items ≡ []) × (s.budget ≤ vec_capacity s.journal) × (s.budget ≤ vec_capacity s.answers) };
 }
 
 /// The workers' generators at the start.
-fn drawings(alloc: Global, seed: u64, workers: u8) -> Result<Vec<Drawing>, Memory>
+fn pickers(alloc: Global, seed: u64, workers: u8) -> Result<Vec<Picker>, Memory>
     ensures { IfOk result (λ v. AreDrawn seed [] v.items × (vec_len v ≡ workers)) }
 {
-    let mut drawings = Vec::with_capacity(alloc, usize::from(workers))?;
+    let mut pickers = Vec::with_capacity(alloc, usize::from(workers))?;
     'workers: for worker in 0..workers {
-        drawings.push(Drawing::new(seed, u32::from(worker)))?;
+        pickers.push(Picker::new(seed, u32::from(worker)))?;
     }
-    Ok(drawings)
+    Ok(pickers)
 }
 
 /// What a run fills: the workers' generators, and a journal and its answers without a turn.
 #[derive(Drop)]
 struct Room {
-    drawings: Vec<Drawing>,
+    pickers: Vec<Picker>,
     journal: Vec<JournalEntry>,
     answers: Vec<Answer>,
 }
@@ -67,20 +68,20 @@ struct Room {
 /// All memory of a run of so many events.
 fn room_for(alloc: Global, machine: &mut Machine, budget: u32, seed: u64) -> Result<Room, Memory>
     requires fresh { machine.old.applied ≡ 0 }
-    requires budget { budget ≤ 1000000 }
+    requires budget { budget ≤ EVENTS }
     ensures machine { OnOk result (machine.new ≡ record machine.old { spare = max machine.old.spare (budget + 1) }) }
-    ensures drawings { IfOk result
-        (λ room. AreDrawn seed [] room.drawings.items × (vec_len room.drawings ≡ machine.old.config.nodes)) }
+    ensures pickers { IfOk result
+        (λ room. AreDrawn seed [] room.pickers.items × (vec_len room.pickers ≡ machine.old.config.nodes)) }
     ensures journal { IfOk result (λ room. (room.journal.items ≡ []) × (budget ≤ vec_capacity room.journal)) }
     ensures answers { IfOk result (λ room. (room.answers.items ≡ []) × (budget ≤ vec_capacity room.answers)) }
 {
     // One event more than the run does, so that a driver may always be asked for one.
     machine.reserve(budget + 1)?;
-    let drawings = drawings(alloc, seed, machine.config().nodes)?;
+    let pickers = pickers(alloc, seed, machine.config().nodes)?;
     let journal = Vec::with_capacity(alloc, budget as usize)?;
     let answers = Vec::with_capacity(alloc, budget as usize)?;
     Ok(Room {
-        drawings,
+        pickers,
         journal,
         answers,
     })
@@ -98,7 +99,7 @@ impl SharedMachine {
         requires fresh { (machine.applied ≡ 0) × (machine.state ≡ start_of machine.image machine.config.nodes) }
         requires nodes { driver.nodes ≡ machine.config.nodes }
         requires first { driver.numbers ≡ first_numbers }
-        requires budget { budget ≤ 1000000 }
+        requires budget { budget ≤ EVENTS }
         ensures { IfOk result (λ s. s ≡ record {
           machine = record machine { spare = max machine.spare (budget + 1) };
           driver = driver;
@@ -111,14 +112,14 @@ impl SharedMachine {
             return Err(Memory);
         };
         let Room {
-            drawings,
+            pickers,
             journal,
             answers,
         } = room;
         Ok(SharedMachine {
             machine,
             driver,
-            drawings,
+            pickers,
             journal,
             answers,
             seed,
@@ -139,13 +140,13 @@ impl SharedMachine {
         requires began { begins_with self ≡ L.began }
         requires total { book.total ≡ 0 }
         requires ring { L.of_ring outbox }
-        requires passed { passed outbox ≡ [] }
+        requires passed { bytes_passed outbox ≡ [] }
         ensures { result ≡ locked (free_places outbox) self }
     {
         let SharedMachine {
             machine,
             driver,
-            drawings,
+            pickers,
             journal,
             answers,
             seed,
@@ -154,7 +155,7 @@ impl SharedMachine {
         Locked {
             machine,
             driver,
-            drawings,
+            pickers,
             journal,
             answers,
             seed,

@@ -1,6 +1,6 @@
 //! Turns under the lock's rules, with the events that the reference simulator finds due for these seeds.
 ghost use Rattle.std.specs.Prelude.{◌≡◌, ◌<◌, [], IfOk};
-ghost use Rattle.sn_console.specs.Ends.{passed};
+ghost use Rattle.sn_console.specs.Ends.{bytes_passed};
 ghost use Rattle.shared_machine.specs.Shared.{begins_with};
 
 use crate::{Finish, RunName, SharedMachine};
@@ -61,7 +61,7 @@ fn turns<L: RunName>(
     requires began { begins_with shared ≡ L.began }
     requires nodes { 0 < L.began.config.nodes }
     requires ring { L.of_ring outbox }
-    requires passed { passed outbox ≡ [] }
+    requires passed { bytes_passed outbox ≡ [] }
 {
     let (events, finish) = expected;
     let (book, mut all) = blank.open::<L>();

@@ -59,8 +59,8 @@ bytes_from zero segments address = []
 bytes_from (suc n) segments address = byte_at segments address ∷ bytes_from n segments (address + 1)
 
 -- the instruction word at an address, where its four bytes may be executed
-abbrev pub fetched : List SegmentData → ℕ → Option ℕ
-fetched segments address = if all_executable 4 segments address then Some (little_number 4 (bytes_from 4 segments address)) else None
+abbrev pub word_fetched : List SegmentData → ℕ → Option ℕ
+word_fetched segments address = if all_executable 4 segments address then Some (little_number 4 (bytes_from 4 segments address)) else None
 
 -- whether two segments share a byte
 abbrev pub overlaps : SegmentData → SegmentData → Bool

@@ -1,7 +1,7 @@
 //! Programs, as segments of memory.
 ghost use Rattle.std.specs.Prelude.{◌≡◌, ℕ, ◌+◌, ◌<◌, ◌≤◌, ◌/◌, List, ◌∷◌, length, Bool, true, false, ◌&&◌, nat_le, nat_lt, Some, IfSome};
 ghost use Rattle.sn_base.specs.Blocks.{bytes_of};
-ghost use Rattle.sn_base.specs.Image.{SegmentData, ImageData, IsImage, covers, byte_at, is_executable, is_writable, all_writable, fetched};
+ghost use Rattle.sn_base.specs.Image.{SegmentData, ImageData, IsImage, covers, byte_at, is_executable, is_writable, all_writable, word_fetched};
 
 use crate::block::Width;
 use crate::limits::{RAM_END, RAM_START};
@@ -36,7 +36,7 @@ impl Segment {
 
     /// Whether one of the four addresses from this one on is the segment's.
     fn reaches(&self, pc: u32) -> bool
-        ensures { result ≡ false → (rest : List SegmentData) → fetched (self.now ∷ rest) pc ≡ fetched rest pc }
+        ensures { result ≡ false → (rest : List SegmentData) → word_fetched (self.now ∷ rest) pc ≡ word_fetched rest pc }
     {
         let start = u64::from(self.start);
         start < u64::from(pc) + 4 && u64::from(pc) < start + u64::from(self.size)
@@ -45,7 +45,7 @@ impl Segment {
     /// The word at an address, where it may be executed and the segment gives its four bytes.
     fn given_word(&self, pc: u32) -> Option<u32>
         requires { length self.now.bytes ≤ self.now.size }
-        ensures { IfSome result (λ word. (rest : List SegmentData) → fetched (self.now ∷ rest) pc ≡ Some word) }
+        ensures { IfSome result (λ word. (rest : List SegmentData) → word_fetched (self.now ∷ rest) pc ≡ Some word) }
     {
         if !self.exec || pc < self.start {
             return None;
@@ -135,7 +135,7 @@ impl Image {
 
     /// The instruction word at an address. None where its four bytes aren't all executable.
     pub fn fetch(&self, pc: u32) -> Option<u32>
-        ensures { result ≡ fetched self.now.segments pc }
+        ensures { result ≡ word_fetched self.now.segments pc }
     {
         'segments: for segment in self.segments.iter() {
             if let Some(word) = segment.given_word(pc) {
@@ -150,7 +150,7 @@ impl Image {
 
     /// The same byte by byte: the four may be of several segments, or past the bytes that one gives.
     fn fetch_by_bytes(&self, pc: u32) -> Option<u32>
-        ensures { result ≡ fetched self.now.segments pc }
+        ensures { result ≡ word_fetched self.now.segments pc }
     {
         let _ = &self.segments;
         if pc > u32::MAX - 3 {

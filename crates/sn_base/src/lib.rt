@@ -15,6 +15,7 @@ mod limits;
 mod log;
 mod memory;
 mod node;
+mod report;
 mod rules;
 mod switch;
 #[cfg(test)]
@@ -24,10 +25,11 @@ pub use block::{Block, BlockNo, Width, Write};
 pub use config::Config;
 pub use event::{Answer, Event, Undo};
 pub use image::{Image, Segment};
-pub use limits::{BLOCK_SIZE, BLOCKS, MESSAGES, RAM_END, RAM_SIZE, RAM_START};
+pub use limits::{BLOCK_SIZE, BLOCKS, CHECKPOINTS, EVENTS, MESSAGES, RAM_END, RAM_SIZE, RAM_START};
 pub use log::{Entries, LogEntry, Old};
 pub use memory::Memory;
 pub use node::{NodeId, NodeSet};
+pub use report::RunReport;
 pub use rules::Rules;
 pub use switch::SwitchId;
 

@@ -17,3 +17,10 @@ pub const BLOCKS: usize = 65_536;
 
 /// How many messages may be in flight.
 pub const MESSAGES: usize = 1_024;
+
+/// How many checkpoints a node may have above the recovery point that it knows.
+pub const CHECKPOINTS: u32 = 4;
+
+/// How many events a script, a run and a recovery's control file may have, and how many records a trace; no option counts
+/// more events or instructions.
+pub const EVENTS: u64 = 1_000_000;

@@ -12,11 +12,11 @@ use Rattle.sn_coherence.specs.HomeRows.{put_is_stale, put_data, grant_exclusive}
 use Rattle.sn_coherence.specs.OtherEvents.{begin_read_miss, begin_write_miss, begin_put, begin_miss_elsewhere, end_miss_elsewhere}
 use Rattle.sn_coherence.specs.OtherEvents.{begin_put_elsewhere, end_put_elsewhere, numbers_elsewhere, store, evict_shared, edge, report}
 use Rattle.sn_coherence.specs.OtherEvents.{validate, lose, deliver_advance}
-use Rattle.sn_coherence.specs.Kept.{Clocks, Nodes, Stages, Requests, Owners, Acknowledgements, Sharing}
+use Rattle.sn_coherence.specs.Invariant.{Clocks, Nodes, Stages, Requests, Owners, Acknowledgements, Sharing}
 use Rattle.sn_coherence.specs.Events.{IsReady, Arrives, Owns, OtherOwns, other_sharers, NothingUnfinished, Free}
 use Rattle.sn_coherence.proofs.Rows.{At, IsLast}
 use Rattle.sn_coherence.specs.Records.{Records, loads, loads_reserved, stores, unreserves, stores_conditional, hears}
-use Rattle.sn_coherence.specs.KeptRecords.{Accesses}
+use Rattle.sn_coherence.specs.RecordsInvariant.{Accesses}
 use Rattle.sn_coherence.proofs.Counts.{count_none}
 use Rattle.sn_coherence.proofs.Acknowledged.{last_waited}
 

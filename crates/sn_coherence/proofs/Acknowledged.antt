@@ -2,7 +2,7 @@
 use Rattle.std.proofs.Common.{◌≡◌, ℕ, ◌<◌, true, false, arith}
 use Rattle.std.proofs.lemmas.Bool.Decides.{nat_tests}
 use Rattle.sn_coherence.specs.Block.{Block, InvAck, set}
-use Rattle.sn_coherence.specs.Kept.{Acknowledgements, Nodes, count}
+use Rattle.sn_coherence.specs.Invariant.{Acknowledgements, Nodes, count}
 use Rattle.sn_coherence.specs.Events.{Arrives}
 use Rattle.sn_coherence.proofs.Rows.{IsLast}
 use Rattle.sn_coherence.proofs.Counts.{count_none, count_without}

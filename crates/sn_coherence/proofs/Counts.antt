@@ -2,7 +2,7 @@
 use Rattle.std.proofs.Common.{◌≡◌, ℕ, zero, suc, ◌+◌, ◌<◌, ◌≤◌, Bool, true, false, cond, refl, arith}
 use Rattle.std.proofs.lemmas.Bool.Decides.{nat_tests}
 use Rattle.sn_coherence.specs.Block.{set}
-use Rattle.sn_coherence.specs.Kept.{count}
+use Rattle.sn_coherence.specs.Invariant.{count}
 
 -- where none is counted none passes
 zero_step : (N : ℕ) (f : ℕ → Bool) (n : ℕ) → cond (f N) 1 0 + count N f ≡ 0 → n < suc N → (count N f ≡ 0 → n < N → f n ≡ false) →

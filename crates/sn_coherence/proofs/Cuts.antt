@@ -12,7 +12,7 @@ use Rattle.sn_coherence.specs.HomeRows.{put_is_stale, put_data, grant_exclusive}
 use Rattle.sn_coherence.specs.OtherEvents.{begin_read_miss, begin_write_miss, begin_put, begin_miss_elsewhere, end_miss_elsewhere}
 use Rattle.sn_coherence.specs.OtherEvents.{begin_put_elsewhere, end_put_elsewhere, numbers_elsewhere, store, evict_shared, edge, report}
 use Rattle.sn_coherence.specs.OtherEvents.{validate, lose, deliver_advance}
-use Rattle.sn_coherence.specs.Kept.{Clocks, Nodes, Stages, Owners, Acknowledgements, Sharing, Logs, Cuts}
+use Rattle.sn_coherence.specs.Invariant.{Clocks, Nodes, Stages, Owners, Acknowledgements, Sharing, Logs, Cuts}
 use Rattle.sn_coherence.specs.Events.{Arrives, Owns, OtherOwns, other_sharers, NothingUnfinished, Free}
 use Rattle.sn_coherence.proofs.Rows.{At, IsLast}
 

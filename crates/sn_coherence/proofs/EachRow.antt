@@ -11,7 +11,7 @@ use Rattle.sn_coherence.specs.HomeRows.{put_is_stale, put_data, grant_exclusive}
 use Rattle.sn_coherence.specs.OtherEvents.{begin_read_miss, begin_write_miss, begin_put, begin_miss_elsewhere, end_miss_elsewhere}
 use Rattle.sn_coherence.specs.OtherEvents.{begin_put_elsewhere, end_put_elsewhere, numbers_elsewhere, store, evict_shared, edge, report}
 use Rattle.sn_coherence.specs.OtherEvents.{validate, lose, deliver_advance}
-use Rattle.sn_coherence.specs.Kept.{AllSentences}
+use Rattle.sn_coherence.specs.Invariant.{BlockInvariant}
 use Rattle.sn_coherence.specs.Events.{Arrives, Owns, OtherOwns, Lists, other_sharers, NothingUnfinished, Free}
 use Rattle.sn_coherence.proofs.Rows.{At, IsLast}
 use Rattle.sn_coherence.proofs.Clocks.{forward_read_clocks, forward_write_clocks, invalidate_clocks, data_shared_clocks}
@@ -111,10 +111,10 @@ use Rattle.sn_coherence.proofs.Frames.{end_miss_elsewhere_frames, begin_put_else
 use Rattle.sn_coherence.proofs.Frames.{numbers_elsewhere_frames, store_frames, evict_shared_frames, edge_frames, report_frames}
 use Rattle.sn_coherence.proofs.Frames.{validate_frames}
 
-module _ (N : ℕ) (b : Block) (i : ℕ) (kept : AllSentences N b) where
+module _ (N : ℕ) (b : Block) (i : ℕ) (kept : BlockInvariant N b) where
   -- The cache's rows.
 
-  pub forward_read_kept : Arrives b i FwdGetS → AllSentences N (forward_read b i)
+  pub forward_read_kept : Arrives b i FwdGetS → BlockInvariant N (forward_read b i)
   forward_read_kept arrives = record {
     clocks = forward_read_clocks N b i kept.clocks kept.nodes arrives;
     nodes = forward_read_nodes N b i kept.nodes kept.stages kept.owners arrives;
@@ -128,7 +128,7 @@ module _ (N : ℕ) (b : Block) (i : ℕ) (kept : AllSentences N b) where
     frames = forward_read_frames N b i kept.frames kept.stages kept.requests kept.logs kept.owners kept.clocks kept.nodes arrives;
   }
 
-  pub forward_write_kept : Arrives b i FwdGetM → AllSentences N (forward_write b i)
+  pub forward_write_kept : Arrives b i FwdGetM → BlockInvariant N (forward_write b i)
   forward_write_kept arrives = record {
     clocks = forward_write_clocks N b i kept.clocks kept.nodes arrives;
     nodes = forward_write_nodes N b i kept.nodes kept.stages kept.owners arrives;
@@ -142,7 +142,7 @@ module _ (N : ℕ) (b : Block) (i : ℕ) (kept : AllSentences N b) where
     frames = forward_write_frames N b i kept.frames kept.stages kept.requests kept.logs kept.owners kept.clocks kept.nodes arrives;
   }
 
-  pub invalidate_kept : Arrives b i Inv → AllSentences N (invalidate b i)
+  pub invalidate_kept : Arrives b i Inv → BlockInvariant N (invalidate b i)
   invalidate_kept arrives = record {
     clocks = invalidate_clocks N b i kept.clocks kept.nodes arrives;
     nodes = invalidate_nodes N b i kept.nodes kept.stages kept.owners kept.waits arrives;
@@ -156,7 +156,7 @@ module _ (N : ℕ) (b : Block) (i : ℕ) (kept : AllSentences N b) where
     frames = invalidate_frames N b i kept.frames kept.stages kept.requests kept.logs kept.owners kept.clocks kept.nodes kept.waits arrives;
   }
 
-  pub data_shared_kept : Arrives b i DataS → AllSentences N (data_shared b i)
+  pub data_shared_kept : Arrives b i DataS → BlockInvariant N (data_shared b i)
   data_shared_kept arrives = record {
     clocks = data_shared_clocks N b i kept.clocks kept.nodes arrives;
     nodes = data_shared_nodes N b i kept.nodes kept.stages kept.owners arrives;
@@ -170,7 +170,7 @@ module _ (N : ℕ) (b : Block) (i : ℕ) (kept : AllSentences N b) where
     frames = data_shared_frames N b i kept.frames kept.stages kept.requests kept.logs kept.owners kept.clocks kept.nodes arrives;
   }
 
-  pub data_modified_open_kept : Arrives b i DataM → (b.miss (b.net i).to).acks ≢ (b.net i).due → AllSentences N (data_modified_open b i)
+  pub data_modified_open_kept : Arrives b i DataM → (b.miss (b.net i).to).acks ≢ (b.net i).due → BlockInvariant N (data_modified_open b i)
   data_modified_open_kept arrives some_lack = record {
     clocks = data_modified_open_clocks N b i kept.clocks kept.nodes arrives some_lack;
     nodes = data_modified_open_nodes N b i kept.nodes kept.stages kept.owners arrives some_lack;
@@ -186,7 +186,7 @@ module _ (N : ℕ) (b : Block) (i : ℕ) (kept : AllSentences N b) where
   }
 
   pub data_modified_complete_kept : Arrives b i DataM → (b.miss (b.net i).to).acks ≡ (b.net i).due →
-      AllSentences N (data_modified_complete b i)
+      BlockInvariant N (data_modified_complete b i)
   data_modified_complete_kept arrives all_in = record {
     clocks = data_modified_complete_clocks N b i kept.clocks kept.nodes arrives all_in;
     nodes = data_modified_complete_nodes N b i kept.nodes kept.stages kept.owners arrives all_in;
@@ -201,7 +201,7 @@ module _ (N : ℕ) (b : Block) (i : ℕ) (kept : AllSentences N b) where
         data_modified_complete_frames N b i kept.frames kept.stages kept.requests kept.logs kept.owners kept.clocks kept.nodes arrives all_in;
   }
 
-  pub upgrade_granted_open_kept : Arrives b i UpgOk → (b.miss (b.net i).to).acks ≢ (b.net i).due → AllSentences N (upgrade_granted_open b i)
+  pub upgrade_granted_open_kept : Arrives b i UpgOk → (b.miss (b.net i).to).acks ≢ (b.net i).due → BlockInvariant N (upgrade_granted_open b i)
   upgrade_granted_open_kept arrives some_lack = record {
     clocks = upgrade_granted_open_clocks N b i kept.clocks kept.nodes arrives some_lack;
     nodes = upgrade_granted_open_nodes N b i kept.nodes kept.stages kept.owners arrives some_lack;
@@ -217,7 +217,7 @@ module _ (N : ℕ) (b : Block) (i : ℕ) (kept : AllSentences N b) where
   }
 
   pub upgrade_granted_complete_kept : Arrives b i UpgOk → (b.miss (b.net i).to).acks ≡ (b.net i).due →
-      AllSentences N (upgrade_granted_complete b i)
+      BlockInvariant N (upgrade_granted_complete b i)
   upgrade_granted_complete_kept arrives all_in = record {
     clocks = upgrade_granted_complete_clocks N b i kept.clocks kept.nodes arrives all_in;
     nodes = upgrade_granted_complete_nodes N b i kept.nodes kept.stages kept.owners arrives all_in;
@@ -233,7 +233,7 @@ module _ (N : ℕ) (b : Block) (i : ℕ) (kept : AllSentences N b) where
         upgrade_granted_complete_frames N b i kept.frames kept.stages kept.requests kept.logs kept.owners kept.clocks kept.nodes arrives all_in;
   }
 
-  pub acknowledge_open_kept : Arrives b i InvAck → IsLast b i ≡ false → AllSentences N (acknowledge_open b i)
+  pub acknowledge_open_kept : Arrives b i InvAck → IsLast b i ≡ false → BlockInvariant N (acknowledge_open b i)
   acknowledge_open_kept arrives not_last = record {
     clocks = acknowledge_open_clocks N b i kept.clocks kept.nodes arrives not_last;
     nodes = acknowledge_open_nodes N b i kept.nodes kept.stages kept.owners arrives not_last;
@@ -248,7 +248,7 @@ module _ (N : ℕ) (b : Block) (i : ℕ) (kept : AllSentences N b) where
         acknowledge_open_frames N b i kept.frames kept.stages kept.requests kept.logs kept.owners kept.clocks kept.nodes kept.waits arrives not_last;
   }
 
-  pub acknowledge_complete_kept : Arrives b i InvAck → IsLast b i ≡ true → AllSentences N (acknowledge_complete b i)
+  pub acknowledge_complete_kept : Arrives b i InvAck → IsLast b i ≡ true → BlockInvariant N (acknowledge_complete b i)
   acknowledge_complete_kept arrives last = record {
     clocks = acknowledge_complete_clocks N b i kept.clocks kept.nodes arrives last;
     nodes = acknowledge_complete_nodes N b i kept.nodes kept.stages kept.owners arrives last;
@@ -263,7 +263,7 @@ module _ (N : ℕ) (b : Block) (i : ℕ) (kept : AllSentences N b) where
         acknowledge_complete_frames N b i kept.frames kept.stages kept.requests kept.logs kept.owners kept.clocks kept.nodes kept.waits arrives last;
   }
 
-  pub put_go_kept : Arrives b i PutGo → AllSentences N (put_go b i)
+  pub put_go_kept : Arrives b i PutGo → BlockInvariant N (put_go b i)
   put_go_kept arrives = record {
     clocks = put_go_clocks N b i kept.clocks kept.nodes arrives;
     nodes = put_go_nodes N b i kept.nodes kept.stages kept.owners arrives;
@@ -277,7 +277,7 @@ module _ (N : ℕ) (b : Block) (i : ℕ) (kept : AllSentences N b) where
     frames = put_go_frames N b i kept.frames kept.stages kept.requests kept.logs kept.owners kept.clocks kept.nodes arrives;
   }
 
-  pub put_done_kept : Arrives b i PutDone → AllSentences N (put_done b i)
+  pub put_done_kept : Arrives b i PutDone → BlockInvariant N (put_done b i)
   put_done_kept arrives = record {
     clocks = put_done_clocks N b i kept.clocks kept.nodes arrives;
     nodes = put_done_nodes N b i kept.nodes kept.stages kept.owners arrives;
@@ -291,7 +291,7 @@ module _ (N : ℕ) (b : Block) (i : ℕ) (kept : AllSentences N b) where
     frames = put_done_frames N b i kept.frames kept.stages kept.requests kept.logs kept.owners kept.clocks kept.nodes arrives;
   }
 
-  pub data_exclusive_kept : Arrives b i DataE → AllSentences N (data_exclusive b i)
+  pub data_exclusive_kept : Arrives b i DataE → BlockInvariant N (data_exclusive b i)
   data_exclusive_kept arrives = record {
     clocks = data_exclusive_clocks N b i kept.clocks kept.nodes arrives;
     nodes = data_exclusive_nodes N b i kept.nodes kept.stages kept.owners arrives;
@@ -307,7 +307,7 @@ module _ (N : ℕ) (b : Block) (i : ℕ) (kept : AllSentences N b) where
 
   -- The home's rows.
 
-  pub read_at_home_kept : At b i GetS → b.kind ≡ Idle → b.at_home ≡ true → AllSentences N (read_at_home b i)
+  pub read_at_home_kept : At b i GetS → b.kind ≡ Idle → b.at_home ≡ true → BlockInvariant N (read_at_home b i)
   read_at_home_kept arrives idle home_owns = record {
     clocks = read_at_home_clocks N b i kept.clocks kept.nodes arrives idle home_owns;
     nodes = read_at_home_nodes N b i kept.nodes kept.stages kept.owners arrives idle home_owns;
@@ -322,7 +322,7 @@ module _ (N : ℕ) (b : Block) (i : ℕ) (kept : AllSentences N b) where
         read_at_home_frames N b i kept.frames kept.stages kept.requests kept.logs kept.owners kept.clocks kept.nodes arrives idle home_owns;
   }
 
-  pub read_at_owner_kept : At b i GetS → b.kind ≡ Idle → b.at_home ≡ false → AllSentences N (read_at_owner b i)
+  pub read_at_owner_kept : At b i GetS → b.kind ≡ Idle → b.at_home ≡ false → BlockInvariant N (read_at_owner b i)
   read_at_owner_kept arrives idle cache_owns = record {
     clocks = read_at_owner_clocks N b i kept.clocks kept.nodes arrives idle cache_owns;
     nodes = read_at_owner_nodes N b i kept.nodes kept.stages kept.owners arrives idle cache_owns;
@@ -338,7 +338,7 @@ module _ (N : ℕ) (b : Block) (i : ℕ) (kept : AllSentences N b) where
   }
 
   pub take_kept : (targets : ℕ → ℕ) (due : ℕ) → At b i GetM → b.kind ≡ Idle → b.at_home ≡ true → Lists N (other_sharers b i) targets due →
-      AllSentences N (take b i targets due)
+      BlockInvariant N (take b i targets due)
   take_kept targets due arrives idle home_owns each = record {
     clocks = take_clocks N b i kept.clocks kept.nodes targets due arrives idle home_owns;
     nodes = take_nodes N b i kept.nodes kept.stages kept.owners targets due arrives idle home_owns each;
@@ -355,7 +355,7 @@ module _ (N : ℕ) (b : Block) (i : ℕ) (kept : AllSentences N b) where
   }
 
   pub move_ownership_kept : (targets : ℕ → ℕ) (due : ℕ) → At b i GetM → b.kind ≡ Idle → OtherOwns b (b.net i).from →
-      Lists N (other_sharers b i) targets due → AllSentences N (move_ownership b i targets due)
+      Lists N (other_sharers b i) targets due → BlockInvariant N (move_ownership b i targets due)
   move_ownership_kept targets due arrives idle other_owns each = record {
     clocks = move_ownership_clocks N b i kept.clocks kept.nodes targets due arrives idle other_owns;
     nodes = move_ownership_nodes N b i kept.nodes kept.stages kept.owners targets due arrives idle other_owns each;
@@ -372,7 +372,7 @@ module _ (N : ℕ) (b : Block) (i : ℕ) (kept : AllSentences N b) where
   }
 
   pub upgrade_kept : (targets : ℕ → ℕ) (due : ℕ) → At b i GetM → b.kind ≡ Idle → Owns b (b.net i).from →
-      Lists N (other_sharers b i) targets due → AllSentences N (upgrade b i targets due)
+      Lists N (other_sharers b i) targets due → BlockInvariant N (upgrade b i targets due)
   upgrade_kept targets due arrives idle sender_owns each = record {
     clocks = upgrade_clocks N b i kept.clocks kept.nodes targets due arrives idle sender_owns;
     nodes = upgrade_nodes N b i kept.nodes kept.stages kept.owners targets due arrives idle sender_owns each;
@@ -388,7 +388,7 @@ module _ (N : ℕ) (b : Block) (i : ℕ) (kept : AllSentences N b) where
         upgrade_frames N b i kept.frames kept.stages kept.requests kept.logs kept.owners kept.clocks kept.nodes targets due arrives idle sender_owns;
   }
 
-  pub unblock_move_kept : At b i Unblock → b.kind ≡ Move → AllSentences N (unblock_move b i)
+  pub unblock_move_kept : At b i Unblock → b.kind ≡ Move → BlockInvariant N (unblock_move b i)
   unblock_move_kept arrives move = record {
     clocks = unblock_move_clocks N b i kept.clocks kept.nodes arrives move;
     nodes = unblock_move_nodes N b i kept.nodes kept.stages kept.owners arrives move;
@@ -402,7 +402,7 @@ module _ (N : ℕ) (b : Block) (i : ℕ) (kept : AllSentences N b) where
     frames = unblock_move_frames N b i kept.frames kept.stages kept.requests kept.logs kept.owners kept.clocks kept.nodes arrives move;
   }
 
-  pub unblock_other_kept : At b i Unblock → b.kind ≢ Move → AllSentences N (unblock_other b i)
+  pub unblock_other_kept : At b i Unblock → b.kind ≢ Move → BlockInvariant N (unblock_other b i)
   unblock_other_kept arrives no_move = record {
     clocks = unblock_other_clocks N b i kept.clocks kept.nodes arrives no_move;
     nodes = unblock_other_nodes N b i kept.nodes kept.stages kept.owners arrives no_move;
@@ -416,7 +416,7 @@ module _ (N : ℕ) (b : Block) (i : ℕ) (kept : AllSentences N b) where
     frames = unblock_other_frames N b i kept.frames kept.stages kept.requests kept.logs kept.owners kept.clocks kept.nodes arrives no_move;
   }
 
-  pub put_begins_kept : At b i PutReq → b.kind ≡ Idle → Owns b (b.net i).from → AllSentences N (put_begins b i)
+  pub put_begins_kept : At b i PutReq → b.kind ≡ Idle → Owns b (b.net i).from → BlockInvariant N (put_begins b i)
   put_begins_kept arrives idle sender_owns = record {
     clocks = put_begins_clocks N b i kept.clocks kept.nodes arrives idle sender_owns;
     nodes = put_begins_nodes N b i kept.nodes kept.stages kept.owners arrives idle sender_owns;
@@ -432,7 +432,7 @@ module _ (N : ℕ) (b : Block) (i : ℕ) (kept : AllSentences N b) where
   }
 
   pub put_is_stale_kept : At b i PutReq → b.kind ≡ Idle → (b.at_home ≡ true) ⊎ (b.owner ≢ (b.net i).from) →
-      AllSentences N (put_is_stale b i)
+      BlockInvariant N (put_is_stale b i)
   put_is_stale_kept arrives idle stale = record {
     clocks = put_is_stale_clocks N b i kept.clocks kept.nodes arrives idle stale;
     nodes = put_is_stale_nodes N b i kept.nodes kept.stages kept.owners arrives idle stale;
@@ -447,7 +447,7 @@ module _ (N : ℕ) (b : Block) (i : ℕ) (kept : AllSentences N b) where
         put_is_stale_frames N b i kept.frames kept.stages kept.requests kept.logs kept.owners kept.clocks kept.nodes arrives idle stale;
   }
 
-  pub put_data_kept : At b i PutData → AllSentences N (put_data b i)
+  pub put_data_kept : At b i PutData → BlockInvariant N (put_data b i)
   put_data_kept arrives = record {
     clocks = put_data_clocks N b i kept.clocks kept.nodes arrives;
     nodes = put_data_nodes N b i kept.nodes kept.stages kept.owners arrives;
@@ -462,7 +462,7 @@ module _ (N : ℕ) (b : Block) (i : ℕ) (kept : AllSentences N b) where
   }
 
   pub grant_exclusive_kept : At b i GetS → b.kind ≡ Idle → b.at_home ≡ true → ((x : ℕ) → other_sharers b i x ≡ false) →
-      AllSentences N (grant_exclusive b i)
+      BlockInvariant N (grant_exclusive b i)
   grant_exclusive_kept arrives idle home_owns none = record {
     clocks = grant_exclusive_clocks N b i kept.clocks kept.nodes arrives idle home_owns none;
     nodes = grant_exclusive_nodes N b i kept.nodes kept.stages kept.owners arrives idle home_owns none;
@@ -480,7 +480,7 @@ module _ (N : ℕ) (b : Block) (i : ℕ) (kept : AllSentences N b) where
 
   -- The other events.
 
-  pub deliver_advance_kept : Arrives b i Advance → AllSentences N (deliver_advance b i)
+  pub deliver_advance_kept : Arrives b i Advance → BlockInvariant N (deliver_advance b i)
   deliver_advance_kept arrives = record {
     clocks = deliver_advance_clocks N b i kept.clocks kept.nodes arrives;
     nodes = deliver_advance_nodes N b i kept.nodes kept.stages kept.owners arrives;
@@ -494,7 +494,7 @@ module _ (N : ℕ) (b : Block) (i : ℕ) (kept : AllSentences N b) where
     frames = deliver_advance_frames N b i kept.frames kept.stages kept.requests kept.logs kept.owners kept.clocks kept.nodes arrives;
   }
 
-  pub lose_kept : AllSentences N (lose b i)
+  pub lose_kept : BlockInvariant N (lose b i)
   lose_kept = record {
     clocks = lose_clocks N b i kept.clocks kept.nodes;
     nodes = lose_nodes N b i kept.nodes kept.stages kept.owners;
@@ -508,7 +508,7 @@ module _ (N : ℕ) (b : Block) (i : ℕ) (kept : AllSentences N b) where
     frames = lose_frames N b i kept.frames kept.stages kept.requests kept.logs kept.owners kept.clocks kept.nodes;
   }
 
-  pub begin_read_miss_kept : Free N b i → b.line i ≡ NoLine → AllSentences N (begin_read_miss b i)
+  pub begin_read_miss_kept : Free N b i → b.line i ≡ NoLine → BlockInvariant N (begin_read_miss b i)
   begin_read_miss_kept free line = record {
     clocks = begin_read_miss_clocks N b i kept.clocks kept.nodes free line;
     nodes = begin_read_miss_nodes N b i kept.nodes kept.stages kept.owners free line;
@@ -522,7 +522,7 @@ module _ (N : ℕ) (b : Block) (i : ℕ) (kept : AllSentences N b) where
     frames = begin_read_miss_frames N b i kept.frames kept.stages kept.requests kept.logs kept.owners kept.clocks kept.nodes free line;
   }
 
-  pub begin_write_miss_kept : Free N b i → is_writable (b.line i) ≡ false → AllSentences N (begin_write_miss b i)
+  pub begin_write_miss_kept : Free N b i → is_writable (b.line i) ≡ false → BlockInvariant N (begin_write_miss b i)
   begin_write_miss_kept free line = record {
     clocks = begin_write_miss_clocks N b i kept.clocks kept.nodes free line;
     nodes = begin_write_miss_nodes N b i kept.nodes kept.stages kept.owners free line;
@@ -537,7 +537,7 @@ module _ (N : ℕ) (b : Block) (i : ℕ) (kept : AllSentences N b) where
   }
 
   pub begin_put_kept : i < N → is_here (b.miss i).want ≡ false → b.putting i ≡ NoPut → is_owned (b.line i) ≡ true →
-      AllSentences N (begin_put b i)
+      BlockInvariant N (begin_put b i)
   begin_put_kept low no_miss no_put line = record {
     clocks = begin_put_clocks N b i kept.clocks kept.nodes low no_miss no_put line;
     nodes = begin_put_nodes N b i kept.nodes kept.stages kept.owners low no_miss no_put line;
@@ -552,7 +552,7 @@ module _ (N : ℕ) (b : Block) (i : ℕ) (kept : AllSentences N b) where
         begin_put_frames N b i kept.frames kept.stages kept.requests kept.logs kept.owners kept.clocks kept.nodes low no_miss no_put line;
   }
 
-  pub begin_miss_elsewhere_kept : i < N → (b.miss i).want ≡ Nothing → AllSentences N (begin_miss_elsewhere b i)
+  pub begin_miss_elsewhere_kept : i < N → (b.miss i).want ≡ Nothing → BlockInvariant N (begin_miss_elsewhere b i)
   begin_miss_elsewhere_kept low no_miss = record {
     clocks = begin_miss_elsewhere_clocks N b i kept.clocks kept.nodes low no_miss;
     nodes = begin_miss_elsewhere_nodes N b i kept.nodes kept.stages kept.owners low no_miss;
@@ -567,7 +567,7 @@ module _ (N : ℕ) (b : Block) (i : ℕ) (kept : AllSentences N b) where
         begin_miss_elsewhere_frames N b i kept.frames kept.stages kept.requests kept.logs kept.owners kept.clocks kept.nodes low no_miss;
   }
 
-  pub end_miss_elsewhere_kept : (b.miss i).want ≡ Elsewhere → AllSentences N (end_miss_elsewhere b i)
+  pub end_miss_elsewhere_kept : (b.miss i).want ≡ Elsewhere → BlockInvariant N (end_miss_elsewhere b i)
   end_miss_elsewhere_kept there = record {
     clocks = end_miss_elsewhere_clocks N b i kept.clocks kept.nodes there;
     nodes = end_miss_elsewhere_nodes N b i kept.nodes kept.stages kept.owners there;
@@ -581,7 +581,7 @@ module _ (N : ℕ) (b : Block) (i : ℕ) (kept : AllSentences N b) where
     frames = end_miss_elsewhere_frames N b i kept.frames kept.stages kept.requests kept.logs kept.owners kept.clocks kept.nodes there;
   }
 
-  pub begin_put_elsewhere_kept : i < N → b.putting i ≡ NoPut → AllSentences N (begin_put_elsewhere b i)
+  pub begin_put_elsewhere_kept : i < N → b.putting i ≡ NoPut → BlockInvariant N (begin_put_elsewhere b i)
   begin_put_elsewhere_kept low no_put = record {
     clocks = begin_put_elsewhere_clocks N b i kept.clocks kept.nodes low no_put;
     nodes = begin_put_elsewhere_nodes N b i kept.nodes kept.stages kept.owners low no_put;
@@ -595,7 +595,7 @@ module _ (N : ℕ) (b : Block) (i : ℕ) (kept : AllSentences N b) where
     frames = begin_put_elsewhere_frames N b i kept.frames kept.stages kept.requests kept.logs kept.owners kept.clocks kept.nodes low no_put;
   }
 
-  pub end_put_elsewhere_kept : b.putting i ≡ PutElsewhere → AllSentences N (end_put_elsewhere b i)
+  pub end_put_elsewhere_kept : b.putting i ≡ PutElsewhere → BlockInvariant N (end_put_elsewhere b i)
   end_put_elsewhere_kept there = record {
     clocks = end_put_elsewhere_clocks N b i kept.clocks kept.nodes there;
     nodes = end_put_elsewhere_nodes N b i kept.nodes kept.stages kept.owners there;
@@ -609,7 +609,7 @@ module _ (N : ℕ) (b : Block) (i : ℕ) (kept : AllSentences N b) where
     frames = end_put_elsewhere_frames N b i kept.frames kept.stages kept.requests kept.logs kept.owners kept.clocks kept.nodes there;
   }
 
-  pub numbers_elsewhere_kept : AllSentences N (numbers_elsewhere b i)
+  pub numbers_elsewhere_kept : BlockInvariant N (numbers_elsewhere b i)
   numbers_elsewhere_kept = record {
     clocks = numbers_elsewhere_clocks N b i kept.clocks kept.nodes;
     nodes = numbers_elsewhere_nodes N b i kept.nodes kept.stages kept.owners;
@@ -623,7 +623,7 @@ module _ (N : ℕ) (b : Block) (i : ℕ) (kept : AllSentences N b) where
     frames = numbers_elsewhere_frames N b i kept.frames kept.stages kept.requests kept.logs kept.owners kept.clocks kept.nodes;
   }
 
-  pub store_kept : (v : Content) → Free N b i → is_writable (b.line i) ≡ true → AllSentences N (store b i v)
+  pub store_kept : (v : Content) → Free N b i → is_writable (b.line i) ≡ true → BlockInvariant N (store b i v)
   store_kept v free line = record {
     clocks = store_clocks N b i kept.clocks kept.nodes v free line;
     nodes = store_nodes N b i kept.nodes kept.stages kept.owners v free line;
@@ -637,7 +637,7 @@ module _ (N : ℕ) (b : Block) (i : ℕ) (kept : AllSentences N b) where
     frames = store_frames N b i kept.frames kept.stages kept.requests kept.logs kept.owners kept.clocks kept.nodes v free line;
   }
 
-  pub evict_shared_kept : is_here (b.miss i).want ≡ false → b.line i ≡ Shared → AllSentences N (evict_shared b i)
+  pub evict_shared_kept : is_here (b.miss i).want ≡ false → b.line i ≡ Shared → BlockInvariant N (evict_shared b i)
   evict_shared_kept no_miss line = record {
     clocks = evict_shared_clocks N b i kept.clocks kept.nodes no_miss line;
     nodes = evict_shared_nodes N b i kept.nodes kept.stages kept.owners no_miss line;
@@ -651,7 +651,7 @@ module _ (N : ℕ) (b : Block) (i : ℕ) (kept : AllSentences N b) where
     frames = evict_shared_frames N b i kept.frames kept.stages kept.requests kept.logs kept.owners kept.clocks kept.nodes no_miss line;
   }
 
-  pub edge_kept : i < N → b.now i < b.known i + 4 → AllSentences N (edge b i)
+  pub edge_kept : i < N → b.now i < b.known i + 4 → BlockInvariant N (edge b i)
   edge_kept low room = record {
     clocks = edge_clocks N b i kept.clocks kept.nodes low room;
     nodes = edge_nodes N b i kept.nodes kept.stages kept.owners low room;
@@ -665,7 +665,7 @@ module _ (N : ℕ) (b : Block) (i : ℕ) (kept : AllSentences N b) where
     frames = edge_frames N b i kept.frames kept.stages kept.requests kept.logs kept.owners kept.clocks kept.nodes low room;
   }
 
-  pub report_kept : (k : ℕ) → i < N → AllSentences N (report b i k)
+  pub report_kept : (k : ℕ) → i < N → BlockInvariant N (report b i k)
   report_kept k low = record {
     clocks = report_clocks N b i kept.clocks kept.nodes k low;
     nodes = report_nodes N b i kept.nodes kept.stages kept.owners k low;
@@ -679,7 +679,7 @@ module _ (N : ℕ) (b : Block) (i : ℕ) (kept : AllSentences N b) where
     frames = report_frames N b i kept.frames kept.stages kept.requests kept.logs kept.owners kept.clocks kept.nodes k low;
   }
 
-  pub validate_kept : NothingUnfinished N b (b.point + 1) → AllSentences N (validate N b)
+  pub validate_kept : NothingUnfinished N b (b.point + 1) → BlockInvariant N (validate N b)
   validate_kept finished = record {
     clocks = validate_clocks N b i kept.clocks kept.nodes finished;
     nodes = validate_nodes N b i kept.nodes kept.stages kept.owners finished;

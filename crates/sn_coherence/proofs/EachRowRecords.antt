@@ -11,11 +11,11 @@ use Rattle.sn_coherence.specs.HomeRows.{put_is_stale, put_data, grant_exclusive}
 use Rattle.sn_coherence.specs.OtherEvents.{begin_read_miss, begin_write_miss, begin_put, begin_miss_elsewhere, end_miss_elsewhere}
 use Rattle.sn_coherence.specs.OtherEvents.{begin_put_elsewhere, end_put_elsewhere, numbers_elsewhere, store, evict_shared, edge, report}
 use Rattle.sn_coherence.specs.OtherEvents.{validate, lose, deliver_advance}
-use Rattle.sn_coherence.specs.Kept.{AllSentences}
+use Rattle.sn_coherence.specs.Invariant.{BlockInvariant}
 use Rattle.sn_coherence.specs.Events.{IsReady, Arrives, Owns, OtherOwns, other_sharers, NothingUnfinished, Free}
 use Rattle.sn_coherence.proofs.Rows.{At, IsLast}
 use Rattle.sn_coherence.specs.Records.{Records, loads, loads_reserved, stores, unreserves, stores_conditional, hears}
-use Rattle.sn_coherence.specs.KeptRecords.{KeptRecords}
+use Rattle.sn_coherence.specs.RecordsInvariant.{RecordsInvariant}
 use Rattle.sn_coherence.proofs.Reports.{forward_read_reports, forward_write_reports, invalidate_reports, data_shared_reports}
 use Rattle.sn_coherence.proofs.Reports.{data_modified_open_reports, data_modified_complete_reports, upgrade_granted_open_reports}
 use Rattle.sn_coherence.proofs.Reports.{upgrade_granted_complete_reports, acknowledge_open_reports, acknowledge_complete_reports}
@@ -69,10 +69,10 @@ use Rattle.sn_coherence.proofs.CutContents.{evict_shared_cut_contents, edge_cut_
 use Rattle.sn_coherence.proofs.CutContents.{load_cut_contents, load_reserved_cut_contents, store_conditional_undone_cut_contents}
 use Rattle.sn_coherence.proofs.CutContents.{deliver_ready_cut_contents}
 
-module _ (N : ℕ) (b : Block) (r : Records) (i : ℕ) (kept : AllSentences N b) (records : KeptRecords b r) where
+module _ (N : ℕ) (b : Block) (r : Records) (i : ℕ) (kept : BlockInvariant N b) (records : RecordsInvariant b r) where
   -- The cache's rows.
 
-  pub forward_read_recorded : Arrives b i FwdGetS → KeptRecords (forward_read b i) r
+  pub forward_read_recorded : Arrives b i FwdGetS → RecordsInvariant (forward_read b i) r
   forward_read_recorded arrives = record {
     reports = forward_read_reports N b r i records.reports kept.clocks arrives;
     contents = forward_read_contents N b r i records.contents kept.stages kept.owners kept.sharing kept.logs arrives;
@@ -82,7 +82,7 @@ module _ (N : ℕ) (b : Block) (r : Records) (i : ℕ) (kept : AllSentences N b)
         forward_read_cut_contents N b r i records.cut_contents records.contents records.accesses kept.stages kept.owners kept.logs kept.cuts kept.clocks kept.nodes arrives;
   }
 
-  pub forward_write_recorded : Arrives b i FwdGetM → KeptRecords (forward_write b i) (unreserves r (b.net i).to)
+  pub forward_write_recorded : Arrives b i FwdGetM → RecordsInvariant (forward_write b i) (unreserves r (b.net i).to)
   forward_write_recorded arrives = record {
     reports = forward_write_reports N b r i records.reports kept.clocks arrives;
     contents = forward_write_contents N b r i records.contents kept.stages kept.owners kept.sharing kept.logs arrives;
@@ -92,7 +92,7 @@ module _ (N : ℕ) (b : Block) (r : Records) (i : ℕ) (kept : AllSentences N b)
         forward_write_cut_contents N b r i records.cut_contents records.contents records.accesses kept.stages kept.owners kept.logs kept.cuts kept.clocks kept.nodes arrives;
   }
 
-  pub invalidate_recorded : Arrives b i Inv → KeptRecords (invalidate b i) (unreserves r (b.net i).to)
+  pub invalidate_recorded : Arrives b i Inv → RecordsInvariant (invalidate b i) (unreserves r (b.net i).to)
   invalidate_recorded arrives = record {
     reports = invalidate_reports N b r i records.reports kept.clocks arrives;
     contents = invalidate_contents N b r i records.contents kept.stages kept.owners kept.sharing kept.logs kept.waits arrives;
@@ -102,7 +102,7 @@ module _ (N : ℕ) (b : Block) (r : Records) (i : ℕ) (kept : AllSentences N b)
         invalidate_cut_contents N b r i records.cut_contents records.contents records.accesses kept.stages kept.owners kept.logs kept.cuts kept.clocks kept.nodes kept.waits kept.sharing arrives;
   }
 
-  pub data_shared_recorded : Arrives b i DataS → KeptRecords (data_shared b i) r
+  pub data_shared_recorded : Arrives b i DataS → RecordsInvariant (data_shared b i) r
   data_shared_recorded arrives = record {
     reports = data_shared_reports N b r i records.reports kept.clocks arrives;
     contents = data_shared_contents N b r i records.contents kept.stages kept.owners kept.sharing kept.logs kept.requests arrives;
@@ -112,7 +112,7 @@ module _ (N : ℕ) (b : Block) (r : Records) (i : ℕ) (kept : AllSentences N b)
         data_shared_cut_contents N b r i records.cut_contents records.contents records.accesses kept.stages kept.owners kept.logs kept.cuts kept.clocks kept.nodes kept.requests kept.sharing arrives;
   }
 
-  pub data_modified_open_recorded : Arrives b i DataM → (b.miss (b.net i).to).acks ≢ (b.net i).due → KeptRecords (data_modified_open b i) r
+  pub data_modified_open_recorded : Arrives b i DataM → (b.miss (b.net i).to).acks ≢ (b.net i).due → RecordsInvariant (data_modified_open b i) r
   data_modified_open_recorded arrives some_lack = record {
     reports = data_modified_open_reports N b r i records.reports kept.clocks arrives some_lack;
     contents = data_modified_open_contents N b r i records.contents kept.stages kept.owners kept.sharing kept.logs arrives some_lack;
@@ -123,7 +123,7 @@ module _ (N : ℕ) (b : Block) (r : Records) (i : ℕ) (kept : AllSentences N b)
   }
 
   pub data_modified_complete_recorded : Arrives b i DataM → (b.miss (b.net i).to).acks ≡ (b.net i).due →
-      KeptRecords (data_modified_complete b i) r
+      RecordsInvariant (data_modified_complete b i) r
   data_modified_complete_recorded arrives all_in = record {
     reports = data_modified_complete_reports N b r i records.reports kept.clocks arrives all_in;
     contents = data_modified_complete_contents N b r i records.contents kept.stages kept.owners kept.sharing kept.logs arrives all_in;
@@ -134,7 +134,7 @@ module _ (N : ℕ) (b : Block) (r : Records) (i : ℕ) (kept : AllSentences N b)
   }
 
   pub upgrade_granted_open_recorded : Arrives b i UpgOk → (b.miss (b.net i).to).acks ≢ (b.net i).due →
-      KeptRecords (upgrade_granted_open b i) r
+      RecordsInvariant (upgrade_granted_open b i) r
   upgrade_granted_open_recorded arrives some_lack = record {
     reports = upgrade_granted_open_reports N b r i records.reports kept.clocks arrives some_lack;
     contents = upgrade_granted_open_contents N b r i records.contents kept.stages kept.owners kept.sharing kept.logs arrives some_lack;
@@ -145,7 +145,7 @@ module _ (N : ℕ) (b : Block) (r : Records) (i : ℕ) (kept : AllSentences N b)
   }
 
   pub upgrade_granted_complete_recorded : Arrives b i UpgOk → (b.miss (b.net i).to).acks ≡ (b.net i).due →
-      KeptRecords (upgrade_granted_complete b i) r
+      RecordsInvariant (upgrade_granted_complete b i) r
   upgrade_granted_complete_recorded arrives all_in = record {
     reports = upgrade_granted_complete_reports N b r i records.reports kept.clocks arrives all_in;
     contents = upgrade_granted_complete_contents N b r i records.contents kept.stages kept.owners kept.sharing kept.logs arrives all_in;
@@ -155,7 +155,7 @@ module _ (N : ℕ) (b : Block) (r : Records) (i : ℕ) (kept : AllSentences N b)
         upgrade_granted_complete_cut_contents N b r i records.cut_contents records.contents records.accesses kept.stages kept.owners kept.logs kept.cuts kept.clocks kept.nodes arrives all_in;
   }
 
-  pub acknowledge_open_recorded : Arrives b i InvAck → IsLast b i ≡ false → KeptRecords (acknowledge_open b i) r
+  pub acknowledge_open_recorded : Arrives b i InvAck → IsLast b i ≡ false → RecordsInvariant (acknowledge_open b i) r
   acknowledge_open_recorded arrives not_last = record {
     reports = acknowledge_open_reports N b r i records.reports kept.clocks arrives not_last;
     contents =
@@ -166,7 +166,7 @@ module _ (N : ℕ) (b : Block) (r : Records) (i : ℕ) (kept : AllSentences N b)
         acknowledge_open_cut_contents N b r i records.cut_contents records.contents records.accesses kept.stages kept.owners kept.logs kept.cuts kept.clocks kept.nodes kept.waits arrives not_last;
   }
 
-  pub acknowledge_complete_recorded : Arrives b i InvAck → IsLast b i ≡ true → KeptRecords (acknowledge_complete b i) r
+  pub acknowledge_complete_recorded : Arrives b i InvAck → IsLast b i ≡ true → RecordsInvariant (acknowledge_complete b i) r
   acknowledge_complete_recorded arrives last = record {
     reports = acknowledge_complete_reports N b r i records.reports kept.clocks arrives last;
     contents =
@@ -177,7 +177,7 @@ module _ (N : ℕ) (b : Block) (r : Records) (i : ℕ) (kept : AllSentences N b)
         acknowledge_complete_cut_contents N b r i records.cut_contents records.contents records.accesses kept.stages kept.owners kept.logs kept.cuts kept.clocks kept.nodes kept.waits arrives last;
   }
 
-  pub put_go_recorded : Arrives b i PutGo → KeptRecords (put_go b i) (unreserves r (b.net i).to)
+  pub put_go_recorded : Arrives b i PutGo → RecordsInvariant (put_go b i) (unreserves r (b.net i).to)
   put_go_recorded arrives = record {
     reports = put_go_reports N b r i records.reports kept.clocks arrives;
     contents = put_go_contents N b r i records.contents kept.stages kept.owners kept.sharing kept.logs arrives;
@@ -186,7 +186,7 @@ module _ (N : ℕ) (b : Block) (r : Records) (i : ℕ) (kept : AllSentences N b)
         put_go_cut_contents N b r i records.cut_contents records.contents records.accesses kept.stages kept.owners kept.logs kept.cuts kept.clocks kept.nodes arrives;
   }
 
-  pub put_done_recorded : Arrives b i PutDone → KeptRecords (put_done b i) r
+  pub put_done_recorded : Arrives b i PutDone → RecordsInvariant (put_done b i) r
   put_done_recorded arrives = record {
     reports = put_done_reports N b r i records.reports kept.clocks arrives;
     contents = put_done_contents N b r i records.contents kept.stages kept.owners kept.sharing kept.logs arrives;
@@ -195,7 +195,7 @@ module _ (N : ℕ) (b : Block) (r : Records) (i : ℕ) (kept : AllSentences N b)
         put_done_cut_contents N b r i records.cut_contents records.contents records.accesses kept.stages kept.owners kept.logs kept.cuts kept.clocks kept.nodes arrives;
   }
 
-  pub data_exclusive_recorded : Arrives b i DataE → KeptRecords (data_exclusive b i) r
+  pub data_exclusive_recorded : Arrives b i DataE → RecordsInvariant (data_exclusive b i) r
   data_exclusive_recorded arrives = record {
     reports = data_exclusive_reports N b r i records.reports kept.clocks arrives;
     contents = data_exclusive_contents N b r i records.contents kept.stages kept.owners kept.sharing kept.logs arrives;
@@ -207,7 +207,7 @@ module _ (N : ℕ) (b : Block) (r : Records) (i : ℕ) (kept : AllSentences N b)
 
   -- The home's rows.
 
-  pub read_at_home_recorded : At b i GetS → b.kind ≡ Idle → b.at_home ≡ true → KeptRecords (read_at_home b i) r
+  pub read_at_home_recorded : At b i GetS → b.kind ≡ Idle → b.at_home ≡ true → RecordsInvariant (read_at_home b i) r
   read_at_home_recorded arrives idle home_owns = record {
     reports = read_at_home_reports N b r i records.reports kept.clocks arrives idle home_owns;
     contents = read_at_home_contents N b r i records.contents kept.stages kept.owners kept.sharing kept.logs arrives idle home_owns;
@@ -217,7 +217,7 @@ module _ (N : ℕ) (b : Block) (r : Records) (i : ℕ) (kept : AllSentences N b)
         read_at_home_cut_contents N b r i records.cut_contents records.contents records.accesses kept.stages kept.owners kept.logs kept.cuts kept.clocks kept.nodes arrives idle home_owns;
   }
 
-  pub read_at_owner_recorded : At b i GetS → b.kind ≡ Idle → b.at_home ≡ false → KeptRecords (read_at_owner b i) r
+  pub read_at_owner_recorded : At b i GetS → b.kind ≡ Idle → b.at_home ≡ false → RecordsInvariant (read_at_owner b i) r
   read_at_owner_recorded arrives idle cache_owns = record {
     reports = read_at_owner_reports N b r i records.reports kept.clocks arrives idle cache_owns;
     contents = read_at_owner_contents N b r i records.contents kept.stages kept.owners kept.sharing kept.logs arrives idle cache_owns;
@@ -227,7 +227,7 @@ module _ (N : ℕ) (b : Block) (r : Records) (i : ℕ) (kept : AllSentences N b)
         read_at_owner_cut_contents N b r i records.cut_contents records.contents records.accesses kept.stages kept.owners kept.logs kept.cuts kept.clocks kept.nodes arrives idle cache_owns;
   }
 
-  pub take_recorded : (targets : ℕ → ℕ) (due : ℕ) → At b i GetM → b.kind ≡ Idle → b.at_home ≡ true → KeptRecords (take b i targets due) r
+  pub take_recorded : (targets : ℕ → ℕ) (due : ℕ) → At b i GetM → b.kind ≡ Idle → b.at_home ≡ true → RecordsInvariant (take b i targets due) r
   take_recorded targets due arrives idle home_owns = record {
     reports = take_reports N b r i records.reports kept.clocks targets due arrives idle home_owns;
     contents = take_contents N b r i records.contents kept.stages kept.owners kept.sharing kept.logs targets due arrives idle home_owns;
@@ -238,7 +238,7 @@ module _ (N : ℕ) (b : Block) (r : Records) (i : ℕ) (kept : AllSentences N b)
   }
 
   pub move_ownership_recorded : (targets : ℕ → ℕ) (due : ℕ) → At b i GetM → b.kind ≡ Idle → OtherOwns b (b.net i).from →
-      KeptRecords (move_ownership b i targets due) r
+      RecordsInvariant (move_ownership b i targets due) r
   move_ownership_recorded targets due arrives idle other_owns = record {
     reports = move_ownership_reports N b r i records.reports kept.clocks targets due arrives idle other_owns;
     contents =
@@ -250,7 +250,7 @@ module _ (N : ℕ) (b : Block) (r : Records) (i : ℕ) (kept : AllSentences N b)
   }
 
   pub upgrade_recorded : (targets : ℕ → ℕ) (due : ℕ) → At b i GetM → b.kind ≡ Idle → Owns b (b.net i).from →
-      KeptRecords (upgrade b i targets due) r
+      RecordsInvariant (upgrade b i targets due) r
   upgrade_recorded targets due arrives idle sender_owns = record {
     reports = upgrade_reports N b r i records.reports kept.clocks targets due arrives idle sender_owns;
     contents =
@@ -261,7 +261,7 @@ module _ (N : ℕ) (b : Block) (r : Records) (i : ℕ) (kept : AllSentences N b)
         upgrade_cut_contents N b r i records.cut_contents records.contents records.accesses kept.stages kept.owners kept.logs kept.cuts kept.clocks kept.nodes targets due arrives idle sender_owns;
   }
 
-  pub unblock_move_recorded : At b i Unblock → b.kind ≡ Move → KeptRecords (unblock_move b i) r
+  pub unblock_move_recorded : At b i Unblock → b.kind ≡ Move → RecordsInvariant (unblock_move b i) r
   unblock_move_recorded arrives move = record {
     reports = unblock_move_reports N b r i records.reports kept.clocks arrives move;
     contents = unblock_move_contents N b r i records.contents kept.stages kept.owners kept.sharing kept.logs arrives move;
@@ -271,7 +271,7 @@ module _ (N : ℕ) (b : Block) (r : Records) (i : ℕ) (kept : AllSentences N b)
         unblock_move_cut_contents N b r i records.cut_contents records.contents records.accesses kept.stages kept.owners kept.logs kept.cuts kept.clocks kept.nodes arrives move;
   }
 
-  pub unblock_other_recorded : At b i Unblock → b.kind ≢ Move → KeptRecords (unblock_other b i) r
+  pub unblock_other_recorded : At b i Unblock → b.kind ≢ Move → RecordsInvariant (unblock_other b i) r
   unblock_other_recorded arrives no_move = record {
     reports = unblock_other_reports N b r i records.reports kept.clocks arrives no_move;
     contents = unblock_other_contents N b r i records.contents kept.stages kept.owners kept.sharing kept.logs arrives no_move;
@@ -281,7 +281,7 @@ module _ (N : ℕ) (b : Block) (r : Records) (i : ℕ) (kept : AllSentences N b)
         unblock_other_cut_contents N b r i records.cut_contents records.contents records.accesses kept.stages kept.owners kept.logs kept.cuts kept.clocks kept.nodes arrives no_move;
   }
 
-  pub put_begins_recorded : At b i PutReq → b.kind ≡ Idle → Owns b (b.net i).from → KeptRecords (put_begins b i) r
+  pub put_begins_recorded : At b i PutReq → b.kind ≡ Idle → Owns b (b.net i).from → RecordsInvariant (put_begins b i) r
   put_begins_recorded arrives idle sender_owns = record {
     reports = put_begins_reports N b r i records.reports kept.clocks arrives idle sender_owns;
     contents = put_begins_contents N b r i records.contents kept.stages kept.owners kept.sharing kept.logs arrives idle sender_owns;
@@ -292,7 +292,7 @@ module _ (N : ℕ) (b : Block) (r : Records) (i : ℕ) (kept : AllSentences N b)
   }
 
   pub put_is_stale_recorded : At b i PutReq → b.kind ≡ Idle → (b.at_home ≡ true) ⊎ (b.owner ≢ (b.net i).from) →
-      KeptRecords (put_is_stale b i) r
+      RecordsInvariant (put_is_stale b i) r
   put_is_stale_recorded arrives idle stale = record {
     reports = put_is_stale_reports N b r i records.reports kept.clocks arrives idle stale;
     contents = put_is_stale_contents N b r i records.contents kept.stages kept.owners kept.sharing kept.logs arrives idle stale;
@@ -302,7 +302,7 @@ module _ (N : ℕ) (b : Block) (r : Records) (i : ℕ) (kept : AllSentences N b)
         put_is_stale_cut_contents N b r i records.cut_contents records.contents records.accesses kept.stages kept.owners kept.logs kept.cuts kept.clocks kept.nodes arrives idle stale;
   }
 
-  pub put_data_recorded : At b i PutData → KeptRecords (put_data b i) r
+  pub put_data_recorded : At b i PutData → RecordsInvariant (put_data b i) r
   put_data_recorded arrives = record {
     reports = put_data_reports N b r i records.reports kept.clocks arrives;
     contents = put_data_contents N b r i records.contents kept.stages kept.owners kept.sharing kept.logs arrives;
@@ -312,7 +312,7 @@ module _ (N : ℕ) (b : Block) (r : Records) (i : ℕ) (kept : AllSentences N b)
   }
 
   pub grant_exclusive_recorded : At b i GetS → b.kind ≡ Idle → b.at_home ≡ true → ((x : ℕ) → other_sharers b i x ≡ false) →
-      KeptRecords (grant_exclusive b i) r
+      RecordsInvariant (grant_exclusive b i) r
   grant_exclusive_recorded arrives idle home_owns none = record {
     reports = grant_exclusive_reports N b r i records.reports kept.clocks arrives idle home_owns none;
     contents = grant_exclusive_contents N b r i records.contents kept.stages kept.owners kept.sharing kept.logs arrives idle home_owns none;
@@ -324,7 +324,7 @@ module _ (N : ℕ) (b : Block) (r : Records) (i : ℕ) (kept : AllSentences N b)
 
   -- The other events.
 
-  pub deliver_advance_recorded : Arrives b i Advance → KeptRecords (deliver_advance b i) r
+  pub deliver_advance_recorded : Arrives b i Advance → RecordsInvariant (deliver_advance b i) r
   deliver_advance_recorded arrives = record {
     reports = deliver_advance_reports N b r i records.reports kept.clocks arrives;
     contents = deliver_advance_contents N b r i records.contents kept.stages kept.owners kept.sharing kept.logs arrives;
@@ -334,7 +334,7 @@ module _ (N : ℕ) (b : Block) (r : Records) (i : ℕ) (kept : AllSentences N b)
         deliver_advance_cut_contents N b r i records.cut_contents records.contents records.accesses kept.stages kept.owners kept.logs kept.cuts kept.clocks kept.nodes arrives;
   }
 
-  pub lose_recorded : KeptRecords (lose b i) r
+  pub lose_recorded : RecordsInvariant (lose b i) r
   lose_recorded = record {
     reports = lose_reports N b r i records.reports kept.clocks;
     contents = lose_contents N b r i records.contents kept.stages kept.owners kept.sharing kept.logs;
@@ -343,7 +343,7 @@ module _ (N : ℕ) (b : Block) (r : Records) (i : ℕ) (kept : AllSentences N b)
         lose_cut_contents N b r i records.cut_contents records.contents records.accesses kept.stages kept.owners kept.logs kept.cuts kept.clocks kept.nodes;
   }
 
-  pub begin_read_miss_recorded : Free N b i → b.line i ≡ NoLine → KeptRecords (begin_read_miss b i) r
+  pub begin_read_miss_recorded : Free N b i → b.line i ≡ NoLine → RecordsInvariant (begin_read_miss b i) r
   begin_read_miss_recorded free line = record {
     reports = begin_read_miss_reports N b r i records.reports kept.clocks free line;
     contents = begin_read_miss_contents N b r i records.contents kept.stages kept.owners kept.sharing kept.logs free line;
@@ -353,7 +353,7 @@ module _ (N : ℕ) (b : Block) (r : Records) (i : ℕ) (kept : AllSentences N b)
         begin_read_miss_cut_contents N b r i records.cut_contents records.contents records.accesses kept.stages kept.owners kept.logs kept.cuts kept.clocks kept.nodes free line;
   }
 
-  pub begin_write_miss_recorded : Free N b i → is_writable (b.line i) ≡ false → KeptRecords (begin_write_miss b i) r
+  pub begin_write_miss_recorded : Free N b i → is_writable (b.line i) ≡ false → RecordsInvariant (begin_write_miss b i) r
   begin_write_miss_recorded free line = record {
     reports = begin_write_miss_reports N b r i records.reports kept.clocks free line;
     contents = begin_write_miss_contents N b r i records.contents kept.stages kept.owners kept.sharing kept.logs free line;
@@ -364,7 +364,7 @@ module _ (N : ℕ) (b : Block) (r : Records) (i : ℕ) (kept : AllSentences N b)
   }
 
   pub begin_put_recorded : i < N → is_here (b.miss i).want ≡ false → b.putting i ≡ NoPut → is_owned (b.line i) ≡ true →
-      KeptRecords (begin_put b i) r
+      RecordsInvariant (begin_put b i) r
   begin_put_recorded low no_miss no_put line = record {
     reports = begin_put_reports N b r i records.reports kept.clocks low no_miss no_put line;
     contents = begin_put_contents N b r i records.contents kept.stages kept.owners kept.sharing kept.logs low no_miss no_put line;
@@ -374,7 +374,7 @@ module _ (N : ℕ) (b : Block) (r : Records) (i : ℕ) (kept : AllSentences N b)
         begin_put_cut_contents N b r i records.cut_contents records.contents records.accesses kept.stages kept.owners kept.logs kept.cuts kept.clocks kept.nodes low no_miss no_put line;
   }
 
-  pub begin_miss_elsewhere_recorded : i < N → (b.miss i).want ≡ Nothing → KeptRecords (begin_miss_elsewhere b i) r
+  pub begin_miss_elsewhere_recorded : i < N → (b.miss i).want ≡ Nothing → RecordsInvariant (begin_miss_elsewhere b i) r
   begin_miss_elsewhere_recorded low no_miss = record {
     reports = begin_miss_elsewhere_reports N b r i records.reports kept.clocks low no_miss;
     contents = begin_miss_elsewhere_contents N b r i records.contents kept.stages kept.owners kept.sharing kept.logs low no_miss;
@@ -384,7 +384,7 @@ module _ (N : ℕ) (b : Block) (r : Records) (i : ℕ) (kept : AllSentences N b)
         begin_miss_elsewhere_cut_contents N b r i records.cut_contents records.contents records.accesses kept.stages kept.owners kept.logs kept.cuts kept.clocks kept.nodes low no_miss;
   }
 
-  pub end_miss_elsewhere_recorded : (b.miss i).want ≡ Elsewhere → KeptRecords (end_miss_elsewhere b i) r
+  pub end_miss_elsewhere_recorded : (b.miss i).want ≡ Elsewhere → RecordsInvariant (end_miss_elsewhere b i) r
   end_miss_elsewhere_recorded there = record {
     reports = end_miss_elsewhere_reports N b r i records.reports kept.clocks there;
     contents = end_miss_elsewhere_contents N b r i records.contents kept.stages kept.owners kept.sharing kept.logs there;
@@ -394,7 +394,7 @@ module _ (N : ℕ) (b : Block) (r : Records) (i : ℕ) (kept : AllSentences N b)
         end_miss_elsewhere_cut_contents N b r i records.cut_contents records.contents records.accesses kept.stages kept.owners kept.logs kept.cuts kept.clocks kept.nodes there;
   }
 
-  pub begin_put_elsewhere_recorded : i < N → b.putting i ≡ NoPut → KeptRecords (begin_put_elsewhere b i) r
+  pub begin_put_elsewhere_recorded : i < N → b.putting i ≡ NoPut → RecordsInvariant (begin_put_elsewhere b i) r
   begin_put_elsewhere_recorded low no_put = record {
     reports = begin_put_elsewhere_reports N b r i records.reports kept.clocks low no_put;
     contents = begin_put_elsewhere_contents N b r i records.contents kept.stages kept.owners kept.sharing kept.logs low no_put;
@@ -404,7 +404,7 @@ module _ (N : ℕ) (b : Block) (r : Records) (i : ℕ) (kept : AllSentences N b)
         begin_put_elsewhere_cut_contents N b r i records.cut_contents records.contents records.accesses kept.stages kept.owners kept.logs kept.cuts kept.clocks kept.nodes low no_put;
   }
 
-  pub end_put_elsewhere_recorded : b.putting i ≡ PutElsewhere → KeptRecords (end_put_elsewhere b i) r
+  pub end_put_elsewhere_recorded : b.putting i ≡ PutElsewhere → RecordsInvariant (end_put_elsewhere b i) r
   end_put_elsewhere_recorded there = record {
     reports = end_put_elsewhere_reports N b r i records.reports kept.clocks there;
     contents = end_put_elsewhere_contents N b r i records.contents kept.stages kept.owners kept.sharing kept.logs there;
@@ -414,7 +414,7 @@ module _ (N : ℕ) (b : Block) (r : Records) (i : ℕ) (kept : AllSentences N b)
         end_put_elsewhere_cut_contents N b r i records.cut_contents records.contents records.accesses kept.stages kept.owners kept.logs kept.cuts kept.clocks kept.nodes there;
   }
 
-  pub numbers_elsewhere_recorded : KeptRecords (numbers_elsewhere b i) r
+  pub numbers_elsewhere_recorded : RecordsInvariant (numbers_elsewhere b i) r
   numbers_elsewhere_recorded = record {
     reports = numbers_elsewhere_reports N b r i records.reports kept.clocks;
     contents = numbers_elsewhere_contents N b r i records.contents kept.stages kept.owners kept.sharing kept.logs;
@@ -423,7 +423,7 @@ module _ (N : ℕ) (b : Block) (r : Records) (i : ℕ) (kept : AllSentences N b)
         numbers_elsewhere_cut_contents N b r i records.cut_contents records.contents records.accesses kept.stages kept.owners kept.logs kept.cuts kept.clocks kept.nodes;
   }
 
-  pub store_recorded : (v : Content) → Free N b i → is_writable (b.line i) ≡ true → KeptRecords (store b i v) (stores r i (b.now i) v)
+  pub store_recorded : (v : Content) → Free N b i → is_writable (b.line i) ≡ true → RecordsInvariant (store b i v) (stores r i (b.now i) v)
   store_recorded v free line = record {
     reports = store_reports N b r i records.reports kept.clocks v free line;
     contents = store_contents N b r i records.contents kept.stages kept.owners kept.sharing kept.logs v free line;
@@ -433,7 +433,7 @@ module _ (N : ℕ) (b : Block) (r : Records) (i : ℕ) (kept : AllSentences N b)
   }
 
   pub store_conditional_recorded : (v : Content) → Free N b i → is_writable (b.line i) ≡ true →
-      KeptRecords (store b i v) (stores_conditional r i (b.now i) v)
+      RecordsInvariant (store b i v) (stores_conditional r i (b.now i) v)
   store_conditional_recorded v free line = record {
     reports = store_conditional_reports N b r i records.reports kept.clocks v free line;
     contents = store_conditional_contents N b r i records.contents kept.stages kept.owners kept.sharing kept.logs v free line;
@@ -443,7 +443,7 @@ module _ (N : ℕ) (b : Block) (r : Records) (i : ℕ) (kept : AllSentences N b)
         store_conditional_cut_contents N b r i records.cut_contents records.contents records.accesses kept.stages kept.owners kept.logs kept.cuts kept.clocks kept.nodes v free line;
   }
 
-  pub evict_shared_recorded : is_here (b.miss i).want ≡ false → b.line i ≡ Shared → KeptRecords (evict_shared b i) (unreserves r i)
+  pub evict_shared_recorded : is_here (b.miss i).want ≡ false → b.line i ≡ Shared → RecordsInvariant (evict_shared b i) (unreserves r i)
   evict_shared_recorded no_miss line = record {
     reports = evict_shared_reports N b r i records.reports kept.clocks no_miss line;
     contents = evict_shared_contents N b r i records.contents kept.stages kept.owners kept.sharing kept.logs no_miss line;
@@ -453,7 +453,7 @@ module _ (N : ℕ) (b : Block) (r : Records) (i : ℕ) (kept : AllSentences N b)
         evict_shared_cut_contents N b r i records.cut_contents records.contents records.accesses kept.stages kept.owners kept.logs kept.cuts kept.clocks kept.nodes no_miss line;
   }
 
-  pub edge_recorded : i < N → b.now i < b.known i + 4 → KeptRecords (edge b i) (unreserves r i)
+  pub edge_recorded : i < N → b.now i < b.known i + 4 → RecordsInvariant (edge b i) (unreserves r i)
   edge_recorded low room = record {
     reports = edge_reports N b r i records.reports kept.clocks low room;
     contents = edge_contents N b r i records.contents kept.stages kept.owners kept.sharing kept.logs low room;
@@ -462,7 +462,7 @@ module _ (N : ℕ) (b : Block) (r : Records) (i : ℕ) (kept : AllSentences N b)
         edge_cut_contents N b r i records.cut_contents records.contents records.accesses kept.stages kept.owners kept.logs kept.cuts kept.clocks kept.nodes low room;
   }
 
-  pub report_recorded : (k : ℕ) → i < N → IsReady b i k → KeptRecords (report b i k) r
+  pub report_recorded : (k : ℕ) → i < N → IsReady b i k → RecordsInvariant (report b i k) r
   report_recorded k low ready = record {
     reports = report_reports N b r i records.reports kept.clocks k low ready;
     contents = report_contents N b r i records.contents kept.stages kept.owners kept.sharing kept.logs k low ready;
@@ -472,7 +472,7 @@ module _ (N : ℕ) (b : Block) (r : Records) (i : ℕ) (kept : AllSentences N b)
         report_cut_contents N b r i records.cut_contents records.contents records.accesses kept.stages kept.owners kept.logs kept.cuts kept.clocks kept.nodes k low ready;
   }
 
-  pub validate_recorded : NothingUnfinished N b (b.point + 1) → KeptRecords (validate N b) r
+  pub validate_recorded : NothingUnfinished N b (b.point + 1) → RecordsInvariant (validate N b) r
   validate_recorded finished = record {
     reports = validate_reports N b r i records.reports kept.clocks finished;
     contents = validate_contents N b r i records.contents kept.stages kept.owners kept.sharing kept.logs finished;
@@ -481,7 +481,7 @@ module _ (N : ℕ) (b : Block) (r : Records) (i : ℕ) (kept : AllSentences N b)
         validate_cut_contents N b r i records.cut_contents records.contents records.accesses kept.stages kept.owners kept.logs kept.cuts kept.clocks kept.nodes finished;
   }
 
-  pub load_recorded : Free N b i → b.line i ≢ NoLine → KeptRecords b (loads r i (b.now i))
+  pub load_recorded : Free N b i → b.line i ≢ NoLine → RecordsInvariant b (loads r i (b.now i))
   load_recorded free line = record {
     reports = load_reports N b r i records.reports kept.clocks free line;
     contents = load_contents N b r i records.contents kept.stages kept.owners kept.sharing kept.logs free line;
@@ -490,7 +490,7 @@ module _ (N : ℕ) (b : Block) (r : Records) (i : ℕ) (kept : AllSentences N b)
         load_cut_contents N b r i records.cut_contents records.contents records.accesses kept.stages kept.owners kept.logs kept.cuts kept.clocks kept.nodes free line;
   }
 
-  pub load_reserved_recorded : Free N b i → b.line i ≢ NoLine → KeptRecords b (loads_reserved r i (b.now i))
+  pub load_reserved_recorded : Free N b i → b.line i ≢ NoLine → RecordsInvariant b (loads_reserved r i (b.now i))
   load_reserved_recorded free line = record {
     reports = load_reserved_reports N b r i records.reports kept.clocks free line;
     contents = load_reserved_contents N b r i records.contents kept.stages kept.owners kept.sharing kept.logs free line;
@@ -500,7 +500,7 @@ module _ (N : ℕ) (b : Block) (r : Records) (i : ℕ) (kept : AllSentences N b)
         load_reserved_cut_contents N b r i records.cut_contents records.contents records.accesses kept.stages kept.owners kept.logs kept.cuts kept.clocks kept.nodes free line;
   }
 
-  pub store_conditional_undone_recorded : KeptRecords b (unreserves r i)
+  pub store_conditional_undone_recorded : RecordsInvariant b (unreserves r i)
   store_conditional_undone_recorded = record {
     reports = store_conditional_undone_reports N b r i records.reports kept.clocks;
     contents = store_conditional_undone_contents N b r i records.contents kept.stages kept.owners kept.sharing kept.logs;
@@ -510,7 +510,7 @@ module _ (N : ℕ) (b : Block) (r : Records) (i : ℕ) (kept : AllSentences N b)
         store_conditional_undone_cut_contents N b r i records.cut_contents records.contents records.accesses kept.stages kept.owners kept.logs kept.cuts kept.clocks kept.nodes;
   }
 
-  pub deliver_ready_recorded : Arrives b i Ready → KeptRecords (lose b i) (hears r (b.net i).from (b.net i).number)
+  pub deliver_ready_recorded : Arrives b i Ready → RecordsInvariant (lose b i) (hears r (b.net i).from (b.net i).number)
   deliver_ready_recorded arrives = record {
     reports = deliver_ready_reports N b r i records.reports kept.clocks arrives;
     contents = deliver_ready_contents N b r i records.contents kept.stages kept.owners kept.sharing kept.logs arrives;

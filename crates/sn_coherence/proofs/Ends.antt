@@ -3,11 +3,11 @@ use Rattle.std.proofs.Common.{◌≡◌, ℕ, ◌<◌, true, arith}
 use Rattle.std.proofs.lemmas.Bool.Decides.{nat_tests}
 use Rattle.sn_coherence.specs.Block.{Block, Content}
 use Rattle.sn_coherence.specs.OtherEvents.{start, recover}
-use Rattle.sn_coherence.specs.Kept.{Clocks, Nodes, Stages, Requests, Owners, Acknowledgements, Sharing, Logs, Cuts, Frames, AllSentences}
-use Rattle.sn_coherence.specs.Kept.{is_settled}
+use Rattle.sn_coherence.specs.Invariant.{Clocks, Nodes, Stages, Requests, Owners, Acknowledgements, Sharing, Logs, Cuts, Frames, BlockInvariant}
+use Rattle.sn_coherence.specs.Invariant.{is_settled}
 use Rattle.sn_coherence.proofs.Counts.{no_count}
 
-pub start_kept : (N home : ℕ) (v : Content) → home < N → AllSentences N (start home v)
+pub start_kept : (N home : ℕ) (v : Content) → home < N → BlockInvariant N (start home v)
 start_kept N home v low = record {
   clocks = grind (arith, nat_tests);
   nodes = grind (arith, nat_tests);
@@ -56,7 +56,7 @@ module _ (N : ℕ) (b : Block) (settled : is_settled b b.point ≡ true) where
   recover_frames : Clocks N b → Frames N b → Frames N (recover N b)
   recover_frames c f = grind (arith, nat_tests)
 
-pub recover_kept : (N : ℕ) (b : Block) → AllSentences N b → AllSentences N (recover N b)
+pub recover_kept : (N : ℕ) (b : Block) → BlockInvariant N b → BlockInvariant N (recover N b)
 recover_kept N b k = record {
   clocks = recover_clocks N b settled k.clocks;
   nodes = recover_nodes N b settled k.cuts k.nodes;

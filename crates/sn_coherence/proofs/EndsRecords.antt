@@ -3,12 +3,12 @@ use Rattle.std.proofs.Common.{◌≡◌, ℕ, true, arith}
 use Rattle.std.proofs.lemmas.Bool.Decides.{nat_tests}
 use Rattle.sn_coherence.specs.Block.{Block, Content}
 use Rattle.sn_coherence.specs.OtherEvents.{start, recover}
-use Rattle.sn_coherence.specs.Kept.{Clocks, Nodes, Cuts, AllSentences, is_settled}
+use Rattle.sn_coherence.specs.Invariant.{Clocks, Nodes, Cuts, BlockInvariant, is_settled}
 use Rattle.sn_coherence.specs.Records.{Records, rolls_back, no_records}
-use Rattle.sn_coherence.specs.KeptRecords.{Reports, Contents, Accesses, CutContents, KeptRecords}
+use Rattle.sn_coherence.specs.RecordsInvariant.{Reports, Contents, Accesses, CutContents, RecordsInvariant}
 use Rattle.sn_coherence.proofs.Ends.{point_settled}
 
-pub start_recorded : (home : ℕ) (v : Content) → KeptRecords (start home v) (no_records v)
+pub start_recorded : (home : ℕ) (v : Content) → RecordsInvariant (start home v) (no_records v)
 start_recorded home v = record {
   reports = grind (arith, nat_tests);
   contents = grind (arith, nat_tests);
@@ -30,7 +30,7 @@ module _ (N : ℕ) (b : Block) (r : Records) where
   recover_cut_contents : CutContents b r → CutContents (recover N b) (rolls_back r N b.point)
   recover_cut_contents d = grind (arith, nat_tests)
 
-  pub recover_recorded : AllSentences N b → KeptRecords b r → KeptRecords (recover N b) (rolls_back r N b.point)
+  pub recover_recorded : BlockInvariant N b → RecordsInvariant b r → RecordsInvariant (recover N b) (rolls_back r N b.point)
   recover_recorded k v = record {
     reports = recover_reports v.reports;
     contents = recover_contents v.contents v.cut_contents;

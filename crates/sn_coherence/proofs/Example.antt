@@ -3,11 +3,11 @@ use Rattle.std.proofs.Common.{◌≡◌, ℕ, ◌≤◌, Bool, true, false, List
 use Rattle.std.specs.Prelude.{nat_le}
 use Rattle.std.proofs.lemmas.Bool.Decides.{nat_tests}
 use Rattle.sn_coherence.specs.Block.{Block}
-use Rattle.sn_coherence.specs.Kept.{count}
+use Rattle.sn_coherence.specs.Invariant.{count}
 use Rattle.sn_coherence.specs.Events.{Event, Lists, after}
-use Rattle.sn_coherence.specs.Records.{Records, no_records, recorded}
+use Rattle.sn_coherence.specs.Records.{Records, no_records, records_after_event}
 use Rattle.sn_coherence.specs.Runs.{CanRun, block_after, records_after}
-use Rattle.sn_coherence.specs.Example.{example_start, written_and_read, hand_over, handed_over, lose_and_recover, recovered, EndsHandedOver}
+use Rattle.sn_coherence.specs.Example.{example_start, written_and_read, hand_over, handed_over, lose_and_recover, events_with_recovery, EndsHandedOver}
 use Rattle.sn_coherence.specs.Example.{EndsRecovered}
 
 infixr 10 ◌⨾◌
@@ -18,7 +18,7 @@ a ⨾ b = (a, b)
 run_append : (N : ℕ) (b : Block) (r : Records) (es fs : List Event) → CanRun N b r es →
     CanRun N (block_after N b es) (records_after N b r es) fs → CanRun N b r (es ++ fs)
 run_append N b r [] fs c d = d
-run_append N b r (e ∷ es) fs c d = (c.0, run_append N (after N b e) (recorded N b r e) es fs c.1 d)
+run_append N b r (e ∷ es) fs c d = (c.0, run_append N (after N b e) (records_after_event N b r e) es fs c.1 d)
 
 -- nobody is listed
 none_listed : (f : ℕ → Bool) → f 0 ≡ false → f 1 ≡ false → Lists 2 f (λ k. 0) 0
@@ -57,7 +57,7 @@ handed_over_runs = run_append 2 example_start (no_records (5 ∷ [])) written_an
     tt
     )
 
-pub recovered_runs : CanRun 2 example_start (no_records (5 ∷ [])) recovered
+pub recovered_runs : CanRun 2 example_start (no_records (5 ∷ [])) events_with_recovery
 recovered_runs = run_append 2 example_start (no_records (5 ∷ [])) written_and_read lose_and_recover written_and_read_runs (
     (low refl, low refl) ⨾
     (low refl, low refl) ⨾
@@ -83,5 +83,5 @@ handed_over_ends = record {
   third = (refl, refl, refl, refl, refl);
 }
 
-pub recovered_ends : EndsRecovered (block_after 2 example_start recovered)
+pub recovered_ends : EndsRecovered (block_after 2 example_start events_with_recovery)
 recovered_ends = record { point = refl; line = (refl, refl, refl); owner = (refl, refl) }

@@ -4,10 +4,10 @@ use Rattle.std.proofs.Common.{None, refl, ap, ◌∙◌, inl, inr, arith}
 use Rattle.std.specs.Prelude.{nat_le, nat_eq, if◌then◌else◌}
 use Rattle.std.specs.Option.{option_map}
 use Rattle.std.proofs.lemmas.Bool.Decides.{nat_tests}
-use Rattle.log_buffer.specs.Log.{LogEntry, Old, is_home_side, is_of_side, is_about, earlier, entry_at, has_entry, noted, entries_from}
+use Rattle.log_buffer.specs.Log.{LogEntry, Old, is_home_side, is_of_side, is_about, earlier, entry_at, has_entry, log_with_note, entries_from}
 use Rattle.log_buffer.specs.Log.{logged_to}
-use Rattle.sn_coherence.specs.Block.{above, freed, newest_freed}
-use Rattle.sn_coherence.specs.Log.{told, told_at, NoteLaw, NoNoteLaw, FreeLaw}
+use Rattle.sn_coherence.specs.Block.{above, freed_below_cut, newest_freed}
+use Rattle.sn_coherence.specs.Log.{old_or_now, told_at, NoteLaw, NoNoteLaw, FreeLaw}
 
 -- above the newest entry there is none
 none_step : (c : Bool) (e : LogEntry) (j m : ℕ) (o : Option LogEntry) → max (if c then e.interval + 1 else 0) m ≤ j → (m ≤ j → o ≡ None) →
@@ -52,17 +52,17 @@ entry_at-push (e ∷ es) f s b j l =
 -- where there is an entry of interval i, what is now plays no part at the cuts up to i
 some_step : (A : Type 0) (says : Old → A) (c : Bool) (e : LogEntry) (h : Bool) (i j : ℕ) (o : Option LogEntry) (x y : A) →
     ((c && nat_eq e.interval i) || h) ≡ true → j ≤ i →
-    (h ≡ true → told says (option_map (λ f. f.old) o) x ≡ told says (option_map (λ f. f.old) o) y) →
-    told says (option_map (λ f. f.old) (if c && nat_le j e.interval then Some (earlier e o) else o)) x
-    ≡ told says (option_map (λ f. f.old) (if c && nat_le j e.interval then Some (earlier e o) else o)) y
+    (h ≡ true → old_or_now says (option_map (λ f. f.old) o) x ≡ old_or_now says (option_map (λ f. f.old) o) y) →
+    old_or_now says (option_map (λ f. f.old) (if c && nat_le j e.interval then Some (earlier e o) else o)) x
+    ≡ old_or_now says (option_map (λ f. f.old) (if c && nat_le j e.interval then Some (earlier e o) else o)) y
 some_step A says c e h i j o x y t l r = chosen (c && nat_le j e.interval) refl
   where
     late : (c && nat_le j e.interval) ≡ false → h ≡ true
     late d = grind (arith, nat_tests)
 
     chosen : (d : Bool) → (c && nat_le j e.interval) ≡ d →
-        told says (option_map (λ f. f.old) (if d then Some (earlier e o) else o)) x
-        ≡ told says (option_map (λ f. f.old) (if d then Some (earlier e o) else o)) y
+        old_or_now says (option_map (λ f. f.old) (if d then Some (earlier e o) else o)) x
+        ≡ old_or_now says (option_map (λ f. f.old) (if d then Some (earlier e o) else o)) y
     chosen true d = refl
     chosen false d = r (late d)
 
@@ -74,8 +74,8 @@ told_at-entry A says (e ∷ es) i s b j x y h l =
 
 -- an entry put last
 told_first : (A : Type 0) (says : Old → A) (o : Option LogEntry) (f : LogEntry) (d : Bool) (x : A) →
-    told says (option_map (λ e. e.old) (first_entry o (if d then Some f else None))) x
-    ≡ told says (option_map (λ e. e.old) o) (cond d (says f.old) x)
+    old_or_now says (option_map (λ e. e.old) (first_entry o (if d then Some f else None))) x
+    ≡ old_or_now says (option_map (λ e. e.old) o) (cond d (says f.old) x)
 told_first A says None f true x = refl
 told_first A says None f false x = refl
 told_first A says (Some e) f d x = refl
@@ -84,7 +84,7 @@ pub told_at-push : (A : Type 0) (says : Old → A) (es : List LogEntry) (f : Log
     logged_to es s b ≤ f.interval + 1 →
     told_at says (es ++ f ∷ []) s b x j ≡ told_at says es s b (cond (is_about s b f && nat_le j f.interval) (says f.old) x) j
 told_at-push A says es f s b j x l =
-    ap (λ o. told says (option_map (λ e. e.old) o) x) (entry_at-push es f s b j l)
+    ap (λ o. old_or_now says (option_map (λ e. e.old) o) x) (entry_at-push es f s b j l)
     ∙ told_first A says (entry_at es s b j) f (is_about s b f && nat_le j f.interval) x
 
 newest_step : (c d : Bool) (m n i k : ℕ) → n ≡ max m (if d then i else 0) →
@@ -150,7 +150,7 @@ module _ (A : Type 0) (says : Old → A) (es : List LogEntry) (i b : ℕ) (old :
   new_entry = record { interval = i; block = b; old = old }
 
   note_cuts : (now new : A) → logged_to es (is_home_side old) b ≤ i + 1 → says old ≡ now → (j : ℕ) →
-      told_at says (noted es i b old) (is_home_side old) b new j ≡ above (told_at says es (is_home_side old) b now) i new j
+      told_at says (log_with_note es i b old) (is_home_side old) b new j ≡ above (told_at says es (is_home_side old) b now) i new j
   note_cuts now new l e j =
       chosen A (λ fs. told_at says fs (is_home_side old) b new j) (has_entry es i (is_home_side old) b) es (es ++ new_entry ∷ []) ∙
       either (has_entry es i (is_home_side old) b) refl
@@ -162,7 +162,7 @@ module _ (A : Type 0) (says : Old → A) (es : List LogEntry) (i b : ℕ) (old :
       high t = grind (arith, nat_tests)
 
       none : (x y : A) → nat_le j i ≡ false → told_at says es (is_home_side old) b x j ≡ x
-      none x y t = ap (λ o. told says (option_map (λ f. f.old) o) x) (entry_at-above es (is_home_side old) b j (high t))
+      none x y t = ap (λ o. old_or_now says (option_map (λ f. f.old) o) x) (entry_at-above es (is_home_side old) b j (high t))
 
       there : (t : Bool) → nat_le j i ≡ t → has_entry es i (is_home_side old) b ≡ true →
           told_at says es (is_home_side old) b new j ≡ cond t (told_at says es (is_home_side old) b now j) new
@@ -185,7 +185,7 @@ module _ (A : Type 0) (says : Old → A) (es : List LogEntry) (i b : ℕ) (old :
           told_at-push A says es new_entry (is_home_side old) b j new l
           ∙ (ap (λ t. told_at says es (is_home_side old) b (cond t (says old) new) j) about ∙ added (nat_le j i) refl)
 
-  note_newest : logged_to es (is_home_side old) b ≤ i + 1 → logged_to (noted es i b old) (is_home_side old) b ≡ i + 1
+  note_newest : logged_to es (is_home_side old) b ≤ i + 1 → logged_to (log_with_note es i b old) (is_home_side old) b ≡ i + 1
   note_newest l =
       chosen ℕ (λ fs. logged_to fs (is_home_side old) b) (has_entry es i (is_home_side old) b) es (es ++ new_entry ∷ [])
       ∙ either (has_entry es i (is_home_side old) b) refl
@@ -196,19 +196,19 @@ module _ (A : Type 0) (says : Old → A) (es : List LogEntry) (i b : ℕ) (old :
       either false h = grind (arith, l, logged_to-push es new_entry (is_home_side old) b, about_own old i b)
 
   note_others : (s : Bool) (o j : ℕ) (was : A) → (s ≢ is_home_side old) ⊎ (o ≢ b) →
-      told_at says (noted es i b old) s o was j ≡ told_at says es s o was j
+      told_at says (log_with_note es i b old) s o was j ≡ told_at says es s o was j
   note_others s o j was n =
       chosen A (λ fs. told_at says fs s o was j) (has_entry es i (is_home_side old) b) es (es ++ new_entry ∷ [])
       ∙ either (has_entry es i (is_home_side old) b)
     where
       added : told_at says (es ++ new_entry ∷ []) s o was j ≡ told_at says es s o was j
-      added = ap (λ p. told says (option_map (λ e. e.old) p) was) (entry_at-other es new_entry s o j (about_other old i b s o n))
+      added = ap (λ p. old_or_now says (option_map (λ e. e.old) p) was) (entry_at-other es new_entry s o j (about_other old i b s o n))
 
       either : (h : Bool) → cond h (told_at says es s o was j) (told_at says (es ++ new_entry ∷ []) s o was j) ≡ told_at says es s o was j
       either true = refl
       either false = added
 
-  note_others_newest : (s : Bool) (o : ℕ) → (s ≢ is_home_side old) ⊎ (o ≢ b) → logged_to (noted es i b old) s o ≡ logged_to es s o
+  note_others_newest : (s : Bool) (o : ℕ) → (s ≢ is_home_side old) ⊎ (o ≢ b) → logged_to (log_with_note es i b old) s o ≡ logged_to es s o
   note_others_newest s o n =
       chosen ℕ (λ fs. logged_to fs s o) (has_entry es i (is_home_side old) b) es (es ++ new_entry ∷ [])
       ∙ either (has_entry es i (is_home_side old) b)
@@ -227,7 +227,7 @@ note_law A says es i block old now new l e = record {
 }
 
 pub no_note_law : (A : Type 0) (says : Old → A) (es : List LogEntry) (home_side : Bool) (block : ℕ) → NoNoteLaw A says es home_side block
-no_note_law A says es s b j now l = ap (λ o. told says (option_map (λ f. f.old) o) now) (entry_at-above es s b j l)
+no_note_law A says es s b j now l = ap (λ o. old_or_now says (option_map (λ f. f.old) o) now) (entry_at-above es s b j l)
 
 -- the entries from k on say at cut j what all say at the later of both
 free_step : (c : Bool) (e : LogEntry) (k j : ℕ) (o r : Option LogEntry) → r ≡ o →
@@ -261,12 +261,12 @@ logged_to-free k (e ∷ es) s b =
     filter_newest (nat_le k e.interval) e (entries_from k es) s b
     ∙ newest_free_step (is_about s b e) e k (logged_to es s b) (logged_to (entries_from k es) s b) (logged_to-free k es s b)
 
-freed_later : (A : Type 0) (f : ℕ → A) (k j : ℕ) → f (max j k) ≡ freed f k j
+freed_later : (A : Type 0) (f : ℕ → A) (k j : ℕ) → f (max j k) ≡ freed_below_cut f k j
 freed_later A f k j = grind (arith, nat_tests)
 
 pub free_law : (A : Type 0) (says : Old → A) (es : List LogEntry) (k : ℕ) (home_side : Bool) (block : ℕ) (now : A) →
     FreeLaw A says es k home_side block now
 free_law A says es k s b now = record {
-  cuts = λ j. ap (λ o. told says (option_map (λ f. f.old) o) now) (entry_at-free k es s b j) ∙ freed_later A (told_at says es s b now) k j;
+  cuts = λ j. ap (λ o. old_or_now says (option_map (λ f. f.old) o) now) (entry_at-free k es s b j) ∙ freed_later A (told_at says es s b now) k j;
   newest = logged_to-free k es s b;
 }

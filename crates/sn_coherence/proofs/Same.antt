@@ -2,9 +2,9 @@
 use Rattle.std.proofs.Common.{◌≡◌, ℕ, subst, sym}
 use mathlib.Core.Path.{fun_ext}
 use Rattle.sn_coherence.specs.Block.{Block}
-use Rattle.sn_coherence.specs.Kept.{AllSentences}
+use Rattle.sn_coherence.specs.Invariant.{BlockInvariant}
 use Rattle.sn_coherence.specs.Records.{Records}
-use Rattle.sn_coherence.specs.KeptRecords.{KeptRecords}
+use Rattle.sn_coherence.specs.RecordsInvariant.{RecordsInvariant}
 use Rattle.sn_coherence.specs.Same.{IsSame}
 
 pub same_block : (a b : Block) → IsSame a b → a ≡ b
@@ -40,8 +40,8 @@ same_block a b s = λ i. record {
   framed = fun_ext (λ n. fun_ext (s.framed n)) i;
 }
 
-pub same_kept : (N : ℕ) (a b : Block) → IsSame a b → AllSentences N b → AllSentences N a
-same_kept N a b s k = subst (AllSentences N) (sym (same_block a b s)) k
+pub same_kept : (N : ℕ) (a b : Block) → IsSame a b → BlockInvariant N b → BlockInvariant N a
+same_kept N a b s k = subst (BlockInvariant N) (sym (same_block a b s)) k
 
-pub same_kept_records : (a b : Block) (r : Records) → IsSame a b → KeptRecords b r → KeptRecords a r
-same_kept_records a b r s k = subst (λ x. KeptRecords x r) (sym (same_block a b s)) k
+pub same_kept_records : (a b : Block) (r : Records) → IsSame a b → RecordsInvariant b r → RecordsInvariant a r
+same_kept_records a b r s k = subst (λ x. RecordsInvariant x r) (sym (same_block a b s)) k

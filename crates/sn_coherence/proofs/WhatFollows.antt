@@ -3,11 +3,11 @@ use Rattle.std.proofs.Common.{◌≡◌, ◌≢◌, ℕ, ◌≤◌, true, arith}
 use Rattle.std.proofs.lemmas.Bool.Decides.{nat_tests}
 use Rattle.sn_coherence.specs.Block.{Block}
 use Rattle.sn_coherence.specs.OtherEvents.{recover}
-use Rattle.sn_coherence.specs.Kept.{Clocks, Nodes, Stages, Requests, Owners, Acknowledgements, Sharing, Logs, Cuts, AllSentences, count}
-use Rattle.sn_coherence.specs.Kept.{is_settled}
+use Rattle.sn_coherence.specs.Invariant.{Clocks, Nodes, Stages, Requests, Owners, Acknowledgements, Sharing, Logs, Cuts, BlockInvariant, count}
+use Rattle.sn_coherence.specs.Invariant.{is_settled}
 use Rattle.sn_coherence.specs.Events.{NothingUnfinished}
 use Rattle.sn_coherence.specs.Records.{Records, rolls_back}
-use Rattle.sn_coherence.specs.KeptRecords.{Contents, Accesses, CutContents, KeptRecords}
+use Rattle.sn_coherence.specs.RecordsInvariant.{Contents, Accesses, CutContents, RecordsInvariant}
 use Rattle.sn_coherence.specs.Consequences.{MeetsRows, MeetsNotes, HasOneHolder, HasContent, NoneBegun, IsLegal, IsRestored}
 use Rattle.sn_coherence.proofs.Counts.{count_zero}
 use Rattle.sn_coherence.proofs.Ends.{point_settled}
@@ -58,26 +58,26 @@ module _ (N : ℕ) (b : Block) where
   restored : (r : Records) → is_settled b b.point ≡ true → Cuts b → CutContents b r → IsRestored N (recover N b) (rolls_back r N b.point)
   restored r settled u d = grind (arith, nat_tests, u.one, u.held)
 
-  pub kept_meets_rows : N ≤ 16 → AllSentences N b → MeetsRows b
+  pub kept_meets_rows : N ≤ 16 → BlockInvariant N b → MeetsRows b
   kept_meets_rows few k = meets_rows few k.stages k.requests k.owners k.waits k.sharing k.nodes
 
-  pub kept_meets_notes : AllSentences N b → MeetsNotes b
+  pub kept_meets_notes : BlockInvariant N b → MeetsNotes b
   kept_meets_notes k = meets_notes k.stages k.owners k.logs
 
-  pub kept_one_holder : AllSentences N b → (j : ℕ) → b.point ≤ j → NoneBegun b j → HasOneHolder N b j
+  pub kept_one_holder : BlockInvariant N b → (j : ℕ) → b.point ≤ j → NoneBegun b j → HasOneHolder N b j
   kept_one_holder k = one_holder k.stages k.nodes k.cuts
 
-  pub kept_content : (r : Records) → KeptRecords b r → (j : ℕ) → b.point ≤ j → HasContent b r j
+  pub kept_content : (r : Records) → RecordsInvariant b r → (j : ℕ) → b.point ≤ j → HasContent b r j
   kept_content r v = content r v.cut_contents
 
-  pub kept_legal : (r : Records) → KeptRecords b r → IsLegal N b r
+  pub kept_legal : (r : Records) → RecordsInvariant b r → IsLegal N b r
   kept_legal r v = legal r v.contents v.accesses
 
-  pub kept_finished : AllSentences N b → NothingUnfinished N b b.point
+  pub kept_finished : BlockInvariant N b → NothingUnfinished N b b.point
   kept_finished k = finished k.clocks
 
-  pub kept_point : AllSentences N b → HasOneHolder N b b.point
+  pub kept_point : BlockInvariant N b → HasOneHolder N b b.point
   kept_point k = one_holder k.stages k.nodes k.cuts b.point (omega arith) k.clocks.begun_point
 
-  pub kept_restored : (r : Records) → AllSentences N b → KeptRecords b r → IsRestored N (recover N b) (rolls_back r N b.point)
+  pub kept_restored : (r : Records) → BlockInvariant N b → RecordsInvariant b r → IsRestored N (recover N b) (rolls_back r N b.point)
   kept_restored r k v = restored r (point_settled N b k.clocks k.stages) k.cuts v.cut_contents

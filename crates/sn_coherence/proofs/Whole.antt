@@ -4,7 +4,7 @@ use Rattle.std.proofs.lemmas.Bool.Decides.{nat_tests}
 use Rattle.sn_coherence.specs.Block.{Block, Kind, Move, Body, DataM, UpgOk, InvAck, Unblock, is_to_home}
 use Rattle.sn_coherence.specs.CacheRows.{data_modified, upgrade_granted, acknowledge}
 use Rattle.sn_coherence.specs.HomeRows.{unblock, is_move}
-use Rattle.sn_coherence.specs.Kept.{AllSentences, Requests, count}
+use Rattle.sn_coherence.specs.Invariant.{BlockInvariant, Requests, count}
 use Rattle.sn_coherence.specs.Events.{Event, ForwardRead, ForwardWrite, Invalidate, DataShared, DataModified, UpgradeGranted, Acknowledge}
 use Rattle.sn_coherence.specs.Events.{PutGoes, PutIsDone, DataExclusive, ReadAtHome, ReadAtOwner, Takes, MovesOwnership, Upgrades, Unblocks}
 use Rattle.sn_coherence.specs.Events.{PutBegins, PutIsStale, PutDataComes, GrantExclusive, DeliverReady, DeliverAdvance, Lose}
@@ -26,8 +26,8 @@ use Rattle.sn_coherence.proofs.EachRow.{end_put_elsewhere_kept, numbers_elsewher
 use Rattle.sn_coherence.proofs.EachRow.{report_kept, validate_kept}
 
 -- a row with two ends
-chosen_kept : (N : ℕ) (t : Bool) (x y : Block) → (t ≡ true → AllSentences N x) → (t ≡ false → AllSentences N y) →
-    AllSentences N (cond t x y)
+chosen_kept : (N : ℕ) (t : Bool) (x y : Block) → (t ≡ true → BlockInvariant N x) → (t ≡ false → BlockInvariant N y) →
+    BlockInvariant N (cond t x y)
 chosen_kept N true x y first second = first refl
 chosen_kept N false x y first second = second refl
 
@@ -47,21 +47,21 @@ stays k e = grind arith
 pub at : (b : Block) (i : ℕ) (body : Body) → Requests b → is_to_home body ≡ true → Arrives b i body → At b i body
 at b i body q h a = (a.0, grind (arith, q.to_home i))
 
-module _ (N : ℕ) (b : Block) (i : ℕ) (kept : AllSentences N b) where
-  data_modified_kept : Arrives b i DataM → AllSentences N (data_modified b i)
+module _ (N : ℕ) (b : Block) (i : ℕ) (kept : BlockInvariant N b) where
+  data_modified_kept : Arrives b i DataM → BlockInvariant N (data_modified b i)
   data_modified_kept a = chosen_kept N _ _ _
       (λ e. data_modified_complete_kept N b i kept a (equal _ _ e))
       (λ e. data_modified_open_kept N b i kept a (unequal _ _ e))
 
-  upgrade_granted_kept : Arrives b i UpgOk → AllSentences N (upgrade_granted b i)
+  upgrade_granted_kept : Arrives b i UpgOk → BlockInvariant N (upgrade_granted b i)
   upgrade_granted_kept a = chosen_kept N _ _ _
       (λ e. upgrade_granted_complete_kept N b i kept a (equal _ _ e))
       (λ e. upgrade_granted_open_kept N b i kept a (unequal _ _ e))
 
-  acknowledge_kept : Arrives b i InvAck → AllSentences N (acknowledge b i)
+  acknowledge_kept : Arrives b i InvAck → BlockInvariant N (acknowledge b i)
   acknowledge_kept a = chosen_kept N _ _ _ (λ e. acknowledge_complete_kept N b i kept a e) (λ e. acknowledge_open_kept N b i kept a e)
 
-  unblock_kept : At b i Unblock → AllSentences N (unblock b i)
+  unblock_kept : At b i Unblock → BlockInvariant N (unblock b i)
   unblock_kept a = chosen_kept N _ _ _
       (λ e. unblock_move_kept N b i kept a (moves _ e))
       (λ e. unblock_other_kept N b i kept a (stays _ e))
@@ -72,7 +72,7 @@ module _ (N : ℕ) (b : Block) (i : ℕ) (kept : AllSentences N b) where
       low : (x : ℕ) → other_sharers b i x ≡ true → x < N
       low x s = grind (arith, nat_tests, kept.nodes.sharer_low x)
 
-pub event_kept : (N : ℕ) (b : Block) (e : Event) → AllSentences N b → Allows N b e → AllSentences N (after N b e)
+pub event_kept : (N : ℕ) (b : Block) (e : Event) → BlockInvariant N b → Allows N b e → BlockInvariant N (after N b e)
 event_kept N b (ForwardRead i) k a = forward_read_kept N b i k a
 event_kept N b (ForwardWrite i) k a = forward_write_kept N b i k a
 event_kept N b (Invalidate i) k a = invalidate_kept N b i k a

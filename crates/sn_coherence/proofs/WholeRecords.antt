@@ -3,7 +3,7 @@ use Rattle.std.proofs.Common.{◌≡◌, ℕ, ◌+◌, ◌<◌, Bool, true, fals
 use Rattle.sn_coherence.specs.Block.{Block, DataM, UpgOk, InvAck, Unblock}
 use Rattle.sn_coherence.specs.CacheRows.{data_modified, upgrade_granted, acknowledge}
 use Rattle.sn_coherence.specs.HomeRows.{unblock}
-use Rattle.sn_coherence.specs.Kept.{AllSentences}
+use Rattle.sn_coherence.specs.Invariant.{BlockInvariant}
 use Rattle.sn_coherence.specs.Events.{Event, ForwardRead, ForwardWrite, Invalidate, DataShared, DataModified, UpgradeGranted, Acknowledge}
 use Rattle.sn_coherence.specs.Events.{PutGoes, PutIsDone, DataExclusive, ReadAtHome, ReadAtOwner, Takes, MovesOwnership, Upgrades, Unblocks}
 use Rattle.sn_coherence.specs.Events.{PutBegins, PutIsStale, PutDataComes, GrantExclusive, DeliverReady, DeliverAdvance, Lose}
@@ -11,8 +11,8 @@ use Rattle.sn_coherence.specs.Events.{BeginReadMiss, BeginWriteMiss, BeginPut, B
 use Rattle.sn_coherence.specs.Events.{EndPutElsewhere, NumbersElsewhere, Load, LoadReserved, Store, StoreConditionalDone}
 use Rattle.sn_coherence.specs.Events.{StoreConditionalUndone, EvictShared, Edge, Report, Validate, Recover, Allows, NothingUnfinished}
 use Rattle.sn_coherence.specs.Events.{after, Arrives}
-use Rattle.sn_coherence.specs.Records.{Records, recorded, MayHappen}
-use Rattle.sn_coherence.specs.KeptRecords.{KeptRecords, Reports}
+use Rattle.sn_coherence.specs.Records.{Records, records_after_event, MayHappen}
+use Rattle.sn_coherence.specs.RecordsInvariant.{RecordsInvariant, Reports}
 use Rattle.sn_coherence.proofs.Rows.{At}
 use Rattle.sn_coherence.proofs.Whole.{at, equal, unequal, moves, stays, no_others}
 use Rattle.sn_coherence.proofs.EachRowRecords.{forward_read_recorded, forward_write_recorded, invalidate_recorded, data_shared_recorded}
@@ -31,13 +31,13 @@ use Rattle.sn_coherence.proofs.EachRowRecords.{deliver_ready_recorded}
 use Rattle.sn_coherence.proofs.EndsRecords.{recover_recorded}
 
 -- a row with two ends
-chosen_recorded : (t : Bool) (x y : Block) (r : Records) → (t ≡ true → KeptRecords x r) → (t ≡ false → KeptRecords y r) →
-    KeptRecords (cond t x y) r
+chosen_recorded : (t : Bool) (x y : Block) (r : Records) → (t ≡ true → RecordsInvariant x r) → (t ≡ false → RecordsInvariant y r) →
+    RecordsInvariant (cond t x y) r
 chosen_recorded true x y r first second = first refl
 chosen_recorded false x y r first second = second refl
 
 -- what every node has reported is unfinished nowhere
-pub nothing_unfinished : (N : ℕ) (b : Block) (r : Records) → AllSentences N b → Reports b r → ((n : ℕ) → n < N → b.point < r.reported n) →
+pub nothing_unfinished : (N : ℕ) (b : Block) (r : Records) → BlockInvariant N b → Reports b r → ((n : ℕ) → n < N → b.point < r.reported n) →
     NothingUnfinished N b (b.point + 1)
 nothing_unfinished N b r k p a = record {
   now = λ n l. grind (arith, a n l, p.reported n);
@@ -47,7 +47,7 @@ nothing_unfinished N b r k p a = record {
 }
 
 -- what the machine does the block allows
-pub allowed : (N : ℕ) (b : Block) (r : Records) (e : Event) → AllSentences N b → KeptRecords b r → MayHappen N b r e → Allows N b e
+pub allowed : (N : ℕ) (b : Block) (r : Records) (e : Event) → BlockInvariant N b → RecordsInvariant b r → MayHappen N b r e → Allows N b e
 allowed N b r (ForwardRead i) k v a = a
 allowed N b r (ForwardWrite i) k v a = a
 allowed N b r (Invalidate i) k v a = a
@@ -90,28 +90,28 @@ allowed N b r (Report n x) k v a = a
 allowed N b r Validate k v a = nothing_unfinished N b r k v.reports a
 allowed N b r Recover k v a = a
 
-module _ (N : ℕ) (b : Block) (r : Records) (i : ℕ) (k : AllSentences N b) (v : KeptRecords b r) where
-  data_modified_recorded : Arrives b i DataM → KeptRecords (data_modified b i) r
+module _ (N : ℕ) (b : Block) (r : Records) (i : ℕ) (k : BlockInvariant N b) (v : RecordsInvariant b r) where
+  data_modified_recorded : Arrives b i DataM → RecordsInvariant (data_modified b i) r
   data_modified_recorded a = chosen_recorded _ _ _ r
       (λ e. data_modified_complete_recorded N b r i k v a (equal _ _ e))
       (λ e. data_modified_open_recorded N b r i k v a (unequal _ _ e))
 
-  upgrade_granted_recorded : Arrives b i UpgOk → KeptRecords (upgrade_granted b i) r
+  upgrade_granted_recorded : Arrives b i UpgOk → RecordsInvariant (upgrade_granted b i) r
   upgrade_granted_recorded a = chosen_recorded _ _ _ r
       (λ e. upgrade_granted_complete_recorded N b r i k v a (equal _ _ e))
       (λ e. upgrade_granted_open_recorded N b r i k v a (unequal _ _ e))
 
-  acknowledge_recorded : Arrives b i InvAck → KeptRecords (acknowledge b i) r
+  acknowledge_recorded : Arrives b i InvAck → RecordsInvariant (acknowledge b i) r
   acknowledge_recorded a =
       chosen_recorded _ _ _ r (λ e. acknowledge_complete_recorded N b r i k v a e) (λ e. acknowledge_open_recorded N b r i k v a e)
 
-  unblock_recorded : At b i Unblock → KeptRecords (unblock b i) r
+  unblock_recorded : At b i Unblock → RecordsInvariant (unblock b i) r
   unblock_recorded a = chosen_recorded _ _ _ r
       (λ e. unblock_move_recorded N b r i k v a (moves _ e))
       (λ e. unblock_other_recorded N b r i k v a (stays _ e))
 
-pub event_recorded : (N : ℕ) (b : Block) (r : Records) (e : Event) → AllSentences N b → KeptRecords b r → MayHappen N b r e →
-    KeptRecords (after N b e) (recorded N b r e)
+pub event_recorded : (N : ℕ) (b : Block) (r : Records) (e : Event) → BlockInvariant N b → RecordsInvariant b r → MayHappen N b r e →
+    RecordsInvariant (after N b e) (records_after_event N b r e)
 event_recorded N b r (ForwardRead i) k v a = forward_read_recorded N b r i k v a
 event_recorded N b r (ForwardWrite i) k v a = forward_write_recorded N b r i k v a
 event_recorded N b r (Invalidate i) k v a = invalidate_recorded N b r i k v a

@@ -146,8 +146,8 @@ abbrev pub above : {A : Type 0} → (ℕ → A) → ℕ → A → ℕ → A
 above f k v j = cond (nat_le j k) (f j) v
 
 -- f from cut k on, and below it what it is at k: what freeing the entries below k leaves
-abbrev pub freed : {A : Type 0} → (ℕ → A) → ℕ → ℕ → A
-freed f k j = cond (nat_le k j) (f j) (f k)
+abbrev pub freed_below_cut : {A : Type 0} → (ℕ → A) → ℕ → ℕ → A
+freed_below_cut f k j = cond (nat_le k j) (f j) (f k)
 
 -- a newest entry after the entries below k are freed
 abbrev pub newest_freed : ℕ → ℕ → ℕ
@@ -314,8 +314,8 @@ putter_of m = cond (is_put_done m.body) m.to m.from
 abbrev pub others : (ℕ → Bool) → ℕ → ℕ → Bool
 others f r n = cond (n == r) false (f n)
 
-abbrev pub gone : Message
-gone = record { body = Gone; from = 0; to = 0; tag = 0; requester = 0; due = 0; number = 0; content = nothing }
+abbrev pub no_message : Message
+no_message = record { body = Gone; from = 0; to = 0; tag = 0; requester = 0; due = 0; number = 0; content = nothing }
 
 abbrev pub plain : Body → ℕ → ℕ → ℕ → Message
 plain body from to tag = record { body = body; from = from; to = to; tag = tag; requester = 0; due = 0; number = 0; content = nothing }
@@ -333,22 +333,22 @@ answer body from to tag due content =
     record { body = body; from = from; to = to; tag = tag; requester = 0; due = due; number = 0; content = content }
 
 -- the net without message i
-abbrev pub taken : Block → ℕ → ℕ → Message
-taken b i = set b.net i gone
+abbrev pub net_without : Block → ℕ → ℕ → Message
+net_without b i = set b.net i no_message
 
 -- the net without message i, and with m under the next number
-abbrev pub replaced : Block → ℕ → Message → ℕ → Message
-replaced b i m = set (set b.net i gone) b.next m
+abbrev pub net_with_reply : Block → ℕ → Message → ℕ → Message
+net_with_reply b i m = set (set b.net i no_message) b.next m
 
 -- the net without message i, with m under the next number and then `due` messages Inv to targets 0, 1, ..
 abbrev pub invalidates : Block → ℕ → Message → (ℕ → ℕ) → ℕ → ℕ → Message
 invalidates b i m targets due j =
-    cond (nat_lt j b.next) (set b.net i gone j)
+    cond (nat_lt j b.next) (set b.net i no_message j)
     (cond (j == b.next) m
-    (cond (nat_le j (b.next + due)) (forward Inv b.home (targets (j - (b.next + 1))) (b.now b.home) (b.net i).from 0) gone))
+    (cond (nat_le j (b.next + due)) (forward Inv b.home (targets (j - (b.next + 1))) (b.now b.home) (b.net i).from 0) no_message))
 
 -- the net with Advance k from node 0 to nodes 0, 1, .. below N
 abbrev pub tells_all : Block → ℕ → ℕ → ℕ → Message
 tells_all b N k j =
     cond (nat_lt j b.next) (b.net j)
-    (cond (nat_lt j (b.next + N)) (with_number Advance 0 (j - b.next) (b.now 0) k) gone)
+    (cond (nat_lt j (b.next + N)) (with_number Advance 0 (j - b.next) (b.now 0) k) no_message)

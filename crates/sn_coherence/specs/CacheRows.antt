@@ -2,14 +2,14 @@
 use Rattle.std.specs.Prelude.{ℕ, ◌+◌, true, false, ◌==◌, ◌&&◌, cond}
 use Rattle.sn_coherence.specs.Block.{Block, Miss, NoLine, Shared, Owned, Modified, Exclusive, NoPut, Given, Inside, Done, Message, DataS}
 use Rattle.sn_coherence.specs.Block.{DataM, InvAck, Unblock, PutData, is_write, set, set_row, above, nothing, no_miss, plain, with_number}
-use Rattle.sn_coherence.specs.Block.{answer, taken, replaced}
+use Rattle.sn_coherence.specs.Block.{answer, net_without, net_with_reply}
 
 -- FwdGetS for r, at the owner: the line is owned and no longer writable; DataS with the content to r.
 abbrev pub forward_read : Block → ℕ → Block
 forward_read b i =
     record b {
       line = set b.line (b.net i).to Owned;
-      net = replaced b i (answer DataS (b.net i).to (b.net i).requester (b.now (b.net i).to) 0 (b.content (b.net i).to));
+      net = net_with_reply b i (answer DataS (b.net i).to (b.net i).requester (b.now (b.net i).to) 0 (b.content (b.net i).to));
       next = b.next + 1;
       stage = Given;
       at = b.now (b.net i).to;
@@ -24,7 +24,7 @@ forward_write b i =
       holds = set_row b.holds (b.net i).to (above (b.holds (b.net i).to) (b.now (b.net i).to) false);
       held = set_row b.held (b.net i).to (above (b.held (b.net i).to) (b.now (b.net i).to) nothing);
       last = set b.last (b.net i).to (b.now (b.net i).to + 1);
-      net = replaced b i (answer DataM (b.net i).to (b.net i).requester (b.now (b.net i).to) (b.net i).due (b.content (b.net i).to));
+      net = net_with_reply b i (answer DataM (b.net i).to (b.net i).requester (b.now (b.net i).to) (b.net i).due (b.content (b.net i).to));
       next = b.next + 1;
       stage = Given;
       at = b.now (b.net i).to;
@@ -36,7 +36,7 @@ invalidate b i =
     record b {
       line = set b.line (b.net i).to NoLine;
       content = set b.content (b.net i).to nothing;
-      net = replaced b i (plain InvAck (b.net i).to (b.net i).requester (b.now (b.net i).to));
+      net = net_with_reply b i (plain InvAck (b.net i).to (b.net i).requester (b.now (b.net i).to));
       next = b.next + 1;
     }
 
@@ -55,7 +55,7 @@ data_shared b i =
       line = set b.line (b.net i).to Shared;
       content = set b.content (b.net i).to (b.net i).content;
       miss = set b.miss (b.net i).to no_miss;
-      net = replaced b i (unblocks b (b.net i).to (b.net i).tag);
+      net = net_with_reply b i (unblocks b (b.net i).to (b.net i).tag);
       next = b.next + 1;
       stage = Done;
     }
@@ -71,7 +71,7 @@ data_modified_open b i =
       held = set_row b.held (b.net i).to (above (b.held (b.net i).to) (b.net i).tag (b.net i).content);
       last = set b.last (b.net i).to ((b.net i).tag + 1);
       miss = set b.miss (b.net i).to (fixes (b.miss (b.net i).to) (b.net i).tag (b.net i).due);
-      net = taken b i;
+      net = net_without b i;
       stage = Inside;
     }
 
@@ -85,7 +85,7 @@ data_modified_complete b i =
       held = set_row b.held (b.net i).to (above (b.held (b.net i).to) (b.net i).tag (b.net i).content);
       last = set b.last (b.net i).to ((b.net i).tag + 1);
       miss = set b.miss (b.net i).to no_miss;
-      net = replaced b i (unblocks b (b.net i).to (b.net i).tag);
+      net = net_with_reply b i (unblocks b (b.net i).to (b.net i).tag);
       next = b.next + 1;
       stage = Done;
     }
@@ -98,7 +98,7 @@ abbrev pub upgrade_granted_open : Block → ℕ → Block
 upgrade_granted_open b i =
     record b {
       miss = set b.miss (b.net i).to (fixes (b.miss (b.net i).to) (b.net i).tag (b.net i).due);
-      net = taken b i;
+      net = net_without b i;
       stage = Inside;
     }
 
@@ -108,7 +108,7 @@ upgrade_granted_complete b i =
     record b {
       line = set b.line (b.net i).to Modified;
       miss = set b.miss (b.net i).to no_miss;
-      net = replaced b i (unblocks b (b.net i).to (b.net i).tag);
+      net = net_with_reply b i (unblocks b (b.net i).to (b.net i).tag);
       next = b.next + 1;
       stage = Done;
     }
@@ -121,7 +121,7 @@ abbrev pub acknowledge_open : Block → ℕ → Block
 acknowledge_open b i =
     record b {
       miss = set b.miss (b.net i).to (record (b.miss (b.net i).to) { acks = (b.miss (b.net i).to).acks + 1 });
-      net = taken b i;
+      net = net_without b i;
       waited = set b.waited (b.net i).from false;
     }
 
@@ -131,7 +131,7 @@ acknowledge_complete b i =
     record b {
       line = set b.line (b.net i).to (cond (is_write (b.miss (b.net i).to).want) Modified (b.line (b.net i).to));
       miss = set b.miss (b.net i).to no_miss;
-      net = replaced b i (unblocks b (b.net i).to (b.miss (b.net i).to).fixed);
+      net = net_with_reply b i (unblocks b (b.net i).to (b.miss (b.net i).to).fixed);
       next = b.next + 1;
       waited = set b.waited (b.net i).from false;
       stage = Done;
@@ -153,7 +153,7 @@ put_go b i =
       last = set b.last (b.net i).to (b.now (b.net i).to + 1);
       putting = set b.putting (b.net i).to NoPut;
       put_issued = set b.put_issued (b.net i).to 0;
-      net = replaced b i (answer PutData (b.net i).to b.home (b.now (b.net i).to) 0 (b.content (b.net i).to));
+      net = net_with_reply b i (answer PutData (b.net i).to b.home (b.now (b.net i).to) 0 (b.content (b.net i).to));
       next = b.next + 1;
       stage = Given;
       at = b.now (b.net i).to;
@@ -165,7 +165,7 @@ put_done b i =
     record b {
       putting = set b.putting (b.net i).to NoPut;
       put_issued = set b.put_issued (b.net i).to 0;
-      net = taken b i;
+      net = net_without b i;
     }
 
 -- DataE: that nothing was owned is noted under the message's tag; the line is Exclusive with the content;
@@ -179,7 +179,7 @@ data_exclusive b i =
       held = set_row b.held (b.net i).to (above (b.held (b.net i).to) (b.net i).tag (b.net i).content);
       last = set b.last (b.net i).to ((b.net i).tag + 1);
       miss = set b.miss (b.net i).to no_miss;
-      net = replaced b i (unblocks b (b.net i).to (b.net i).tag);
+      net = net_with_reply b i (unblocks b (b.net i).to (b.net i).tag);
       next = b.next + 1;
       stage = Done;
     }

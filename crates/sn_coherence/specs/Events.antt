@@ -10,7 +10,7 @@ use Rattle.sn_coherence.specs.HomeRows.{put_data, grant_exclusive}
 use Rattle.sn_coherence.specs.OtherEvents.{begin_read_miss, begin_write_miss, begin_put, begin_miss_elsewhere, end_miss_elsewhere}
 use Rattle.sn_coherence.specs.OtherEvents.{begin_put_elsewhere, end_put_elsewhere, numbers_elsewhere, store, evict_shared, edge, report}
 use Rattle.sn_coherence.specs.OtherEvents.{validate, lose, deliver_ready, deliver_advance, recover}
-use Rattle.sn_coherence.specs.Kept.{count}
+use Rattle.sn_coherence.specs.Invariant.{count}
 
 -- Deliveries name the message, and those that invalidate the targets and how many they are. Other events name the node.
 pub data Event : Type 0 where

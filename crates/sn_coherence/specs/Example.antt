@@ -32,8 +32,8 @@ lose_and_recover =
     Edge 1 ∷ Edge 0 ∷ BeginWriteMiss 0 ∷ MovesOwnership 8 (λ k. 0) 0 ∷ ForwardWrite 9 ∷ Lose 10 ∷
     Report 0 1 ∷ Report 1 1 ∷ DeliverReady 11 ∷ DeliverReady 12 ∷ Validate ∷ Recover ∷ []
 
-abbrev pub recovered : List Event
-recovered = written_and_read ++ lose_and_recover
+abbrev pub events_with_recovery : List Event
+events_with_recovery = written_and_read ++ lose_and_recover
 
 -- After the first run node 0 owns the block. At cut 0 the home has what it began with; at cut 1 node 1 has what it wrote;
 -- above, node 0 has what it wrote.

@@ -2,7 +2,7 @@
 -- `targets` and `due` are the sharers without r, in order, and how many they are.
 use Rattle.std.specs.Prelude.{ℕ, ◌+◌, Bool, true, false, cond}
 use Rattle.sn_coherence.specs.Block.{Block, Kind, Idle, Read, Take, Move, Upgrade, Put, Asked, Given, FwdGetS, FwdGetM, DataS, DataM, DataE}
-use Rattle.sn_coherence.specs.Block.{UpgOk, PutGo, PutDone, nothing, set, above, others, plain, forward, answer, taken, replaced}
+use Rattle.sn_coherence.specs.Block.{UpgOk, PutGo, PutDone, nothing, set, above, others, plain, forward, answer, net_without, net_with_reply}
 use Rattle.sn_coherence.specs.Block.{invalidates}
 
 -- GetS, the home owns and there are other sharers: a Read opens; r joins the sharers; DataS to r.
@@ -13,7 +13,7 @@ read_at_home b i =
       requester = (b.net i).from;
       begun = b.now b.home;
       sharers = set b.sharers (b.net i).from true;
-      net = replaced b i (answer DataS b.home (b.net i).from (b.now b.home) 0 b.home_content);
+      net = net_with_reply b i (answer DataS b.home (b.net i).from (b.now b.home) 0 b.home_content);
       next = b.next + 1;
       stage = Given;
       at = b.now b.home;
@@ -27,7 +27,7 @@ read_at_owner b i =
       requester = (b.net i).from;
       begun = b.now b.home;
       sharers = set b.sharers (b.net i).from true;
-      net = replaced b i (forward FwdGetS b.home b.owner (b.now b.home) (b.net i).from 0);
+      net = net_with_reply b i (forward FwdGetS b.home b.owner (b.now b.home) (b.net i).from 0);
       next = b.next + 1;
       stage = Asked;
     }
@@ -96,13 +96,13 @@ unblock_move b i =
       named = above b.named (b.net i).number (b.net i).from;
       home_held = above b.home_held (b.net i).number nothing;
       home_last = (b.net i).number + 1;
-      net = taken b i;
+      net = net_without b i;
       waited = λ n. false;
     }
 
 -- Unblock of any other transaction: it is closed.
 abbrev pub unblock_other : Block → ℕ → Block
-unblock_other b i = record b { kind = Idle; requester = 0; begun = 0; net = taken b i; waited = λ n. false }
+unblock_other b i = record b { kind = Idle; requester = 0; begun = 0; net = net_without b i; waited = λ n. false }
 
 abbrev pub is_move : Kind → Bool
 is_move Move = true
@@ -118,14 +118,14 @@ put_begins b i =
       kind = Put;
       requester = (b.net i).from;
       begun = b.now b.home;
-      net = replaced b i (plain PutGo b.home (b.net i).from (b.now b.home));
+      net = net_with_reply b i (plain PutGo b.home (b.net i).from (b.now b.home));
       next = b.next + 1;
       stage = Asked;
     }
 
 -- PutReq, r doesn't own: PutDone to r; nothing opens.
 abbrev pub put_is_stale : Block → ℕ → Block
-put_is_stale b i = record b { net = replaced b i (plain PutDone b.home (b.net i).from (b.now b.home)); next = b.next + 1 }
+put_is_stale b i = record b { net = net_with_reply b i (plain PutDone b.home (b.net i).from (b.now b.home)); next = b.next + 1 }
 
 -- PutData: that r owned is noted under the message's tag; the home owns the content; the transaction is closed.
 abbrev pub put_data : Block → ℕ → Block
@@ -141,7 +141,7 @@ put_data b i =
       named = above b.named (b.net i).tag 0;
       home_held = above b.home_held (b.net i).tag (b.net i).content;
       home_last = (b.net i).tag + 1;
-      net = taken b i;
+      net = net_without b i;
       waited = λ n. false;
     }
 
@@ -161,7 +161,7 @@ grant_exclusive b i =
       home_held = above b.home_held (b.now b.home) nothing;
       home_last = b.now b.home + 1;
       sharers = λ n. false;
-      net = replaced b i (answer DataE b.home (b.net i).from (b.now b.home) 0 b.home_content);
+      net = net_with_reply b i (answer DataE b.home (b.net i).from (b.now b.home) 0 b.home_content);
       next = b.next + 1;
       stage = Given;
       at = b.now b.home;

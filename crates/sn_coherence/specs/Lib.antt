@@ -3,9 +3,9 @@ pub mod CacheRows
 pub mod HomeRows
 pub mod OtherEvents
 pub mod Events
-pub mod Kept
+pub mod Invariant
 pub mod Records
-pub mod KeptRecords
+pub mod RecordsInvariant
 pub mod Consequences
 pub mod Runs
 pub mod Example

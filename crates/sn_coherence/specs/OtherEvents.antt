@@ -1,8 +1,8 @@
 -- The events of one block that are no delivery of a coherence message.
 use Rattle.std.specs.Prelude.{ℕ, ◌+◌, true, false, ◌==◌, nat_lt, max, cond}
 use Rattle.sn_coherence.specs.Block.{Block, Content, nothing, NoLine, Modified, Reads, Writes, Elsewhere, NoPut, Here, PutElsewhere}
-use Rattle.sn_coherence.specs.Block.{Idle, Asked, GetS, GetM, PutReq, Ready, has_frame, set, set_row, above, freed, newest_freed}
-use Rattle.sn_coherence.specs.Block.{no_miss, new_miss, gone, plain, with_number, taken, tells_all}
+use Rattle.sn_coherence.specs.Block.{Idle, Asked, GetS, GetM, PutReq, Ready, has_frame, set, set_row, above, freed_below_cut, newest_freed}
+use Rattle.sn_coherence.specs.Block.{no_miss, new_miss, no_message, plain, with_number, net_without, tells_all}
 
 -- Node n misses for a read: GetS to the home.
 abbrev pub begin_read_miss : Block → ℕ → Block
@@ -82,25 +82,25 @@ validate N b = record b { point = b.point + 1; net = tells_all b N (b.point + 1)
 
 -- Message i is lost. Where none has this number nothing changes.
 abbrev pub lose : Block → ℕ → Block
-lose b i = record b { net = taken b i }
+lose b i = record b { net = net_without b i }
 
 -- Ready at the controller: the block is as before.
 abbrev pub deliver_ready : Block → ℕ → Block
-deliver_ready b i = record b { net = taken b i }
+deliver_ready b i = record b { net = net_without b i }
 
 -- Advance k at a node: it knows the greater of k and what it knew, and frees the entries below k.
 abbrev pub deliver_advance : Block → ℕ → Block
 deliver_advance b i =
     record b {
       known = set b.known (b.net i).to (max (b.known (b.net i).to) (b.net i).number);
-      holds = set_row b.holds (b.net i).to (freed (b.holds (b.net i).to) (b.net i).number);
-      held = set_row b.held (b.net i).to (freed (b.held (b.net i).to) (b.net i).number);
+      holds = set_row b.holds (b.net i).to (freed_below_cut (b.holds (b.net i).to) (b.net i).number);
+      held = set_row b.held (b.net i).to (freed_below_cut (b.held (b.net i).to) (b.net i).number);
       last = set b.last (b.net i).to (newest_freed (b.last (b.net i).to) (b.net i).number);
-      named_home = λ j. cond ((b.net i).to == b.home) (freed b.named_home (b.net i).number j) (b.named_home j);
-      named = λ j. cond ((b.net i).to == b.home) (freed b.named (b.net i).number j) (b.named j);
-      home_held = λ j. cond ((b.net i).to == b.home) (freed b.home_held (b.net i).number j) (b.home_held j);
+      named_home = λ j. cond ((b.net i).to == b.home) (freed_below_cut b.named_home (b.net i).number j) (b.named_home j);
+      named = λ j. cond ((b.net i).to == b.home) (freed_below_cut b.named (b.net i).number j) (b.named j);
+      home_held = λ j. cond ((b.net i).to == b.home) (freed_below_cut b.home_held (b.net i).number j) (b.home_held j);
       home_last = cond ((b.net i).to == b.home) (newest_freed b.home_last (b.net i).number) b.home_last;
-      net = taken b i;
+      net = net_without b i;
     }
 
 -- A recovery of all N nodes: all is as it was at the point, and what was owned there is Modified.
@@ -121,7 +121,7 @@ recover N b =
       kind = Idle;
       requester = 0;
       begun = 0;
-      net = λ i. gone;
+      net = λ i. no_message;
       holds = λ n j. b.holds n b.point;
       held = λ n j. b.held n b.point;
       last = λ n. 0;
@@ -152,7 +152,7 @@ start home v =
       kind = Idle;
       requester = 0;
       begun = 0;
-      net = λ i. gone;
+      net = λ i. no_message;
       next = 1;
       holds = λ n j. false;
       held = λ n j. nothing;

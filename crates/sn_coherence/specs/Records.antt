@@ -68,20 +68,20 @@ no_records v =
     record { last_write = 0; last_access = λ n. 0; below = λ j. v; value = v; reserved = λ n. false; alone = λ n. false; reported = λ n. 0 }
 
 -- the records after an event
-abbrev pub recorded : ℕ → Block → Records → Event → Records
-recorded N b r (ForwardWrite i) = unreserves r (b.net i).to
-recorded N b r (Invalidate i) = unreserves r (b.net i).to
-recorded N b r (PutGoes i) = unreserves r (b.net i).to
-recorded N b r (DeliverReady i) = hears r (b.net i).from (b.net i).number
-recorded N b r (Load n) = loads r n (b.now n)
-recorded N b r (LoadReserved n) = loads_reserved r n (b.now n)
-recorded N b r (Store n v) = stores r n (b.now n) v
-recorded N b r (StoreConditionalDone n v) = stores_conditional r n (b.now n) v
-recorded N b r (StoreConditionalUndone n) = unreserves r n
-recorded N b r (EvictShared n) = unreserves r n
-recorded N b r (Edge n) = unreserves r n
-recorded N b r Recover = rolls_back r N b.point
-recorded N b r e = r
+abbrev pub records_after_event : ℕ → Block → Records → Event → Records
+records_after_event N b r (ForwardWrite i) = unreserves r (b.net i).to
+records_after_event N b r (Invalidate i) = unreserves r (b.net i).to
+records_after_event N b r (PutGoes i) = unreserves r (b.net i).to
+records_after_event N b r (DeliverReady i) = hears r (b.net i).from (b.net i).number
+records_after_event N b r (Load n) = loads r n (b.now n)
+records_after_event N b r (LoadReserved n) = loads_reserved r n (b.now n)
+records_after_event N b r (Store n v) = stores r n (b.now n) v
+records_after_event N b r (StoreConditionalDone n v) = stores_conditional r n (b.now n) v
+records_after_event N b r (StoreConditionalUndone n) = unreserves r n
+records_after_event N b r (EvictShared n) = unreserves r n
+records_after_event N b r (Edge n) = unreserves r n
+records_after_event N b r Recover = rolls_back r N b.point
+records_after_event N b r e = r
 
 -- when the machine does an event: an SC is done where the block is reserved, and a checkpoint is validated where every
 -- node has reported a number above the point

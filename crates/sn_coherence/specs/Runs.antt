@@ -2,13 +2,13 @@
 use Rattle.std.specs.Prelude.{◌≡◌, ◌≢◌, ℕ, ◌≤◌, true, false, List, [], ◌∷◌, ⊤}
 use Rattle.sn_coherence.specs.Block.{Block, NoLine, is_writable, is_here}
 use Rattle.sn_coherence.specs.Events.{Event, NothingUnfinished, after}
-use Rattle.sn_coherence.specs.Records.{Records, recorded, MayHappen}
+use Rattle.sn_coherence.specs.Records.{Records, records_after_event, MayHappen}
 use Rattle.sn_coherence.specs.Consequences.{MeetsRows, MeetsNotes, HasOneHolder, HasContent, NoneBegun, IsLegal}
 
 -- each event of the list can happen when its turn comes
 abbrev pub CanRun : ℕ → Block → Records → List Event → Type 0
 CanRun N b r [] = ⊤
-CanRun N b r (e ∷ es) = MayHappen N b r e × CanRun N (after N b e) (recorded N b r e) es
+CanRun N b r (e ∷ es) = MayHappen N b r e × CanRun N (after N b e) (records_after_event N b r e) es
 
 -- the block and its records after the list
 abbrev pub block_after : ℕ → Block → List Event → Block
@@ -17,7 +17,7 @@ block_after N b (e ∷ es) = block_after N (after N b e) es
 
 abbrev pub records_after : ℕ → Block → Records → List Event → Records
 records_after N b r [] = r
-records_after N b r (e ∷ es) = records_after N (after N b e) (recorded N b r e) es
+records_after N b r (e ∷ es) = records_after N (after N b e) (records_after_event N b r e) es
 
 -- What holds of a block at every moment.
 pub record IsCoherent (N : ℕ) (b : Block) (r : Records) : Type 0 where

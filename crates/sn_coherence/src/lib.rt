@@ -13,45 +13,45 @@
 ghost use Rattle.std.specs.Prelude.{ℕ, ◌+◌, ◌<◌, ◌≤◌, Bool, List, [], ◌∷◌};
 ghost use Rattle.sn_coherence.specs.Block.{Block, Content};
 ghost use Rattle.sn_coherence.specs.OtherEvents.{start, recover};
-ghost use Rattle.sn_coherence.specs.Kept.{AllSentences};
+ghost use Rattle.sn_coherence.specs.Invariant.{BlockInvariant};
 ghost use Rattle.sn_coherence.specs.Events.{Event, Validate, Allows, NothingUnfinished, after};
-ghost use Rattle.sn_coherence.specs.Records.{Records, no_records, rolls_back, recorded, MayHappen};
-ghost use Rattle.sn_coherence.specs.KeptRecords.{KeptRecords};
+ghost use Rattle.sn_coherence.specs.Records.{Records, no_records, rolls_back, records_after_event, MayHappen};
+ghost use Rattle.sn_coherence.specs.RecordsInvariant.{RecordsInvariant};
 ghost use Rattle.sn_coherence.specs.Consequences.{MeetsRows, MeetsNotes, HasOneHolder, HasContent, NoneBegun, IsRestored};
 ghost use Rattle.sn_coherence.specs.Same.{IsSame};
 ghost use Rattle.sn_coherence.specs.Log.{NoteLaws, NoNoteLaws, FreeLaws};
 ghost use Rattle.sn_coherence.specs.Runs.{CanRun, block_after, records_after, IsCoherent};
-ghost use Rattle.sn_coherence.specs.Example.{example_start, handed_over, recovered, EndsHandedOver, EndsRecovered};
+ghost use Rattle.sn_coherence.specs.Example.{example_start, handed_over, events_with_recovery, EndsHandedOver, EndsRecovered};
 
 /// At the start, when the block's home owns it and nobody has it, all sentences hold.
 pub fn start_is_kept()
-    ensures block { (N home : ℕ) (v : Content) → home < N → AllSentences N (start home v) }
-    ensures records { (home : ℕ) (v : Content) → KeptRecords (start home v) (no_records v) }
+    ensures block { (N home : ℕ) (v : Content) → home < N → BlockInvariant N (start home v) }
+    ensures records { (home : ℕ) (v : Content) → RecordsInvariant (start home v) (no_records v) }
 {}
 
 /// Every event that can happen keeps the sentences on the block. They know nothing of who accessed it.
 pub fn each_event_keeps()
-    ensures { (N : ℕ) (b : Block) (e : Event) → AllSentences N b → Allows N b e → AllSentences N (after N b e) }
+    ensures { (N : ℕ) (b : Block) (e : Event) → BlockInvariant N b → Allows N b e → BlockInvariant N (after N b e) }
 {}
 
 /// Every event that the machine does can happen to the block, and keeps the sentences on the records of accesses too.
 pub fn each_event_keeps_records()
-    ensures allowed { (N : ℕ) (b : Block) (r : Records) (e : Event) → AllSentences N b → KeptRecords b r → MayHappen N b r e →
+    ensures allowed { (N : ℕ) (b : Block) (r : Records) (e : Event) → BlockInvariant N b → RecordsInvariant b r → MayHappen N b r e →
         Allows N b e }
-    ensures kept { (N : ℕ) (b : Block) (r : Records) (e : Event) → AllSentences N b → KeptRecords b r → MayHappen N b r e →
-        KeptRecords (after N b e) (recorded N b r e) }
+    ensures kept { (N : ℕ) (b : Block) (r : Records) (e : Event) → BlockInvariant N b → RecordsInvariant b r → MayHappen N b r e →
+        RecordsInvariant (after N b e) (records_after_event N b r e) }
 {}
 
 /// What the sentences say of every moment: of deliveries, of notes, of cuts, of all that the block shows, of a validation
 /// that can happen, and of what a recovery leaves.
 pub fn consequences()
-    ensures rows { (N : ℕ) (b : Block) → N ≤ 16 → AllSentences N b → MeetsRows b }
-    ensures notes { (N : ℕ) (b : Block) → AllSentences N b → MeetsNotes b }
-    ensures holder { (N : ℕ) (b : Block) → AllSentences N b → (j : ℕ) → b.point ≤ j → NoneBegun b j → HasOneHolder N b j }
-    ensures coherent { (N : ℕ) (b : Block) (r : Records) → N ≤ 16 → AllSentences N b → KeptRecords b r → IsCoherent N b r }
-    ensures validated { (N : ℕ) (b : Block) (r : Records) → AllSentences N b → KeptRecords b r → MayHappen N b r Validate →
+    ensures rows { (N : ℕ) (b : Block) → N ≤ 16 → BlockInvariant N b → MeetsRows b }
+    ensures notes { (N : ℕ) (b : Block) → BlockInvariant N b → MeetsNotes b }
+    ensures holder { (N : ℕ) (b : Block) → BlockInvariant N b → (j : ℕ) → b.point ≤ j → NoneBegun b j → HasOneHolder N b j }
+    ensures coherent { (N : ℕ) (b : Block) (r : Records) → N ≤ 16 → BlockInvariant N b → RecordsInvariant b r → IsCoherent N b r }
+    ensures validated { (N : ℕ) (b : Block) (r : Records) → BlockInvariant N b → RecordsInvariant b r → MayHappen N b r Validate →
         NothingUnfinished N b (b.point + 1) × HasOneHolder N b (b.point + 1) × HasContent b r (b.point + 1) }
-    ensures restored { (N : ℕ) (b : Block) (r : Records) → AllSentences N b → KeptRecords b r →
+    ensures restored { (N : ℕ) (b : Block) (r : Records) → BlockInvariant N b → RecordsInvariant b r →
         IsRestored N (recover N b) (rolls_back r N b.point) }
 {}
 
@@ -65,13 +65,13 @@ pub fn every_run_is_coherent()
 pub fn some_runs_can_happen()
     ensures handed_over { CanRun 2 example_start (no_records (5 ∷ [])) handed_over
         × EndsHandedOver (block_after 2 example_start handed_over) }
-    ensures recovered { CanRun 2 example_start (no_records (5 ∷ [])) recovered × EndsRecovered (block_after 2 example_start recovered) }
+    ensures recovered { CanRun 2 example_start (no_records (5 ∷ [])) events_with_recovery × EndsRecovered (block_after 2 example_start events_with_recovery) }
 {}
 
 /// A block is what it is at each place: so a machine's block that is so after an event keeps what the event's row keeps.
 pub fn same_at_each_place_is_same()
-    ensures block { (N : ℕ) (a b : Block) → IsSame a b → AllSentences N b → AllSentences N a }
-    ensures records { (a b : Block) (r : Records) → IsSame a b → KeptRecords b r → KeptRecords a r }
+    ensures block { (N : ℕ) (a b : Block) → IsSame a b → BlockInvariant N b → BlockInvariant N a }
+    ensures records { (a b : Block) (r : Records) → IsSame a b → RecordsInvariant b r → RecordsInvariant a r }
 {}
 
 /// How the list of a log's entries says what the block says at each cut: whether a cache held it, which cache was

@@ -15,7 +15,7 @@ use Rattle.rv_core.specs.declared.step.Record.{Record}
 use Rattle.rv_core.specs.declared.step.Want.{Want}
 use Rattle.rv_core.specs.declared.step.Want.TheVariants.{Nothing, Load, Store, Amo, Lr, Sc, Input}
 use Rattle.rv_core.specs.Core.{bare, block_of, is_reserved}
-use Rattle.rv_core.specs.Flat.{seen_by, word_at, written, after_write}
+use Rattle.rv_core.specs.Flat.{seen_by, word_at, memory_after_write, after_write}
 use Rattle.rv_core.specs.Step.{want_of, next_of}
 use Rattle.sn_consistency.specs.Words.{kind, kind_of, block, address_of, place, content_after, write_block, reads, writes, block_word}
 use Rattle.sn_consistency.specs.Words.{block_in}
@@ -88,7 +88,7 @@ store_block = stored_part
 
 -- what a step writes into memory, by blocks
 module _ (image : ImageData) (c : CoreState) (r : Record) (m : List ℕ) (size : length m ≡ ram_size) where
-  pub written_block : (b : ℕ) → block_in (written m (next_of image c r.seen r.sc_done r.read).effect.write) b
+  pub written_block : (b : ℕ) → block_in (memory_after_write m (next_of image c r.seen r.sc_done r.read).effect.write) b
       ≡ cond (writes (kind image c) r.sc_done && (b == block image c)) (content_after image c r (block_in m b)) (block_in m b)
   unfolding kind block content_after block_in
   written_block b =
@@ -96,19 +96,19 @@ module _ (image : ImageData) (c : CoreState) (r : Record) (m : List ℕ) (size :
       (address_of (want_of image c)) (write_fits image c r.seen r.sc_done r.read)
     where
       of_write : (w : Option Write) (q : Bool) (a : ℕ) → WriteFits a q w →
-          part (written m w) b ≡ cond (q && (b == block_of a)) (write_block w (part m b)) (part m b)
+          part (memory_after_write m w) b ≡ cond (q && (b == block_of a)) (write_block w (part m b)) (part m b)
       of_write None q a f = rw f refl
       of_write (Some w) q a f =
           let s = stored_part m w.width w.value w.address b size (rw f.1 f.2) (rw f.1 f.3) (rw f.1 f.4) in
           rw (f.0, ← f.1) s
 
   -- the size of the memory stays
-  pub length-written : length (written m (next_of image c r.seen r.sc_done r.read).effect.write) ≡ ram_size
+  pub length-written : length (memory_after_write m (next_of image c r.seen r.sc_done r.read).effect.write) ≡ ram_size
   length-written =
       of_write (next_of image c r.seen r.sc_done r.read).effect.write (writes (kind_of (want_of image c)) r.sc_done)
       (address_of (want_of image c)) (write_fits image c r.seen r.sc_done r.read)
     where
-      of_write : (w : Option Write) (q : Bool) (a : ℕ) → WriteFits a q w → length (written m w) ≡ ram_size
+      of_write : (w : Option Write) (q : Bool) (a : ℕ) → WriteFits a q w → length (memory_after_write m w) ≡ ram_size
       of_write None q a f = size
       of_write (Some w) q a f =
           let n : length (little_bytes (bytes_of w.width) w.value)

@@ -13,20 +13,20 @@ use Rattle.rv_core.specs.declared.state.CoreState.{CoreState}
 use Rattle.rv_core.specs.Core.{bare}
 use Rattle.sn_consistency.specs.Words.{puts}
 use Rattle.sn_consistency.specs.Entries.{Entry, Places, Good, run, step}
-use Rattle.sn_consistency.specs.Sorted.{below, at_cut, GoodList, retire, cut_off}
+use Rattle.sn_consistency.specs.Sorted.{below, at_cut, GoodList, retire, entries_below_cut}
 use Rattle.sn_consistency.specs.Shows.{Shows, records, outs}
-use Rattle.sn_consistency.specs.Committed.{committed, released, Begins, Retirement, by_interval, kept}
+use Rattle.sn_consistency.specs.Committed.{records_committed, released, Begins, Retirement, by_interval, kept}
 use Rattle.sn_consistency.proofs.StepLaws.{puts_bare}
 use Rattle.sn_consistency.proofs.Sorted.{run-below, below_good, below_same, cut_off_good}
 use Rattle.sn_consistency.proofs.Execution.{good_execution, good_end, shows_step}
 
 module _ (image : ImageData) (N : ℕ) (s : FlatState) (F : Places) (start : Shows N s F) (f : ℕ → List Entry) (g : GoodList image N F f) (k : ℕ) where
-  pub committed_execution : Executes image s (committed f k)
+  pub committed_execution : Executes image s (records_committed f k)
   committed_execution = good_execution image N s F start (below f k) (below_good image F f N g k)
 
-  pub committed_end : Shows N (state_after image s (committed f k)) (at_cut image F f k)
+  pub committed_end : Shows N (state_after image s (records_committed f k)) (at_cut image F f k)
   committed_end =
-      subst (λ G. Shows N (state_after image s (committed f k)) G) (run-below image F f k)
+      subst (λ G. Shows N (state_after image s (records_committed f k)) G) (run-below image F f k)
       (good_end image N s F start (below f k) (below_good image F f N g k))
 
 -- the bytes put out
@@ -48,7 +48,7 @@ good_out image N s F t (e ∷ es) g =
     cc
 
 pub committed_out : (image : ImageData) (N : ℕ) (s : FlatState) (F : Places) → Shows N s F → (f : ℕ → List Entry) →
-    GoodList image N F f → (k : ℕ) → put_out_by image s (committed f k) ≡ released image f k
+    GoodList image N F f → (k : ℕ) → put_out_by image s (records_committed f k) ≡ released image f k
 committed_out image N s F start f g k = good_out image N s F start (below f k) (below_good image F f N g k)
 
 -- the bytes read
@@ -65,7 +65,7 @@ taken-in_of image F (e ∷ es) n =
     taken-in_of image (step image F e) es n ∙ taken_step (F.taken n) (in_of n (records es)) (nat_eq e.did.core n) e.did.read
 
 pub committed_reads : (image : ImageData) (F : Places) (f : ℕ → List Entry) (n k : ℕ) →
-    (at_cut image F f k).taken n ≡ F.taken n ++ in_of n (committed f k)
+    (at_cut image F f k).taken n ≡ F.taken n ++ in_of n (records_committed f k)
 committed_reads image F f n k = ap (λ G. G.taken n) (sym (run-below image F f k)) ∙ taken-in_of image F (below f k) n
 
 -- lists after lists
@@ -92,7 +92,7 @@ outs-append image (x ∷ xs) ys =
     ∙ sym (append_assoc (puts image x.found x.did) (outs image xs) (outs image ys))
 
 -- it grows at its end
-pub committed_next : (f : ℕ → List Entry) (k : ℕ) → committed f (suc k) ≡ committed f k ++ records (f k)
+pub committed_next : (f : ℕ → List Entry) (k : ℕ) → records_committed f (suc k) ≡ records_committed f k ++ records (f k)
 unfolding below
 committed_next f k = records-append (below f k) (f k)
 
@@ -101,55 +101,55 @@ pub released_next : (image : ImageData) (f : ℕ → List Entry) (k : ℕ) →
 unfolding below
 released_next image f k = outs-append image (below f k) (f k)
 
-pub committed_begins : (f : ℕ → List Entry) (k j : ℕ) → k ≤ j → Begins (committed f k) (committed f j)
+pub committed_begins : (f : ℕ → List Entry) (k j : ℕ) → k ≤ j → Begins (records_committed f k) (records_committed f j)
 committed_begins f k zero l =
-    let i : k ≡ zero = omega arith in record { more = []; is = ap (committed f) (sym i) ∙ sym (append-nil (committed f k)) }
+    let i : k ≡ zero = omega arith in record { more = []; is = ap (records_committed f) (sym i) ∙ sym (append-nil (records_committed f k)) }
 committed_begins f k (suc j) l = go (cases_order k (suc j)) (committed_begins f k j)
   where
-    go : ((k ≡ suc j) ⊎ ((k < suc j) ⊎ (suc j < k))) → (k ≤ j → Begins (committed f k) (committed f j)) →
-        Begins (committed f k) (committed f (suc j))
-    go (inl i) h = record { more = []; is = ap (committed f) (sym i) ∙ sym (append-nil (committed f k)) }
+    go : ((k ≡ suc j) ⊎ ((k < suc j) ⊎ (suc j < k))) → (k ≤ j → Begins (records_committed f k) (records_committed f j)) →
+        Begins (records_committed f k) (records_committed f (suc j))
+    go (inl i) h = record { more = []; is = ap (records_committed f) (sym i) ∙ sym (append-nil (records_committed f k)) }
     go (inr (inl m)) h =
         let r = h (omega arith) in
         record {
           more = r.more ++ records (f j);
-          is = committed_next f j ∙ ap (λ a. a ++ records (f j)) r.is ∙ append_assoc (committed f k) r.more (records (f j));
+          is = committed_next f j ∙ ap (λ a. a ++ records (f j)) r.is ∙ append_assoc (records_committed f k) r.more (records (f j));
         }
     go (inr (inr m)) h = absurd (omega arith)
 
 -- the bytes that it reads are a front of those that a longer part reads
-pub reads_begin : (f : ℕ → List Entry) (n k j : ℕ) → k ≤ j → Begins (in_of n (committed f k)) (in_of n (committed f j))
+pub reads_begin : (f : ℕ → List Entry) (n k j : ℕ) → k ≤ j → Begins (in_of n (records_committed f k)) (in_of n (records_committed f j))
 reads_begin f n k j l =
     let r = committed_begins f k j l in
-    record { more = in_of n r.more; is = ap (in_of n) r.is ∙ in_of-append n (committed f k) r.more }
+    record { more = in_of n r.more; is = ap (in_of n) r.is ∙ in_of-append n (records_committed f k) r.more }
 
 -- it stays
 pub below_retired : (f : ℕ → List Entry) (x k : ℕ) (e : Entry) → k ≤ x → below (retire f x e) k ≡ below f k
 below_retired f x k e l = below_same (retire f x e) f k (λ j i. grind (arith, nat_tests))
 
-pub below_recovered : (f : ℕ → List Entry) (point k : ℕ) → k ≤ point → below (cut_off f point) k ≡ below f k
-below_recovered f point k l = below_same (cut_off f point) f k (λ j i. grind (arith, nat_tests))
+pub below_recovered : (f : ℕ → List Entry) (point k : ℕ) → k ≤ point → below (entries_below_cut f point) k ≡ below f k
+below_recovered f point k l = below_same (entries_below_cut f point) f k (λ j i. grind (arith, nat_tests))
 
 -- all that a recovery leaves
-pub below_cut : (f : ℕ → List Entry) (point k : ℕ) → point ≤ k → below (cut_off f point) k ≡ below f point
+pub below_cut : (f : ℕ → List Entry) (point k : ℕ) → point ≤ k → below (entries_below_cut f point) k ≡ below f point
 unfolding below
 below_cut f point zero l = let i : point ≡ zero = omega arith in ap (below f) (sym i)
 below_cut f point (suc k) l = go (cases_order point (suc k)) (below_cut f point k)
   where
-    nothing : point ≤ k → cut_off f point k ≡ []
+    nothing : point ≤ k → entries_below_cut f point k ≡ []
     nothing m = grind (arith, nat_tests)
 
     go : ((point ≡ suc k) ⊎ ((point < suc k) ⊎ (suc k < point))) →
-        (point ≤ k → below (cut_off f point) k ≡ below f point) →
-        below (cut_off f point) k ++ cut_off f point k ≡ below f point
+        (point ≤ k → below (entries_below_cut f point) k ≡ below f point) →
+        below (entries_below_cut f point) k ++ entries_below_cut f point k ≡ below f point
     go (inl i) h = below_recovered f point (suc k) (omega arith) ∙ ap (below f) (sym i)
-    go (inr (inl m)) h = rw (nothing (omega arith)) (append-nil (below (cut_off f point) k) ∙ h (omega arith))
+    go (inr (inl m)) h = rw (nothing (omega arith)) (append-nil (below (entries_below_cut f point) k) ∙ h (omega arith))
     go (inr (inr m)) h = absurd (omega arith)
 
 pub recovered_execution : (image : ImageData) (N : ℕ) (s : FlatState) (F : Places) → Shows N s F →
-    (f : ℕ → List Entry) → GoodList image N F f → (point k : ℕ) → Executes image s (committed (cut_off f point) k)
+    (f : ℕ → List Entry) → GoodList image N F f → (point k : ℕ) → Executes image s (records_committed (entries_below_cut f point) k)
 recovered_execution image N s F start f g point k =
-    committed_execution image N s F start (cut_off f point) (cut_off_good image F f point N g) k
+    committed_execution image N s F start (entries_below_cut f point) (cut_off_good image F f point N g) k
 
 -- a list of retirements, by interval
 module _ {A : Type 0} where

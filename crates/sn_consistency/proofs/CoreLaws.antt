@@ -2,7 +2,7 @@
 use Rattle.std.proofs.Common.{◌≡◌, ℕ, ◌+◌, ◌%◌, ◌<◌, ◌≤◌, Bool, true, false, Option, Some, None, Result, Ok, Err, refl, sym, ◌∙◌, arith}
 use Rattle.std.proofs.lemmas.Bool.Decides.{nat_tests}
 use Rattle.sn_base.specs.Blocks.{ram_start, ram_size, bytes_of}
-use Rattle.sn_base.specs.Image.{ImageData, fetched}
+use Rattle.sn_base.specs.Image.{ImageData, word_fetched}
 use Rattle.sn_base.specs.declared.block.Write.{Write}
 use Rattle.sn_base.specs.declared.block.Width.{Width}
 use Rattle.sn_base.specs.declared.block.Width.TheVariants.{Byte, Half, Word}
@@ -13,10 +13,10 @@ use Rattle.rv_core.specs.declared.state.Cause.{Cause}
 use Rattle.rv_core.specs.declared.step.Want.{Want}
 use Rattle.rv_core.specs.declared.step.Want.TheVariants.{Store as StoreAt, Amo as AmoAt, Sc as ScAt}
 use Rattle.rv_core.specs.Access.{width_of, fault_of}
-use Rattle.rv_core.specs.Arithmetic.{as_word, amo_result, loaded}
+use Rattle.rv_core.specs.Arithmetic.{as_word, amo_result, load_result}
 use Rattle.rv_core.specs.Core.{bare, register}
 use Rattle.rv_core.specs.Step.{Next, want_of, next_of, instruction_of, does, does_next, wants, wants_next, wants_unless, unless_fault}
-use Rattle.rv_core.specs.Step.{becomes, writing, passed, gets, reserves, conditionally, called, address_in}
+use Rattle.rv_core.specs.Step.{becomes, writing, core_in_order, gets, reserves, conditionally, next_of_call, address_in}
 use Rattle.sn_consistency.specs.Words.{kind_of, address_of, writes}
 use Rattle.sn_consistency.specs.Laws.{own_reservation, WriteFits}
 
@@ -73,7 +73,7 @@ module _ (image : ImageData) (c : CoreState) (seen : ℕ) (done : Bool) (read : 
   access_none None k w e = cc
   access_none (Some cause) k w e = cc
 
-  called_none : (called c read).effect.write ≡ None
+  called_none : (next_of_call c read).effect.write ≡ None
   called_none = grind (arith, nat_tests)
 
   at_write : (i : Instr) (w : Write) → (does image i c seen done read).effect.write ≡ Some w →
@@ -81,11 +81,11 @@ module _ (image : ImageData) (c : CoreState) (seen : ℕ) (done : Bool) (read : 
   unfolding kind_of address_of
   at_write (Load o rd rs1 imm) w e =
       absurd (access_none (fault_of image (width_of o) false (address_in c rs1 (as_word imm)))
-      (gets c rd (loaded o (address_in c rs1 (as_word imm)) seen)) w e)
+      (gets c rd (load_result o (address_in c rs1 (as_word imm)) seen)) w e)
   at_write (Lr rd rs1) w e = absurd (access_none (fault_of image Word false (register c rs1)) (reserves c rd (register c rs1) seen) w e)
   at_write (Store width rs1 rs2 imm) w e =
       let a = address_in c rs1 (as_word imm) in
-      access_fits width a (fault_of image width true a) refl (writing (passed c) a width (register c rs2)) (StoreAt a) w
+      access_fits width a (fault_of image width true a) refl (writing (core_in_order c) a width (register c rs2)) (StoreAt a) w
       (λ h. (refl, cc, cc, refl)) e
   at_write (Sc rd rs1 rs2) w e =
       let a = register c rs1 in
@@ -105,7 +105,7 @@ module _ (image : ImageData) (c : CoreState) (seen : ℕ) (done : Bool) (read : 
   some_wanted : (w : Write) → (next_of image c seen done read).effect.write ≡ Some w →
       WriteFits (address_of (want_of image c)) (writes (kind_of (want_of image c)) done) (Some w)
   unfolding next_of want_of
-  some_wanted w e = of_next (instruction_of (fetched image.segments c.pc)) e
+  some_wanted w e = of_next (instruction_of (word_fetched image.segments c.pc)) e
     where
       of_next : (r : Result Instr Cause) → (does_next image r c seen done read).effect.write ≡ Some w →
           WriteFits (address_of (wants_next image r c)) (writes (kind_of (wants_next image r c)) done) (Some w)

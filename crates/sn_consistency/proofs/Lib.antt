@@ -12,5 +12,5 @@ pub mod ProjectionLaw
 pub mod Filters
 pub mod Places
 pub mod Start
-pub mod Kept
+pub mod Outline
 pub mod Others

@@ -6,8 +6,8 @@ use Rattle.rv_core.specs.declared.state.CoreState.{CoreState}
 use Rattle.rv_core.specs.Core.{bare}
 use Rattle.sn_consistency.specs.Entries.{Entry, Places, Good, run, step}
 use Rattle.sn_consistency.specs.Sorted.{at_cut, GoodList}
-use Rattle.sn_consistency.specs.Kept.{Outline, Keeps, others_reach}
-use Rattle.sn_consistency.proofs.Kept.{AllPlaced-more}
+use Rattle.sn_consistency.specs.Outline.{Outline, Keeps, others_reach}
+use Rattle.sn_consistency.proofs.Outline.{AllPlaced-more}
 
 -- what a number that is no node's has at a cut is what it had at the start
 module _ (image : ImageData) (N : ℕ) (n : ℕ) (other : N ≤ n) where

@@ -4,7 +4,7 @@ use Rattle.std.proofs.lemmas.Bool.Decides.{nat_tests}
 use Rattle.std.proofs.lemmas.Bool.{cases_order}
 use Rattle.sn_base.specs.Image.{ImageData}
 use Rattle.sn_consistency.specs.Entries.{Entry, Places, Legal, Apart, AllApart, Good, run, step}
-use Rattle.sn_consistency.specs.Sorted.{below, at_cut, GoodList, retire, cut_off, LetsPass, AllPass}
+use Rattle.sn_consistency.specs.Sorted.{below, at_cut, GoodList, retire, entries_below_cut, LetsPass, AllPass}
 use Rattle.sn_consistency.proofs.Swap.{swap, legal_after}
 
 -- who lets an entry pass is apart from it
@@ -102,36 +102,36 @@ module _ (image : ImageData) (F : Places) (f : ℕ → List Entry) (x : ℕ) (e 
 
 -- a recovery to k
 module _ (image : ImageData) (F : Places) (f : ℕ → List Entry) (k : ℕ) where
-  pub cut_off_low : (j : ℕ) → j ≤ k → at_cut image F (cut_off f k) j ≡ at_cut image F f j
+  pub cut_off_low : (j : ℕ) → j ≤ k → at_cut image F (entries_below_cut f k) j ≡ at_cut image F f j
   unfolding at_cut
   cut_off_low zero l = refl
   cut_off_low (suc j) l = low_step j l (cut_off_low j (omega arith))
     where
-      low_step : (j : ℕ) → suc j ≤ k → at_cut image F (cut_off f k) j ≡ at_cut image F f j →
-          run image (at_cut image F (cut_off f k) j) (cut_off f k j) ≡ run image (at_cut image F f j) (f j)
+      low_step : (j : ℕ) → suc j ≤ k → at_cut image F (entries_below_cut f k) j ≡ at_cut image F f j →
+          run image (at_cut image F (entries_below_cut f k) j) (entries_below_cut f k j) ≡ run image (at_cut image F f j) (f j)
       low_step j l h = grind (arith, nat_tests)
 
-  none : (j : ℕ) → k ≤ j → cut_off f k j ≡ []
+  none : (j : ℕ) → k ≤ j → entries_below_cut f k j ≡ []
   none j m = grind (arith, nat_tests)
 
-  some : (j : ℕ) → j < k → cut_off f k j ≡ f j
+  some : (j : ℕ) → j < k → entries_below_cut f k j ≡ f j
   some j m = grind (arith, nat_tests)
 
-  pub cut_off_high : (j : ℕ) → k ≤ j → at_cut image F (cut_off f k) j ≡ at_cut image F f k
+  pub cut_off_high : (j : ℕ) → k ≤ j → at_cut image F (entries_below_cut f k) j ≡ at_cut image F f k
   unfolding at_cut
   cut_off_high zero l = let i : k ≡ zero = omega arith in subst (λ j. F ≡ at_cut image F f j) (sym i) refl
   cut_off_high (suc j) l = go (cases_order (suc j) k) (cut_off_high j)
     where
-      go : ((suc j ≡ k) ⊎ ((suc j < k) ⊎ (k < suc j))) → (k ≤ j → at_cut image F (cut_off f k) j ≡ at_cut image F f k) →
-          run image (at_cut image F (cut_off f k) j) (cut_off f k j) ≡ at_cut image F f k
+      go : ((suc j ≡ k) ⊎ ((suc j < k) ⊎ (k < suc j))) → (k ≤ j → at_cut image F (entries_below_cut f k) j ≡ at_cut image F f k) →
+          run image (at_cut image F (entries_below_cut f k) j) (entries_below_cut f k j) ≡ at_cut image F f k
       go (inl i) h = cut_off_low (suc j) (omega arith) ∙ ap (at_cut image F f) i
       go (inr (inl m)) h = absurd (omega arith)
       go (inr (inr m)) h = rw (none j (omega arith)) (h (omega arith))
 
-  pub cut_off_good : (N : ℕ) → GoodList image N F f → GoodList image N F (cut_off f k)
+  pub cut_off_good : (N : ℕ) → GoodList image N F f → GoodList image N F (entries_below_cut f k)
   cut_off_good N g j = go (cases_order j k)
     where
-      go : ((j ≡ k) ⊎ ((j < k) ⊎ (k < j))) → Good image N (at_cut image F (cut_off f k) j) (cut_off f k j)
+      go : ((j ≡ k) ⊎ ((j < k) ⊎ (k < j))) → Good image N (at_cut image F (entries_below_cut f k) j) (entries_below_cut f k j)
       go (inl i) = rw (none j (omega arith)) tt
       go (inr (inl m)) = rw (some j m, cut_off_low j (omega arith)) (g j)
       go (inr (inr m)) = rw (none j (omega arith)) tt

@@ -7,8 +7,8 @@ use Rattle.sn_consistency.specs.Entries.{Entry}
 use Rattle.sn_consistency.specs.Sorted.{below}
 use Rattle.sn_consistency.specs.Shows.{records, outs}
 
-abbrev pub committed : (ℕ → List Entry) → ℕ → List Record
-committed f point = records (below f point)
+abbrev pub records_committed : (ℕ → List Entry) → ℕ → List Record
+records_committed f point = records (below f point)
 
 -- its bytes put out
 abbrev pub released : ImageData → (ℕ → List Entry) → ℕ → List ℕ

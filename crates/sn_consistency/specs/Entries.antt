@@ -21,16 +21,16 @@ pub record Places : Type 0 where
   pub taken : ℕ → List ℕ
 
 -- whether it writes a block
-abbrev pub wrote : ImageData → Entry → Bool
-wrote image e = writes (kind image e.found) e.did.sc_done
+abbrev pub is_writer : ImageData → Entry → Bool
+is_writer image e = writes (kind image e.found) e.did.sc_done
 
 -- whether it reads or writes a block at all: an SC that is not done does not
 abbrev pub touches : ImageData → Entry → Bool
-touches image e = reads (kind image e.found) || wrote image e
+touches image e = reads (kind image e.found) || is_writer image e
 
 -- whether it writes block b
 abbrev pub writes_to : ImageData → Entry → ℕ → Bool
-writes_to image e b = wrote image e && (b == block image e.found)
+writes_to image e b = is_writer image e && (b == block image e.found)
 
 -- a function with another value at one place
 abbrev pub put : {A : Type 0} → (ℕ → A) → ℕ → A → ℕ → A
@@ -83,7 +83,7 @@ Good image N F (e ∷ es) = Legal image N F e × Good image N (step image F e) e
 pub record Apart (image : ImageData) (e y : Entry) : Type 0 where
   pub cores : e.did.core ≢ y.did.core
   pub reads_only : touches image e ≡ true → touches image y ≡ true → block image e.found ≡ block image y.found →
-      (wrote image e ≡ false) × (wrote image y ≡ false)
+      (is_writer image e ≡ false) × (is_writer image y ≡ false)
 
 abbrev pub AllApart : ImageData → Entry → List Entry → Type 0
 AllApart image e [] = Unit {0}

@@ -6,4 +6,4 @@ pub mod Reserved
 pub mod Shows
 pub mod Committed
 pub mod Projections
-pub mod Kept
+pub mod Outline

@@ -2,12 +2,12 @@
 use Rattle.std.specs.Prelude.{◌≡◌, ◌≢◌, ℕ, true, false, List, [], ◌∷◌, ◌++◌}
 use Rattle.sn_base.specs.Image.{ImageData}
 use Rattle.sn_consistency.specs.Words.{kind, block, is_lr, is_sc}
-use Rattle.sn_consistency.specs.Entries.{Entry, wrote}
+use Rattle.sn_consistency.specs.Entries.{Entry, is_writer}
 
 -- an entry that leaves core n's reservation of block b: no LR or SC of n, and no other core's write of b
 pub record Leaves (image : ImageData) (n b : ℕ) (e : Entry) : Type 0 where
   pub own : e.did.core ≡ n → (is_lr (kind image e.found) ≡ false) × (is_sc (kind image e.found) ≡ false)
-  pub others : e.did.core ≢ n → wrote image e ≡ true → block image e.found ≢ b
+  pub others : e.did.core ≢ n → is_writer image e ≡ true → block image e.found ≢ b
 
 abbrev pub AllLeave : ImageData → ℕ → ℕ → List Entry → Type 0
 AllLeave image n b [] = Unit {0}

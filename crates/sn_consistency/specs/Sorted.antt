@@ -2,7 +2,7 @@
 use Rattle.std.specs.Prelude.{◌≡◌, ◌≢◌, ℕ, zero, suc, ◌<◌, if◌then◌else◌, List, [], ◌∷◌, ◌++◌, ◌==◌, nat_lt, true, false}
 use Rattle.sn_base.specs.Image.{ImageData}
 use Rattle.sn_consistency.specs.Words.{block}
-use Rattle.sn_consistency.specs.Entries.{Entry, Places, Legal, Good, wrote, touches, run}
+use Rattle.sn_consistency.specs.Entries.{Entry, Places, Legal, Good, is_writer, touches, run}
 
 -- the part below interval k
 unfoldable pub below : {A : Type 0} → (ℕ → List A) → ℕ → List A
@@ -23,15 +23,15 @@ abbrev pub retire : (ℕ → List Entry) → ℕ → Entry → ℕ → List Entr
 retire f x e j = if j == x then f j ++ e ∷ [] else f j
 
 -- a recovery to k drops the intervals at and above it
-abbrev pub cut_off : (ℕ → List Entry) → ℕ → ℕ → List Entry
-cut_off f k j = if nat_lt j k then f j else []
+abbrev pub entries_below_cut : (ℕ → List Entry) → ℕ → ℕ → List Entry
+entries_below_cut f k j = if nat_lt j k then f j else []
 
 -- y may stand above the interval at whose end e is put: it is another core's, it writes no block that e reads or
 -- writes, and it neither reads nor writes a block that e writes
 pub record LetsPass (image : ImageData) (e y : Entry) : Type 0 where
   pub cores : e.did.core ≢ y.did.core
-  pub no_later_write : touches image e ≡ true → block image e.found ≡ block image y.found → wrote image y ≡ false
-  pub no_later_access : wrote image e ≡ true → block image e.found ≡ block image y.found → touches image y ≡ false
+  pub no_later_write : touches image e ≡ true → block image e.found ≡ block image y.found → is_writer image y ≡ false
+  pub no_later_access : is_writer image e ≡ true → block image e.found ≡ block image y.found → touches image y ≡ false
 
 abbrev pub AllPass : ImageData → Entry → List Entry → Type 0
 AllPass image e [] = Unit {0}

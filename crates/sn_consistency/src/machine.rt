@@ -11,33 +11,33 @@ ghost use Rattle.sn_consistency.specs.Words.{block_in};
 ghost use Rattle.sn_consistency.specs.Entries.{Entry, Places};
 ghost use Rattle.sn_consistency.specs.Sorted.{at_cut};
 ghost use Rattle.sn_consistency.specs.Shows.{Shows};
-ghost use Rattle.sn_consistency.specs.Committed.{committed, Begins};
-ghost use Rattle.sn_consistency.specs.Kept.{Outline, Keeps, Retires, IsSameOutline, retired, begun, edged, lost_to, learned, given_to};
-ghost use Rattle.sn_consistency.specs.Kept.{validated, recovered, others_reach};
+ghost use Rattle.sn_consistency.specs.Committed.{records_committed, Begins};
+ghost use Rattle.sn_consistency.specs.Outline.{Outline, Keeps, Retires, IsSameOutline, outline_after_retirement, first_outline, outline_after_edge, lost_to, outline_after_news, given_to};
+ghost use Rattle.sn_consistency.specs.Outline.{outline_after_validation, outline_after_recovery, others_reach};
 
 /// A program's start keeps it, and so does each event: a retirement that may be, an edge, the loss of reservations, the
 /// news of a point that isn't above the machine's, a byte of input, a validation where no node's interval is below the
 /// new point, and a recovery that gives back what the committed part hasn't read.
 pub fn each_event_keeps()
     ensures begun { (image : ImageData) (nodes : ℕ) (F : Places) → ((n : ℕ) → F.taken n ≡ []) →
-        Keeps image nodes F (begun F) }
+        Keeps image nodes F (first_outline F) }
     ensures retired { (image : ImageData) (nodes : ℕ) (F : Places) (m : Outline) → Keeps image nodes F m →
-        (e : Entry) → Retires image nodes m e → Keeps image nodes F (retired image m e) }
+        (e : Entry) → Retires image nodes m e → Keeps image nodes F (outline_after_retirement image m e) }
     ensures edged { (image : ImageData) (nodes : ℕ) (F : Places) (m : Outline) → Keeps image nodes F m →
-        (n : ℕ) → Keeps image nodes F (edged m n) }
+        (n : ℕ) → Keeps image nodes F (outline_after_edge m n) }
     ensures lost { (image : ImageData) (nodes : ℕ) (F : Places) (m : Outline) → Keeps image nodes F m →
         (left : ℕ → ℕ → Bool) → ((n b : ℕ) → left n b ≡ true → m.reserved n b ≡ true) →
         Keeps image nodes F (lost_to m left) }
     ensures learned { (image : ImageData) (nodes : ℕ) (F : Places) (m : Outline) → Keeps image nodes F m →
-        (n point : ℕ) → point ≤ m.point → Keeps image nodes F (learned m n point) }
+        (n point : ℕ) → point ≤ m.point → Keeps image nodes F (outline_after_news m n point) }
     ensures given { (image : ImageData) (nodes : ℕ) (F : Places) (m : Outline) → Keeps image nodes F m →
         (n byte : ℕ) → Keeps image nodes F (given_to m n byte) }
     ensures validated { (image : ImageData) (nodes : ℕ) (F : Places) (m : Outline) → Keeps image nodes F m →
-        ((n : ℕ) → suc m.point ≤ m.interval n) → Keeps image nodes F (validated m) }
+        ((n : ℕ) → suc m.point ≤ m.interval n) → Keeps image nodes F (outline_after_validation m) }
     ensures recovered { (image : ImageData) (nodes : ℕ) (F : Places) (m : Outline) → Keeps image nodes F m →
         (waiting : ℕ → List ℕ) →
         ((n : ℕ) → m.given n ≡ (at_cut image F m.list m.point).taken n ++ waiting n) →
-        Keeps image nodes F (recovered m waiting) }
+        Keeps image nodes F (outline_after_recovery m waiting) }
 {}
 
 /// What a machine that keeps it has at its recovery point: the committed part is an execution; in its last state each
@@ -45,15 +45,15 @@ pub fn each_event_keeps()
 /// a node's committed records read are the first of the bytes given to it.
 pub fn point_is_last_state()
     ensures executes { (image : ImageData) (nodes : ℕ) (s : FlatState) (F : Places) → Shows nodes s F →
-        (m : Outline) → Keeps image nodes F m → Executes image s (committed m.list m.point) }
+        (m : Outline) → Keeps image nodes F m → Executes image s (records_committed m.list m.point) }
     ensures contents { (image : ImageData) (nodes : ℕ) (s : FlatState) (F : Places) → Shows nodes s F →
         (m : Outline) → Keeps image nodes F m → (b : ℕ) →
-        block_in (state_after image s (committed m.list m.point)).memory b ≡ m.content b m.point }
+        block_in (state_after image s (records_committed m.list m.point)).memory b ≡ m.content b m.point }
     ensures cores { (image : ImageData) (nodes : ℕ) (s : FlatState) (F : Places) → Shows nodes s F →
         (m : Outline) → Keeps image nodes F m → (n : ℕ) →
-        bare (core_at (state_after image s (committed m.list m.point)) n) ≡ m.checkpoint n m.point }
+        bare (core_at (state_after image s (records_committed m.list m.point)) n) ≡ m.checkpoint n m.point }
     ensures reads { (image : ImageData) (nodes : ℕ) (F : Places) (m : Outline) → Keeps image nodes F m →
-        (n : ℕ) → F.taken n ≡ [] → Begins (in_of n (committed m.list m.point)) (m.given n) }
+        (n : ℕ) → F.taken n ≡ [] → Begins (in_of n (records_committed m.list m.point)) (m.given n) }
 {}
 
 /// An outline that is the same at each place keeps what the other keeps: so a machine's, made of its parts after an event,

@@ -5,16 +5,16 @@ use Rattle.sn_console.specs.declared.ends.Outbox.{Outbox}
 use Rattle.sn_console.specs.declared.ends.Inbox.{Inbox}
 
 -- all bytes that were passed on so far
-abbrev pub passed : Outbox → List ℕ
-passed outbox = sent outbox.ring
+abbrev pub bytes_passed : Outbox → List ℕ
+bytes_passed outbox = sent outbox.ring
 
 -- how many places of the ring the outbox knows to be free
 abbrev pub free_places : Outbox → ℕ
 free_places outbox = known_free outbox.ring
 
 -- all bytes that were taken out so far
-abbrev pub taken : Inbox → List ℕ
-taken inbox = received inbox.ring
+abbrev pub bytes_taken : Inbox → List ℕ
+bytes_taken inbox = received inbox.ring
 
 -- the bytes that the inbox knows to be in the ring
 abbrev pub waiting : Inbox → List ℕ

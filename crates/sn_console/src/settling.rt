@@ -1,7 +1,7 @@
 //! The rest is written, with both ends in one hand.
 ghost use Rattle.std.specs.Prelude.{◌≤◌, OnOk, OnErr};
 ghost use Rattle.sn_io.specs.Outside.{Rose};
-ghost use Rattle.sn_console.specs.Ends.{passed, taken, AreEnds};
+ghost use Rattle.sn_console.specs.Ends.{bytes_passed, bytes_taken, AreEnds};
 ghost use Rattle.sn_console.specs.Handed.{IsFirstOf, IsHandedOn, IsBegun};
 
 use crate::ends::{Inbox, Outbox};
@@ -15,9 +15,9 @@ pub fn settle<C: Sink>(
     console: &mut C,
 ) -> Result<(), Failed>
     requires ends { AreEnds outbox inbox }
-    requires passed { IsFirstOf (passed outbox) released.now }
-    ensures ok { OnOk result (IsHandedOn (taken inbox) released.now (C.written console.old) (C.written console.new)) }
-    ensures err { OnErr result (IsBegun (taken inbox) released.now (C.written console.old) (C.written console.new)) }
+    requires passed { IsFirstOf (bytes_passed outbox) released.now }
+    ensures ok { OnOk result (IsHandedOn (bytes_taken inbox) released.now (C.written console.old) (C.written console.new)) }
+    ensures err { OnErr result (IsBegun (bytes_taken inbox) released.now (C.written console.old) (C.written console.new)) }
     ensures later { C.faults console.old ≤ C.faults console.new }
     ensures cause { OnErr result (Rose (C.faults console.old) (C.faults console.new)) }
 {

@@ -8,7 +8,7 @@ use Rattle.sn_base.specs.declared.rules.Rules.{Rules}
 use Rattle.sn_model.specs.Machine.{State}
 use Rattle.due_events.specs.Numbers.{Numbers}
 use Rattle.due_events.specs.Lists.{list_of}
-use Rattle.due_events.specs.Due.{picked, first_picked}
+use Rattle.due_events.specs.Due.{event_picked, first_picked}
 
 or_first : (r o : Option Event) → is_some r ≡ true → r ≡ option_or r o
 or_first None o e = absurd cc
@@ -18,7 +18,7 @@ or_second : (r o : Option Event) → is_some r ≡ false → option_or r o ≡ o
 or_second None o e = refl
 or_second (Some x) o e = absurd cc
 
-module _ (rules : Rules) (image : ImageData) (config : Config) (s : State) (x : Numbers) (pick left n : ℕ) (r : Option Event) (is : r ≡ picked pick (list_of rules image config s x n)) where
+module _ (rules : Rules) (image : ImageData) (config : Config) (s : State) (x : Numbers) (pick left n : ℕ) (r : Option Event) (is : r ≡ event_picked pick (list_of rules image config s x n)) where
   abbrev rest : Option Event
   rest = first_picked rules image config s x pick left ((n + 1) % config.nodes)
 

@@ -2,7 +2,7 @@
 ghost use Rattle.std.specs.Prelude.{◌≡◌, ◌*◌, ◌<◌, ◌≤◌, true, false, Some, IfSome};
 ghost use Rattle.sn_base.specs.Events.{event_fits};
 ghost use Rattle.due_events.specs.Numbers.{first_numbers, numbers_after};
-ghost use Rattle.due_events.specs.Due.{killing, or_loss, first_picked, listed, next_due, is_over};
+ghost use Rattle.due_events.specs.Due.{killing, or_loss, first_picked, event_of_lists, next_due, is_over};
 ghost use Rattle.sn_machine.specs.Machine.{IsApplied};
 ghost use Rattle.sn_driver.specs.Turns.{due_at, Took, IsLater};
 
@@ -148,7 +148,7 @@ impl Driver {
         requires nodes { machine.now.config.nodes ≡ self.now.nodes }
         requires worker { worker < self.now.nodes }
         requires life { self.now.numbers.done < 4000000000 }
-        ensures same { result ≡ listed self.now.rules machine.now.image machine.now.config machine.now.state self.now.numbers worker pick }
+        ensures same { result ≡ event_of_lists self.now.rules machine.now.image machine.now.config machine.now.state self.now.numbers worker pick }
         ensures fits { IfSome result (λ event. event_fits self.now.nodes event ≡ true) }
     {
         if self.since >= self.rules.wait {

@@ -2,7 +2,7 @@
 ghost use Rattle.std.specs.Prelude.{◌≡◌, ◌<◌, true, length, slice_get, IfSome};
 ghost use Rattle.sn_base.specs.Events.{event_fits};
 ghost use Rattle.sn_base.specs.declared.event.Event.TheVariants.{Step};
-ghost use Rattle.due_events.specs.Lists.{foreseen, delivery, hop, eviction, validation, step, is_behind};
+ghost use Rattle.due_events.specs.Lists.{answer_foreseen, delivery, hop, eviction, validation, step, is_behind};
 
 use crate::answers::{goes_on, is_delivered, is_validated, needs_evict};
 use sn_base::{Answer, Event, NodeId};
@@ -42,7 +42,7 @@ pub fn hop(machine: &Machine, node: NodeId, place: usize) -> Option<Event>
 /// the node's step would have now.
 pub fn eviction(machine: &Machine, node: NodeId, answer: &Answer) -> Option<Event>
     requires here { node < machine.now.config.nodes }
-    requires foreseen { answer.now ≡ foreseen machine.now.image machine.now.config machine.now.state (Step node) }
+    requires foreseen { answer.now ≡ answer_foreseen machine.now.image machine.now.config machine.now.state (Step node) }
     ensures same { result ≡ eviction machine.now.image machine.now.config machine.now.state node }
     ensures fits { IfSome result (λ event. event_fits machine.now.config.nodes event ≡ true) }
 {
@@ -70,7 +70,7 @@ pub fn validation(machine: &Machine, node: NodeId) -> Option<Event>
 /// The node's step, where its instruction comes further. The answer is the one that it would have now.
 pub fn step(machine: &Machine, node: NodeId, answer: &Answer) -> Option<Event>
     requires here { node < machine.now.config.nodes }
-    requires foreseen { answer.now ≡ foreseen machine.now.image machine.now.config machine.now.state (Step node) }
+    requires foreseen { answer.now ≡ answer_foreseen machine.now.image machine.now.config machine.now.state (Step node) }
     ensures same { result ≡ step machine.now.image machine.now.config machine.now.state node }
     ensures fits { IfSome result (λ event. event_fits machine.now.config.nodes event ≡ true) }
 {

@@ -1,7 +1,7 @@
 //! What the driver counts.
 ghost use Rattle.std.specs.Prelude.{◌≡◌, ◌<◌};
 ghost use Rattle.std.specs.List.{All};
-ghost use Rattle.due_events.specs.Numbers.{counted, with_retired, with_edge, with_report, with_answer, numbers_after};
+ghost use Rattle.due_events.specs.Numbers.{numbers_with_event, with_retired, with_edge, with_report, with_answer, numbers_after};
 
 use crate::driver::Driver;
 use sn_base::{Answer, Event, Interval};
@@ -9,7 +9,7 @@ use sn_base::{Answer, Event, Interval};
 impl Driver {
     fn count_event(&mut self, event: &Event)
         requires { self.old.numbers.done < 4000000000 }
-        ensures counted { self.new ≡ record self.old { numbers = counted self.old.numbers event.now } }
+        ensures counted { self.new ≡ record self.old { numbers = numbers_with_event self.old.numbers event.now } }
         ensures room { All (λ count. count < self.new.numbers.done) self.new.numbers.retired }
     {
         self.done += 1;

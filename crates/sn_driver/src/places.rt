@@ -4,8 +4,8 @@ ghost use Rattle.std.specs.Prelude.{IfSome};
 ghost use Rattle.sn_base.specs.declared.event.Event.{Event};
 ghost use Rattle.sn_base.specs.Events.{event_fits};
 ghost use Rattle.sn_base.specs.declared.event.Event.TheVariants.{Step};
-ghost use Rattle.due_events.specs.Lists.{foreseen, delivery, hop, edge, report, own_places, places_of, list_of};
-ghost use Rattle.due_events.specs.Due.{picked};
+ghost use Rattle.due_events.specs.Lists.{answer_foreseen, delivery, hop, edge, report, own_places, places_of, list_of};
+ghost use Rattle.due_events.specs.Due.{event_picked};
 ghost use Rattle.sn_driver.specs.Found.{HasFound};
 
 use crate::answers::{is_edged, is_reported};
@@ -89,7 +89,7 @@ impl Driver {
         place: usize,
     ) -> Option<Event>
         requires here { node < machine.now.config.nodes }
-        requires foreseen { answer.now ≡ foreseen machine.now.image machine.now.config machine.now.state (Step node) }
+        requires foreseen { answer.now ≡ answer_foreseen machine.now.image machine.now.config machine.now.state (Step node) }
         requires there { place < 5 }
         ensures same { result ≡
             slice_index_or (own_places self.now.rules machine.now.image machine.now.config machine.now.state self.now.numbers node) place None }
@@ -119,7 +119,7 @@ impl Driver {
     ) -> Option<Event>
         requires here { node < machine.now.config.nodes }
         requires there { place < length (places_of self.now.rules machine.now.image machine.now.config machine.now.state self.now.numbers node) }
-        requires foreseen { answer.now ≡ foreseen machine.now.image machine.now.config machine.now.state (Step node) }
+        requires foreseen { answer.now ≡ answer_foreseen machine.now.image machine.now.config machine.now.state (Step node) }
         ensures same { result ≡
             slice_index_or (places_of self.now.rules machine.now.image machine.now.config machine.now.state self.now.numbers node) place None }
         ensures fits { IfSome result (λ event. event_fits machine.now.config.nodes event ≡ true) }
@@ -187,7 +187,7 @@ impl Driver {
     pub fn picked(&self, machine: &Machine, node: NodeId, pick: u32) -> Option<Event>
         requires { node < machine.now.config.nodes }
         ensures same { result ≡
-            picked pick (list_of self.now.rules machine.now.image machine.now.config machine.now.state self.now.numbers node) }
+            event_picked pick (list_of self.now.rules machine.now.image machine.now.config machine.now.state self.now.numbers node) }
         ensures fits { IfSome result (λ event. event_fits machine.now.config.nodes event ≡ true) }
     {
         let found = self.found(machine, node);

@@ -14,10 +14,10 @@ use Rattle.switch_net.specs.declared.flight.Flight.{Flight as Carried}
 use Rattle.switch_net.specs.declared.answers.TakeFault.{TakeFault}
 use Rattle.switch_net.specs.declared.answers.TakeFault.TheVariants as fault
 use Rattle.switch_net.specs.Net.{find_flight, take_answer, has_arrived, without}
-use Rattle.sn_model.specs.Fabric.{Fabric, Flight, Moved, node_at, refused}
+use Rattle.sn_model.specs.Fabric.{Fabric, Flight, FabricStep, node_at, step_refused}
 use Rattle.sn_model.specs.FabricEvents.{moved_by, Deliver}
 use Rattle.sn_model.specs.Net.{flight_of}
-use Rattle.sn_model.specs.NetEvents.{outcome_of, delivers, delivers_flight, delivered}
+use Rattle.sn_model.specs.NetEvents.{outcome_of, delivers, delivers_flight, step_of_delivery}
 use Rattle.fabric_coherence.specs.CacheEvents.{comes_to_cache}
 use Rattle.fabric_coherence.specs.Coherent.{Keeps}
 use Rattle.fabric_coherence.specs.Met.{comes_to_home}
@@ -59,21 +59,21 @@ come-shown p id m e = shown_step p id m (find_flight p.net.flights id) refl e
 
 fault_test : (config : Config) (s : Fabric) (f : Carried) (why : TakeFault) (b : Bool) → has_arrived f ≡ b →
     (if b then Ok f.message else Err fault.NotArrived) ≡ Err why →
-    delivers_flight config s (Some (flight_as f)) ≡ refused s (fault_as why)
+    delivers_flight config s (Some (flight_as f)) ≡ step_refused s (fault_as why)
 fault_test config s f why true a e = absurd (cc)
 fault_test config s f why false a e =
     let same : fault.NotArrived ≡ why = cc in
-    ap (λ (b : Bool). if not b then refused s NotArrived else if nat_lt (node_at s f.message.to).now f.message.tag then refused s Held
+    ap (λ (b : Bool). if not b then step_refused s NotArrived else if nat_lt (node_at s f.message.to).now f.message.tag then step_refused s Held
     else delivers config s f.message (outcome_of s f.message f.message.body)) a
-    ∙ ap (λ (x : TakeFault). refused s (fault_as x)) same
+    ∙ ap (λ (x : TakeFault). step_refused s (fault_as x)) same
 
 fault_step : (config : Config) (s : Fabric) (why : TakeFault) (o : Option Carried) → take_answer o ≡ Err why →
-    delivers_flight config s (option_map flight_as o) ≡ refused s (fault_as why)
-fault_step config s why None e = let same : fault.NoMessage ≡ why = cc in ap (λ (x : TakeFault). refused s (fault_as x)) same
+    delivers_flight config s (option_map flight_as o) ≡ step_refused s (fault_as why)
+fault_step config s why None e = let same : fault.NoMessage ≡ why = cc in ap (λ (x : TakeFault). step_refused s (fault_as x)) same
 fault_step config s why (Some f) e = fault_test config s f why (has_arrived f) refl e
 
 pub fault-shown : (config : Config) (p : Parts) (id : ℕ) (why : TakeFault) → take_answer (find_flight p.net.flights id) ≡ Err why →
-    delivered config (fabric_as p) id ≡ refused (fabric_as p) (fault_as why)
+    step_of_delivery config (fabric_as p) id ≡ step_refused (fabric_as p) (fault_as why)
 fault-shown config p id why e =
     ap (delivers_flight config (fabric_as p)) (found-as p.net.flights id)
     ∙ fault_step config (fabric_as p) why (find_flight p.net.flights id) e
@@ -81,31 +81,31 @@ fault-shown config p id why e =
 -- what the delivery of a message that has come comes to
 
 module _ (config : Config) (s : Fabric) (m : Message) (h : HasCome s m) where
-  come_to : delivered config s m.id
-      ≡ (if nat_lt (node_at s m.to).now m.tag then refused s Held else delivers config s m (outcome_of s m m.body))
+  come_to : step_of_delivery config s m.id
+      ≡ (if nat_lt (node_at s m.to).now m.tag then step_refused s Held else delivers config s m (outcome_of s m m.body))
   come_to =
       ap (delivers_flight config s) h.found
-      ∙ ap (λ (b : Bool). if not b then refused s NotArrived else if nat_lt (node_at s m.to).now m.tag then refused s Held
+      ∙ ap (λ (b : Bool). if not b then step_refused s NotArrived else if nat_lt (node_at s m.to).now m.tag then step_refused s Held
       else delivers config s m (outcome_of s m m.body)) h.there
 
-  pub come-held : nat_lt (node_at s m.to).now m.tag ≡ true → delivered config s m.id ≡ refused s Held
-  come-held e = come_to ∙ ap (λ (b : Bool). if b then refused s Held else delivers config s m (outcome_of s m m.body)) e
+  pub come-held : nat_lt (node_at s m.to).now m.tag ≡ true → step_of_delivery config s m.id ≡ step_refused s Held
+  come-held e = come_to ∙ ap (λ (b : Bool). if b then step_refused s Held else delivers config s m (outcome_of s m m.body)) e
 
-  pub come-reached : nat_lt (node_at s m.to).now m.tag ≡ false → delivered config s m.id ≡ delivers config s m (outcome_of s m m.body)
-  come-reached e = come_to ∙ ap (λ (b : Bool). if b then refused s Held else delivers config s m (outcome_of s m m.body)) e
+  pub come-reached : nat_lt (node_at s m.to).now m.tag ≡ false → step_of_delivery config s m.id ≡ delivers config s m (outcome_of s m m.body)
+  come-reached e = come_to ∙ ap (λ (b : Bool). if b then step_refused s Held else delivers config s m (outcome_of s m m.body)) e
 
-  reached_step : (b : Bool) → nat_lt (node_at s m.to).now m.tag ≡ b → (delivered config s m.id).answer ≡ Delivered → b ≡ false
+  reached_step : (b : Bool) → nat_lt (node_at s m.to).now m.tag ≡ b → (step_of_delivery config s m.id).answer ≡ Delivered → b ≡ false
   reached_step false e d = refl
-  reached_step true e d = let k : Held ≡ Delivered = sym (ap (λ (x : Moved). x.answer) (come-held e)) ∙ d in absurd (cc)
+  reached_step true e d = let k : Held ≡ Delivered = sym (ap (λ (x : FabricStep). x.answer) (come-held e)) ∙ d in absurd (cc)
 
   -- what is delivered isn't held
-  pub reached-of : (delivered config s m.id).answer ≡ Delivered → nat_lt (node_at s m.to).now m.tag ≡ false
+  pub reached-of : (step_of_delivery config s m.id).answer ≡ Delivered → nat_lt (node_at s m.to).now m.tag ≡ false
   reached-of d = reached_step (nat_lt (node_at s m.to).now m.tag) refl d
 
 pub come-in-flight : (s : Fabric) (m : Message) → Keeps s → HasCome s m → IsInFlight s m
 come-in-flight s m k h = in_flight s m.id (record { message = m; place = h.place }) k.1.shape h.found
 
-pub deliver_is_moved : (config : Config) (s : Fabric) (id : ℕ) → moved_by config s (Deliver id) ≡ delivered config s id
+pub deliver_is_moved : (config : Config) (s : Fabric) (id : ℕ) → moved_by config s (Deliver id) ≡ step_of_delivery config s id
 unfolding moved_by
 deliver_is_moved config s id = refl
 

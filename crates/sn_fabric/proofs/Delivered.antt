@@ -9,11 +9,11 @@ use Rattle.sn_msg.specs.declared.Message.{Message}
 use Rattle.switch_net.specs.declared.answers.TakeFault.{TakeFault}
 use Rattle.switch_net.specs.declared.answers.TakeFault.TheVariants as fault
 use Rattle.switch_net.specs.Net.{find_flight, take_answer}
-use Rattle.sn_model.specs.Fabric.{Fabric, Flight, Node, Moved, node_at, refused}
+use Rattle.sn_model.specs.Fabric.{Fabric, Flight, Node, FabricStep, node_at, step_refused}
 use Rattle.sn_model.specs.Net.{flight_of, is_there}
-use Rattle.sn_model.specs.NetEvents.{Outcome, Busy, AtCache, AtHome, Noted, outcome_of, delivers, delivers_flight, delivered}
+use Rattle.sn_model.specs.NetEvents.{Outcome, Busy, AtCache, AtHome, Noted, outcome_of, delivers, delivers_flight, step_of_delivery}
 use Rattle.fabric_coherence.specs.Met.{answer_to}
-use Rattle.sn_fabric.specs.declared.node.Seat.{Seat}
+use Rattle.sn_fabric.specs.declared.node.NodeUnit.{NodeUnit}
 use Rattle.sn_fabric.specs.declared.receiver.Receiver.TheVariants.{Controller, Clock}
 use Rattle.sn_fabric.specs.Deliveries.{receiver_of, HasCome, fault_as}
 use Rattle.sn_fabric.specs.Fabric.{FabricData, IsAfter}
@@ -22,15 +22,15 @@ use Rattle.sn_fabric.proofs.Come.{come-held, come-reached, fault-shown, is-ready
 use Rattle.sn_fabric.proofs.Given.{node-read}
 
 -- whether the message is held, by the clock that was read
-module _ (config : Config) (p : Parts) (a : AreParts config p) (m : Message) (h : HasCome (fabric_as p) m) (place : ℕ) (x : Seat) (ep : place ≡ m.to) (ex : x ≡ get_or p.seats place x) where
+module _ (config : Config) (p : Parts) (a : AreParts config p) (m : Message) (h : HasCome (fabric_as p) m) (place : ℕ) (x : NodeUnit) (ep : place ≡ m.to) (ex : x ≡ get_or p.units place x) where
   now_is : (node_at (fabric_as p) m.to).now ≡ x.clock.interval
   now_is = ap (λ (y : Node). y.now) (node-read config p a m h place x ep ex)
 
   test_is : nat_lt (node_at (fabric_as p) m.to).now m.tag ≡ nat_lt x.clock.interval m.tag
   test_is = ap (λ (i : ℕ). nat_lt i m.tag) now_is
 
-  pub held-answer : nat_lt x.clock.interval m.tag ≡ true → Held ≡ (delivered config (fabric_as p) m.id).answer
-  held-answer e = sym (ap (λ (y : Moved). y.answer) (come-held config (fabric_as p) m h (test_is ∙ e)))
+  pub held-answer : nat_lt x.clock.interval m.tag ≡ true → Held ≡ (step_of_delivery config (fabric_as p) m.id).answer
+  held-answer e = sym (ap (λ (y : FabricStep). y.answer) (come-held config (fabric_as p) m h (test_is ∙ e)))
 
   pub not-held : nat_lt x.clock.interval m.tag ≡ false → m.tag ≤ (node_at (fabric_as p) m.to).now
   not-held e = let k : nat_lt (node_at (fabric_as p) m.to).now m.tag ≡ false = test_is ∙ e in grind (arith, nat_tests, k)
@@ -40,13 +40,13 @@ module _ (config : Config) (s : Fabric) (m : Message) (h : HasCome s m) (l : m.t
   reached : nat_lt (node_at s m.to).now m.tag ≡ false
   reached = grind (arith, nat_tests, l)
 
-  pub answer-given : (said : Answer) → said ≡ answer_to config s m → said ≡ (delivered config s m.id).answer
-  answer-given said e = e ∙ sym (ap (λ (y : Moved). y.answer) (come-reached config s m h reached))
+  pub answer-given : (said : Answer) → said ≡ answer_to config s m → said ≡ (step_of_delivery config s m.id).answer
+  answer-given said e = e ∙ sym (ap (λ (y : FabricStep). y.answer) (come-reached config s m h reached))
 
-  pub report-given : (k : ℕ) → receiver_of m.body ≡ Controller k → Delivered ≡ (delivered config s m.id).answer
+  pub report-given : (k : ℕ) → receiver_of m.body ≡ Controller k → Delivered ≡ (step_of_delivery config s m.id).answer
   report-given k e = answer-given Delivered (sym (ap (λ x. (delivers config s m (outcome_of s m x)).answer) (is-ready m.body k e)))
 
-  pub advance-given : (k : ℕ) → receiver_of m.body ≡ Clock k → Delivered ≡ (delivered config s m.id).answer
+  pub advance-given : (k : ℕ) → receiver_of m.body ≡ Clock k → Delivered ≡ (step_of_delivery config s m.id).answer
   advance-given k e = answer-given Delivered (sym (ap (λ x. (delivers config s m (outcome_of s m x)).answer) (is-advance m.body k e)))
 
 -- where there is nothing to take, nothing is delivered
@@ -56,16 +56,16 @@ no_fault fault.NoMessage e = cc
 no_fault fault.NotArrived e = cc
 
 pub none-delivered : (config : Config) (p : Parts) (id : ℕ) (why : TakeFault) → take_answer (find_flight p.net.flights id) ≡ Err why →
-    (delivered config (fabric_as p) id).answer ≡ Delivered → ⊥
-none-delivered config p id why e d = no_fault why (sym (ap (λ (y : Moved). y.answer) (fault-shown config p id why e)) ∙ d)
+    (step_of_delivery config (fabric_as p) id).answer ≡ Delivered → ⊥
+none-delivered config p id why e d = no_fault why (sym (ap (λ (y : FabricStep). y.answer) (fault-shown config p id why e)) ∙ d)
 
 -- what isn't delivered stays where it is
 
-abbrev Stays : Fabric → Moved → Type 0
-Stays s x = (x.answer ≡ Delivered → ⊥) → x ≡ refused s x.answer
+abbrev Stays : Fabric → FabricStep → Type 0
+Stays s x = (x.answer ≡ Delivered → ⊥) → x ≡ step_refused s x.answer
 
-room_stays : (s : Fabric) (over full : Bool) (done : Moved) → done.answer ≡ Delivered →
-    Stays s (if over then refused s LogFull else if full then refused s NetFull else done)
+room_stays : (s : Fabric) (over full : Bool) (done : FabricStep) → done.answer ≡ Delivered →
+    Stays s (if over then step_refused s LogFull else if full then step_refused s NetFull else done)
 room_stays s true full done d h = refl
 room_stays s false true done d h = refl
 room_stays s false false done d h = absurd (h d)
@@ -78,8 +78,8 @@ outcome_stays config s m (AtHome reply) h =
     room_stays s (nat_lt config.log (length reply.after.log)) (nat_lt 1025 (length s.net.flights + length reply.sends)) _ refl h
 outcome_stays config s m (Noted fabric told) h = absurd (h refl)
 
-test_stays : (s : Fabric) (there held : Bool) (rest : Moved) → Stays s rest →
-    Stays s (if not there then refused s NotArrived else if held then refused s Held else rest)
+test_stays : (s : Fabric) (there held : Bool) (rest : FabricStep) → Stays s rest →
+    Stays s (if not there then step_refused s NotArrived else if held then step_refused s Held else rest)
 test_stays s false held rest k h = refl
 test_stays s true true rest k h = refl
 test_stays s true false rest k h = k h
@@ -91,15 +91,15 @@ flight_stays config s (Some f) h =
     (delivers config s f.message (outcome_of s f.message f.message.body))
     (outcome_stays config s f.message (outcome_of s f.message f.message.body)) h
 
-undelivered : (config : Config) (s : Fabric) (id : ℕ) → Stays s (delivered config s id)
+undelivered : (config : Config) (s : Fabric) (id : ℕ) → Stays s (step_of_delivery config s id)
 undelivered config s id h = flight_stays config s (flight_of s.net.flights id) h
 
-module _ (d e : FabricData) (id : ℕ) (said : Answer) (es : said ≡ (delivered d.config d.fabric id).answer) (ne : said ≡ Delivered → ⊥) where
-  stays : delivered d.config d.fabric id ≡ refused d.fabric (delivered d.config d.fabric id).answer
+module _ (d e : FabricData) (id : ℕ) (said : Answer) (es : said ≡ (step_of_delivery d.config d.fabric id).answer) (ne : said ≡ Delivered → ⊥) where
+  stays : step_of_delivery d.config d.fabric id ≡ step_refused d.fabric (step_of_delivery d.config d.fabric id).answer
   stays = undelivered d.config d.fabric id (λ k. ne (es ∙ k))
 
-  pub undelivered-after : e ≡ record d { sent = [] } → IsAfter d e said (delivered d.config d.fabric id)
-  undelivered-after ee = record { answer = es; left = ee ∙ ap (λ (m : Moved). record d { fabric = m.fabric; sent = m.sent }) (sym stays) }
+  pub undelivered-after : e ≡ record d { sent = [] } → IsAfter d e said (step_of_delivery d.config d.fabric id)
+  undelivered-after ee = record { answer = es; left = ee ∙ ap (λ (m : FabricStep). record d { fabric = m.fabric; sent = m.sent }) (sym stays) }
 
-  pub undelivered-tells : None ≡ (delivered d.config d.fabric id).told
-  undelivered-tells = sym (ap (λ (m : Moved). m.told) stays)
+  pub undelivered-tells : None ≡ (step_of_delivery d.config d.fabric id).told
+  undelivered-tells = sym (ap (λ (m : FabricStep). m.told) stays)

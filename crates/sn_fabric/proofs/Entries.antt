@@ -11,7 +11,7 @@ use Rattle.sn_model.specs.Caches.{Miss, Put, block_count}
 use Rattle.sn_model.specs.Homes.{HomeEntry}
 use Rattle.sn_model.specs.Fabric.{Node, no_entry}
 use Rattle.sn_model.specs.NodeEvents.{least_begun, issued_by, put_issued_by, ready_of}
-use Rattle.sn_fabric.specs.Parts.{Parts, fabric_as, seat_at, home_at, homes_as, entry_at, AreWhole}
+use Rattle.sn_fabric.specs.Parts.{Parts, fabric_as, unit_at, home_at, homes_as, entry_at, AreWhole}
 use Rattle.sn_fabric.proofs.Parts.{node-at, count-nodes}
 use Rattle.sn_fabric.proofs.FirstParts.{few-nodes}
 
@@ -54,19 +54,19 @@ issued_least now None (Some put) = refl
 issued_least now (Some miss) (Some put) = omega arith
 
 -- what a node has completed
-pub ready-is : (config : Config) (p : Parts) (n : ℕ) → AreWhole config p → n < length p.seats →
+pub ready-is : (config : Config) (p : Parts) (n : ℕ) → AreWhole config p → n < length p.units →
     ready_of (fabric_as p) n
-    ≡ at_most (at_most (seat_at p.seats n).clock.interval (least_open (home_at p.homes n).entries))
-    (least_open_of (seat_at p.seats n).cache.cache.miss (seat_at p.seats n).cache.cache.put)
+    ≡ at_most (at_most (unit_at p.units n).clock.interval (least_open (home_at p.homes n).entries))
+    (least_open_of (unit_at p.units n).cache.cache.miss (unit_at p.units n).cache.cache.put)
 unfolding ready_of
 ready-is config p n w l =
     let h : n < config.nodes = subst (λ (k : ℕ). n < k) w.count l in
     let i = w.homes n h in
     ap (λ (y : Node). put_issued_by
     (issued_by (least_begun y.now (length (fabric_as p).nodes) n 0 (homes_as p.homes)) y.cache.miss) y.cache.put) (node-at p n l)
-    ∙ issued_least (least_begun (seat_at p.seats n).clock.interval (length (fabric_as p).nodes) n 0 (homes_as p.homes))
-    (seat_at p.seats n).cache.cache.miss (seat_at p.seats n).cache.cache.put
-    ∙ ap (λ (j : ℕ). at_most j (least_open_of (seat_at p.seats n).cache.cache.miss (seat_at p.seats n).cache.cache.put))
-    (ap (λ (k : ℕ). least_begun (seat_at p.seats n).clock.interval k n 0 (homes_as p.homes)) (count-nodes p ∙ w.count)
-    ∙ least-of-node p.homes config.nodes n (seat_at p.seats n).clock.interval h (few-nodes config w.fits).few w.count_homes i.nodes
+    ∙ issued_least (least_begun (unit_at p.units n).clock.interval (length (fabric_as p).nodes) n 0 (homes_as p.homes))
+    (unit_at p.units n).cache.cache.miss (unit_at p.units n).cache.cache.put
+    ∙ ap (λ (j : ℕ). at_most j (least_open_of (unit_at p.units n).cache.cache.miss (unit_at p.units n).cache.cache.put))
+    (ap (λ (k : ℕ). least_begun (unit_at p.units n).clock.interval k n 0 (homes_as p.homes)) (count-nodes p ∙ w.count)
+    ∙ least-of-node p.homes config.nodes n (unit_at p.units n).clock.interval h (few-nodes config w.fits).few w.count_homes i.nodes
     (i.whole.filled ∙ ap (λ (k : ℕ). places_of k (home_at p.homes n).nodes) i.node ∙ ap (λ (k : ℕ). places_of n k) i.nodes))

@@ -19,17 +19,17 @@ use Rattle.sn_model.specs.Caches.{block_count}
 use Rattle.sn_model.specs.Homes.{HomeEntry}
 use Rattle.sn_model.specs.Fabric as model
 use Rattle.sn_model.specs.Fabric.{Node, first_home, first_homes, first_node, first_fabric, no_entry}
-use Rattle.fabric_coherence.specs.Start.{first_beside}
+use Rattle.fabric_coherence.specs.Start.{first_ghost}
 use Rattle.fabric_coherence.proofs.KeptStart.{start-kept}
 use Rattle.fabric_coherence.proofs.Recovery.{replicated}
 use Rattle.log_buffer.specs.Log.{logged_to}
 use Rattle.sn_fabric.specs.Logs.{AreOwnLogs}
 use Rattle.fabric_bounds.specs.Bounds.{KeepsBounds}
 use Rattle.fabric_bounds.proofs.Runs.{start_bounded}
-use Rattle.sn_fabric.specs.declared.node.Seat.{Seat}
-use Rattle.sn_fabric.specs.Parts.{node_as, Parts, fabric_as, seat_at, home_at, no_seat, no_home, homes_as, entry_at, IsSeat, IsHomeOf}
+use Rattle.sn_fabric.specs.declared.node.NodeUnit.{NodeUnit}
+use Rattle.sn_fabric.specs.Parts.{node_as, Parts, fabric_as, unit_at, home_at, no_unit, no_home, homes_as, entry_at, IsUnit, IsHomeOf}
 use Rattle.sn_fabric.specs.Parts.{AreWhole, AreParts}
-use Rattle.sn_fabric.specs.Start.{first_seat, seats_below, homes_below}
+use Rattle.sn_fabric.specs.Start.{first_unit, units_below, homes_below}
 
 -- a list that is built from its beginning
 upto : {A : Type 0} → (ℕ → A) → ℕ → List A
@@ -53,10 +53,10 @@ at-upto f (suc n) i d l =
     (λ (h : n ≤ i). let e : n ≡ i = omega arith in get_or_push (upto f n) (f n) d i (m ∙ e) ∙ ap f e)
     (cases_lt i n)
 
-seats-upto : (n : ℕ) (config : Config) → seats_below n config ≡ upto (first_seat config) n
+units-upto : (n : ℕ) (config : Config) → units_below n config ≡ upto (first_unit config) n
 unfolding upto
-seats-upto zero config = refl
-seats-upto (suc n) config = ap (λ (xs : List Seat). xs ++ first_seat config n ∷ []) (seats-upto n config)
+units-upto zero config = refl
+units-upto (suc n) config = ap (λ (xs : List NodeUnit). xs ++ first_unit config n ∷ []) (units-upto n config)
 
 homes-upto : (n : ℕ) (image : ImageData) (nodes : ℕ) → homes_below n image nodes ≡ upto (λ k. first_of image k nodes) n
 unfolding upto
@@ -79,15 +79,15 @@ replicate_last : {A : Type 0} (n : ℕ) (y : A) → replicate n y ++ y ∷ [] �
 replicate_last zero y = refl
 replicate_last (suc n) y = ap (λ xs. y ∷ xs) (replicate_last n y)
 
-nodes-start : (n : ℕ) (config : Config) → map node_as (seats_below n config) ≡ replicate n first_node
+nodes-start : (n : ℕ) (config : Config) → map node_as (units_below n config) ≡ replicate n first_node
 nodes-start zero config = refl
 nodes-start (suc n) config =
-    map-append node_as (seats_below n config) (first_seat config n ∷ [])
+    map-append node_as (units_below n config) (first_unit config n ∷ [])
     ∙ ap (λ (xs : List Node). xs ++ first_node ∷ []) (nodes-start n config)
     ∙ replicate_last n first_node
 
-seat-start : (n i : ℕ) (config : Config) → i < n → seat_at (seats_below n config) i ≡ first_seat config i
-seat-start n i config l = ap (λ (xs : List Seat). get_or xs i no_seat) (seats-upto n config) ∙ at-upto (first_seat config) n i no_seat l
+unit-start : (n i : ℕ) (config : Config) → i < n → unit_at (units_below n config) i ≡ first_unit config i
+unit-start n i config l = ap (λ (xs : List NodeUnit). get_or xs i no_unit) (units-upto n config) ∙ at-upto (first_unit config) n i no_unit l
 
 home-start : (n i : ℕ) (image : ImageData) → i < n → home_at (homes_below n image n) i ≡ first_of image i n
 home-start n i image l =
@@ -127,7 +127,7 @@ homes-start n image l = sym (all-start n image block_count (omega arith) l)
 -- the parts at the start
 abbrev pub first_parts : Config → ImageData → NetData → Parts
 first_parts config image net =
-    record { seats = seats_below config.nodes config; homes = homes_below config.nodes image config.nodes; net = net; point = 0 }
+    record { units = units_below config.nodes config; homes = homes_below config.nodes image config.nodes; net = net; point = 0 }
 
 pub record HasFewNodes (config : Config) : Type 0 where
   pub some : 1 ≤ config.nodes
@@ -140,11 +140,11 @@ whole-start : (config : Config) (image : ImageData) (net : NetData) → config_f
     AreWhole config (first_parts config image net)
 whole-start config image net f r = record {
   fits = f;
-  count = ap (λ (xs : List Seat). length xs) (seats-upto config.nodes config) ∙ length-upto (first_seat config) config.nodes;
+  count = ap (λ (xs : List NodeUnit). length xs) (units-upto config.nodes config) ∙ length-upto (first_unit config) config.nodes;
   count_homes = count-homes config.nodes image;
   count_routes = r;
-  seats =
-      λ n l. subst (IsSeat config n) (sym (seat-start config.nodes n config l))
+  units =
+      λ n l. subst (IsUnit config n) (sym (unit-start config.nodes n config l))
       (record { node = refl; nodes = refl; sets = refl; ways = refl; limit = refl });
   homes = λ n l. subst (IsHomeOf config n) (sym (home-start config.nodes n image l)) (record {
     node = refl;
@@ -175,7 +175,7 @@ parts-start config image f = record {
   whole = whole-start config image (first_net config) f refl;
   keeps =
       subst (KeepsBounds config) (sym (fabric-start config image f)) (
-        first_beside,
+        first_ghost,
         start-kept image config.nodes (few-nodes config f).some (few-nodes config f).few,
         start_bounded image config config.nodes,
       );

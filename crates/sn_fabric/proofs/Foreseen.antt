@@ -15,27 +15,27 @@ use Rattle.switch_net.specs.declared.answers.HopAnswer.{HopAnswer}
 use Rattle.switch_net.specs.declared.flight.Flight.{Flight as Carried}
 use Rattle.switch_net.specs.Net.{find_flight, hop_answer}
 use Rattle.sn_model.specs.Fabric as model
-use Rattle.sn_model.specs.Fabric.{Fabric, Moved}
-use Rattle.sn_model.specs.NetEvents.{hopped, loses, lost}
-use Rattle.sn_fabric.specs.declared.node.Seat.{Seat}
+use Rattle.sn_model.specs.Fabric.{Fabric, FabricStep}
+use Rattle.sn_model.specs.NetEvents.{step_of_hop, loses, step_of_loss}
+use Rattle.sn_fabric.specs.declared.node.NodeUnit.{NodeUnit}
 use Rattle.sn_fabric.specs.Nets.{flight_as, hop_as, loss_as}
-use Rattle.sn_fabric.specs.Parts.{Parts, fabric_as, no_seat, seat_at, AreParts}
+use Rattle.sn_fabric.specs.Parts.{Parts, fabric_as, no_unit, unit_at, AreParts}
 use Rattle.sn_fabric.specs.Recovery.{undone_of}
 use Rattle.sn_fabric.proofs.Calls.{rising}
 use Rattle.sn_fabric.proofs.Nets.{found-as, hop-is}
 use Rattle.sn_fabric.proofs.Parts.{routes-as}
 
 pub hop-foreseen : (config : Config) (p : Parts) (id : ℕ) (found : HopAnswer) (said : Answer) → AreParts config p →
-    found ≡ hop_answer p.net (find_flight p.net.flights id) → said ≡ hop_as found → said ≡ (hopped (fabric_as p) id).answer
+    found ≡ hop_answer p.net (find_flight p.net.flights id) → said ≡ hop_as found → said ≡ (step_of_hop (fabric_as p) id).answer
 hop-foreseen config p id found said a e s =
-    s ∙ ap hop_as e ∙ sym (ap (λ (m : Moved). m.answer) (hop-is p id (routes-as config p a.whole) (rising config p a)))
+    s ∙ ap hop_as e ∙ sym (ap (λ (m : FabricStep). m.answer) (hop-is p id (routes-as config p a.whole) (rising config p a)))
 
 loses_is : (s : Fabric) (o : Option Carried) → loss_as (is_some o) ≡ (loses s (option_map flight_as o)).answer
 loses_is s None = refl
 loses_is s (Some f) = refl
 
 pub loss-foreseen : (p : Parts) (id : ℕ) (found : Bool) → found ≡ is_some (find_flight p.net.flights id) →
-    loss_as found ≡ (lost (fabric_as p) id).answer
+    loss_as found ≡ (step_of_loss (fabric_as p) id).answer
 loss-foreseen p id found e =
     ap loss_as e ∙ loses_is (fabric_as p) (find_flight p.net.flights id)
     ∙ ap (λ (o : Option model.Flight). (loses (fabric_as p) o).answer) (sym (found-as p.net.flights id))
@@ -54,16 +54,16 @@ undone-more log i k count e t l g h same =
     ∙ ap (λ (n : ℕ). n + cond t 1 0) (sym same)
     )
 
-pub all-undone-more : (seats : List Seat) (i k undone count : ℕ) (x : Seat) → i < length seats → x ≡ seat_at seats i →
-    undone ≡ sum_by (undone_of k) (take i seats) → count ≡ undone_of k x →
-    undone + count ≡ sum_by (undone_of k) (take (i + 1) seats)
-all-undone-more seats i k undone count x l r same c =
-    sym (sum_by_more (undone_of k) seats i no_seat l ∙ ap (λ (n : ℕ). n + undone_of k (seat_at seats i)) (sym same)
-    ∙ ap (λ (y : Seat). undone + undone_of k y) (sym r) ∙ ap (λ (n : ℕ). undone + n) (sym c))
+pub all-undone-more : (units : List NodeUnit) (i k undone count : ℕ) (x : NodeUnit) → i < length units → x ≡ unit_at units i →
+    undone ≡ sum_by (undone_of k) (take i units) → count ≡ undone_of k x →
+    undone + count ≡ sum_by (undone_of k) (take (i + 1) units)
+all-undone-more units i k undone count x l r same c =
+    sym (sum_by_more (undone_of k) units i no_unit l ∙ ap (λ (n : ℕ). n + undone_of k (unit_at units i)) (sym same)
+    ∙ ap (λ (y : NodeUnit). undone + undone_of k y) (sym r) ∙ ap (λ (n : ℕ). undone + n) (sym c))
 
-pub few-undone : (seats : List Seat) (i k count : ℕ) (x : Seat) → x ≡ seat_at seats i → length (seat_at seats i).log.entries < 2 ^ 16 →
+pub few-undone : (units : List NodeUnit) (i k count : ℕ) (x : NodeUnit) → x ≡ unit_at units i → length (unit_at units i).log.entries < 2 ^ 16 →
     count ≡ undone_of k x → count ≤ 2 ^ 16
-few-undone seats i k count x r few c =
+few-undone units i k count x r few c =
     let s = from_shorter k x.log.entries in
-    let f : length x.log.entries < 2 ^ 16 = subst (λ (y : Seat). length y.log.entries < 2 ^ 16) (sym r) few in
+    let f : length x.log.entries < 2 ^ 16 = subst (λ (y : NodeUnit). length y.log.entries < 2 ^ 16) (sym r) few in
     omega arith

@@ -12,16 +12,16 @@ use Rattle.sn_model.specs.declared.cache.Out.{Out}
 use Rattle.sn_model.specs.Fabric as model
 use Rattle.sn_model.specs.Fabric.{Fabric, Node, node_at}
 use Rattle.sn_model.specs.Net.{without_flight}
-use Rattle.sn_model.specs.NetEvents.{delivered}
+use Rattle.sn_model.specs.NetEvents.{step_of_delivery}
 use Rattle.fabric_coherence.specs.Steps.{IsInFlight}
-use Rattle.sn_fabric.specs.declared.node.Seat.{Seat}
+use Rattle.sn_fabric.specs.declared.node.NodeUnit.{NodeUnit}
 use Rattle.sn_fabric.specs.Deliveries.{HasCome, GoTo}
 use Rattle.sn_fabric.specs.Nets.{flight_as, net_as}
-use Rattle.sn_fabric.specs.Parts.{Parts, fabric_as, node_as, seat_at, IsSeat, AreParts}
+use Rattle.sn_fabric.specs.Parts.{Parts, fabric_as, node_as, unit_at, IsUnit, AreParts}
 use Rattle.sn_fabric.proofs.Come.{come-in-flight, reached-of, fewer-without}
 use Rattle.sn_fabric.proofs.Looks.{HasRoomFor}
 use Rattle.sn_fabric.proofs.Nets.{without-as}
-use Rattle.sn_fabric.proofs.Parts.{node-at, count-nodes, seat-read}
+use Rattle.sn_fabric.proofs.Parts.{node-at, count-nodes, unit-read}
 
 -- the network without a message
 abbrev pub taken : Parts → ℕ → NetData
@@ -47,7 +47,7 @@ module _ (config : Config) (p : Parts) (a : AreParts config p) (m : Message) (h 
   pub in-flight : IsInFlight (fabric_as p) m
   in-flight = come-in-flight (fabric_as p) m (a.keeps.0, a.keeps.1) h
 
-  pub inside : m.to < length p.seats
+  pub inside : m.to < length p.units
   inside = subst (λ (k : ℕ). m.to < k) (count-nodes p) in-flight.to
 
   pub to-there : m.to < p.net.routes.nodes
@@ -60,21 +60,21 @@ module _ (config : Config) (p : Parts) (a : AreParts config p) (m : Message) (h 
       ∙ sym (ap (λ (x : NetData). x.routes.nodes) en) in
       subst (λ (xs : List Out). GoTo xs net.routes.nodes) (sym eo) (subst (GoTo sends) e g)
 
-  module _ (place : ℕ) (x : Seat) (ep : place ≡ m.to) (ex : x ≡ get_or p.seats place x) where
-    pub seat-is : x ≡ seat_at p.seats m.to
-    seat-is = seat-read p m.to place x in-flight.to ep ex
+  module _ (place : ℕ) (x : NodeUnit) (ep : place ≡ m.to) (ex : x ≡ get_or p.units place x) where
+    pub unit-is : x ≡ unit_at p.units m.to
+    unit-is = unit-read p m.to place x in-flight.to ep ex
 
     pub node-read : node_at (fabric_as p) m.to ≡ node_as x
-    node-read = node-at p m.to inside ∙ ap node_as (sym seat-is)
+    node-read = node-at p m.to inside ∙ ap node_as (sym unit-is)
 
-    pub serves : IsSeat config m.to x
-    serves = subst (IsSeat config m.to) (sym seat-is) (a.whole.seats m.to (subst (λ (k : ℕ). m.to < k) a.whole.count inside))
+    pub serves : IsUnit config m.to x
+    serves = subst (IsUnit config m.to) (sym unit-is) (a.whole.units m.to (subst (λ (k : ℕ). m.to < k) a.whole.count inside))
 
     -- its interval has reached the message's tag
     pub tag-reached : (now : ℕ) → now ≡ x.clock.interval → m.tag ≤ (node_at (fabric_as p) m.to).now → m.tag ≤ now
     tag-reached now en l = let k : m.tag ≤ x.clock.interval = subst (λ (y : Node). m.tag ≤ y.now) node-read l in omega arith
 
-pub delivered-reached : (config : Config) (s : Fabric) (m : Message) → HasCome s m → (delivered config s m.id).answer ≡ Delivered →
+pub delivered-reached : (config : Config) (s : Fabric) (m : Message) → HasCome s m → (step_of_delivery config s m.id).answer ≡ Delivered →
     m.tag ≤ (node_at s m.to).now
 delivered-reached config s m h d =
     let k : nat_lt (node_at s m.to).now m.tag ≡ false = reached-of config s m h d in grind (arith, nat_tests, k)

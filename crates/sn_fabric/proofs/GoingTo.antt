@@ -9,10 +9,10 @@ use Rattle.sn_model.specs.declared.cache.Out.{Out}
 use Rattle.sn_model.specs.CacheRows.{CacheReply}
 use Rattle.sn_model.specs.HomeRows.{HomeReply}
 use Rattle.sn_base.specs.declared.event.Answer.TheVariants.{Delivered}
-use Rattle.sn_model.specs.Fabric.{Fabric, Flight, Net, Moved, node_at, with_node, with_net}
+use Rattle.sn_model.specs.Fabric.{Fabric, Flight, Net, FabricStep, node_at, with_node, with_net}
 use Rattle.sn_model.specs.FabricEvents.{Deliver}
-use Rattle.sn_model.specs.Net.{post, posted, message_of, is_lost, entry_of, routes_of, without_flight, sending}
-use Rattle.sn_model.specs.NetEvents.{delivered, node_after, home_after}
+use Rattle.sn_model.specs.Net.{post, net_after_sends, message_of, is_lost, entry_of, routes_of, without_flight, sending}
+use Rattle.sn_model.specs.NetEvents.{step_of_delivery, node_after, home_after}
 use Rattle.fabric_coherence.specs.Coherent.{Keeps}
 use Rattle.fabric_coherence.specs.Steps.{IsShaped, Within, after_cache, after_home}
 use Rattle.fabric_coherence.proofs.KeptEvents.{each_keeps}
@@ -49,7 +49,7 @@ within_append [] gs nodes w = (tt, w)
 within_append (f ∷ fs) gs nodes w = let h = within_append fs gs nodes w.1 in ((w.0, h.0), h.1)
 
 within_posted : (routes : Switches) (net : Net) (from tag block : ℕ) (outs : List Out) (nodes : ℕ) → net.dead ≡ [] →
-    Within (posted routes net from tag block outs).flights nodes →
+    Within (net_after_sends routes net from tag block outs).flights nodes →
     Within net.flights nodes × GoTo outs nodes
 within_posted routes net from tag block [] nodes d w = (w, tt)
 within_posted routes net from tag block (out ∷ outs) nodes d w =
@@ -68,21 +68,21 @@ within_posted routes net from tag block (out ∷ outs) nodes d w =
     (k.0, (k.1.0.1, h.1))
 
 -- after a delivery the fabric has its shape
-shaped_after : (config : Config) (s : Fabric) (id : ℕ) (moved : Moved) → Keeps s → delivered config s id ≡ moved → IsShaped moved.fabric
+shaped_after : (config : Config) (s : Fabric) (id : ℕ) (moved : FabricStep) → Keeps s → step_of_delivery config s id ≡ moved → IsShaped moved.fabric
 shaped_after config s id moved k e =
-    (subst Keeps (ap (λ (x : Moved). x.fabric) (deliver_is_moved config s id ∙ e)) (each_keeps config s (Deliver id) k tt)).1.shape
+    (subst Keeps (ap (λ (x : FabricStep). x.fabric) (deliver_is_moved config s id ∙ e)) (each_keeps config s (Deliver id) k tt)).1.shape
 
 -- so what a row sends goes to nodes that are there
 
-sends_go : (config : Config) (s t : Fabric) (id from block : ℕ) (sends : List Out) (moved : Moved) → Keeps s →
-    delivered config s id ≡ moved → t.net.dead ≡ [] → moved.fabric ≡ (sending t from block sends Delivered).fabric →
+sends_go : (config : Config) (s t : Fabric) (id from block : ℕ) (sends : List Out) (moved : FabricStep) → Keeps s →
+    step_of_delivery config s id ≡ moved → t.net.dead ≡ [] → moved.fabric ≡ (sending t from block sends Delivered).fabric →
     GoTo sends (length t.nodes)
 sends_go config s t id from block sends moved k e d f =
     (within_posted (routes_of t) t.net from (node_at t from).now block sends (length t.nodes) d
     (subst (λ (x : Fabric). Within x.net.flights (length x.nodes)) f (shaped_after config s id moved k e).within)).1
 
 pub cache-sends-go : (config : Config) (s : Fabric) (m : Message) (reply : CacheReply) → Keeps s →
-    delivered config (undead s) m.id ≡ after_cache (undead s) m reply → GoTo reply.sends (length s.nodes)
+    step_of_delivery config (undead s) m.id ≡ after_cache (undead s) m reply → GoTo reply.sends (length s.nodes)
 cache-sends-go config s m reply k e =
     subst (GoTo reply.sends) (length-set s.nodes m.to (node_after (node_at s m.to) reply))
     (sends_go config (undead s)
@@ -90,7 +90,7 @@ cache-sends-go config s m reply k e =
     (without_flight (undead s).net m.id)) m.id m.to m.block reply.sends (after_cache (undead s) m reply) (undead-keeps s k) e refl refl)
 
 pub home-sends-go : (config : Config) (s : Fabric) (m : Message) (reply : HomeReply) → Keeps s →
-    delivered config (undead s) m.id ≡ after_home (undead s) m reply → GoTo reply.sends (length s.nodes)
+    step_of_delivery config (undead s) m.id ≡ after_home (undead s) m reply → GoTo reply.sends (length s.nodes)
 home-sends-go config s m reply k e =
     subst (GoTo reply.sends) (length-set s.nodes m.to (record (node_at s m.to) { log = reply.after.log }))
     (sends_go config (undead s)

@@ -20,9 +20,9 @@ use Rattle.sn_coherence.specs.Block as block
 use Rattle.fabric_coherence.specs.Holders.{HasHolder}
 use Rattle.fabric_coherence.specs.View.{kind_seen, kind_open, begun_of}
 use Rattle.fabric_coherence.proofs.Holders.{coherent}
-use Rattle.sn_fabric.specs.declared.node.Seat.{Seat}
+use Rattle.sn_fabric.specs.declared.node.NodeUnit.{NodeUnit}
 use Rattle.sn_fabric.specs.Parts.{Parts, fabric_as, AreParts}
-use Rattle.sn_fabric.specs.Seats.{noted_content}
+use Rattle.sn_fabric.specs.Units.{noted_content}
 use Rattle.sn_fabric.proofs.Named.{names-are}
 
 -- a home that names itself, and noted no content, has it
@@ -36,8 +36,8 @@ names-kept (Some (WasHome other)) holder e h = cc
 names-kept (Some (WasCache node)) holder e h = cc
 
 pub kept-name : (config : Config) (p : Parts) (a : AreParts config p) (place block : ℕ) (home : HomeData) (e : place ≡ block % config.nodes)
-    (eh : home ≡ get_or p.homes place home) (x : Seat) (old : Option Old) (cut : ℕ) →
-    block < block_count → x ≡ get_or p.seats place x → old ≡ old_at x.log.entries true block cut → noted_content old ≡ None →
+    (eh : home ≡ get_or p.homes place home) (x : NodeUnit) (old : Option Old) (cut : ℕ) →
+    block < block_count → x ≡ get_or p.units place x → old ≡ old_at x.log.entries true block cut → noted_content old ≡ None →
     owner_of (names_at (fabric_as p) block cut) ≡ Home →
     names_at (fabric_as p) block cut ≡ (entry_of home block).holder
 kept-name config p a place block home e eh x old cut low ex eo none names =

@@ -116,7 +116,7 @@ module _ (config : Config) (p : Parts) (w : AreWhole config p) (block n : ℕ) (
     count = w.count;
     count_homes = count;
     count_routes = w.count_routes;
-    seats = w.seats;
+    units = w.units;
     homes = λ m h.
         ⊎_elim
         (λ (same : m ≡ n). rw same (subst (IsHomeOf config n) (sym at_same) same_after))

@@ -17,26 +17,26 @@ use Rattle.route_plan.specs.Routes.{first_cut_off}
 use Rattle.sn_model.specs.declared.cache.LineState.{LineState}
 use Rattle.sn_model.specs.declared.cache.LineState.TheVariants as state
 use Rattle.sn_model.specs.declared.cache.Need.{Need}
-use Rattle.sn_model.specs.Access.{missing, missed, misses, has_miss, serves, lacks_room, with_write, stored, accesses, accessed}
+use Rattle.sn_model.specs.Access.{missing, step_of_miss, misses, has_miss, serves, lacks_room, with_write, fabric_with_write, accesses, step_of_access}
 use Rattle.sn_model.specs.Caches.{line_of, is_present, misses_on, puts_on, frames_taken, with_line}
 use Rattle.sn_model.specs.CacheRows.{Logged, CacheReply, content_of, taken_over, forward_read, forward_write, invalidate, put_go, put_done}
-use Rattle.sn_model.specs.CacheRows.{data_shared, data_modified, data_exclusive, upgrade_granted, acknowledge, fixed_at, acknowledged}
+use Rattle.sn_model.specs.CacheRows.{data_shared, data_modified, data_exclusive, upgrade_granted, acknowledge, fixed_at, miss_with_ack}
 use Rattle.sn_model.specs.Homes.{Transaction}
 use Rattle.sn_model.specs.HomeRows.{HomeReply, put_data, unblock}
-use Rattle.sn_model.specs.Fabric.{Fabric, Flight, Node, Moved, first_node, node_at, home_of, home_node, refused, answered}
+use Rattle.sn_model.specs.Fabric.{Fabric, Flight, Node, FabricStep, first_node, node_at, home_of, home_node, step_refused, step_with_answer}
 use Rattle.sn_model.specs.FabricEvents.{FabricEvent, Access, Write, Evict, Edge, Hop, Deliver, Lose, Kill, Report, Advance as Advances}
 use Rattle.sn_model.specs.FabricEvents.{Recover, moved_by}
 use Rattle.sn_model.specs.Net.{net_limit, routes_of, flight_of, is_there, is_full, next_switch}
-use Rattle.sn_model.specs.NodeEvents.{without_copy, has_put, with_put, begins_put, evicts, evicted, after_edge, checkpoint_limit, edged}
-use Rattle.sn_model.specs.NodeEvents.{reported}
-use Rattle.sn_model.specs.NetEvents.{AtCache, AtHome, logged_at, kept_at, unless_busy, outcome_of, node_after, learned, delivers}
-use Rattle.sn_model.specs.NetEvents.{delivers_flight, hops, hops_to, loses, killed}
-use Rattle.sn_model.specs.PointEvents.{advanced, restored, recovers, living_switches}
-use Rattle.fabric_coherence.specs.Coherent.{IsKept}
+use Rattle.sn_model.specs.NodeEvents.{without_copy, has_put, with_put, begins_put, evicts, step_of_eviction, after_edge, checkpoint_limit, step_of_edge}
+use Rattle.sn_model.specs.NodeEvents.{step_of_report}
+use Rattle.sn_model.specs.NetEvents.{AtCache, AtHome, logged_at, kept_at, unless_busy, outcome_of, node_after, node_after_news, delivers}
+use Rattle.sn_model.specs.NetEvents.{delivers_flight, hops, hops_to, loses, step_of_kill}
+use Rattle.sn_model.specs.PointEvents.{step_of_advance, restored, recovers, living_switches}
+use Rattle.fabric_coherence.specs.Coherent.{FabricInvariant}
 use Rattle.fabric_coherence.specs.Events.{MayBe}
 use Rattle.fabric_coherence.specs.Met.{comes_to_home}
 use Rattle.fabric_coherence.specs.Steps.{IsInFlight}
-use Rattle.fabric_coherence.specs.View.{Beside}
+use Rattle.fabric_coherence.specs.View.{GhostState}
 use Rattle.fabric_coherence.proofs.InFlight.{in_flight}
 use Rattle.fabric_coherence.proofs.NodesStay.{nodes_same}
 use Rattle.fabric_coherence.proofs.Recovery.{each_node}
@@ -46,12 +46,12 @@ use Rattle.sn_fabric.proofs.LogRows.{nothing-own, content-own, from-own, get-sha
 use Rattle.sn_fabric.proofs.LogRows.{put-data-own, completed_or_waiting-log}
 
 -- what an event makes of each log
-record KeepsLogs (s : Fabric) (x : Moved) : Type 0 where
+record KeepsLogs (s : Fabric) (x : FabricStep) : Type 0 where
   nodes : (n : ℕ) → n < length s.nodes → IsOwnLog (length s.nodes) n (node_at s n).log →
       IsOwnLog (length s.nodes) n (node_at x.fabric n).log
 
 -- a test of the fabric
-by_test : (s : Fabric) (test : Bool) (a b : Moved) → KeepsLogs s a → KeepsLogs s b → KeepsLogs s (if test then a else b)
+by_test : (s : Fabric) (test : Bool) (a b : FabricStep) → KeepsLogs s a → KeepsLogs s b → KeepsLogs s (if test then a else b)
 by_test s true a b first second = first
 by_test s false a b first second = second
 
@@ -71,25 +71,25 @@ module _ (config : Config) (s : Fabric) (n : ℕ) (l : n < length s.nodes) where
   misses-keep : (block : ℕ) (access : Need) → KeepsLogs s (misses config s n block access)
   misses-keep block access =
       by_test s (not (is_present (line_of (node_at s n).cache block).state)
-      && nat_le config.ways (frames_taken (node_at s n).cache config.sets block)) (refused s NeedsEvict) _
+      && nat_le config.ways (frames_taken (node_at s n).cache config.sets block)) (step_refused s NeedsEvict) _
       (record { nodes = λ m k own. own })
-      (by_test s (is_full s 1) (refused s NetFull) (missed s n block access) (record { nodes = λ m k own. own })
+      (by_test s (is_full s 1) (step_refused s NetFull) (step_of_miss s n block access) (record { nodes = λ m k own. own })
       (record { nodes = one_keeps s n (missing (node_at s n) block access) l (λ own. own) }))
 
-  accessed-keeps : (block : ℕ) (access : Need) → KeepsLogs s (accessed config s n block access)
+  accessed-keeps : (block : ℕ) (access : Need) → KeepsLogs s (step_of_access config s n block access)
   accessed-keeps block access =
-      by_test s (has_miss (node_at s n).cache.miss) (refused s Waits) (accesses config s n block access) (record { nodes = λ m k own. own })
-      (by_test s (puts_on (node_at s n).cache.put block) (refused s Waits) _ (record { nodes = λ m k own. own })
+      by_test s (has_miss (node_at s n).cache.miss) (step_refused s Waits) (accesses config s n block access) (record { nodes = λ m k own. own })
+      (by_test s (puts_on (node_at s n).cache.put block) (step_refused s Waits) _ (record { nodes = λ m k own. own })
       (by_test s (serves access (line_of (node_at s n).cache block).state)
-      (if lacks_room config (node_at s n) block access then refused s LogFull else answered s Retired) (misses config s n block access)
-      (by_test s (lacks_room config (node_at s n) block access) (refused s LogFull) (answered s Retired) (record { nodes = λ m k own. own })
+      (if lacks_room config (node_at s n) block access then step_refused s LogFull else step_with_answer s Retired) (misses config s n block access)
+      (by_test s (lacks_room config (node_at s n) block access) (step_refused s LogFull) (step_with_answer s Retired) (record { nodes = λ m k own. own })
       (record { nodes = λ m k own. own }))
       (misses-keep block access)))
 
   put-keeps : (block : ℕ) → KeepsLogs s (begins_put s n block)
   put-keeps block =
-      by_test s (has_put (node_at s n).cache.put) (refused s PutOpen) _ (record { nodes = λ m k own. own })
-      (by_test s (is_full s 1) (refused s NetFull) _ (record { nodes = λ m k own. own })
+      by_test s (has_put (node_at s n).cache.put) (step_refused s PutOpen) _ (record { nodes = λ m k own. own })
+      (by_test s (is_full s 1) (step_refused s NetFull) _ (record { nodes = λ m k own. own })
       (record { nodes = one_keeps s n (with_put (node_at s n) block) l (λ own. own) }))
 
   evicts-keep : (block : ℕ) (line : LineState) → KeepsLogs s (evicts s n block line)
@@ -99,21 +99,21 @@ module _ (config : Config) (s : Fabric) (n : ℕ) (l : n < length s.nodes) where
   evicts-keep block state.Modified = put-keeps block
   evicts-keep block state.Exclusive = put-keeps block
 
-  evicted-keeps : (block : ℕ) → KeepsLogs s (evicted s n block)
+  evicted-keeps : (block : ℕ) → KeepsLogs s (step_of_eviction s n block)
   evicted-keeps block =
-      by_test s (misses_on (node_at s n).cache.miss block) (refused s MissOpen) _ (record { nodes = λ m k own. own })
+      by_test s (misses_on (node_at s n).cache.miss block) (step_refused s MissOpen) _ (record { nodes = λ m k own. own })
       (evicts-keep block (line_of (node_at s n).cache block).state)
 
-  edge-keeps : KeepsLogs s (edged s n)
+  edge-keeps : KeepsLogs s (step_of_edge s n)
   edge-keeps =
-      by_test s (nat_eq ((node_at s n).now - (node_at s n).known) checkpoint_limit) (refused s CheckpointsFull) _
+      by_test s (nat_eq ((node_at s n).now - (node_at s n).known) checkpoint_limit) (step_refused s CheckpointsFull) _
       (record { nodes = λ m k own. own })
       (record { nodes = one_keeps s n (after_edge (node_at s n)) l (λ own. own) })
 
-  report-keeps : KeepsLogs s (reported s n)
-  report-keeps = by_test s (is_full s 1) (refused s NetFull) _ (record { nodes = λ m k own. own }) (record { nodes = λ m k own. own })
+  report-keeps : KeepsLogs s (step_of_report s n)
+  report-keeps = by_test s (is_full s 1) (step_refused s NetFull) _ (record { nodes = λ m k own. own }) (record { nodes = λ m k own. own })
 
-  write-keeps : (w : Written) → KeepsLogs s (answered (stored s n w) Retired)
+  write-keeps : (w : Written) → KeepsLogs s (step_with_answer (fabric_with_write s n w) Retired)
   write-keeps w =
       record {
         nodes = one_keeps s n (with_write (node_at s n) w) l
@@ -129,18 +129,18 @@ module _ (s : Fabric) where
   hops-keep : (found : Option Flight) → KeepsLogs s (hops s found)
   hops-keep None = record { nodes = λ m k own. own }
   hops-keep (Some f) =
-      by_test s (is_there f) (refused s Arrived) (hops_to s f (next_switch (routes_of s) f)) (record { nodes = λ m k own. own })
+      by_test s (is_there f) (step_refused s Arrived) (hops_to s f (next_switch (routes_of s) f)) (record { nodes = λ m k own. own })
       (by_test s (is_dead s.net.dead (next_switch (routes_of s) f)) _ _ (record { nodes = λ m k own. own })
       (record { nodes = λ m k own. own }))
 
-  kill-keeps : (switch : ℕ) → KeepsLogs s (killed s switch)
+  kill-keeps : (switch : ℕ) → KeepsLogs s (step_of_kill s switch)
   kill-keeps switch =
-      by_test s (is_dead s.net.dead switch) (refused s AlreadyDead) _ (record { nodes = λ m k own. own })
+      by_test s (is_dead s.net.dead switch) (step_refused s AlreadyDead) _ (record { nodes = λ m k own. own })
       (record { nodes = λ m k own. own })
 
-  advance-keeps : (k : ℕ) → KeepsLogs s (advanced s k)
+  advance-keeps : (k : ℕ) → KeepsLogs s (step_of_advance s k)
   advance-keeps k =
-      by_test s (is_full s (length s.nodes)) (refused s NetFull) _ (record { nodes = λ m k own. own }) (record { nodes = λ m k own. own })
+      by_test s (is_full s (length s.nodes)) (step_refused s NetFull) _ (record { nodes = λ m k own. own }) (record { nodes = λ m k own. own })
 
   recovers-keep : (cut : Option (ℕ × ℕ)) → KeepsLogs s (recovers s s.point cut)
   unfolding restored
@@ -152,7 +152,7 @@ module _ (s : Fabric) where
       }
 
 -- a delivery
-module _ (config : Config) (s : Fabric) (t : Beside) (id : ℕ) (f : Flight) (kept : IsKept s t) (found : flight_of s.net.flights id ≡ Some f) where
+module _ (config : Config) (s : Fabric) (t : GhostState) (id : ℕ) (f : Flight) (kept : FabricInvariant s t) (found : flight_of s.net.flights id ≡ Some f) where
   flight : IsInFlight s f.message
   flight = in_flight s id f kept.shape found
 
@@ -164,15 +164,15 @@ module _ (config : Config) (s : Fabric) (t : Beside) (id : ℕ) (f : Flight) (ke
 
   cache-keeps : (reply : CacheReply) → (Own (node_at s f.message.to).log → Own reply.after.log) →
       KeepsLogs s (delivers config s f.message (AtCache reply))
-  cache-keeps reply h = by_test s (nat_lt config.log (length reply.after.log)) (refused s LogFull) _ (record { nodes = λ m k own. own })
-      (by_test s (nat_lt (net_limit + 1) (length s.net.flights + length reply.sends)) (refused s NetFull) _
+  cache-keeps reply h = by_test s (nat_lt config.log (length reply.after.log)) (step_refused s LogFull) _ (record { nodes = λ m k own. own })
+      (by_test s (nat_lt (net_limit + 1) (length s.net.flights + length reply.sends)) (step_refused s NetFull) _
       (record { nodes = λ m k own. own })
       (record { nodes = one_keeps s f.message.to (node_after (node_at s f.message.to) reply) flight.to h }))
 
   home-keeps : (reply : HomeReply) → (Own (node_at s f.message.to).log → Own reply.after.log) →
       KeepsLogs s (delivers config s f.message (AtHome reply))
-  home-keeps reply h = by_test s (nat_lt config.log (length reply.after.log)) (refused s LogFull) _ (record { nodes = λ m k own. own })
-      (by_test s (nat_lt (net_limit + 1) (length s.net.flights + length reply.sends)) (refused s NetFull) _
+  home-keeps reply h = by_test s (nat_lt config.log (length reply.after.log)) (step_refused s LogFull) _ (record { nodes = λ m k own. own })
+      (by_test s (nat_lt (net_limit + 1) (length s.net.flights + length reply.sends)) (step_refused s NetFull) _
       (record { nodes = λ m k own. own })
       (record { nodes = one_keeps s f.message.to (record (node_at s f.message.to) { log = reply.after.log }) flight.to h }))
 
@@ -236,7 +236,7 @@ module _ (config : Config) (s : Fabric) (t : Beside) (id : ℕ) (f : Flight) (ke
       miss-keeps (upgrade_granted at home f.message.tag due) (node_at s f.message.to).log
       (completed_or_waiting-log at home (fixed_at at.cache.miss f.message.tag due)) (λ own. own)
   body-keeps InvAck is =
-      miss-keeps (acknowledge at home) (node_at s f.message.to).log (completed_or_waiting-log at home (acknowledged at.cache.miss))
+      miss-keeps (acknowledge at home) (node_at s f.message.to).log (completed_or_waiting-log at home (miss_with_ack at.cache.miss))
       (λ own. own)
   body-keeps PutGo is = cache-keeps (put_go at (home_node s f.message.block) f.message.block now)
       (content-own (length s.nodes) f.message.to (node_at s f.message.to).log now f.message.block (content_of at f.message.block))
@@ -244,21 +244,21 @@ module _ (config : Config) (s : Fabric) (t : Beside) (id : ℕ) (f : Flight) (ke
   body-keeps (Ready k) is = record { nodes = λ m l own. own }
   body-keeps (Advance k) is =
       record {
-        nodes = one_keeps s f.message.to (learned (node_at s f.message.to) k) flight.to
+        nodes = one_keeps s f.message.to (node_after_news (node_at s f.message.to) k) flight.to
             (from-own (length s.nodes) f.message.to (node_at s f.message.to).log k);
       }
 
   flight-keeps : KeepsLogs s (delivers_flight config s (Some f))
-  flight-keeps = by_test s (not (is_there f)) (refused s NotArrived) _ (record { nodes = λ m k own. own })
-      (by_test s (nat_lt now f.message.tag) (refused s Held) (delivers config s f.message (outcome_of s f.message f.message.body))
+  flight-keeps = by_test s (not (is_there f)) (step_refused s NotArrived) _ (record { nodes = λ m k own. own })
+      (by_test s (nat_lt now f.message.tag) (step_refused s Held) (delivers config s f.message (outcome_of s f.message f.message.body))
       (record { nodes = λ m k own. own }) (body-keeps f.message.body refl))
 
-delivery-keeps : (config : Config) (s : Fabric) (t : Beside) (id : ℕ) (found : Option Flight) → IsKept s t →
+delivery-keeps : (config : Config) (s : Fabric) (t : GhostState) (id : ℕ) (found : Option Flight) → FabricInvariant s t →
     flight_of s.net.flights id ≡ found → KeepsLogs s (delivers_flight config s found)
 delivery-keeps config s t id None kept e = record { nodes = λ m k own. own }
 delivery-keeps config s t id (Some f) kept e = flight-keeps config s t id f kept e
 
-event-keeps : (config : Config) (s : Fabric) (t : Beside) (event : FabricEvent) → IsKept s t → MayBe s event →
+event-keeps : (config : Config) (s : Fabric) (t : GhostState) (event : FabricEvent) → FabricInvariant s t → MayBe s event →
     KeepsLogs s (moved_by config s event)
 unfolding moved_by
 event-keeps config s t (Access n block access) kept may = accessed-keeps config s n may.0 block access
@@ -276,7 +276,7 @@ event-keeps config s t (Recover k) kept may =
     (recovers-keep s (first_cut_off (living_switches s)))
 
 -- every event keeps that each log has entries of its own home alone
-pub each-keeps-logs : (config : Config) (s : Fabric) (t : Beside) (event : FabricEvent) → IsKept s t → MayBe s event → AreOwnLogs s →
+pub each-keeps-logs : (config : Config) (s : Fabric) (t : GhostState) (event : FabricEvent) → FabricInvariant s t → MayBe s event → AreOwnLogs s →
     AreOwnLogs (moved_by config s event).fabric
 each-keeps-logs config s t event kept may own n l =
     let c : length (moved_by config s event).fabric.nodes ≡ length s.nodes = nodes_same config s event in

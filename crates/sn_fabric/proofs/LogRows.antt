@@ -4,12 +4,12 @@ use Rattle.std.specs.Prelude.{nat_eq, ◌&&◌, if◌then◌else◌, Option, Som
 use Rattle.std.proofs.lemmas.Bool.Decides.{nat_tests}
 use Rattle.sn_base.specs.declared.log.Old.{Old}
 use Rattle.sn_base.specs.declared.log.Old.TheVariants.{NotOwned, Owned, WasHome, WasCache}
-use Rattle.log_buffer.specs.Log.{LogEntry, is_of_side, noted, entries_from}
+use Rattle.log_buffer.specs.Log.{LogEntry, is_of_side, log_with_note, entries_from}
 use Rattle.log_buffer.proofs.Laws.{logged_to-noted_other, logged_to-from}
 use Rattle.sn_model.specs.declared.home.Kind.{Kind}
 use Rattle.sn_model.specs.declared.home.Kind.TheVariants.{Read, Take, Move, Upgrade, Put}
 use Rattle.sn_model.specs.Caches.{Miss}
-use Rattle.sn_model.specs.CacheRows.{Logged, completed, waiting, completed_or_waiting_by, completed_or_waiting}
+use Rattle.sn_model.specs.CacheRows.{Logged, reply_when_complete, reply_that_waits, reply_or_wait_by, reply_or_wait}
 use Rattle.sn_model.specs.Homes.{Holder, Itself, OfCache, Transaction, is_owner}
 use Rattle.sn_model.specs.HomeRows.{LoggedEntry, count_others, noted_owner, unblock_of, unblock, grant_exclusive, read_at_home, upgrade}
 use Rattle.sn_model.specs.HomeRows.{move_ownership, put_begins, put_is_stale, put_data}
@@ -22,11 +22,11 @@ and_false false q e = refl
 
 module _ (nodes n : ℕ) where
   -- a note of the cache's side, of nothing and of a content
-  pub nothing-own : (log : List LogEntry) (i b : ℕ) → IsOwnLog nodes n log → IsOwnLog nodes n (noted log i b NotOwned)
+  pub nothing-own : (log : List LogEntry) (i b : ℕ) → IsOwnLog nodes n log → IsOwnLog nodes n (log_with_note log i b NotOwned)
   nothing-own log i b own c other = logged_to-noted_other log i b NotOwned true c refl ∙ own c other
 
   pub content-own : (log : List LogEntry) (i b : ℕ) (content : List ℕ) → IsOwnLog nodes n log →
-      IsOwnLog nodes n (noted log i b (Owned content))
+      IsOwnLog nodes n (log_with_note log i b (Owned content))
   content-own log i b content own c other = logged_to-noted_other log i b (Owned content) true c refl ∙ own c other
 
   -- a note of a block of the node's home
@@ -37,7 +37,7 @@ module _ (nodes n : ℕ) where
       by_test false e = refl
       by_test true e = let q : b ≡ c = grind (arith, nat_tests) in absurd (other (ap (λ (k : ℕ). k % nodes) (sym q) ∙ here))
 
-  home-own : (log : List LogEntry) (i b : ℕ) (old : Old) → b % nodes ≡ n → IsOwnLog nodes n log → IsOwnLog nodes n (noted log i b old)
+  home-own : (log : List LogEntry) (i b : ℕ) (old : Old) → b % nodes ≡ n → IsOwnLog nodes n log → IsOwnLog nodes n (log_with_note log i b old)
   home-own log i b old here own c other =
       logged_to-noted_other log i b old true c (and_false (is_of_side true old) (nat_eq b c) (apart b c here other)) ∙ own c other
 
@@ -90,14 +90,14 @@ module _ (nodes n : ℕ) where
 
 -- a miss that completes notes nothing
 completed_or_waiting_by-log : (at : Logged) (home : ℕ) (miss : Miss) (fixed : Option ℕ) →
-    (completed_or_waiting_by at home miss fixed).after.log ≡ at.log
+    (reply_or_wait_by at home miss fixed).after.log ≡ at.log
 completed_or_waiting_by-log at home miss None = refl
 completed_or_waiting_by-log at home miss (Some fixed) = by_test (nat_eq miss.acks miss.due)
   where
-    by_test : (t : Bool) → (if t then completed at home miss fixed else waiting at miss).after.log ≡ at.log
+    by_test : (t : Bool) → (if t then reply_when_complete at home miss fixed else reply_that_waits at miss).after.log ≡ at.log
     by_test true = refl
     by_test false = refl
 
-pub completed_or_waiting-log : (at : Logged) (home : ℕ) (o : Option Miss) → (completed_or_waiting at home o).after.log ≡ at.log
+pub completed_or_waiting-log : (at : Logged) (home : ℕ) (o : Option Miss) → (reply_or_wait at home o).after.log ≡ at.log
 completed_or_waiting-log at home None = refl
 completed_or_waiting-log at home (Some miss) = completed_or_waiting_by-log at home miss miss.fixed

@@ -8,24 +8,24 @@ use Rattle.sn_msg.specs.declared.Body.{Body}
 use Rattle.sn_msg.specs.declared.Body.TheVariants.{GetS, GetM, Unblock, PutReq, PutData}
 use Rattle.log_buffer.specs.Log.{LogData}
 use Rattle.mosi_cache.specs.Rows.{look_by}
-use Rattle.home_directory.specs.Receipt.{look_of, judged, outcome_at}
+use Rattle.home_directory.specs.Receipt.{look_of, verdict_on, outcome_at}
 use Rattle.sn_model.specs.declared.cache.Out.{Out}
 use Rattle.sn_model.specs.declared.look.Look.TheVariants.{Sends, LogFull as SeesLogFull}
 use Rattle.sn_model.specs.Homes.{Transaction}
 use Rattle.sn_model.specs.CacheRows.{CacheReply}
 use Rattle.sn_model.specs.HomeRows.{LoggedEntry, HomeReply}
-use Rattle.sn_model.specs.Fabric.{Fabric, Moved, refused}
+use Rattle.sn_model.specs.Fabric.{Fabric, FabricStep, step_refused}
 use Rattle.sn_model.specs.NetEvents.{Outcome, Busy, AtCache, AtHome, Noted, unless_busy, fits_in, delivers}
 use Rattle.sn_fabric.specs.Deliveries.{look_answer}
 
-full_step : (s : Fabric) (full : Bool) (done : Moved) → done.answer ≡ Delivered →
-    (if full then NetFull else Delivered) ≡ (if full then refused s NetFull else done).answer
+full_step : (s : Fabric) (full : Bool) (done : FabricStep) → done.answer ≡ Delivered →
+    (if full then NetFull else Delivered) ≡ (if full then step_refused s NetFull else done).answer
 full_step s true done d = refl
 full_step s false done d = sym d
 
-over_step : (s : Fabric) (over : Bool) (more flights : ℕ) (done : Moved) → done.answer ≡ Delivered →
+over_step : (s : Fabric) (over : Bool) (more flights : ℕ) (done : FabricStep) → done.answer ≡ Delivered →
     look_answer (if over then SeesLogFull else Sends more) flights
-    ≡ (if over then refused s LogFull else if nat_lt 1025 (flights + more) then refused s NetFull else done).answer
+    ≡ (if over then step_refused s LogFull else if nat_lt 1025 (flights + more) then step_refused s NetFull else done).answer
 over_step s true more flights done d = refl
 over_step s false more flights done d = full_step s (nat_lt 1025 (flights + more)) done d
 
@@ -56,15 +56,15 @@ outcome_there at now m (Unblock fixed) = tt
 outcome_there at now m (PutData content) = tt
 outcome_there at now m _ = tt
 
-judged_over : (s : Fabric) (over : Bool) (limit : ℕ) (flights : ℕ) (reply : HomeReply) (done : Moved) →
+judged_over : (s : Fabric) (over : Bool) (limit : ℕ) (flights : ℕ) (reply : HomeReply) (done : FabricStep) →
     nat_lt limit (length reply.after.log) ≡ over → done.answer ≡ Delivered →
-    look_answer (look_of (judged limit (AtHome reply))) flights
-    ≡ (if over then refused s LogFull else if nat_lt 1025 (flights + length reply.sends) then refused s NetFull else done).answer
+    look_answer (look_of (verdict_on limit (AtHome reply))) flights
+    ≡ (if over then step_refused s LogFull else if nat_lt 1025 (flights + length reply.sends) then step_refused s NetFull else done).answer
 judged_over s true limit flights reply done e d = rw e refl
 judged_over s false limit flights reply done e d = rw e (full_step s (nat_lt 1025 (flights + length reply.sends)) done d)
 
 judged_step : (config : Config) (s : Fabric) (m : Message) (o : Outcome) → IsAtHome o →
-    look_answer (look_of (judged config.log o)) (length s.net.flights) ≡ (delivers config s m o).answer
+    look_answer (look_of (verdict_on config.log o)) (length s.net.flights) ≡ (delivers config s m o).answer
 judged_step config s m Busy is = refl
 judged_step config s m (AtHome reply) is =
     judged_over s (nat_lt config.log (length reply.after.log)) config.log (length s.net.flights) reply _ refl refl
@@ -72,7 +72,7 @@ judged_step config s m (AtCache reply) is = absurd is
 judged_step config s m (Noted fabric told) is = absurd is
 
 pub home-looks : (config : Config) (s : Fabric) (m : Message) (at : LoggedEntry) (now : ℕ) (x : Body) →
-    look_answer (look_of (judged config.log (outcome_at at now m x))) (length s.net.flights)
+    look_answer (look_of (verdict_on config.log (outcome_at at now m x))) (length s.net.flights)
     ≡ (delivers config s m (outcome_at at now m x)).answer
 home-looks config s m at now x = judged_step config s m (outcome_at at now m x) (outcome_there at now m x)
 
@@ -82,24 +82,24 @@ pub record HasRoomFor (config : Config) (s : Fabric) (log : List LogEntry) (send
   pub entries : nat_lt config.log (length log) ≡ false
   pub messages : nat_lt 1025 (length s.net.flights + length sends) ≡ false
 
-room_step : (config : Config) (s : Fabric) (log : List LogEntry) (sends : List Out) (done : Moved) (over full : Bool) →
+room_step : (config : Config) (s : Fabric) (log : List LogEntry) (sends : List Out) (done : FabricStep) (over full : Bool) →
     nat_lt config.log (length log) ≡ over → nat_lt 1025 (length s.net.flights + length sends) ≡ full →
-    (if over then refused s LogFull else if full then refused s NetFull else done).answer ≡ Delivered → HasRoomFor config s log sends
+    (if over then step_refused s LogFull else if full then step_refused s NetFull else done).answer ≡ Delivered → HasRoomFor config s log sends
 room_step config s log sends done true full a b e = absurd (cc)
 room_step config s log sends done false true a b e = absurd (cc)
 room_step config s log sends done false false a b e = record { entries = a; messages = b }
 
-pub room-for : (config : Config) (s : Fabric) (log : List LogEntry) (sends : List Out) (done : Moved) →
+pub room-for : (config : Config) (s : Fabric) (log : List LogEntry) (sends : List Out) (done : FabricStep) →
     (fits_in config s log sends done).answer ≡ Delivered → HasRoomFor config s log sends
 room-for config s log sends done e =
     room_step config s log sends done (nat_lt config.log (length log)) (nat_lt 1025 (length s.net.flights + length sends)) refl refl e
 
-pub fits-then : (config : Config) (s : Fabric) (log : List LogEntry) (sends : List Out) (done : Moved) → HasRoomFor config s log sends →
+pub fits-then : (config : Config) (s : Fabric) (log : List LogEntry) (sends : List Out) (done : FabricStep) → HasRoomFor config s log sends →
     fits_in config s log sends done ≡ done
 fits-then config s log sends done r =
-    ap (λ (b : Bool). if b then refused s LogFull else if nat_lt 1025 (length s.net.flights + length sends) then refused s NetFull
+    ap (λ (b : Bool). if b then step_refused s LogFull else if nat_lt 1025 (length s.net.flights + length sends) then step_refused s NetFull
     else done) r.entries
-    ∙ ap (λ (b : Bool). if b then refused s NetFull else done) r.messages
+    ∙ ap (λ (b : Bool). if b then step_refused s NetFull else done) r.messages
 
 -- an outcome at a home that is delivered is a row, and nothing is told
 

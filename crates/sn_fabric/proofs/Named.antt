@@ -13,9 +13,9 @@ use Rattle.sn_model.specs.Caches.{block_count}
 use Rattle.sn_model.specs.Cuts.{named_by, names_at}
 use Rattle.sn_model.specs.Homes.{HomeEntry, Holder}
 use Rattle.sn_model.specs.Fabric.{Node, node_at, home_of}
-use Rattle.sn_fabric.specs.declared.node.Seat.{Seat}
-use Rattle.sn_fabric.specs.Parts.{Parts, fabric_as, node_as, seat_at, no_seat, home_at, no_home, AreParts}
-use Rattle.sn_fabric.specs.Seats.{owner_by}
+use Rattle.sn_fabric.specs.declared.node.NodeUnit.{NodeUnit}
+use Rattle.sn_fabric.specs.Parts.{Parts, fabric_as, node_as, unit_at, no_unit, home_at, no_home, AreParts}
+use Rattle.sn_fabric.specs.Units.{owner_by}
 use Rattle.sn_fabric.proofs.FirstParts.{few-nodes}
 use Rattle.sn_fabric.proofs.Parts.{node-at, count-nodes}
 use Rattle.sn_fabric.proofs.Entries.{entry-as}
@@ -50,11 +50,11 @@ module _ (config : Config) (p : Parts) (k : AreParts config p) (place block : �
       ∙ ap (λ (y : HomeData). entry_of y block) (sym home-read)
 
   -- whom it names, by its log and its entry
-  pub names-are : (x : Seat) (cut : ℕ) → block < block_count → x ≡ get_or p.seats place x →
+  pub names-are : (x : NodeUnit) (cut : ℕ) → block < block_count → x ≡ get_or p.units place x →
       names_at (fabric_as p) block cut ≡ named_by (old_at x.log.entries true block cut) (entry_of home block).holder
   names-are x cut b ex =
-      let r : x ≡ seat_at p.seats (block % config.nodes) = get_or_read p.seats (block % config.nodes) x (rw k.whole.count few)
-      (subst (λ (j : ℕ). x ≡ get_or p.seats j x) e ex) no_seat in
+      let r : x ≡ unit_at p.units (block % config.nodes) = get_or_read p.units (block % config.nodes) x (rw k.whole.count few)
+      (subst (λ (j : ℕ). x ≡ get_or p.units j x) e ex) no_unit in
       let g : length (fabric_as p).nodes ≡ config.nodes = count-nodes p ∙ k.whole.count in
       sym (
       ap (λ (o : Option Old). named_by o (entry_of home block).holder)
@@ -65,7 +65,7 @@ module _ (config : Config) (p : Parts) (k : AreParts config p) (place block : �
       (sym (entry-is b))
       )
 
-  pub named-is : (x : Seat) (old : Option Old) (owner said : Owner) (cut : ℕ) → block < block_count → x ≡ get_or p.seats place x →
+  pub named-is : (x : NodeUnit) (old : Option Old) (owner said : Owner) (cut : ℕ) → block < block_count → x ≡ get_or p.units place x →
       old ≡ old_at x.log.entries true block cut → owner ≡ owner_of (entry_of home block).holder →
       said ≡ owner_by old owner → said ≡ owner_of (names_at (fabric_as p) block cut)
   named-is x old owner said cut b ex eo ew es =

@@ -11,11 +11,11 @@ use Rattle.sn_model.specs.declared.cache.Out.{Out}
 use Rattle.sn_model.specs.declared.net.Sent.{Sent}
 use Rattle.sn_model.specs.declared.cache.LineState.TheVariants.{Shared, Modified, Exclusive}
 use Rattle.sn_model.specs.Caches.{Miss, with_line}
-use Rattle.sn_model.specs.CacheRows.{Logged, send, completed_or_waiting, completed_or_waiting_by, completed, waiting, fixed_at}
-use Rattle.sn_model.specs.CacheRows.{acknowledged, taken_over}
+use Rattle.sn_model.specs.CacheRows.{Logged, send, reply_or_wait, reply_or_wait_by, reply_when_complete, reply_that_waits, fixed_at}
+use Rattle.sn_model.specs.CacheRows.{miss_with_ack, taken_over}
 use Rattle.sn_model.specs.HomeRows.{invalidations}
 use Rattle.sn_model.specs.Fabric.{Net}
-use Rattle.sn_model.specs.Net.{post, posted, sent_by, message_of, is_lost}
+use Rattle.sn_model.specs.Net.{post, net_after_sends, sent_by, message_of, is_lost}
 use Rattle.home_directory.specs.declared.step.HomeStep.{HomeStep}
 use Rattle.home_directory.specs.declared.step.HomeStep.TheVariants as home
 use Rattle.home_directory.specs.Receipt as receipt
@@ -26,14 +26,14 @@ use Rattle.sn_fabric.specs.Deliveries.{outs_of, invalidation, invalidations_belo
 -- two lists that are sent one after the other
 
 pub posted-append : (routes : Switches) (net : Net) (from tag block : ℕ) (outs others : List Out) →
-    posted routes net from tag block (outs ++ others) ≡ posted routes (posted routes net from tag block outs) from tag block others
+    net_after_sends routes net from tag block (outs ++ others) ≡ net_after_sends routes (net_after_sends routes net from tag block outs) from tag block others
 posted-append routes net from tag block [] others = refl
 posted-append routes net from tag block (out ∷ outs) others =
     posted-append routes (post routes net (message_of net from tag block out)) from tag block outs others
 
 pub sent-append : (routes : Switches) (net : Net) (from tag block : ℕ) (outs others : List Out) →
     sent_by routes net from tag block (outs ++ others) ≡ sent_by routes net from tag block outs
-    ++ sent_by routes (posted routes net from tag block outs) from tag block others
+    ++ sent_by routes (net_after_sends routes net from tag block outs) from tag block others
 sent-append routes net from tag block [] others = refl
 sent-append routes net from tag block (out ∷ outs) others =
     ap (λ (xs : List Sent).
@@ -42,14 +42,14 @@ sent-append routes net from tag block (out ∷ outs) others =
 
 -- what is sent first and then, over networks with the same routes
 pub then-net : (routes others : Switches) (before net after : Net) (from tag block : ℕ) (outs more : List Out) → others ≡ routes →
-    net ≡ posted routes before from tag block outs → after ≡ posted others net from tag block more →
-    after ≡ posted routes before from tag block (outs ++ more)
+    net ≡ net_after_sends routes before from tag block outs → after ≡ net_after_sends others net from tag block more →
+    after ≡ net_after_sends routes before from tag block (outs ++ more)
 then-net routes others before net after from tag block outs more er en ea =
-    ea ∙ ap (λ (r : Switches). posted r net from tag block more) er ∙ ap (λ (x : Net). posted routes x from tag block more) en
+    ea ∙ ap (λ (r : Switches). net_after_sends r net from tag block more) er ∙ ap (λ (x : Net). net_after_sends routes x from tag block more) en
     ∙ sym (posted-append routes before from tag block outs more)
 
 pub then-sent : (routes others : Switches) (before net : Net) (olds sents after : List Sent) (from tag block : ℕ) (outs more : List Out) →
-    others ≡ routes → net ≡ posted routes before from tag block outs →
+    others ≡ routes → net ≡ net_after_sends routes before from tag block outs →
     sents ≡ olds ++ sent_by routes before from tag block outs → after ≡ sents ++ sent_by others net from tag block more →
     after ≡ olds ++ sent_by routes before from tag block (outs ++ more)
 then-sent routes others before net olds sents after from tag block outs more er en es ea =
@@ -169,18 +169,18 @@ home-outs home.LogFull sends nodes few e g = absurd e
 -- a row of a cache sends one message at most
 
 completed_or_waiting_one_by : (all : Bool) (at : Logged) (home : ℕ) (miss : Miss) (fixed : ℕ) →
-    outs_of (first_of (if all then completed at home miss fixed else waiting at miss).sends)
-    ≡ (if all then completed at home miss fixed else waiting at miss).sends
+    outs_of (first_of (if all then reply_when_complete at home miss fixed else reply_that_waits at miss).sends)
+    ≡ (if all then reply_when_complete at home miss fixed else reply_that_waits at miss).sends
 completed_or_waiting_one_by true at home miss fixed = refl
 completed_or_waiting_one_by false at home miss fixed = refl
 
 completed_or_waiting_by_one : (at : Logged) (home : ℕ) (miss : Miss) (fixed : Option ℕ) →
-    outs_of (first_of (completed_or_waiting_by at home miss fixed).sends) ≡ (completed_or_waiting_by at home miss fixed).sends
+    outs_of (first_of (reply_or_wait_by at home miss fixed).sends) ≡ (reply_or_wait_by at home miss fixed).sends
 completed_or_waiting_by_one at home miss None = refl
 completed_or_waiting_by_one at home miss (Some fixed) = completed_or_waiting_one_by (nat_eq miss.acks miss.due) at home miss fixed
 
 completed_or_waiting_one : (at : Logged) (home : ℕ) (miss : Option Miss) →
-    outs_of (first_of (completed_or_waiting at home miss).sends) ≡ (completed_or_waiting at home miss).sends
+    outs_of (first_of (reply_or_wait at home miss).sends) ≡ (reply_or_wait at home miss).sends
 completed_or_waiting_one at home None = refl
 completed_or_waiting_one at home (Some miss) = completed_or_waiting_by_one at home miss miss.fixed
 
@@ -196,7 +196,7 @@ one-sent at home block now tag (DataM content due) =
 one-sent at home block now tag (DataE content) =
     completed_or_waiting_one (taken_over at block tag Exclusive content) home (fixed_at at.cache.miss tag 0)
 one-sent at home block now tag (UpgOk due) = completed_or_waiting_one at home (fixed_at at.cache.miss tag due)
-one-sent at home block now tag InvAck = completed_or_waiting_one at home (acknowledged at.cache.miss)
+one-sent at home block now tag InvAck = completed_or_waiting_one at home (miss_with_ack at.cache.miss)
 one-sent at home block now tag PutGo = refl
 one-sent at home block now tag PutDone = refl
 one-sent at home block now tag GetS = refl

@@ -8,49 +8,49 @@ use Rattle.sn_base.specs.declared.config.Config.{Config}
 use Rattle.sn_base.specs.declared.event.Answer.{Answer}
 use Rattle.switch_net.specs.Net.{NetData}
 use Rattle.sn_model.specs.declared.net.Sent.{Sent}
-use Rattle.sn_model.specs.declared.net.Told.{Told}
+use Rattle.sn_model.specs.declared.net.News.{News}
 use Rattle.std.specs.Prelude.{Option}
-use Rattle.sn_model.specs.Fabric.{Fabric, Node, Moved, first_node, node_at, with_node}
+use Rattle.sn_model.specs.Fabric.{Fabric, Node, FabricStep, first_node, node_at, with_node}
 use Rattle.sn_model.specs.Net.{routes_of}
 use Rattle.sn_model.specs.FabricEvents.{FabricEvent, moved_by}
 use Rattle.fabric_coherence.specs.Events.{MayBe}
 use Rattle.fabric_bounds.specs.Bounds.{HasLogRoom, KeepsBounds}
 use Rattle.fabric_bounds.proofs.Numbers.{event_sends}
 use Rattle.fabric_bounds.proofs.Runs.{each_keeps_bounds}
-use Rattle.sn_fabric.specs.declared.node.Seat.{Seat}
+use Rattle.sn_fabric.specs.declared.node.NodeUnit.{NodeUnit}
 use Rattle.sn_fabric.specs.Fabric.{FabricData, IsAfter}
 use Rattle.sn_fabric.specs.Logs.{AreOwnLogs}
 use Rattle.sn_fabric.proofs.LogEvents.{each-keeps-logs}
-use Rattle.sn_fabric.specs.Parts.{node_as, Parts, fabric_as, seat_at, no_seat, IsSeat, AreWhole, AreParts}
+use Rattle.sn_fabric.specs.Parts.{node_as, Parts, fabric_as, unit_at, no_unit, IsUnit, AreWhole, AreParts}
 
 at_map : {A B : Type 0} (f : A → B) (xs : List A) (n : ℕ) (d : A) (e : B) → n < length xs → get_or (map f xs) n e ≡ f (get_or xs n d)
 at_map f [] n d e l = absurd (omega arith)
 at_map f (x ∷ xs) zero d e l = refl
 at_map f (x ∷ xs) (suc n) d e l = at_map f xs n d e (omega arith)
 
-pub node-at : (p : Parts) (n : ℕ) → n < length p.seats → node_at (fabric_as p) n ≡ node_as (seat_at p.seats n)
-node-at p n l = at_map node_as p.seats n no_seat first_node l
+pub node-at : (p : Parts) (n : ℕ) → n < length p.units → node_at (fabric_as p) n ≡ node_as (unit_at p.units n)
+node-at p n l = at_map node_as p.units n no_unit first_node l
 
-pub count-nodes : (p : Parts) → length (fabric_as p).nodes ≡ length p.seats
-count-nodes p = length-map p.seats node_as
+pub count-nodes : (p : Parts) → length (fabric_as p).nodes ≡ length p.units
+count-nodes p = length-map p.units node_as
 
 pub routes-as : (config : Config) (p : Parts) → AreWhole config p → routes_of (fabric_as p) ≡ p.net.routes
 routes-as config p w = ap (λ (k : ℕ). record p.net.routes { nodes = k }) (count-nodes p ∙ w.count ∙ sym w.count_routes)
 
-pub fabric-seat : (p : Parts) (n : ℕ) (x : Seat) → fabric_as (record p { seats = set p.seats n x }) ≡ with_node (fabric_as p) n (node_as x)
-fabric-seat p n x = ap (λ (nodes : List Node). record (fabric_as p) { nodes = nodes }) (map-set node_as p.seats n x)
+pub fabric-unit : (p : Parts) (n : ℕ) (x : NodeUnit) → fabric_as (record p { units = set p.units n x }) ≡ with_node (fabric_as p) n (node_as x)
+fabric-unit p n x = ap (λ (nodes : List Node). record (fabric_as p) { nodes = nodes }) (map-set node_as p.units n x)
 
-pub whole-seat : (config : Config) (p : Parts) (n : ℕ) (x : Seat) → AreWhole config p → n < length p.seats → IsSeat config n x →
-    AreWhole config (record p { seats = set p.seats n x })
-whole-seat config p n x w l i = record {
+pub whole-unit : (config : Config) (p : Parts) (n : ℕ) (x : NodeUnit) → AreWhole config p → n < length p.units → IsUnit config n x →
+    AreWhole config (record p { units = set p.units n x })
+whole-unit config p n x w l i = record {
   fits = w.fits;
-  count = length-set p.seats n x ∙ w.count;
+  count = length-set p.units n x ∙ w.count;
   count_homes = w.count_homes;
   count_routes = w.count_routes;
-  seats = λ m h.
+  units = λ m h.
       ⊎_elim
-      (λ (e : m ≡ n). rw e (rw (get_or-set_same p.seats n x no_seat l) i))
-      (λ ne. rw (get_or-set_other p.seats n m x no_seat ne) (w.seats m h))
+      (λ (e : m ≡ n). rw e (rw (get_or-set_same p.units n x no_unit l) i))
+      (λ ne. rw (get_or-set_other p.units n m x no_unit ne) (w.units m h))
       (cases_eq m n);
   homes = w.homes;
 }
@@ -63,7 +63,7 @@ whole-net config p net w e =
       count = w.count;
       count_homes = w.count_homes;
       count_routes = e ∙ w.count_routes;
-      seats = w.seats;
+      units = w.units;
       homes = w.homes;
     }
 
@@ -72,7 +72,7 @@ abbrev pub data_of : Config → Parts → List Sent → FabricData
 data_of config p sent = record { config = config; fabric = fabric_as p; sent = sent }
 
 -- parts come to what an event comes to
-pub record Comes (config : Config) (p q : Parts) (sends : List Sent) (said : Answer) (moved : Moved) : Type 0 where
+pub record Comes (config : Config) (p q : Parts) (sends : List Sent) (said : Answer) (moved : FabricStep) : Type 0 where
   pub parts : AreParts config q
   pub fabric : fabric_as q ≡ moved.fabric
   pub sent : sends ≡ moved.sent
@@ -80,31 +80,31 @@ pub record Comes (config : Config) (p q : Parts) (sends : List Sent) (said : Ans
   pub few : length sends ≤ 17
 
 -- whole parts that stand for what an event comes to are parts as they may be
-pub comes : (config : Config) (p q : Parts) (sends : List Sent) (said : Answer) (event : FabricEvent) (moved : Moved) → AreParts config p →
+pub comes : (config : Config) (p q : Parts) (sends : List Sent) (said : Answer) (event : FabricEvent) (moved : FabricStep) → AreParts config p →
     MayBe (fabric_as p) event → HasLogRoom config (fabric_as p) event →
     moved_by config (fabric_as p) event ≡ moved → AreWhole config q → fabric_as q ≡ moved.fabric → sends ≡ moved.sent →
     said ≡ moved.answer → Comes config p q sends said moved
 comes config p q sends said event moved k m r e w f s a = record {
   parts = record {
     whole = w;
-    keeps = subst (KeepsBounds config) (ap (λ (x : Moved). x.fabric) e ∙ sym f) (each_keeps_bounds config (fabric_as p) event k.keeps m r);
+    keeps = subst (KeepsBounds config) (ap (λ (x : FabricStep). x.fabric) e ∙ sym f) (each_keeps_bounds config (fabric_as p) event k.keeps m r);
     logs =
-        subst AreOwnLogs (ap (λ (x : Moved). x.fabric) e ∙ sym f) (each-keeps-logs config (fabric_as p) k.keeps.0 event k.keeps.1 m k.logs);
+        subst AreOwnLogs (ap (λ (x : FabricStep). x.fabric) e ∙ sym f) (each-keeps-logs config (fabric_as p) k.keeps.0 event k.keeps.1 m k.logs);
   };
   fabric = f;
   sent = s;
   answer = a;
   few =
-      subst (λ (xs : List Sent). length xs ≤ 17) (ap (λ (x : Moved). x.sent) e ∙ sym s)
+      subst (λ (xs : List Sent). length xs ≤ 17) (ap (λ (x : FabricStep). x.sent) e ∙ sym s)
       (event_sends config (fabric_as p) k.keeps.0 event k.keeps.1 m).few;
 }
 
 -- so they are kept, where the list of what was sent has its room
-pub kept : {config : Config} {p q : Parts} {sends : List Sent} {said : Answer} {moved : Moved} {room : ℕ} →
+pub kept : {config : Config} {p q : Parts} {sends : List Sent} {said : Answer} {moved : FabricStep} {room : ℕ} →
     Comes config p q sends said moved → 17 ≤ room → AreParts config q × (17 ≤ room) × (length sends ≤ 17)
 kept c l = (c.parts, l, c.few)
 
-pub after-comes : (config : Config) (p q : Parts) (before sends : List Sent) (said : Answer) (moved : Moved) →
+pub after-comes : (config : Config) (p q : Parts) (before sends : List Sent) (said : Answer) (moved : FabricStep) →
     Comes config p q sends said moved →
     IsAfter (data_of config p before) (data_of config q sends) said moved
 after-comes config p q before sends said moved c = record {
@@ -115,31 +115,31 @@ after-comes config p q before sends said moved c = record {
 }
 
 -- the same where what the event comes to is known whole
-pub comes-as : (config : Config) (p q : Parts) (sends : List Sent) (said : Answer) (told : Option Told) (event : FabricEvent)
-    (moved : Moved) → AreParts config p → MayBe (fabric_as p) event → HasLogRoom config (fabric_as p) event →
+pub comes-as : (config : Config) (p q : Parts) (sends : List Sent) (said : Answer) (told : Option News) (event : FabricEvent)
+    (moved : FabricStep) → AreParts config p → MayBe (fabric_as p) event → HasLogRoom config (fabric_as p) event →
     moved_by config (fabric_as p) event ≡ moved → AreWhole config q →
     moved ≡ record { fabric = fabric_as q; answer = said; sent = sends; told = told } → Comes config p q sends said moved
 comes-as config p q sends said told event moved k m r e w h =
-    comes config p q sends said event moved k m r e w (sym (ap (λ (x : Moved). x.fabric) h)) (sym (ap (λ (x : Moved). x.sent) h))
-    (sym (ap (λ (x : Moved). x.answer) h))
+    comes config p q sends said event moved k m r e w (sym (ap (λ (x : FabricStep). x.fabric) h)) (sym (ap (λ (x : FabricStep). x.sent) h))
+    (sym (ap (λ (x : FabricStep). x.answer) h))
 
 -- read through the view
-pub after-view : (config : Config) (p q : Parts) (before sends : List Sent) (said : Answer) (f : Fabric → Moved) (d : FabricData) →
+pub after-view : (config : Config) (p q : Parts) (before sends : List Sent) (said : Answer) (f : Fabric → FabricStep) (d : FabricData) →
     data_of config p before ≡ d → Comes config p q sends said (f (fabric_as p)) →
     IsAfter d (data_of config q sends) said (f d.fabric)
 after-view config p q before sends said f d v c =
     subst (λ (x : FabricData). IsAfter x (data_of config q sends) said (f x.fabric)) v
     (after-comes config p q before sends said (f (fabric_as p)) c)
 
--- a seat that was read
-pub seat-read : (p : Parts) (n place : ℕ) (x : Seat) → n < length (fabric_as p).nodes → place ≡ n → x ≡ get_or p.seats place x →
-    x ≡ seat_at p.seats n
-seat-read p n place x l e r =
-    let h : n < length p.seats = subst (λ (k : ℕ). n < k) (count-nodes p) l in
-    get_or_read p.seats n x h (subst (λ (k : ℕ). x ≡ get_or p.seats k x) e r) no_seat
+-- a unit that was read
+pub unit-read : (p : Parts) (n place : ℕ) (x : NodeUnit) → n < length (fabric_as p).nodes → place ≡ n → x ≡ get_or p.units place x →
+    x ≡ unit_at p.units n
+unit-read p n place x l e r =
+    let h : n < length p.units = subst (λ (k : ℕ). n < k) (count-nodes p) l in
+    get_or_read p.units n x h (subst (λ (k : ℕ). x ≡ get_or p.units k x) e r) no_unit
 
 -- the same where the sizes are read through it too
-pub after-whole : (config : Config) (p q : Parts) (before sends : List Sent) (said : Answer) (f : FabricData → Moved) (d : FabricData) →
+pub after-whole : (config : Config) (p q : Parts) (before sends : List Sent) (said : Answer) (f : FabricData → FabricStep) (d : FabricData) →
     data_of config p before ≡ d → Comes config p q sends said (f (data_of config p before)) →
     IsAfter d (data_of config q sends) said (f d)
 after-whole config p q before sends said f d v c =
@@ -147,11 +147,11 @@ after-whole config p q before sends said f d v c =
     (after-comes config p q before sends said (f (data_of config p before)) c)
 
 -- a node that changes but for its place
-pub seat-comes : (config : Config) (p : Parts) (n : ℕ) (y : Seat) (said : Answer) (told : Option Told) (event : FabricEvent)
-    (moved : Moved) → AreParts config p → MayBe (fabric_as p) event → HasLogRoom config (fabric_as p) event →
-    moved_by config (fabric_as p) event ≡ moved → n < length p.seats → IsSeat config n y →
+pub unit-comes : (config : Config) (p : Parts) (n : ℕ) (y : NodeUnit) (said : Answer) (told : Option News) (event : FabricEvent)
+    (moved : FabricStep) → AreParts config p → MayBe (fabric_as p) event → HasLogRoom config (fabric_as p) event →
+    moved_by config (fabric_as p) event ≡ moved → n < length p.units → IsUnit config n y →
     moved ≡ record { fabric = with_node (fabric_as p) n (node_as y); answer = said; sent = []; told = told } →
-    Comes config p (record p { seats = set p.seats n y }) [] said moved
-seat-comes config p n y said told event moved k m r e l i h =
-    comes-as config p (record p { seats = set p.seats n y }) [] said told event moved k m r e (whole-seat config p n y k.whole l i)
-    (h ∙ ap (λ (s : Fabric). record { fabric = s; answer = said; sent = []; told = told }) (sym (fabric-seat p n y)))
+    Comes config p (record p { units = set p.units n y }) [] said moved
+unit-comes config p n y said told event moved k m r e l i h =
+    comes-as config p (record p { units = set p.units n y }) [] said told event moved k m r e (whole-unit config p n y k.whole l i)
+    (h ∙ ap (λ (s : Fabric). record { fabric = s; answer = said; sent = []; told = told }) (sym (fabric-unit p n y)))

@@ -7,19 +7,19 @@ use Rattle.sn_model.specs.declared.cache.Out.{Out}
 use Rattle.sn_model.specs.declared.net.Sent.{Sent}
 use Rattle.sn_model.specs.CacheRows.{send}
 use Rattle.sn_model.specs.Fabric.{Net, Node}
-use Rattle.sn_model.specs.Net.{post, posted, sent_by, message_of, is_lost}
+use Rattle.sn_model.specs.Net.{post, net_after_sends, sent_by, message_of, is_lost}
 use Rattle.sn_model.specs.PointEvents.{advances}
 use Rattle.sn_fabric.specs.Points.{tellings}
 
 pub posted-last : (routes : Switches) (net : Net) (from tag block : ℕ) (outs : List Out) (out : Out) →
-    posted routes net from tag block (outs ++ out ∷ []) ≡ posted routes (posted routes net from tag block outs) from tag block (out ∷ [])
+    net_after_sends routes net from tag block (outs ++ out ∷ []) ≡ net_after_sends routes (net_after_sends routes net from tag block outs) from tag block (out ∷ [])
 posted-last routes net from tag block [] out = refl
 posted-last routes net from tag block (o ∷ outs) out =
     posted-last routes (post routes net (message_of net from tag block o)) from tag block outs out
 
 pub sent-last : (routes : Switches) (net : Net) (from tag block : ℕ) (outs : List Out) (out : Out) →
     sent_by routes net from tag block (outs ++ out ∷ []) ≡ sent_by routes net from tag block outs
-    ++ sent_by routes (posted routes net from tag block outs) from tag block (out ∷ [])
+    ++ sent_by routes (net_after_sends routes net from tag block outs) from tag block (out ∷ [])
 sent-last routes net from tag block [] out = refl
 sent-last routes net from tag block (o ∷ outs) out =
     ap (λ (xs : List Sent).
@@ -62,25 +62,25 @@ tellings-more : (k n : ℕ) → tellings k (n + 1) ≡ tellings k n ++ send n (A
 tellings-more k n = rw add-one refl
 
 one_more : (routes others : Switches) (before net : Net) (from tag block k n : ℕ) (out : Out) → others ≡ routes →
-    net ≡ posted routes before 0 tag 0 (tellings k n) → from ≡ 0 → block ≡ 0 → out ≡ send n (Advance k) →
-    posted others net from tag block (out ∷ []) ≡ posted routes before 0 tag 0 (tellings k (n + 1))
+    net ≡ net_after_sends routes before 0 tag 0 (tellings k n) → from ≡ 0 → block ≡ 0 → out ≡ send n (Advance k) →
+    net_after_sends others net from tag block (out ∷ []) ≡ net_after_sends routes before 0 tag 0 (tellings k (n + 1))
 one_more routes others before net from tag block k n out er en ef eb eo =
-    ap (λ (r : Switches). posted r net from tag block (out ∷ [])) er
-    ∙ ap (λ (x : Net). posted routes x from tag block (out ∷ [])) en
-    ∙ ap (λ (j : ℕ). posted routes (posted routes before 0 tag 0 (tellings k n)) j tag block (out ∷ [])) ef
-    ∙ ap (λ (j : ℕ). posted routes (posted routes before 0 tag 0 (tellings k n)) 0 tag j (out ∷ [])) eb
-    ∙ ap (λ (o : Out). posted routes (posted routes before 0 tag 0 (tellings k n)) 0 tag 0 (o ∷ [])) eo
+    ap (λ (r : Switches). net_after_sends r net from tag block (out ∷ [])) er
+    ∙ ap (λ (x : Net). net_after_sends routes x from tag block (out ∷ [])) en
+    ∙ ap (λ (j : ℕ). net_after_sends routes (net_after_sends routes before 0 tag 0 (tellings k n)) j tag block (out ∷ [])) ef
+    ∙ ap (λ (j : ℕ). net_after_sends routes (net_after_sends routes before 0 tag 0 (tellings k n)) 0 tag j (out ∷ [])) eb
+    ∙ ap (λ (o : Out). net_after_sends routes (net_after_sends routes before 0 tag 0 (tellings k n)) 0 tag 0 (o ∷ [])) eo
     ∙ sym (posted-last routes before 0 tag 0 (tellings k n) (send n (Advance k)))
-    ∙ ap (posted routes before 0 tag 0) (sym (tellings-more k n))
+    ∙ ap (net_after_sends routes before 0 tag 0) (sym (tellings-more k n))
 
 pub tell-net : (routes others : Switches) (before net after : Net) (from tag block k n : ℕ) (out : Out) → others ≡ routes →
-    net ≡ posted routes before 0 tag 0 (tellings k n) → from ≡ 0 → block ≡ 0 → out ≡ send n (Advance k) →
-    after ≡ posted others net from tag block (out ∷ []) → after ≡ posted routes before 0 tag 0 (tellings k (n + 1))
+    net ≡ net_after_sends routes before 0 tag 0 (tellings k n) → from ≡ 0 → block ≡ 0 → out ≡ send n (Advance k) →
+    after ≡ net_after_sends others net from tag block (out ∷ []) → after ≡ net_after_sends routes before 0 tag 0 (tellings k (n + 1))
 tell-net routes others before net after from tag block k n out er en ef eb eo ea =
     ea ∙ one_more routes others before net from tag block k n out er en ef eb eo
 
 pub tell-sent : (routes others : Switches) (before net : Net) (olds sents after : List Sent) (from tag block k n : ℕ) (out : Out) →
-    others ≡ routes → net ≡ posted routes before 0 tag 0 (tellings k n) → from ≡ 0 → block ≡ 0 →
+    others ≡ routes → net ≡ net_after_sends routes before 0 tag 0 (tellings k n) → from ≡ 0 → block ≡ 0 →
     out ≡ send n (Advance k) → sents ≡ olds ++ sent_by routes before 0 tag 0 (tellings k n) →
     after ≡ sents ++ sent_by others net from tag block (out ∷ []) → after ≡ olds ++ sent_by routes before 0 tag 0 (tellings k (n + 1))
 tell-sent routes others before net olds sents after from tag block k n out er en ef eb eo es ea =
@@ -90,9 +90,9 @@ tell-sent routes others before net olds sents after from tag block k n out er en
     ∙ ap (λ (xs : List Sent). olds ++ (sent_by routes before 0 tag 0 (tellings k n) ++ xs))
     (ap (λ (r : Switches). sent_by r net from tag block (out ∷ [])) er
     ∙ ap (λ (x : Net). sent_by routes x from tag block (out ∷ [])) en
-    ∙ ap (λ (j : ℕ). sent_by routes (posted routes before 0 tag 0 (tellings k n)) j tag block (out ∷ [])) ef
-    ∙ ap (λ (j : ℕ). sent_by routes (posted routes before 0 tag 0 (tellings k n)) 0 tag j (out ∷ [])) eb
-    ∙ ap (λ (o : Out). sent_by routes (posted routes before 0 tag 0 (tellings k n)) 0 tag 0 (o ∷ [])) eo)
+    ∙ ap (λ (j : ℕ). sent_by routes (net_after_sends routes before 0 tag 0 (tellings k n)) j tag block (out ∷ [])) ef
+    ∙ ap (λ (j : ℕ). sent_by routes (net_after_sends routes before 0 tag 0 (tellings k n)) 0 tag j (out ∷ [])) eb
+    ∙ ap (λ (o : Out). sent_by routes (net_after_sends routes before 0 tag 0 (tellings k n)) 0 tag 0 (o ∷ [])) eo)
     ∙ ap (λ (xs : List Sent). olds ++ xs)
     (sym (sent-last routes before 0 tag 0 (tellings k n) (send n (Advance k)))
     ∙ ap (sent_by routes before 0 tag 0) (sym (tellings-more k n)))

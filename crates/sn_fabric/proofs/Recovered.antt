@@ -14,45 +14,45 @@ use Rattle.sn_base.specs.declared.config.Config.{Config}
 use Rattle.sn_base.specs.declared.event.Answer.TheVariants.{Recovered}
 use Rattle.log_buffer.specs.Log.{LogEntry, entries_from, old_at}
 use Rattle.log_buffer.proofs.Laws.{old_at-above}
-use Rattle.rollback.specs.Unwound.{unwound}
+use Rattle.rollback.specs.Unwound.{content_unwound}
 use Rattle.route_plan.specs.Routes.{first_cut_off}
 use Rattle.switch_net.specs.Net.{NetData, living_now}
 use Rattle.sn_model.specs.declared.net.Sent.{Sent}
 use Rattle.sn_model.specs.Caches.{block_count}
 use Rattle.sn_model.specs.Homes.{HomeEntry}
 use Rattle.sn_model.specs.Fabric as model
-use Rattle.sn_model.specs.Fabric.{Fabric, Node, node_at, home_of, no_entry, answered}
+use Rattle.sn_model.specs.Fabric.{Fabric, Node, node_at, home_of, no_entry, step_with_answer}
 use Rattle.sn_model.specs.FabricEvents.{moved_by, Recover}
-use Rattle.sn_model.specs.PointEvents.{restored_node, log_of_home, restored_homes, restored, undone, living_switches, recovers, recovered}
+use Rattle.sn_model.specs.PointEvents.{restored_node, log_of_home, restored_homes, restored, undone_count, living_switches, recovers, step_of_recovery}
 use Rattle.mosi_cache.specs.Controller.{FitsSets}
 use Rattle.home_directory.specs.Home.{HomeData, entry_of, places_of}
 use Rattle.home_directory.specs.Restored.{begun_restore, had, is_here, Stays}
 use Rattle.home_directory.proofs.Restored.{length-cleared, restored-is}
 use Rattle.fabric_bounds.specs.Bounds.{CacheFits, cache_at}
 use Rattle.fabric_bounds.proofs.Cuts.{cut_fits}
-use Rattle.sn_fabric.specs.declared.node.Seat.{Seat}
+use Rattle.sn_fabric.specs.declared.node.NodeUnit.{NodeUnit}
 use Rattle.sn_fabric.specs.Nets.{net_as}
-use Rattle.sn_fabric.specs.Parts.{node_as, Parts, fabric_as, seat_at, no_seat, home_at, entry_at, homes_as, IsSeat, IsHomeOf, AreWhole}
+use Rattle.sn_fabric.specs.Parts.{node_as, Parts, fabric_as, unit_at, no_unit, home_at, entry_at, homes_as, IsUnit, IsHomeOf, AreWhole}
 use Rattle.sn_fabric.specs.Parts.{AreParts}
-use Rattle.sn_fabric.specs.Recovery.{CanRestore, restored_seat, IsRestoredHome, AreRestoredHomes, undone_of}
+use Rattle.sn_fabric.specs.Recovery.{CanRestore, restored_unit, IsRestoredHome, AreRestoredHomes, undone_of}
 use Rattle.sn_fabric.proofs.FirstParts.{few-nodes}
 use Rattle.sn_fabric.proofs.Parts.{node-at, count-nodes, Comes, comes-as}
 use Rattle.sn_fabric.proofs.Entries.{entry-as}
 
 -- the nodes
 
-nodes-restored : (k : ℕ) (seats : List Seat) → map node_as (map (restored_seat k) seats) ≡ map (restored_node k) (map node_as seats)
+nodes-restored : (k : ℕ) (units : List NodeUnit) → map node_as (map (restored_unit k) units) ≡ map (restored_node k) (map node_as units)
 nodes-restored k [] = refl
-nodes-restored k (x ∷ seats) = ap (λ (nodes : List Node). restored_node k (node_as x) ∷ nodes) (nodes-restored k seats)
+nodes-restored k (x ∷ units) = ap (λ (nodes : List Node). restored_node k (node_as x) ∷ nodes) (nodes-restored k units)
 
 abbrev undone_in : ℕ → Node → ℕ
 undone_in k node = length (entries_from k node.log)
 
-undone-as : (k : ℕ) (seats : List Seat) → sum_by (undone_of k) seats ≡ sum_by (undone_in k) (map node_as seats)
+undone-as : (k : ℕ) (units : List NodeUnit) → sum_by (undone_of k) units ≡ sum_by (undone_in k) (map node_as units)
 undone-as k [] = refl
-undone-as k (x ∷ seats) =
-    sum_by-cons (undone_of k) x seats ∙ ap (λ (n : ℕ). undone_of k x + n) (undone-as k seats)
-    ∙ sym (sum_by-cons (undone_in k) (node_as x) (map node_as seats))
+undone-as k (x ∷ units) =
+    sum_by-cons (undone_of k) x units ∙ ap (λ (n : ℕ). undone_of k x + n) (undone-as k units)
+    ∙ sym (sum_by-cons (undone_in k) (node_as x) (map node_as units))
 
 -- the homes
 
@@ -60,7 +60,7 @@ length-restored : (s : Fabric) (k start : ℕ) (homes : List HomeEntry) → leng
 length-restored s k start [] = refl
 length-restored s k start (entry ∷ homes) = ap suc (length-restored s k (start + 1) homes)
 
-module _ (config : Config) (p : Parts) (k : ℕ) (after : List HomeData) (a : AreParts config p) (count : length after ≡ length p.homes) (are : AreRestoredHomes p.seats k p.homes after) where
+module _ (config : Config) (p : Parts) (k : ℕ) (after : List HomeData) (a : AreParts config p) (count : length after ≡ length p.homes) (are : AreRestoredHomes p.units k p.homes after) where
   some : 0 < config.nodes
   some = (few-nodes config a.whole.fits).some
 
@@ -80,10 +80,10 @@ module _ (config : Config) (p : Parts) (k : ℕ) (after : List HomeData) (a : Ar
     is : IsHomeOf config n (home_at p.homes n)
     is = a.whole.homes n here
 
-    restored-home : IsRestoredHome (seat_at p.seats n).log.entries k (home_at p.homes n) (home_at after n)
+    restored-home : IsRestoredHome (unit_at p.units n).log.entries k (home_at p.homes n) (home_at after n)
     restored-home = are n (subst (λ (j : ℕ). n < j) (sym a.whole.count_homes) here)
 
-    log-is : (seat_at p.seats n).log.entries ≡ log_of_home (fabric_as p) b
+    log-is : (unit_at p.units n).log.entries ≡ log_of_home (fabric_as p) b
     log-is =
         sym (ap (λ (j : ℕ). (node_at (fabric_as p) (b % j)).log) nodes_are
         ∙ ap (λ (x : Node). x.log) (node-at p n (subst (λ (j : ℕ). n < j) (sym a.whole.count) here)))
@@ -97,7 +97,7 @@ module _ (config : Config) (p : Parts) (k : ℕ) (after : List HomeData) (a : Ar
     pub entry-restored : get_or (restored_homes (fabric_as p) k 0 (homes_as p.homes)) b no_entry ≡ entry_at after b
     entry-restored =
         sym (restored-is (fabric_as p) (home_at p.homes n) (begun_restore (home_at p.homes n)) (home_at after n) k b refl
-        (λ j. restored-home.held j ∙ ap (λ (log : List LogEntry). unwound log true k (had (begun_restore (home_at p.homes n))) j) log-is)
+        (λ j. restored-home.held j ∙ ap (λ (log : List LogEntry). content_unwound log true k (had (begun_restore (home_at p.homes n))) j) log-is)
         restored-home.stays own home-is (subst (λ (j : ℕ). b < j) (sym blocks_are) low))
         ∙ sym (ap (λ (j : ℕ). entry_of (home_at after (b % j)) b) (count ∙ a.whole.count_homes))
 
@@ -109,8 +109,8 @@ module _ (config : Config) (p : Parts) (k : ℕ) (after : List HomeData) (a : Ar
 
 -- the parts are whole
 
-seat-restored : (config : Config) (k n : ℕ) (x : Seat) → IsSeat config n x → IsSeat config n (restored_seat k x)
-seat-restored config k n x i = record { node = i.node; nodes = i.nodes; sets = i.sets; ways = i.ways; limit = i.limit }
+unit-restored : (config : Config) (k n : ℕ) (x : NodeUnit) → IsUnit config n x → IsUnit config n (restored_unit k x)
+unit-restored config k n x i = record { node = i.node; nodes = i.nodes; sets = i.sets; ways = i.ways; limit = i.limit }
 
 home-restored : (config : Config) (n : ℕ) (before after : HomeData) → IsHomeOf config n before → Stays (begun_restore before) after →
     IsHomeOf config n after
@@ -129,20 +129,20 @@ home-restored config n before after i h =
     }
 
 abbrev restored_parts : Parts → ℕ → List HomeData → NetData → Parts
-restored_parts p k after net = record { seats = map (restored_seat k) p.seats; homes = after; net = net; point = p.point }
+restored_parts p k after net = record { units = map (restored_unit k) p.units; homes = after; net = net; point = p.point }
 
 whole-restored : (config : Config) (p : Parts) (k : ℕ) (after : List HomeData) (net : NetData) → AreWhole config p →
-    length after ≡ length p.homes → AreRestoredHomes p.seats k p.homes after →
+    length after ≡ length p.homes → AreRestoredHomes p.units k p.homes after →
     net.routes.nodes ≡ p.net.routes.nodes → AreWhole config (restored_parts p k after net)
 whole-restored config p k after net w count are routes = record {
   fits = w.fits;
-  count = length-map p.seats (restored_seat k) ∙ w.count;
+  count = length-map p.units (restored_unit k) ∙ w.count;
   count_homes = count ∙ w.count_homes;
   count_routes = routes ∙ w.count_routes;
-  seats =
-      λ n l. subst (IsSeat config n)
-      (sym (get_or-map (restored_seat k) p.seats n no_seat no_seat (subst (λ (j : ℕ). n < j) (sym w.count) l)))
-      (seat-restored config k n (seat_at p.seats n) (w.seats n l));
+  units =
+      λ n l. subst (IsUnit config n)
+      (sym (get_or-map (restored_unit k) p.units n no_unit no_unit (subst (λ (j : ℕ). n < j) (sym w.count) l)))
+      (unit-restored config k n (unit_at p.units n) (w.units n l));
   homes =
       λ n l. home-restored config n (home_at p.homes n) (home_at after n) (w.homes n l)
       (are n (subst (λ (j : ℕ). n < j) (sym w.count_homes) l)).stays;
@@ -159,24 +159,24 @@ net-restored p net e = ap net_as e
 pub living-are : (config : Config) (p : Parts) → AreWhole config p → living_switches (fabric_as p) ≡ living_now p.net
 living-are config p w = ap (λ (j : ℕ). record p.net.routes { nodes = j; dead = p.net.dead }) (count-nodes p ∙ w.count ∙ sym w.count_routes)
 
-recover_is_moved : (config : Config) (s : Fabric) (k : ℕ) → moved_by config s (Recover k) ≡ recovered s k
+recover_is_moved : (config : Config) (s : Fabric) (k : ℕ) → moved_by config s (Recover k) ≡ step_of_recovery s k
 unfolding moved_by
 recover_is_moved config s k = refl
 
 fabric-restored : (config : Config) (p : Parts) (k : ℕ) (after : List HomeData) (net : NetData) → AreParts config p →
-    length after ≡ length p.homes → AreRestoredHomes p.seats k p.homes after →
+    length after ≡ length p.homes → AreRestoredHomes p.units k p.homes after →
     net ≡ record p.net { routes = living_now p.net; flights = [] } → restored (fabric_as p) k ≡ fabric_as (restored_parts p k after net)
 unfolding restored
 fabric-restored config p k after net a count are e =
     sym (
     ap (λ (nodes : List Node). record { nodes = nodes; homes = homes_as after; net = net_as net; point = p.point })
-    (nodes-restored k p.seats)
+    (nodes-restored k p.units)
     ∙ ap (λ (homes : List HomeEntry).
-    record { nodes = map (restored_node k) (map node_as p.seats); homes = homes; net = net_as net; point = p.point })
+    record { nodes = map (restored_node k) (map node_as p.units); homes = homes; net = net_as net; point = p.point })
     (homes-restored config p k after a count are)
     ∙ ap (λ (x : model.Net).
     record {
-      nodes = map (restored_node k) (map node_as p.seats);
+      nodes = map (restored_node k) (map node_as p.units);
       homes = restored_homes (fabric_as p) k 0 (homes_as p.homes);
       net = x;
       point = p.point;
@@ -185,24 +185,24 @@ fabric-restored config p k after net a count are e =
 
 pub recovery-comes : (config : Config) (p : Parts) (k : ℕ) (after : List HomeData) (net : NetData) (count_undone dropped : ℕ)
     (sends : List Sent) → AreParts config p → k ≡ (fabric_as p).point →
-    first_cut_off (living_switches (fabric_as p)) ≡ None → length after ≡ length p.homes → AreRestoredHomes p.seats k p.homes after →
-    net ≡ record p.net { routes = living_now p.net; flights = [] } → count_undone ≡ sum_by (undone_of k) p.seats →
+    first_cut_off (living_switches (fabric_as p)) ≡ None → length after ≡ length p.homes → AreRestoredHomes p.units k p.homes after →
+    net ≡ record p.net { routes = living_now p.net; flights = [] } → count_undone ≡ sum_by (undone_of k) p.units →
     dropped ≡ length p.net.flights → sends ≡ [] →
     Comes config p (restored_parts p k after net) sends (Recovered (record { to = k; undone = count_undone; dropped = dropped }))
-    (recovered (fabric_as p) k)
+    (step_of_recovery (fabric_as p) k)
 recovery-comes config p k after net count_undone dropped sends a point joined count are en eu ed es =
     rw es
     (comes-as config p (restored_parts p k after net) [] (Recovered (record { to = k; undone = count_undone; dropped = dropped })) None
-    (Recover k) (recovered (fabric_as p) k) a point tt
+    (Recover k) (step_of_recovery (fabric_as p) k) a point tt
     (recover_is_moved config (fabric_as p) k)
     (whole-restored config p k after net a.whole count are (ap (λ (x : NetData). x.routes.nodes) en))
     (ap (recovers (fabric_as p) k) joined
-    ∙ ap (λ (s : Fabric). answered s
-    (Recovered (record { to = k; undone = undone (fabric_as p) k; dropped = length (net_as p.net).flights })))
+    ∙ ap (λ (s : Fabric). step_with_answer s
+    (Recovered (record { to = k; undone = undone_count (fabric_as p) k; dropped = length (net_as p.net).flights })))
     (fabric-restored config p k after net a count are en)
-    ∙ ap (λ (j : ℕ). answered (fabric_as (restored_parts p k after net))
-    (Recovered (record { to = k; undone = j; dropped = length (net_as p.net).flights }))) (sym (eu ∙ undone-as k p.seats))
-    ∙ ap (λ (j : ℕ). answered (fabric_as (restored_parts p k after net))
+    ∙ ap (λ (j : ℕ). step_with_answer (fabric_as (restored_parts p k after net))
+    (Recovered (record { to = k; undone = j; dropped = length (net_as p.net).flights }))) (sym (eu ∙ undone-as k p.units))
+    ∙ ap (λ (j : ℕ). step_with_answer (fabric_as (restored_parts p k after net))
     (Recovered (record { to = k; undone = count_undone; dropped = j }))) (length-map p.net.flights _ ∙ sym ed)))
 
 -- each node can be put back to the recovery point
@@ -210,30 +210,30 @@ recovery-comes config p k after net count_undone dropped sends a point joined co
 small_log : (config : Config) → config_fits config ≡ true → config.log < 2 ^ 16
 small_log config h = grind (arith, common_steps, nat_tests, h)
 
-pub small-logs : (config : Config) (p : Parts) → AreParts config p → (n : ℕ) → n < length p.seats →
-    length (seat_at p.seats n).log.entries < 2 ^ 16
+pub small-logs : (config : Config) (p : Parts) → AreParts config p → (n : ℕ) → n < length p.units →
+    length (unit_at p.units n).log.entries < 2 ^ 16
 small-logs config p a n l =
-    let few : length (seat_at p.seats n).log.entries ≤ config.log = subst (λ (x : Node). length x.log ≤ config.log) (node-at p n l)
+    let few : length (unit_at p.units n).log.entries ≤ config.log = subst (λ (x : Node). length x.log ≤ config.log) (node-at p n l)
     (a.keeps.2.logs n (subst (λ (j : ℕ). n < j) (sym (count-nodes p)) l)) in
     let small : config.log < 2 ^ 16 = small_log config a.whole.fits in
     omega arith
 
-pub can-restore : (config : Config) (p : Parts) (k : ℕ) → AreParts config p → k ≡ (fabric_as p).point → (n : ℕ) → n < length p.seats →
-    CanRestore k (seat_at p.seats n) (home_at p.homes n)
+pub can-restore : (config : Config) (p : Parts) (k : ℕ) → AreParts config p → k ≡ (fabric_as p).point → (n : ℕ) → n < length p.units →
+    CanRestore k (unit_at p.units n) (home_at p.homes n)
 can-restore config p k a point n l =
     let h : n < config.nodes = subst (λ (j : ℕ). n < j) a.whole.count l in
     let m : n < length (fabric_as p).nodes = subst (λ (j : ℕ). n < j) (sym (count-nodes p)) l in
-    let e : node_at (fabric_as p) n ≡ node_as (seat_at p.seats n) = node-at p n l in
-    let seat = a.whole.seats n h in
+    let e : node_at (fabric_as p) n ≡ node_as (unit_at p.units n) = node-at p n l in
+    let unit = a.whole.units n h in
     let home = a.whole.homes n h in
     let nodes : length (fabric_as p).nodes ≡ config.nodes = count-nodes p ∙ a.whole.count in
     let fits : CacheFits config (cache_at (node_at (fabric_as p) n) k) = cut_fits config (fabric_as p) a.keeps.0 a.keeps.1 a.keeps.2 n k m
     (subst (λ (j : ℕ). (fabric_as p).point ≤ j) (sym point) (omega arith)) in
-    let there : FitsSets (cache_at (node_as (seat_at p.seats n)) k) config.sets config.ways = subst
+    let there : FitsSets (cache_at (node_as (unit_at p.units n)) k) config.sets config.ways = subst
     (λ (x : Node). CacheFits config (cache_at x k)) e fits in
     record {
-      frames = subst (λ (j : ℕ). FitsSets (cache_at (node_as (seat_at p.seats n)) k) j (seat_at p.seats n).cache.ways) (sym seat.sets)
-          (subst (λ (j : ℕ). FitsSets (cache_at (node_as (seat_at p.seats n)) k) config.sets j) (sym seat.ways) there);
+      frames = subst (λ (j : ℕ). FitsSets (cache_at (node_as (unit_at p.units n)) k) j (unit_at p.units n).cache.ways) (sym unit.sets)
+          (subst (λ (j : ℕ). FitsSets (cache_at (node_as (unit_at p.units n)) k) config.sets j) (sym unit.ways) there);
       own = λ b other.
           let ne : b % length (fabric_as p).nodes ≢ n = apart b n (length (fabric_as p).nodes) (home_at p.homes n)
           (home.nodes ∙ sym nodes) home.node other in

@@ -7,43 +7,43 @@ use Rattle.sn_base.specs.declared.event.Answer.TheVariants.{Retired}
 use Rattle.log_buffer.specs.Log.{LogData, logged_to}
 use Rattle.rv_core.specs.Core.{block_of}
 use Rattle.mosi_cache.specs.Controller.{CacheData}
-use Rattle.mosi_cache.specs.declared.step.Probe1.TheVariants.{Ready, Waits, LogFull}
-use Rattle.mosi_cache.specs.Probe.{probe_by, probe_miss, log_with, stored as cache_stored}
+use Rattle.mosi_cache.specs.declared.step.AccessProbe.TheVariants.{Ready, Waits, LogFull}
+use Rattle.mosi_cache.specs.Probe.{probe_by, probe_miss, log_with, cache_after_write as cache_stored}
 use Rattle.sn_model.specs.declared.cache.Need.TheVariants.{Write as ToWrite}
 use Rattle.sn_model.specs.declared.net.Sent.{Sent}
 use Rattle.sn_model.specs.Caches.{line_of, is_writable_state, puts_on}
-use Rattle.sn_model.specs.Access.{stored, with_write, lacks_room, prepared}
-use Rattle.sn_model.specs.Fabric.{Fabric, Node, node_at, with_node, answered}
+use Rattle.sn_model.specs.Access.{fabric_with_write, with_write, lacks_room, node_to_write}
+use Rattle.sn_model.specs.Fabric.{Fabric, Node, node_at, with_node, step_with_answer}
 use Rattle.sn_model.specs.FabricEvents.{moved_by, Write}
 use Rattle.fabric_coherence.specs.Events.{CanWrite}
-use Rattle.sn_fabric.specs.declared.node.Seat.{Seat}
-use Rattle.sn_fabric.specs.Parts.{Parts, fabric_as, node_as, seat_at, AreParts}
-use Rattle.sn_fabric.proofs.Parts.{node-at, count-nodes, Comes, seat-comes, seat-read}
+use Rattle.sn_fabric.specs.declared.node.NodeUnit.{NodeUnit}
+use Rattle.sn_fabric.specs.Parts.{Parts, fabric_as, node_as, unit_at, AreParts}
+use Rattle.sn_fabric.proofs.Parts.{node-at, count-nodes, Comes, unit-comes, unit-read}
 
-write_is_moved : (config : Config) (s : Fabric) (n : ℕ) (w : Written) → moved_by config s (Write n w) ≡ answered (stored s n w) Retired
+write_is_moved : (config : Config) (s : Fabric) (n : ℕ) (w : Written) → moved_by config s (Write n w) ≡ step_with_answer (fabric_with_write s n w) Retired
 unfolding moved_by
 write_is_moved config s n w = refl
 
-module _ (config : Config) (p : Parts) (n place now : ℕ) (w : Written) (x : Seat) (k : AreParts config p) (can : CanWrite (fabric_as p) n w) (ep : place ≡ n) (ex : x ≡ get_or p.seats place x) (en : now ≡ x.clock.interval) where
-  inside : n < length p.seats
+module _ (config : Config) (p : Parts) (n place now : ℕ) (w : Written) (x : NodeUnit) (k : AreParts config p) (can : CanWrite (fabric_as p) n w) (ep : place ≡ n) (ex : x ≡ get_or p.units place x) (en : now ≡ x.clock.interval) where
+  inside : n < length p.units
   inside = subst (λ (k : ℕ). n < k) (count-nodes p) can.line.node
 
   read : node_at (fabric_as p) n ≡ node_as x
-  read = node-at p n inside ∙ ap node_as (sym (seat-read p n place x can.line.node ep ex))
+  read = node-at p n inside ∙ ap node_as (sym (unit-read p n place x can.line.node ep ex))
 
   pub store-ready : lacks_room config (node_at (fabric_as p) n) (block_of w.address) ToWrite ≡ false →
       probe_by x.cache x.log (block_of w.address) now ToWrite ≡ Ready
   store-ready room =
-      let i = k.whole.seats n (subst (λ (k : ℕ). n < k) k.whole.count inside) in
+      let i = k.whole.units n (subst (λ (k : ℕ). n < k) k.whole.count inside) in
       let a : puts_on x.cache.cache.put (block_of w.address)
       ≡ false = subst (λ (y : Node). puts_on y.cache.put (block_of w.address) ≡ false) read can.line.no_put in
       let b : is_writable_state (line_of x.cache.cache (block_of w.address)).state
       ≡ true = subst (λ (y : Node). is_writable_state (line_of y.cache (block_of w.address)).state ≡ true) read can.writable in
-      let e : x.log.limit ≡ config.log = ap (λ (y : Seat). y.log.limit) (seat-read p n place x can.line.node ep ex) ∙ i.limit in
+      let e : x.log.limit ≡ config.log = ap (λ (y : NodeUnit). y.log.limit) (unit-read p n place x can.line.node ep ex) ∙ i.limit in
       let d : nat_lt x.log.limit (length (log_with x.cache x.log.entries (block_of w.address) now)) ≡ false =
       ap (λ (j : ℕ). nat_lt j (length (log_with x.cache x.log.entries (block_of w.address) now))) e
       ∙ ap (λ (j : ℕ). nat_lt config.log (length (log_with x.cache x.log.entries (block_of w.address) j))) en
-      ∙ subst (λ (y : Node). nat_lt config.log (length (prepared y (block_of w.address)).log) ≡ false) read room in
+      ∙ subst (λ (y : Node). nat_lt config.log (length (node_to_write y (block_of w.address)).log) ≡ false) read room in
       ap (λ (c : Bool). if c then Waits else if is_writable_state (line_of x.cache.cache (block_of w.address)).state
       then (if nat_lt x.log.limit (length (log_with x.cache x.log.entries (block_of w.address) now)) then LogFull else Ready)
       else probe_miss x.cache (block_of w.address)) a
@@ -62,12 +62,12 @@ module _ (config : Config) (p : Parts) (n place now : ℕ) (w : Written) (x : Se
   pub store-comes : (cache : CacheData) (log : LogData) (sends : List Sent) →
       lacks_room config (node_at (fabric_as p) n) (block_of w.address) ToWrite ≡ false → cache ≡ cache_stored x.cache w →
       log ≡ record x.log { entries = log_with x.cache x.log.entries (block_of w.address) now } → sends ≡ [] →
-      Comes config p (record p { seats = set p.seats place (record x { cache = cache; log = log }) }) sends Retired
-      (answered (stored (fabric_as p) n w) Retired)
+      Comes config p (record p { units = set p.units place (record x { cache = cache; log = log }) }) sends Retired
+      (step_with_answer (fabric_with_write (fabric_as p) n w) Retired)
   store-comes cache log sends room ec el es =
-      let r : x ≡ seat_at p.seats n = seat-read p n place x can.line.node ep ex in
-      let i = k.whole.seats n (subst (λ (k : ℕ). n < k) k.whole.count inside) in
-      let y : Seat = record x {
+      let r : x ≡ unit_at p.units n = unit-read p n place x can.line.node ep ex in
+      let i = k.whole.units n (subst (λ (k : ℕ). n < k) k.whole.count inside) in
+      let y : NodeUnit = record x {
         cache = cache_stored x.cache w;
         log = record x.log { entries = log_with x.cache x.log.entries (block_of w.address) x.clock.interval };
       } in
@@ -76,13 +76,13 @@ module _ (config : Config) (p : Parts) (n place now : ℕ) (w : Written) (x : Se
       ∙ ap (λ (d : LogData). record x { cache = cache_stored x.cache w; log = d })
       (el ∙ ap (λ (j : ℕ). record x.log { entries = log_with x.cache x.log.entries (block_of w.address) j }) en) in
       rw (c, ep, es)
-      (seat-comes config p n y Retired None (Write n w) (answered (stored (fabric_as p) n w) Retired) k can room
+      (unit-comes config p n y Retired None (Write n w) (step_with_answer (fabric_with_write (fabric_as p) n w) Retired) k can room
       (write_is_moved config (fabric_as p) n w) inside
       (record {
-        node = ap (λ (z : Seat). z.cache.node) r ∙ i.node;
-        nodes = ap (λ (z : Seat). z.cache.nodes) r ∙ i.nodes;
-        sets = ap (λ (z : Seat). z.cache.sets) r ∙ i.sets;
-        ways = ap (λ (z : Seat). z.cache.ways) r ∙ i.ways;
-        limit = ap (λ (z : Seat). z.log.limit) r ∙ i.limit;
+        node = ap (λ (z : NodeUnit). z.cache.node) r ∙ i.node;
+        nodes = ap (λ (z : NodeUnit). z.cache.nodes) r ∙ i.nodes;
+        sets = ap (λ (z : NodeUnit). z.cache.sets) r ∙ i.sets;
+        ways = ap (λ (z : NodeUnit). z.cache.ways) r ∙ i.ways;
+        limit = ap (λ (z : NodeUnit). z.log.limit) r ∙ i.limit;
       })
-      (ap (λ (z : Node). answered (with_node (fabric_as p) n (with_write z w)) Retired) read))
+      (ap (λ (z : Node). step_with_answer (with_node (fabric_as p) n (with_write z w)) Retired) read))

@@ -10,49 +10,49 @@ use Rattle.log_buffer.specs.Log.{LogData, entries_from}
 use Rattle.ckpt_clock.specs.Clock.{ClockData}
 use Rattle.switch_net.specs.Net.{NetData}
 use Rattle.sn_model.specs.declared.net.Sent.{Sent}
-use Rattle.sn_model.specs.declared.net.Told.{Told}
-use Rattle.sn_model.specs.declared.net.Told.TheVariants as told
-use Rattle.sn_model.specs.Fabric.{Fabric, Node, Net, Moved, first_node, node_at, with_node, with_net}
+use Rattle.sn_model.specs.declared.net.News.{News}
+use Rattle.sn_model.specs.declared.net.News.TheVariants as told
+use Rattle.sn_model.specs.Fabric.{Fabric, Node, Net, FabricStep, first_node, node_at, with_node, with_net}
 use Rattle.sn_model.specs.FabricEvents.{Deliver}
 use Rattle.sn_model.specs.Net.{without_flight}
-use Rattle.sn_model.specs.NetEvents.{learned, outcome_of, delivers, delivered}
-use Rattle.sn_coherence.specs.Kept.{Clocks}
+use Rattle.sn_model.specs.NetEvents.{node_after_news, outcome_of, delivers, step_of_delivery}
+use Rattle.sn_coherence.specs.Invariant.{Clocks}
 use Rattle.fabric_coherence.specs.Coherent.{Keeps}
 use Rattle.fabric_coherence.specs.View.{block_seen}
 use Rattle.fabric_coherence.proofs.KeptEvents.{each_keeps}
-use Rattle.sn_fabric.specs.declared.node.Seat.{Seat}
+use Rattle.sn_fabric.specs.declared.node.NodeUnit.{NodeUnit}
 use Rattle.sn_fabric.specs.declared.receiver.Receiver.TheVariants.{Controller, Clock}
 use Rattle.sn_fabric.specs.Deliveries.{receiver_of, HasCome}
-use Rattle.sn_fabric.specs.Parts.{Parts, fabric_as, node_as, IsSeat, AreParts}
+use Rattle.sn_fabric.specs.Parts.{Parts, fabric_as, node_as, IsUnit, AreParts}
 use Rattle.sn_fabric.proofs.Come.{come-reached, reached-of, deliver_is_moved, is-ready, is-advance}
 use Rattle.sn_fabric.proofs.Given.{taken, taken-as, in-flight, inside, node-read, serves}
-use Rattle.sn_fabric.proofs.Parts.{whole-seat, whole-net, Comes, comes-as}
+use Rattle.sn_fabric.proofs.Parts.{whole-unit, whole-net, Comes, comes-as}
 
 -- what the layer above hears of, with this fabric, the message gone from its network
-abbrev heard : Fabric → Message → Fabric → Told → Moved
+abbrev heard : Fabric → Message → Fabric → News → FabricStep
 heard s m after what = record { fabric = with_net after (without_flight s.net m.id); answer = Delivered; sent = []; told = Some what }
 
-module _ (config : Config) (p : Parts) (a : AreParts config p) (m : Message) (h : HasCome (fabric_as p) m) (k : ℕ) (d : (delivered config (fabric_as p) m.id).answer ≡ Delivered) where
+module _ (config : Config) (p : Parts) (a : AreParts config p) (m : Message) (h : HasCome (fabric_as p) m) (k : ℕ) (d : (step_of_delivery config (fabric_as p) m.id).answer ≡ Delivered) where
   abbrev s : Fabric
   s = fabric_as p
 
-  by_body : (x : Body) → m.body ≡ x → delivered config s m.id ≡ delivers config s m (outcome_of s m x)
+  by_body : (x : Body) → m.body ≡ x → step_of_delivery config s m.id ≡ delivers config s m (outcome_of s m x)
   by_body x e = come-reached config s m h (reached-of config s m h d) ∙ ap (λ (y : Body). delivers config s m (outcome_of s m y)) e
 
   -- a report
   module _ (c : receiver_of m.body ≡ Controller k) where
-    report_done : delivered config s m.id ≡ heard s m s (told.Ready m.from k)
+    report_done : step_of_delivery config s m.id ≡ heard s m s (told.Ready m.from k)
     report_done = by_body _ (is-ready m.body k c)
 
-    pub report-tells : (what : Told) → what ≡ told.Ready m.from k → Some what ≡ (delivered config s m.id).told
-    report-tells what e = ap Some e ∙ sym (ap (λ (y : Moved). y.told) report_done)
+    pub report-tells : (what : News) → what ≡ told.Ready m.from k → Some what ≡ (step_of_delivery config s m.id).told
+    report-tells what e = ap Some e ∙ sym (ap (λ (y : FabricStep). y.told) report_done)
 
     pub report-taken : (net : NetData) (sends : List Sent) → net ≡ taken p m.id → sends ≡ [] →
-        Comes config p (record p { net = net }) sends Delivered (delivered config s m.id)
+        Comes config p (record p { net = net }) sends Delivered (step_of_delivery config s m.id)
     report-taken net sends en es =
         rw (en, es)
         (comes-as config p (record p { net = taken p m.id }) [] Delivered (Some (told.Ready m.from k)) (Deliver m.id)
-        (delivered config s m.id) a tt tt (deliver_is_moved config s m.id)
+        (step_of_delivery config s m.id) a tt tt (deliver_is_moved config s m.id)
         (whole-net config p (taken p m.id) a.whole refl)
         (report_done ∙ ap (λ (n : Net). record (heard s m s (told.Ready m.from k)) { fabric = record s { net = n } })
         (sym (taken-as p m.id))))
@@ -60,76 +60,76 @@ module _ (config : Config) (p : Parts) (a : AreParts config p) (m : Message) (h 
   -- a recovery point
   module _ (c : receiver_of m.body ≡ Clock k) where
     abbrev knowing : Fabric
-    knowing = with_node s m.to (learned (node_at s m.to) k)
+    knowing = with_node s m.to (node_after_news (node_at s m.to) k)
 
-    advance_done : delivered config s m.id ≡ heard s m knowing (told.Advance m.to k)
+    advance_done : step_of_delivery config s m.id ≡ heard s m knowing (told.Advance m.to k)
     advance_done = by_body _ (is-advance m.body k c)
 
-    pub advance-tells : (what : Told) → what ≡ told.Advance m.to k → Some what ≡ (delivered config s m.id).told
-    advance-tells what e = ap Some e ∙ sym (ap (λ (y : Moved). y.told) advance_done)
+    pub advance-tells : (what : News) → what ≡ told.Advance m.to k → Some what ≡ (step_of_delivery config s m.id).told
+    advance-tells what e = ap Some e ∙ sym (ap (λ (y : FabricStep). y.told) advance_done)
 
     -- after it the node's known point is at most the recovery point, which its interval has reached
     keeps_after : Keeps (heard s m knowing (told.Advance m.to k)).fabric
     keeps_after =
-        subst Keeps (ap (λ (y : Moved). y.fabric) (deliver_is_moved config s m.id ∙ advance_done))
+        subst Keeps (ap (λ (y : FabricStep). y.fabric) (deliver_is_moved config s m.id ∙ advance_done))
         (each_keeps config s (Deliver m.id) (a.keeps.0, a.keeps.1) tt)
 
     there : m.to < length s.nodes
     there = (in-flight config p a m h).to
 
-    known_after : (get_or (set s.nodes m.to (learned (node_at s m.to) k)) m.to first_node).known ≤ s.point
+    known_after : (get_or (set s.nodes m.to (node_after_news (node_at s m.to) k)) m.to first_node).known ≤ s.point
     known_after =
-        let clocks : Clocks (length (set s.nodes m.to (learned (node_at s m.to) k)))
+        let clocks : Clocks (length (set s.nodes m.to (node_after_news (node_at s m.to) k)))
         (block_seen (heard s m knowing (told.Advance m.to k)).fabric keeps_after.0 0) = (keeps_after.1.blocks 0 (omega arith)).clocks in
-        clocks.known_point m.to (subst (λ (n : ℕ). m.to < n) (sym (length-set s.nodes m.to (learned (node_at s m.to) k))) there)
+        clocks.known_point m.to (subst (λ (n : ℕ). m.to < n) (sym (length-set s.nodes m.to (node_after_news (node_at s m.to) k))) there)
 
     reached_before : s.point ≤ (node_at s m.to).now
     reached_before =
         let clocks : Clocks (length s.nodes) (block_seen s a.keeps.0 0) = (a.keeps.1.blocks 0 (omega arith)).clocks in
         clocks.point_now m.to there
 
-    module _ (place : ℕ) (x : Seat) (ep : place ≡ m.to) (ex : x ≡ get_or p.seats place x) where
+    module _ (place : ℕ) (x : NodeUnit) (ep : place ≡ m.to) (ex : x ≡ get_or p.units place x) where
       read : node_at s m.to ≡ node_as x
       read = node-read config p a m h place x ep ex
 
-      is : IsSeat config m.to x
+      is : IsUnit config m.to x
       is = serves config p a m h place x ep ex
 
       -- so it has reached what it hears of
       pub advance-reached : k ≤ x.clock.interval
       advance-reached =
-          let e : (get_or (set s.nodes m.to (learned (node_at s m.to) k)) m.to first_node).known
+          let e : (get_or (set s.nodes m.to (node_after_news (node_at s m.to) k)) m.to first_node).known
           ≡ max (node_at s m.to).known k = ap (λ (y : Node). y.known)
-          (get_or-set_same s.nodes m.to (learned (node_at s m.to) k) first_node there) in
+          (get_or-set_same s.nodes m.to (node_after_news (node_at s m.to) k) first_node there) in
           let n : (node_at s m.to).now ≡ x.clock.interval = ap (λ (y : Node). y.now) read in
-          let l : (get_or (set s.nodes m.to (learned (node_at s m.to) k)) m.to first_node).known ≤ s.point = known_after in
+          let l : (get_or (set s.nodes m.to (node_after_news (node_at s m.to) k)) m.to first_node).known ≤ s.point = known_after in
           let r : s.point ≤ (node_at s m.to).now = reached_before in
           omega arith
 
-      abbrev left : Seat
+      abbrev left : NodeUnit
       left =
           record x { clock = record x.clock { known = max x.clock.known k }; log = record x.log { entries = entries_from k x.log.entries } }
 
       abbrev after : Parts
-      after = record p { seats = set p.seats m.to left; net = taken p m.id }
+      after = record p { units = set p.units m.to left; net = taken p m.id }
 
       fabric_after : with_net knowing (without_flight s.net m.id) ≡ fabric_as after
       fabric_after =
-          ap (λ (y : Node). with_net (with_node s m.to (learned y k)) (without_flight s.net m.id)) read
+          ap (λ (y : Node). with_net (with_node s m.to (node_after_news y k)) (without_flight s.net m.id)) read
           ∙ ap (λ (nodes : List Node). record s { nodes = nodes; net = without_flight s.net m.id })
-          (sym (map-set node_as p.seats m.to left))
+          (sym (map-set node_as p.units m.to left))
           ∙ ap (λ (n : Net). record (fabric_as after) { net = n }) (sym (taken-as p m.id))
 
       pub advance-learned : (clock : ClockData) (log : LogData) (net : NetData) (sends : List Sent) →
           clock ≡ record x.clock { known = max x.clock.known k } → log ≡ record x.log { entries = entries_from k x.log.entries } →
           net ≡ taken p m.id → sends ≡ [] →
-          Comes config p (record p { seats = set p.seats place (record x { clock = clock; log = log }); net = net }) sends Delivered
-          (delivered config s m.id)
+          Comes config p (record p { units = set p.units place (record x { clock = clock; log = log }); net = net }) sends Delivered
+          (step_of_delivery config s m.id)
       advance-learned clock log net sends ec el en es =
           rw (ec, el, ep, en, es)
-          (comes-as config p after [] Delivered (Some (told.Advance m.to k)) (Deliver m.id) (delivered config s m.id) a tt tt
+          (comes-as config p after [] Delivered (Some (told.Advance m.to k)) (Deliver m.id) (step_of_delivery config s m.id) a tt tt
           (deliver_is_moved config s m.id)
-          (whole-net config (record p { seats = set p.seats m.to left }) (taken p m.id)
-          (whole-seat config p m.to left a.whole (inside config p a m h)
+          (whole-net config (record p { units = set p.units m.to left }) (taken p m.id)
+          (whole-unit config p m.to left a.whole (inside config p a m h)
           (record { node = is.node; nodes = is.nodes; sets = is.sets; ways = is.ways; limit = is.limit })) refl)
           (advance_done ∙ ap (λ (z : Fabric). record (heard s m knowing (told.Advance m.to k)) { fabric = z }) fabric_after))

@@ -16,13 +16,13 @@ use Rattle.home_directory.specs.declared.step.HomeStep.TheVariants as home
 use Rattle.sn_model.specs.declared.cache.Out.{Out}
 use Rattle.sn_model.specs.declared.look.Look.{Look}
 use Rattle.sn_model.specs.declared.look.Look.TheVariants as look
-use Rattle.sn_model.specs.declared.net.Told.{Told}
-use Rattle.sn_model.specs.declared.net.Told.TheVariants.{LostCopy}
+use Rattle.sn_model.specs.declared.net.News.{News}
+use Rattle.sn_model.specs.declared.net.News.TheVariants.{LostCopy}
 use Rattle.sn_model.specs.CacheRows.{CacheReply, send}
 use Rattle.sn_model.specs.Fabric.{Fabric}
 use Rattle.sn_model.specs.Net.{flight_of, is_there}
 use Rattle.mosi_cache.specs.Rows.{cache_by, log_by}
-use Rattle.sn_fabric.specs.declared.node.Seat.{Seat}
+use Rattle.sn_fabric.specs.declared.node.NodeUnit.{NodeUnit}
 use Rattle.sn_fabric.specs.declared.receiver.Receiver.{Receiver}
 use Rattle.sn_fabric.specs.declared.receiver.Receiver.TheVariants.{Cache, Home, Controller, Clock}
 
@@ -59,13 +59,13 @@ abbrev pub out_of : CacheStep → Option Out
 out_of (cache.Took out lost) = out
 out_of cache.LogFull = None
 
-abbrev pub lost_by : ℕ → CacheStep → Option Told
+abbrev pub lost_by : ℕ → CacheStep → Option News
 lost_by n (cache.Took out lost) = option_map (λ (block : ℕ). LostCopy n block) lost
 lost_by n cache.LogFull = None
 
 -- a node after this row of its cache, where its log isn't full
-abbrev pub seat_after : Seat → CacheReply → Seat
-seat_after x reply = record x { cache = cache_by x.cache x.log reply; log = log_by x.log reply }
+abbrev pub unit_after : NodeUnit → CacheReply → NodeUnit
+unit_after x reply = record x { cache = cache_by x.cache x.log reply; log = log_by x.log reply }
 
 -- one message or none
 abbrev pub outs_of : Option Out → List Out

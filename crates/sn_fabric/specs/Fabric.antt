@@ -5,8 +5,8 @@ use Rattle.sn_base.specs.declared.event.Answer.{Answer}
 use Rattle.sn_base.specs.declared.event.Answer.TheVariants.{Evicted, PutBegun}
 use Rattle.sn_model.specs.declared.net.Sent.{Sent}
 use Rattle.switch_net.specs.Net.{NetData}
-use Rattle.sn_model.specs.Fabric.{Fabric, Moved}
-use Rattle.sn_model.specs.NodeEvents.{evicted}
+use Rattle.sn_model.specs.Fabric.{Fabric, FabricStep}
+use Rattle.sn_model.specs.NodeEvents.{step_of_eviction}
 use Rattle.sn_fabric.specs.Nets.{net_as}
 
 -- the sizes, the fabric of the machine's definitions, and what the last call sent
@@ -16,7 +16,7 @@ pub record FabricData : Type 0 where
   pub sent : List Sent
 
 -- a call's answer, and what it leaves, are those of an event of the machine's definitions
-pub record IsAfter (before after : FabricData) (said : Answer) (moved : Moved) : Type 0 where
+pub record IsAfter (before after : FabricData) (said : Answer) (moved : FabricStep) : Type 0 where
   pub answer : said ≡ moved.answer
   pub left : after ≡ record before { fabric = moved.fabric; sent = moved.sent }
 
@@ -33,4 +33,4 @@ goes answer = false
 
 -- whether a block of the set of another could be evicted at a node now
 abbrev pub can_go : Config → Fabric → ℕ → ℕ → ℕ → Bool
-can_go config s n block candidate = nat_eq (candidate % config.sets) (block % config.sets) && goes (evicted s n candidate).answer
+can_go config s n block candidate = nat_eq (candidate % config.sets) (block % config.sets) && goes (step_of_eviction s n candidate).answer

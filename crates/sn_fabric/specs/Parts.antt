@@ -9,12 +9,12 @@ use Rattle.sn_model.specs.Caches.{block_count, empty_cache}
 use Rattle.sn_model.specs.Homes.{HomeEntry}
 use Rattle.sn_model.specs.Fabric.{Fabric, Node}
 use Rattle.fabric_bounds.specs.Bounds.{KeepsBounds}
-use Rattle.sn_fabric.specs.declared.node.Seat.{Seat}
+use Rattle.sn_fabric.specs.declared.node.NodeUnit.{NodeUnit}
 use Rattle.sn_fabric.specs.Logs.{AreOwnLogs}
 use Rattle.sn_fabric.specs.Nets.{net_as}
 
 -- a node: its clock's numbers, its cache and its log
-abbrev pub node_as : Seat → Node
+abbrev pub node_as : NodeUnit → Node
 node_as x = record { now = x.clock.interval; known = x.clock.known; cache = x.cache.cache; log = x.log.entries }
 
 -- the home of a node by its number; past the end one that is nobody's
@@ -33,28 +33,28 @@ unfoldable pub homes_as : List HomeData → List HomeEntry
 homes_as homes = map (entry_at homes) (range_with_len 0 block_count)
 
 pub record Parts : Type 0 where
-  pub seats : List Seat
+  pub units : List NodeUnit
   pub homes : List HomeData
   pub net : NetData
   pub point : ℕ
 
 -- the fabric that the parts stand for
 abbrev pub fabric_as : Parts → Fabric
-fabric_as p = record { nodes = map node_as p.seats; homes = homes_as p.homes; net = net_as p.net; point = p.point }
+fabric_as p = record { nodes = map node_as p.units; homes = homes_as p.homes; net = net_as p.net; point = p.point }
 
 -- a node by its number; past the end one that is nobody's
-abbrev pub no_seat : Seat
-no_seat = record {
+abbrev pub no_unit : NodeUnit
+no_unit = record {
   clock = record { interval = 0; known = 0 };
   cache = record { node = 0; nodes = 0; sets = 0; ways = 0; cache = empty_cache };
   log = record { entries = []; limit = 0 };
 }
 
-abbrev pub seat_at : List Seat → ℕ → Seat
-seat_at seats n = slice_index_or seats n no_seat
+abbrev pub unit_at : List NodeUnit → ℕ → NodeUnit
+unit_at units n = slice_index_or units n no_unit
 
 -- a node that serves as node n, with these sizes
-pub record IsSeat (config : Config) (n : ℕ) (x : Seat) : Type 0 where
+pub record IsUnit (config : Config) (n : ℕ) (x : NodeUnit) : Type 0 where
   pub node : x.cache.node ≡ n
   pub nodes : x.cache.nodes ≡ config.nodes
   pub sets : x.cache.sets ≡ config.sets
@@ -70,10 +70,10 @@ pub record IsHomeOf (config : Config) (n : ℕ) (h : HomeData) : Type 0 where
 -- parts of which there is one for each node
 pub record AreWhole (config : Config) (p : Parts) : Type 0 where
   pub fits : config_fits config ≡ true
-  pub count : length p.seats ≡ config.nodes
+  pub count : length p.units ≡ config.nodes
   pub count_homes : length p.homes ≡ config.nodes
   pub count_routes : p.net.routes.nodes ≡ config.nodes
-  pub seats : (n : ℕ) → n < config.nodes → IsSeat config n (seat_at p.seats n)
+  pub units : (n : ℕ) → n < config.nodes → IsUnit config n (unit_at p.units n)
   pub homes : (n : ℕ) → n < config.nodes → IsHomeOf config n (home_at p.homes n)
 
 -- parts as they may be: all sentences of the coherence theorem hold of the fabric that they stand for, and so do its bounds;

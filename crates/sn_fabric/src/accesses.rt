@@ -4,52 +4,52 @@ ghost use Rattle.sn_base.specs.Blocks.{ram_start, ram_size, bytes_of};
 ghost use Rattle.rv_core.specs.Core.{block_of};
 ghost use Rattle.sn_base.specs.declared.event.Answer.TheVariants.{Retired, Missed};
 ghost use Rattle.sn_model.specs.Caches.{is_present, line_of};
-ghost use Rattle.sn_model.specs.Access.{accessed, loaded, stored, lacks_room};
-ghost use Rattle.sn_model.specs.Fabric.{node_at, answered};
+ghost use Rattle.sn_model.specs.Access.{step_of_access, word_found, fabric_with_write, lacks_room};
+ghost use Rattle.sn_model.specs.Fabric.{node_at, step_with_answer};
 ghost use Rattle.sn_model.specs.FabricEvents.{Write};
 ghost use Rattle.fabric_coherence.specs.Events.{CanWrite};
 ghost use Rattle.mosi_cache.specs.Probe.{probe_by};
 ghost use Rattle.sn_fabric.specs.Fabric.{IsAfter};
-ghost use Rattle.sn_fabric.specs.Seats.{access_answer};
+ghost use Rattle.sn_fabric.specs.Units.{access_answer};
 
-use crate::node::Seat;
+use crate::node::NodeUnit;
 use crate::sending::{lacks_room, post};
 use crate::{Fabric, Need};
-use mosi_cache::Probe1;
+use mosi_cache::AccessProbe;
 use sn_base::{Answer, BlockNo, NodeId, Write};
 
-fn access_answer(probe: Probe1, is_net_full: bool) -> Answer
+fn access_answer(probe: AccessProbe, is_net_full: bool) -> Answer
     ensures { result ≡ access_answer probe is_net_full }
 {
     match probe {
-        Probe1::Ready => Answer::Retired,
-        Probe1::Waits => Answer::Waits,
-        Probe1::NeedsEvict => Answer::NeedsEvict,
-        Probe1::LogFull => Answer::LogFull,
-        Probe1::Miss if is_net_full => Answer::NetFull,
-        Probe1::Miss => Answer::Missed,
+        AccessProbe::Ready => Answer::Retired,
+        AccessProbe::Waits => Answer::Waits,
+        AccessProbe::NeedsEvict => Answer::NeedsEvict,
+        AccessProbe::LogFull => Answer::LogFull,
+        AccessProbe::Miss if is_net_full => Answer::NetFull,
+        AccessProbe::Miss => Answer::Missed,
     }
 }
 
-fn probe(seat: &Seat, block: BlockNo, need: Need) -> Probe1
-    requires { IsNone seat.now.cache.cache.miss }
-    ensures { result ≡ probe_by seat.now.cache seat.now.log block seat.now.clock.interval need }
+fn probe(unit: &NodeUnit, block: BlockNo, need: Need) -> AccessProbe
+    requires { IsNone unit.now.cache.cache.miss }
+    ensures { result ≡ probe_by unit.now.cache unit.now.log block unit.now.clock.interval need }
 {
-    let now = seat.clock.now();
-    seat.cache.probe(block, need, now, &seat.log)
+    let now = unit.clock.now();
+    unit.cache.probe(block, need, now, &unit.log)
 }
 
 impl Fabric {
     /// The answer that `access` would give now.
     pub fn foresee_access(&self, node: NodeId, block: BlockNo, need: Need) -> Answer
         requires { node < length self.now.fabric.nodes }
-        ensures { result ≡ (accessed self.now.config self.now.fabric node block need).answer }
+        ensures { result ≡ (step_of_access self.now.config self.now.fabric node block need).answer }
     {
         if self.miss_open(node) {
             return Answer::Waits;
         }
         let is_net_full = lacks_room(&self.net, 1);
-        let probe = probe(&self.seats[usize::from(node.number())], block, need);
+        let probe = probe(&self.units[usize::from(node.number())], block, need);
         access_answer(probe, is_net_full)
     }
 
@@ -58,7 +58,7 @@ impl Fabric {
     pub fn access(&mut self, node: NodeId, block: BlockNo, need: Need) -> Answer
         requires here { node < length self.old.fabric.nodes }
         requires numbers { self.old.fabric.net.next_id ≤ 2 ^ 63 }
-        ensures { IsAfter self.old self.new result (accessed self.old.config self.old.fabric node block need) }
+        ensures { IsAfter self.old self.new result (step_of_access self.old.config self.old.fabric node block need) }
     {
         let answer = self.foresee_access(node, block, need);
         match answer {
@@ -71,15 +71,15 @@ impl Fabric {
     fn begin_miss(&mut self, node: NodeId, block: BlockNo, need: Need)
         requires here { node < length self.old.fabric.nodes }
         requires numbers { self.old.fabric.net.next_id ≤ 2 ^ 63 }
-        requires misses { (accessed self.old.config self.old.fabric node block need).answer ≡ Missed }
-        ensures { IsAfter self.old self.new Missed (accessed self.old.config self.old.fabric node block need) }
+        requires misses { (step_of_access self.old.config self.old.fabric node block need).answer ≡ Missed }
+        ensures { IsAfter self.old self.new Missed (step_of_access self.old.config self.old.fabric node block need) }
     {
         let _number = block.number();
         let _count = self.net.count();
         self.sent.clear();
-        let seat = &mut self.seats[usize::from(node.number())];
-        let now = seat.clock.now();
-        let out = seat.cache.begin_miss(block, need, now);
+        let unit = &mut self.units[usize::from(node.number())];
+        let now = unit.clock.now();
+        let out = unit.cache.begin_miss(block, need, now);
         post(&mut self.net, &mut self.sent, node, now, block, &out);
     }
 
@@ -89,9 +89,9 @@ impl Fabric {
         requires low { ram_start ≤ address }
         requires high { address < ram_start + ram_size }
         requires line { is_present (line_of (node_at self.now.fabric node).cache (block_of address)).state ≡ true }
-        ensures { result ≡ loaded self.now.fabric node address }
+        ensures { result ≡ word_found self.now.fabric node address }
     {
-        self.seats[usize::from(node.number())].cache.load(address)
+        self.units[usize::from(node.number())].cache.load(address)
     }
 
     /// Writes into a line of the node that may be written: the old content is noted, once per interval, and the line is
@@ -102,11 +102,11 @@ impl Fabric {
         requires aligned { write.now.address % bytes_of write.now.width ≡ 0 }
         requires can { CanWrite self.old.fabric node write.now }
         requires room { lacks_room self.old.config (node_at self.old.fabric node) (block_of write.now.address) Need.Write ≡ false }
-        ensures { IsAfter self.old self.new Retired (answered (stored self.old.fabric node write.now) Retired) }
+        ensures { IsAfter self.old self.new Retired (step_with_answer (fabric_with_write self.old.fabric node write.now) Retired) }
     {
         self.sent.clear();
-        let seat = &mut self.seats[usize::from(node.number())];
-        let now = seat.clock.now();
-        seat.cache.store(write, now, &mut seat.log);
+        let unit = &mut self.units[usize::from(node.number())];
+        let now = unit.clock.now();
+        unit.cache.store(write, now, &mut unit.log);
     }
 }

@@ -5,7 +5,7 @@ ghost use Rattle.sn_model.specs.Cuts.{holds_at, names_at, transaction_before};
 ghost use Rattle.sn_model.specs.Fabric.{home_of};
 ghost use Rattle.sn_model.specs.Homes.{Itself};
 ghost use Rattle.sn_model.specs.RecoveryPoint.{HasOneHolderWith};
-ghost use Rattle.sn_fabric.specs.Seats.{noted_content};
+ghost use Rattle.sn_fabric.specs.Units.{noted_content};
 
 use crate::{Fabric, Owner};
 use sn_base::{Block, BlockNo, Interval, NodeId, Old};
@@ -52,7 +52,7 @@ impl Fabric {
         let _number = block.number();
         let home = block.home(self.config.nodes);
         let place = usize::from(home.number());
-        match noted_content(self.seats[place].log.old_at(true, block, k)) {
+        match noted_content(self.units[place].log.old_at(true, block, k)) {
             Some(content) => content,
             None => self.homes[place].content(block),
         }
@@ -64,10 +64,10 @@ impl Fabric {
         requires held { is_some (holds_at self.now.fabric node block k) ≡ true }
         ensures { holds_at self.now.fabric node block k ≡ Some result.now }
     {
-        let seat = &self.seats[usize::from(node.number())];
-        match seat.log.old_at(false, block, k) {
+        let unit = &self.units[usize::from(node.number())];
+        match unit.log.old_at(false, block, k) {
             Some(Old::Owned(content)) => content,
-            _ => seat.cache.owned(block).unwrap(),
+            _ => unit.cache.owned(block).unwrap(),
         }
     }
 }

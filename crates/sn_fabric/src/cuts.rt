@@ -2,7 +2,7 @@
 ghost use Rattle.std.specs.Prelude.{◌≡◌, Option, option_copied};
 ghost use Rattle.home_directory.specs.Home.{owner_of};
 ghost use Rattle.sn_model.specs.Cuts.{names_at};
-ghost use Rattle.sn_fabric.specs.Seats.{owner_by};
+ghost use Rattle.sn_fabric.specs.Units.{owner_by};
 
 use crate::{Fabric, Owner};
 use sn_base::{BlockNo, Interval, Old};
@@ -26,6 +26,6 @@ impl Fabric {
         let home = block.home(self.config.nodes);
         let place = usize::from(home.number());
         let owner = self.homes[place].owner(block);
-        owner_by(self.seats[place].log.old_at(true, block, k), owner)
+        owner_by(self.units[place].log.old_at(true, block, k), owner)
     }
 }

@@ -2,17 +2,17 @@
 ghost use Rattle.std.specs.Prelude.{◌≡◌, ◌+◌, ◌<◌, ◌≤◌, ◌^◌, Some, None};
 ghost use Rattle.sn_base.specs.declared.event.Answer.TheVariants.{Delivered};
 ghost use Rattle.sn_model.specs.Fabric.{node_at};
-ghost use Rattle.sn_model.specs.NetEvents.{delivered};
+ghost use Rattle.sn_model.specs.NetEvents.{step_of_delivery};
 ghost use Rattle.fabric_coherence.specs.Met.{answer_to};
-ghost use Rattle.mosi_cache.specs.Controller.{logged};
-ghost use Rattle.mosi_cache.specs.Rows.{row_of, MeetsRow, NotesLast, noted_in, step_by};
+ghost use Rattle.mosi_cache.specs.Controller.{with_entries};
+ghost use Rattle.mosi_cache.specs.Rows.{row_of, MeetsRow, NotesInLogOrder, noted_in, step_by};
 ghost use Rattle.sn_fabric.specs.Fabric.{IsAfter};
-ghost use Rattle.sn_fabric.specs.Deliveries.{receiver_of, HasCome, fault_as, look_answer, seat_after};
+ghost use Rattle.sn_fabric.specs.Deliveries.{receiver_of, HasCome, fault_as, look_answer, unit_after};
 
-use crate::node::Seat;
+use crate::node::NodeUnit;
 use crate::receiver::{Receiver, receiver_of};
 use crate::replies::{lost_by, out_of, post_one, post_step, take_out};
-use crate::{Fabric, Told};
+use crate::{Fabric, News};
 use mosi_cache::CacheStep;
 use sn_base::{Answer, Interval, MsgId};
 use sn_model::Look;
@@ -42,26 +42,26 @@ fn look_answer(look: Look, flights: usize) -> Answer
 }
 
 /// A node's cache does the row of a message that has come to it.
-fn receive(seat: &mut Seat, message: &Message, now: Interval) -> CacheStep
-    requires here { message.now.to ≡ seat.old.cache.node }
+fn receive(unit: &mut NodeUnit, message: &Message, now: Interval) -> CacheStep
+    requires here { message.now.to ≡ unit.old.cache.node }
     requires come { message.now.tag ≤ now }
-    requires row { MeetsRow (logged seat.old.cache seat.old.log.entries) message.now.block message.now.body }
-    requires last { NotesLast seat.old.log.entries message.now.block (noted_in now message.now.tag message.now.body) }
-    ensures answer { result ≡ step_by seat.old.log (row_of seat.old.cache seat.old.log now message.now) }
-    ensures seat { seat.new ≡ seat_after seat.old (row_of seat.old.cache seat.old.log now message.now) }
+    requires row { MeetsRow (with_entries unit.old.cache unit.old.log.entries) message.now.block message.now.body }
+    requires last { NotesInLogOrder unit.old.log.entries message.now.block (noted_in now message.now.tag message.now.body) }
+    ensures answer { result ≡ step_by unit.old.log (row_of unit.old.cache unit.old.log now message.now) }
+    ensures unit { unit.new ≡ unit_after unit.old (row_of unit.old.cache unit.old.log now message.now) }
 {
-    let Seat {
+    let NodeUnit {
         clock: _,
         cache,
         log,
-    } = seat;
+    } = unit;
     cache.receive(message, now, log)
 }
 
 impl Fabric {
     /// The answer that `deliver` would give now.
     pub fn foresee_deliver(&self, id: MsgId) -> Answer
-        ensures { result ≡ (delivered self.now.config self.now.fabric id).answer }
+        ensures { result ≡ (step_of_delivery self.now.config self.now.fabric id).answer }
     {
         match self.net.look(id) {
             Ok(message) => self.foresee_message(message),
@@ -71,10 +71,10 @@ impl Fabric {
 
     fn foresee_message(&self, message: &Message) -> Answer
         requires { HasCome self.now.fabric message.now }
-        ensures { result ≡ (delivered self.now.config self.now.fabric message.now.id).answer }
+        ensures { result ≡ (step_of_delivery self.now.config self.now.fabric message.now.id).answer }
     {
-        let seat = &self.seats[usize::from(message.to.number())];
-        if seat.clock.held(message.tag) {
+        let unit = &self.units[usize::from(message.to.number())];
+        if unit.clock.held(message.tag) {
             return Answer::Held;
         }
         match receiver_of(&message.body) {
@@ -91,9 +91,9 @@ impl Fabric {
         requires receiver { receiver_of message.now.body ≡ Receiver.Cache }
         ensures { result ≡ answer_to self.now.config self.now.fabric message.now }
     {
-        let seat = &self.seats[usize::from(message.to.number())];
-        let now = seat.clock.now();
-        let look = seat.cache.look(message, now, &seat.log);
+        let unit = &self.units[usize::from(message.to.number())];
+        let now = unit.clock.now();
+        let look = unit.cache.look(message, now, &unit.log);
         look_answer(look, self.net.count())
     }
 
@@ -104,9 +104,9 @@ impl Fabric {
         ensures { result ≡ answer_to self.now.config self.now.fabric message.now }
     {
         let place = usize::from(message.to.number());
-        let seat = &self.seats[place];
-        let now = seat.clock.now();
-        let look = self.homes[place].look(message, now, &seat.log);
+        let unit = &self.units[place];
+        let now = unit.clock.now();
+        let look = self.homes[place].look(message, now, &unit.log);
         look_answer(look, self.net.count())
     }
 
@@ -116,10 +116,10 @@ impl Fabric {
     /// under way (`NotArrived`), where its interval hasn't begun at the receiver (`Held`), where it is a request about a
     /// block with an open transaction (`HomeBusy`), and where the log (`LogFull`) or the network (`NetFull`) lacks the room
     /// for what its row notes or sends.
-    pub fn deliver(&mut self, id: MsgId) -> (Answer, Option<Told>)
+    pub fn deliver(&mut self, id: MsgId) -> (Answer, Option<News>)
         requires numbers { self.old.fabric.net.next_id ≤ 2 ^ 63 }
-        ensures after { IsAfter self.old self.new result.0 (delivered self.old.config self.old.fabric id) }
-        ensures told { result.1 ≡ (delivered self.old.config self.old.fabric id).told }
+        ensures after { IsAfter self.old self.new result.0 (step_of_delivery self.old.config self.old.fabric id) }
+        ensures told { result.1 ≡ (step_of_delivery self.old.config self.old.fabric id).told }
     {
         let answer = self.foresee_deliver(id);
         match answer {
@@ -134,11 +134,11 @@ impl Fabric {
         }
     }
 
-    fn take(&mut self, id: MsgId) -> Option<Told>
+    fn take(&mut self, id: MsgId) -> Option<News>
         requires numbers { self.old.fabric.net.next_id ≤ 2 ^ 63 }
-        requires delivers { (delivered self.old.config self.old.fabric id).answer ≡ Delivered }
-        ensures after { IsAfter self.old self.new Delivered (delivered self.old.config self.old.fabric id) }
-        ensures told { result ≡ (delivered self.old.config self.old.fabric id).told }
+        requires delivers { (step_of_delivery self.old.config self.old.fabric id).answer ≡ Delivered }
+        ensures after { IsAfter self.old self.new Delivered (step_of_delivery self.old.config self.old.fabric id) }
+        ensures told { result ≡ (step_of_delivery self.old.config self.old.fabric id).told }
     {
         match self.net.look(id) {
             Ok(message) => {
@@ -150,12 +150,12 @@ impl Fabric {
     }
 
     /// Gives a message to who takes it.
-    fn give(&mut self, message: &Message) -> Option<Told>
+    fn give(&mut self, message: &Message) -> Option<News>
         requires come { HasCome self.old.fabric message.now }
         requires numbers { self.old.fabric.net.next_id ≤ 2 ^ 63 }
-        requires delivers { (delivered self.old.config self.old.fabric message.now.id).answer ≡ Delivered }
-        ensures after { IsAfter self.old self.new Delivered (delivered self.old.config self.old.fabric message.now.id) }
-        ensures told { result ≡ (delivered self.old.config self.old.fabric message.now.id).told }
+        requires delivers { (step_of_delivery self.old.config self.old.fabric message.now.id).answer ≡ Delivered }
+        ensures after { IsAfter self.old self.new Delivered (step_of_delivery self.old.config self.old.fabric message.now.id) }
+        ensures told { result ≡ (step_of_delivery self.old.config self.old.fabric message.now.id).told }
     {
         match receiver_of(&message.body) {
             Receiver::Cache => self.give_to_cache(message),
@@ -168,19 +168,19 @@ impl Fabric {
         }
     }
 
-    fn give_to_cache(&mut self, message: &Message) -> Option<Told>
+    fn give_to_cache(&mut self, message: &Message) -> Option<News>
         requires come { HasCome self.old.fabric message.now }
         requires receiver { receiver_of message.now.body ≡ Receiver.Cache }
         requires numbers { self.old.fabric.net.next_id ≤ 2 ^ 63 }
-        requires delivers { (delivered self.old.config self.old.fabric message.now.id).answer ≡ Delivered }
-        ensures after { IsAfter self.old self.new Delivered (delivered self.old.config self.old.fabric message.now.id) }
-        ensures told { result ≡ (delivered self.old.config self.old.fabric message.now.id).told }
+        requires delivers { (step_of_delivery self.old.config self.old.fabric message.now.id).answer ≡ Delivered }
+        ensures after { IsAfter self.old self.new Delivered (step_of_delivery self.old.config self.old.fabric message.now.id) }
+        ensures told { result ≡ (step_of_delivery self.old.config self.old.fabric message.now.id).told }
     {
         take_out(&mut self.net, &mut self.sent, message);
         let (to, block) = (message.to, message.block);
-        let seat = &mut self.seats[usize::from(to.number())];
-        let now = seat.clock.now();
-        let step = receive(seat, message, now);
+        let unit = &mut self.units[usize::from(to.number())];
+        let now = unit.clock.now();
+        let step = receive(unit, message, now);
         let out = out_of(&step);
         post_one(&mut self.net, &mut self.sent, to, now, block, out);
         lost_by(to, &step)
@@ -191,45 +191,45 @@ impl Fabric {
         requires come { HasCome self.old.fabric message.now }
         requires receiver { receiver_of message.now.body ≡ Receiver.Home }
         requires numbers { self.old.fabric.net.next_id ≤ 2 ^ 63 }
-        requires delivers { (delivered self.old.config self.old.fabric message.now.id).answer ≡ Delivered }
-        ensures after { IsAfter self.old self.new Delivered (delivered self.old.config self.old.fabric message.now.id) }
-        ensures told { (delivered self.old.config self.old.fabric message.now.id).told ≡ None }
+        requires delivers { (step_of_delivery self.old.config self.old.fabric message.now.id).answer ≡ Delivered }
+        ensures after { IsAfter self.old self.new Delivered (step_of_delivery self.old.config self.old.fabric message.now.id) }
+        ensures told { (step_of_delivery self.old.config self.old.fabric message.now.id).told ≡ None }
     {
         take_out(&mut self.net, &mut self.sent, message);
         let (to, block) = (message.to, message.block);
         let place = usize::from(to.number());
-        let seat = &mut self.seats[place];
-        let now = seat.clock.now();
+        let unit = &mut self.units[place];
+        let now = unit.clock.now();
         let home = &mut self.homes[place];
-        let step = home.receive(message, now, &mut seat.log);
+        let step = home.receive(message, now, &mut unit.log);
         post_step(&mut self.net, &mut self.sent, to, now, block, step);
     }
 
     /// A node's report leaves the network, for the service controller.
-    fn take_report(&mut self, message: &Message, k: Interval) -> Told
+    fn take_report(&mut self, message: &Message, k: Interval) -> News
         requires come { HasCome self.old.fabric message.now }
         requires receiver { receiver_of message.now.body ≡ Receiver.Controller k }
-        requires delivers { (delivered self.old.config self.old.fabric message.now.id).answer ≡ Delivered }
-        ensures after { IsAfter self.old self.new Delivered (delivered self.old.config self.old.fabric message.now.id) }
-        ensures told { Some result ≡ (delivered self.old.config self.old.fabric message.now.id).told }
+        requires delivers { (step_of_delivery self.old.config self.old.fabric message.now.id).answer ≡ Delivered }
+        ensures after { IsAfter self.old self.new Delivered (step_of_delivery self.old.config self.old.fabric message.now.id) }
+        ensures told { Some result ≡ (step_of_delivery self.old.config self.old.fabric message.now.id).told }
     {
         take_out(&mut self.net, &mut self.sent, message);
-        Told::Ready(message.from, k)
+        News::Ready(message.from, k)
     }
 
     /// A node hears of a recovery point, and frees its log's entries below it.
-    fn learn(&mut self, message: &Message, k: Interval) -> Told
+    fn learn(&mut self, message: &Message, k: Interval) -> News
         requires come { HasCome self.old.fabric message.now }
         requires receiver { receiver_of message.now.body ≡ Receiver.Clock k }
-        requires delivers { (delivered self.old.config self.old.fabric message.now.id).answer ≡ Delivered }
-        ensures after { IsAfter self.old self.new Delivered (delivered self.old.config self.old.fabric message.now.id) }
-        ensures told { Some result ≡ (delivered self.old.config self.old.fabric message.now.id).told }
+        requires delivers { (step_of_delivery self.old.config self.old.fabric message.now.id).answer ≡ Delivered }
+        ensures after { IsAfter self.old self.new Delivered (step_of_delivery self.old.config self.old.fabric message.now.id) }
+        ensures told { Some result ≡ (step_of_delivery self.old.config self.old.fabric message.now.id).told }
     {
         take_out(&mut self.net, &mut self.sent, message);
         let to = message.to;
-        let seat = &mut self.seats[usize::from(to.number())];
-        seat.clock.learn(k);
-        seat.log.free_below(k);
-        Told::Advance(to, k)
+        let unit = &mut self.units[usize::from(to.number())];
+        unit.clock.learn(k);
+        unit.log.free_below(k);
+        News::Advance(to, k)
     }
 }

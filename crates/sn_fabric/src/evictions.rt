@@ -1,11 +1,11 @@
 //! An eviction.
 ghost use Rattle.std.specs.Prelude.{◌≡◌, ℕ, ◌<◌, ◌≤◌, ◌^◌, true, false, length, IfSome, IsNone};
 ghost use Rattle.sn_base.specs.declared.event.Answer.TheVariants.{Evicted, PutBegun};
-ghost use Rattle.sn_model.specs.NodeEvents.{evicted};
+ghost use Rattle.sn_model.specs.NodeEvents.{step_of_eviction};
 ghost use Rattle.sn_fabric.specs.Fabric.{IsAfter};
 ghost use Rattle.sn_model.specs.Caches.{block_count};
 ghost use Rattle.sn_fabric.specs.Fabric.{can_go};
-ghost use Rattle.sn_fabric.specs.Seats.{evict_answer};
+ghost use Rattle.sn_fabric.specs.Units.{evict_answer};
 
 use crate::Fabric;
 use crate::sending::{lacks_room, post};
@@ -24,11 +24,11 @@ impl Fabric {
     /// The answer that `evict` would give now.
     pub(super) fn foresee_evict(&self, node: NodeId, block: BlockNo) -> Answer
         requires { node < length self.now.fabric.nodes }
-        ensures { result ≡ (evicted self.now.fabric node block).answer }
+        ensures { result ≡ (step_of_eviction self.now.fabric node block).answer }
     {
         let is_net_full = lacks_room(&self.net, 1);
-        let seat = &self.seats[usize::from(node.number())];
-        let answer = seat.cache.evict_answer(block);
+        let unit = &self.units[usize::from(node.number())];
+        let answer = unit.cache.evict_answer(block);
         evict_answer(answer, is_net_full)
     }
 
@@ -36,7 +36,7 @@ impl Fabric {
     pub fn evict(&mut self, node: NodeId, block: BlockNo) -> Answer
         requires here { node < length self.old.fabric.nodes }
         requires numbers { self.old.fabric.net.next_id ≤ 2 ^ 63 }
-        ensures { IsAfter self.old self.new result (evicted self.old.fabric node block) }
+        ensures { IsAfter self.old self.new result (step_of_eviction self.old.fabric node block) }
     {
         let answer = self.foresee_evict(node, block);
         match answer {
@@ -49,27 +49,27 @@ impl Fabric {
 
     fn drop_shared(&mut self, node: NodeId, block: BlockNo)
         requires here { node < length self.old.fabric.nodes }
-        requires drops { (evicted self.old.fabric node block).answer ≡ Evicted }
-        ensures { IsAfter self.old self.new Evicted (evicted self.old.fabric node block) }
+        requires drops { (step_of_eviction self.old.fabric node block).answer ≡ Evicted }
+        ensures { IsAfter self.old self.new Evicted (step_of_eviction self.old.fabric node block) }
     {
         let _number = block.number();
         self.sent.clear();
-        let seat = &mut self.seats[usize::from(node.number())];
-        seat.cache.drop_shared(block);
+        let unit = &mut self.units[usize::from(node.number())];
+        unit.cache.drop_shared(block);
     }
 
     fn begin_put(&mut self, node: NodeId, block: BlockNo)
         requires here { node < length self.old.fabric.nodes }
         requires numbers { self.old.fabric.net.next_id ≤ 2 ^ 63 }
-        requires puts { (evicted self.old.fabric node block).answer ≡ PutBegun }
-        ensures { IsAfter self.old self.new PutBegun (evicted self.old.fabric node block) }
+        requires puts { (step_of_eviction self.old.fabric node block).answer ≡ PutBegun }
+        ensures { IsAfter self.old self.new PutBegun (step_of_eviction self.old.fabric node block) }
     {
         let _number = block.number();
         let _count = self.net.count();
         self.sent.clear();
-        let seat = &mut self.seats[usize::from(node.number())];
-        let now = seat.clock.now();
-        let out = seat.cache.begin_put(block, now);
+        let unit = &mut self.units[usize::from(node.number())];
+        let now = unit.clock.now();
+        let out = unit.cache.begin_put(block, now);
         post(&mut self.net, &mut self.sent, node, now, block, &out);
     }
 
@@ -83,7 +83,7 @@ impl Fabric {
             × ((b : ℕ) → b < least → can_go self.now.config self.now.fabric node block b ≡ false)) }
     {
         let is_net_full = lacks_room(&self.net, 1);
-        let seat = &self.seats[usize::from(node.number())];
-        seat.cache.least_line(block, !is_net_full)
+        let unit = &self.units[usize::from(node.number())];
+        unit.cache.least_line(block, !is_net_full)
     }
 }

@@ -2,31 +2,31 @@
 ghost use Rattle.std.specs.Prelude.{◌≡◌, ◌+◌, ◌*◌, ◌<◌, ◌≤◌, ◌^◌, length, is_some, ℕ};
 ghost use Rattle.std.specs.List.{sum_by};
 ghost use Rattle.sn_model.specs.Fabric.{node_at};
-ghost use Rattle.sn_model.specs.NodeEvents.{edged, reported};
-ghost use Rattle.sn_model.specs.NetEvents.{hopped, lost, killed};
-ghost use Rattle.sn_model.specs.PointEvents.{advanced, recovered};
+ghost use Rattle.sn_model.specs.NodeEvents.{step_of_edge, step_of_report};
+ghost use Rattle.sn_model.specs.NetEvents.{step_of_hop, step_of_loss, step_of_kill};
+ghost use Rattle.sn_model.specs.PointEvents.{step_of_advance, step_of_recovery};
 ghost use Rattle.switch_net.specs.Net.{find_flight};
 ghost use Rattle.log_buffer.specs.Log.{entries_from};
 ghost use Rattle.sn_model.specs.FabricEvents.{moved_by};
 ghost use Rattle.sn_fabric.specs.Foresight.{fabric_event, IsForeseeable};
-ghost use Rattle.sn_fabric.specs.Parts.{seat_at};
+ghost use Rattle.sn_fabric.specs.Parts.{unit_at};
 ghost use Rattle.sn_fabric.specs.Recovery.{undone_of};
-ghost use Rattle.sn_fabric.specs.Seats as seat;
+ghost use Rattle.sn_fabric.specs.Units as unit;
 
 use crate::Fabric;
-use crate::node::Seat;
+use crate::node::NodeUnit;
 use crate::switches::hop_answer;
 use ckpt_clock::Clock;
 use log_buffer::LogBuffer;
-use sn_base::{Answer, Entries, Event, Interval, MsgId, NodeId, SwitchId, Undo};
+use sn_base::{Answer, CHECKPOINTS, Entries, Event, Interval, MsgId, NodeId, SwitchId, Undo};
 use switch_net::{Net, TakeFault};
 
 fn edge_answer(clock: &Clock) -> Answer
     requires { clock.now.interval + 1 < 2 ^ 32 }
-    ensures { result ≡ seat.edge_answer clock.now }
+    ensures { result ≡ unit.edge_answer clock.now }
 {
     let now = clock.now();
-    if now - clock.known() == 4 {
+    if now - clock.known() == CHECKPOINTS {
         Answer::CheckpointsFull
     } else {
         Answer::Edged(now + 1)
@@ -58,14 +58,14 @@ fn count_undone(log: &LogBuffer, k: Interval) -> u32
 }
 
 /// How many entries of all logs a recovery to checkpoint k would undo.
-fn count_all_undone(seats: &[Seat], k: Interval) -> u32
-    requires few { length seats.now ≤ 16 }
-    requires logs { (n : ℕ) → n < length seats.now → length (seat_at seats.now n).log.entries < 2 ^ 16 }
-    ensures { result ≡ sum_by (undone_of k) seats.now }
+fn count_all_undone(units: &[NodeUnit], k: Interval) -> u32
+    requires few { length units.now ≤ 16 }
+    requires logs { (n : ℕ) → n < length units.now → length (unit_at units.now n).log.entries < 2 ^ 16 }
+    ensures { result ≡ sum_by (undone_of k) units.now }
 {
     let mut undone = 0;
-    'seats: for seat in seats {
-        undone += count_undone(&seat.log, k);
+    'units: for unit in units {
+        undone += count_undone(&unit.log, k);
     }
     undone
 }
@@ -95,19 +95,19 @@ impl Fabric {
     fn foresee_edge(&self, node: NodeId) -> Answer
         requires here { node < length self.now.fabric.nodes }
         requires numbers { (node_at self.now.fabric node).now + 1 < 2 ^ 32 }
-        ensures { result ≡ (edged self.now.fabric node).answer }
+        ensures { result ≡ (step_of_edge self.now.fabric node).answer }
     {
-        edge_answer(&self.seats[usize::from(node.number())].clock)
+        edge_answer(&self.units[usize::from(node.number())].clock)
     }
 
     fn foresee_hop(&self, id: MsgId) -> Answer
-        ensures { result ≡ (hopped self.now.fabric id).answer }
+        ensures { result ≡ (step_of_hop self.now.fabric id).answer }
     {
         hop_answer(self.net.look_hop(id))
     }
 
     fn foresee_lose(&self, id: MsgId) -> Answer
-        ensures { result ≡ (lost self.now.fabric id).answer }
+        ensures { result ≡ (step_of_loss self.now.fabric id).answer }
     {
         if is_there(&self.net, id) {
             Answer::Lost
@@ -118,7 +118,7 @@ impl Fabric {
 
     fn foresee_kill(&self, switch: SwitchId) -> Answer
         requires { switch < 2 * length self.now.fabric.nodes }
-        ensures { result ≡ (killed self.now.fabric switch).answer }
+        ensures { result ≡ (step_of_kill self.now.fabric switch).answer }
     {
         if self.net.is_dead(switch) {
             Answer::AlreadyDead
@@ -129,7 +129,7 @@ impl Fabric {
 
     fn foresee_report(&self, node: NodeId) -> Answer
         requires { node < length self.now.fabric.nodes }
-        ensures { result ≡ (reported self.now.fabric node).answer }
+        ensures { result ≡ (step_of_report self.now.fabric node).answer }
     {
         if self.is_full() {
             return Answer::NetFull;
@@ -138,7 +138,7 @@ impl Fabric {
     }
 
     fn foresee_advance(&self, k: Interval) -> Answer
-        ensures { result ≡ (advanced self.now.fabric k).answer }
+        ensures { result ≡ (step_of_advance self.now.fabric k).answer }
     {
         if self.lacks_room_for_all() {
             Answer::NetFull
@@ -148,14 +148,14 @@ impl Fabric {
     }
 
     fn foresee_recover(&self, k: Interval) -> Answer
-        ensures { result ≡ (recovered self.now.fabric k).answer }
+        ensures { result ≡ (step_of_recovery self.now.fabric k).answer }
     {
         if let Some((first, second)) = self.net.cut_off() {
             return Answer::CutOff(first, second);
         }
         Answer::Recovered(Undo {
             to: k,
-            undone: count_all_undone(self.seats.as_slice(), k),
+            undone: count_all_undone(self.units.as_slice(), k),
             dropped: self.net.count() as u32,
         })
     }

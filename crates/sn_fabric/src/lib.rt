@@ -35,9 +35,9 @@ mod switches;
 use home_directory::Home;
 pub use home_directory::Transaction;
 pub use mosi_cache::{Line, OpenMiss, OpenPut};
-use node::Seat;
+use node::NodeUnit;
 use sn_base::{Config, Interval, NodeId};
-pub use sn_model::{Need, Owner, Sent, Told};
+pub use sn_model::{Need, News, Owner, Sent};
 use std::marker::Model;
 use switch_net::Net;
 
@@ -45,7 +45,7 @@ use switch_net::Net;
 #[derive(Drop)]
 pub struct Fabric {
     config: Config,
-    seats: Vec<Seat>,
+    units: Vec<NodeUnit>,
     homes: Vec<Home>,
     net: Net,
     point: Interval,
@@ -61,11 +61,11 @@ impl Model for Fabric {
 
     ghost view = { λ f. record {
       config = f.config;
-      fabric = fabric_as (record { seats = f.seats.items; homes = f.homes.items; net = f.net; point = f.point });
+      fabric = fabric_as (record { units = f.units.items; homes = f.homes.items; net = f.net; point = f.point });
       sent = f.sent.items;
     } };
 
-    ghost invariant = { λ f. AreParts f.config (record { seats = f.seats.items; homes = f.homes.items; net = f.net; point = f.point })
+    ghost invariant = { λ f. AreParts f.config (record { units = f.units.items; homes = f.homes.items; net = f.net; point = f.point })
         × (17 ≤ vec_capacity f.sent) × (length f.sent.items ≤ 17) };
 }
 
@@ -75,7 +75,7 @@ impl Fabric {
         requires { node < length self.now.fabric.nodes }
         ensures { result ≡ (node_at self.now.fabric node).now }
     {
-        self.seats[usize::from(node.number())].clock.now()
+        self.units[usize::from(node.number())].clock.now()
     }
 
     /// Whether the miss of a node is open.
@@ -83,7 +83,7 @@ impl Fabric {
         requires { node < length self.now.fabric.nodes }
         ensures { result ≡ has_miss (node_at self.now.fabric node).cache.miss }
     {
-        self.seats[usize::from(node.number())]
+        self.units[usize::from(node.number())]
             .cache
             .open_block()
             .is_some()

@@ -6,7 +6,7 @@ use mosi_cache::Cache;
 
 /// The clock, the cache and the log of a node.
 #[derive(Drop)]
-pub struct Seat {
+pub struct NodeUnit {
     pub clock: Clock,
     pub cache: Cache,
     pub log: LogBuffer,

@@ -1,8 +1,8 @@
 //! The recovery point rises.
 ghost use Rattle.std.specs.Prelude.{◌≡◌, ◌+◌, ◌<◌, ◌≤◌, ◌^◌, true, false, ◌++◌, length, vec_capacity};
 ghost use Rattle.sn_base.specs.declared.event.Answer.TheVariants.{Validated};
-ghost use Rattle.sn_model.specs.Net.{posted, sent_by, is_full};
-ghost use Rattle.sn_model.specs.PointEvents.{advanced};
+ghost use Rattle.sn_model.specs.Net.{net_after_sends, sent_by, is_full};
+ghost use Rattle.sn_model.specs.PointEvents.{step_of_advance};
 ghost use Rattle.fabric_coherence.specs.Coherent.{NothingUnfinished};
 ghost use Rattle.sn_fabric.specs.Fabric.{IsAfter};
 ghost use Rattle.sn_fabric.specs.Nets.{net_as};
@@ -23,7 +23,7 @@ fn tell_all(net: &mut Net, sent: &mut Vec<Sent>, nodes: u8, tag: Interval, k: In
     requires room { length net.old.flights + nodes ≤ 1024 }
     requires numbers { net.old.next + nodes < 2 ^ 64 }
     requires place { length sent.old.items + nodes ≤ vec_capacity sent.old }
-    ensures net { net_as net.new ≡ posted net.old.routes (net_as net.old) 0 tag 0 (tellings k nodes) }
+    ensures net { net_as net.new ≡ net_after_sends net.old.routes (net_as net.old) 0 tag 0 (tellings k nodes) }
     ensures routes { net.new.routes ≡ net.old.routes }
     ensures sent { sent.new.items ≡ sent.old.items ++ sent_by net.old.routes (net_as net.old) 0 tag 0 (tellings k nodes) }
     ensures capacity { vec_capacity sent.old ≤ vec_capacity sent.new }
@@ -45,7 +45,7 @@ impl Fabric {
         requires next { k ≡ self.old.fabric.point + 1 }
         requires finished { NothingUnfinished self.old.fabric k }
         requires numbers { self.old.fabric.net.next_id ≤ 2 ^ 63 }
-        ensures { IsAfter self.old self.new result (advanced self.old.fabric k) }
+        ensures { IsAfter self.old self.new result (step_of_advance self.old.fabric k) }
     {
         if self.lacks_room_for_all() {
             self.send_nothing();
@@ -67,12 +67,12 @@ impl Fabric {
         requires finished { NothingUnfinished self.old.fabric k }
         requires numbers { self.old.fabric.net.next_id ≤ 2 ^ 63 }
         requires room { is_full self.old.fabric (length self.old.fabric.nodes) ≡ false }
-        ensures { IsAfter self.old self.new (Validated k) (advanced self.old.fabric k) }
+        ensures { IsAfter self.old self.new (Validated k) (step_of_advance self.old.fabric k) }
     {
         self.sent.clear();
         self.point = k;
-        let seat = &self.seats[0];
-        let now = seat.clock.now();
+        let unit = &self.units[0];
+        let now = unit.clock.now();
         tell_all(&mut self.net, &mut self.sent, self.config.nodes, now, k);
     }
 }

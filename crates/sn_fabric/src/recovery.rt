@@ -3,47 +3,47 @@ ghost use Rattle.std.specs.Prelude.{◌≡◌, ℕ, ◌<◌, ◌≤◌, length, 
 ghost use Rattle.std.specs.List.{sum_by};
 ghost use Rattle.route_plan.specs.Routes.{first_cut_off};
 ghost use Rattle.sn_base.specs.declared.event.Answer.TheVariants.{Recovered};
-ghost use Rattle.sn_model.specs.PointEvents.{living_switches, recovered};
+ghost use Rattle.sn_model.specs.PointEvents.{living_switches, step_of_recovery};
 ghost use Rattle.sn_fabric.specs.Fabric.{IsAfter};
-ghost use Rattle.sn_fabric.specs.Parts.{seat_at, home_at};
-ghost use Rattle.sn_fabric.specs.Recovery.{CanRestore, restored_seat, IsRestoredHome, AreRestoredHomes, undone_of};
+ghost use Rattle.sn_fabric.specs.Parts.{unit_at, home_at};
+ghost use Rattle.sn_fabric.specs.Recovery.{CanRestore, restored_unit, IsRestoredHome, AreRestoredHomes, undone_of};
 
 use crate::Fabric;
-use crate::node::Seat;
+use crate::node::NodeUnit;
 use home_directory::Home;
 use rollback::unwind;
 use sn_base::{Answer, Interval, Undo};
 
 /// Puts a node and its home back to checkpoint k, which it knows as the recovery point then. The answer is how many
 /// entries of its log are undone.
-fn restore_node(seat: &mut Seat, home: &mut Home, k: Interval) -> u32
-    requires { CanRestore k seat.old home.old }
-    ensures seat { seat.new ≡ restored_seat k seat.old }
-    ensures home { IsRestoredHome seat.old.log.entries k home.old home.new }
-    ensures undone { result ≡ undone_of k seat.old }
+fn restore_node(unit: &mut NodeUnit, home: &mut Home, k: Interval) -> u32
+    requires { CanRestore k unit.old home.old }
+    ensures unit { unit.new ≡ restored_unit k unit.old }
+    ensures home { IsRestoredHome unit.old.log.entries k home.old home.new }
+    ensures undone { result ≡ undone_of k unit.old }
 {
-    let _room = seat.log.room();
-    seat.cache.begin_restore();
-    unwind(&seat.log, k, &mut seat.cache);
+    let _room = unit.log.room();
+    unit.cache.begin_restore();
+    unwind(&unit.log, k, &mut unit.cache);
     home.begin_restore();
-    let undone = unwind(&seat.log, k, home);
-    seat.log.clear();
-    seat.clock.back_to(k);
+    let undone = unwind(&unit.log, k, home);
+    unit.log.clear();
+    unit.clock.back_to(k);
     undone
 }
 
 /// Puts each node and its home back to checkpoint k. The answer is how many log entries are undone.
-fn restore_nodes(seats: &mut [Seat], homes: &mut [Home], k: Interval) -> u32
-    requires count { length homes.old ≡ length seats.old }
-    requires few { length seats.old ≤ 16 }
-    requires can { (n : ℕ) → n < length seats.old → CanRestore k (seat_at seats.old n) (home_at homes.old n) }
-    ensures seats { seats.new ≡ map (restored_seat k) seats.old }
-    ensures homes { AreRestoredHomes seats.old k homes.old homes.new }
-    ensures undone { result ≡ sum_by (undone_of k) seats.old }
+fn restore_nodes(units: &mut [NodeUnit], homes: &mut [Home], k: Interval) -> u32
+    requires count { length homes.old ≡ length units.old }
+    requires few { length units.old ≤ 16 }
+    requires can { (n : ℕ) → n < length units.old → CanRestore k (unit_at units.old n) (home_at homes.old n) }
+    ensures units { units.new ≡ map (restored_unit k) units.old }
+    ensures homes { AreRestoredHomes units.old k homes.old homes.new }
+    ensures undone { result ≡ sum_by (undone_of k) units.old }
 {
     let mut undone = 0;
-    'nodes: for place in 0..seats.len() {
-        undone += restore_node(&mut seats[place], &mut homes[place], k);
+    'nodes: for place in 0..units.len() {
+        undone += restore_node(&mut units[place], &mut homes[place], k);
     }
     undone
 }
@@ -53,7 +53,7 @@ impl Fabric {
     /// nothing is in flight, and routes are made anew. It is refused where no path of living switches joins two nodes.
     pub fn recover(&mut self, k: Interval) -> Answer
         requires { k ≡ self.old.fabric.point }
-        ensures { IsAfter self.old self.new result (recovered self.old.fabric k) }
+        ensures { IsAfter self.old self.new result (step_of_recovery self.old.fabric k) }
     {
         match self.net.cut_off() {
             Some((first, second)) => {
@@ -67,10 +67,10 @@ impl Fabric {
     fn restore(&mut self, k: Interval) -> Undo
         requires point { k ≡ self.old.fabric.point }
         requires joined { first_cut_off (living_switches self.old.fabric) ≡ None }
-        ensures { IsAfter self.old self.new (Recovered result) (recovered self.old.fabric k) }
+        ensures { IsAfter self.old self.new (Recovered result) (step_of_recovery self.old.fabric k) }
     {
         self.sent.clear();
-        let undone = restore_nodes(self.seats.as_mut_slice(), self.homes.as_mut_slice(), k);
+        let undone = restore_nodes(self.units.as_mut_slice(), self.homes.as_mut_slice(), k);
         let dropped = self.net.recover().unwrap();
         Undo {
             to: k,

@@ -1,7 +1,7 @@
 //! What a delivery does to the network: it takes the message out, and sends what a cache or a home replies.
 ghost use Rattle.std.specs.Prelude.{◌≡◌, ◌+◌, ◌<◌, ◌≤◌, ◌^◌, ◌++◌, [], length, vec_capacity};
 ghost use Rattle.switch_net.specs.Net.{without};
-ghost use Rattle.sn_model.specs.Net.{posted, sent_by};
+ghost use Rattle.sn_model.specs.Net.{net_after_sends, sent_by};
 ghost use Rattle.sn_fabric.specs.Deliveries.{out_of, lost_by, outs_of, invalidation, invalidations_of, home_outs, GoTo};
 ghost use Rattle.sn_fabric.specs.Nets.{net_as};
 
@@ -9,7 +9,7 @@ use crate::sending::post;
 use home_directory::HomeStep;
 use mosi_cache::CacheStep;
 use sn_base::{BlockNo, Interval, NodeId, NodeSet};
-use sn_model::{Out, Sent, Told};
+use sn_model::{News, Out, Sent};
 use sn_msg::{Body, Message};
 use switch_net::Net;
 
@@ -34,11 +34,11 @@ pub fn out_of(step: &CacheStep) -> Option<Out>
 }
 
 /// What the layer above hears of a cache's step.
-pub fn lost_by(node: NodeId, step: &CacheStep) -> Option<Told>
+pub fn lost_by(node: NodeId, step: &CacheStep) -> Option<News>
     ensures { result ≡ lost_by node step.now }
 {
     match step {
-        CacheStep::Took(_, Some(block)) => Some(Told::LostCopy(node, *block)),
+        CacheStep::Took(_, Some(block)) => Some(News::LostCopy(node, *block)),
         _ => None,
     }
 }
@@ -71,7 +71,7 @@ pub fn post_one(
     requires sender { from < net.old.routes.nodes }
     requires receivers { GoTo (outs_of out) net.old.routes.nodes }
     requires place { length sent.old.items < vec_capacity sent.old }
-    ensures net { net_as net.new ≡ posted net.old.routes (net_as net.old) from tag block (outs_of out) }
+    ensures net { net_as net.new ≡ net_after_sends net.old.routes (net_as net.old) from tag block (outs_of out) }
     ensures routes { net.new.routes ≡ net.old.routes }
     ensures sent { sent.new.items ≡ sent.old.items ++ sent_by net.old.routes (net_as net.old) from tag block (outs_of out) }
     ensures capacity { vec_capacity sent.old ≤ vec_capacity sent.new }
@@ -100,7 +100,7 @@ fn post_invalidations(
     requires sender { from < net.old.routes.nodes }
     requires receivers { GoTo (invalidations_of set r) net.old.routes.nodes }
     requires place { length sent.old.items + 16 ≤ vec_capacity sent.old }
-    ensures net { net_as net.new ≡ posted net.old.routes (net_as net.old) from tag block (invalidations_of set r) }
+    ensures net { net_as net.new ≡ net_after_sends net.old.routes (net_as net.old) from tag block (invalidations_of set r) }
     ensures routes { net.new.routes ≡ net.old.routes }
     ensures sent { sent.new.items ≡ sent.old.items ++ sent_by net.old.routes (net_as net.old) from tag block (invalidations_of set r) }
     ensures capacity { vec_capacity sent.old ≤ vec_capacity sent.new }
@@ -125,7 +125,7 @@ pub fn post_step(
     requires sender { from < net.old.routes.nodes }
     requires receivers { GoTo (home_outs step) net.old.routes.nodes }
     requires place { length sent.old.items + 17 ≤ vec_capacity sent.old }
-    ensures net { net_as net.new ≡ posted net.old.routes (net_as net.old) from tag block (home_outs step) }
+    ensures net { net_as net.new ≡ net_after_sends net.old.routes (net_as net.old) from tag block (home_outs step) }
     ensures routes { net.new.routes ≡ net.old.routes }
     ensures sent { sent.new.items ≡ sent.old.items ++ sent_by net.old.routes (net_as net.old) from tag block (home_outs step) }
     ensures capacity { vec_capacity sent.old ≤ vec_capacity sent.new }

@@ -3,7 +3,7 @@ ghost use Rattle.std.specs.Prelude.{◌≡◌, ◌<◌, ◌≤◌, ◌^◌, fals
 ghost use Rattle.sn_base.specs.declared.event.Answer.TheVariants.{Reported};
 ghost use Rattle.mosi_cache.specs.Machine.{at_most};
 ghost use Rattle.sn_model.specs.Net.{is_full};
-ghost use Rattle.sn_model.specs.NodeEvents.{ready_of, reported};
+ghost use Rattle.sn_model.specs.NodeEvents.{ready_of, step_of_report};
 ghost use Rattle.sn_fabric.specs.Fabric.{IsAfter};
 
 use crate::Fabric;
@@ -36,10 +36,10 @@ impl Fabric {
         ensures { result ≡ ready_of self.now.fabric node }
     {
         let place = usize::from(node.number());
-        let seat = &self.seats[place];
-        let now = seat.clock.now();
+        let unit = &self.units[place];
+        let now = unit.clock.now();
         let begun = self.homes[place].least_open();
-        let issued = seat.cache.least_open();
+        let issued = unit.cache.least_open();
         at_most(at_most(now, begun), issued)
     }
 
@@ -47,7 +47,7 @@ impl Fabric {
     pub fn report(&mut self, node: NodeId) -> Answer
         requires here { node < length self.old.fabric.nodes }
         requires numbers { self.old.fabric.net.next_id ≤ 2 ^ 63 }
-        ensures { IsAfter self.old self.new result (reported self.old.fabric node) }
+        ensures { IsAfter self.old self.new result (step_of_report self.old.fabric node) }
     {
         if self.is_full() {
             self.send_nothing();
@@ -70,12 +70,12 @@ impl Fabric {
         requires numbers { self.old.fabric.net.next_id ≤ 2 ^ 63 }
         requires spare { is_full self.old.fabric 1 ≡ false }
         requires ready { ready ≡ ready_of self.old.fabric node }
-        ensures { IsAfter self.old self.new (Reported ready) (reported self.old.fabric node) }
+        ensures { IsAfter self.old self.new (Reported ready) (step_of_report self.old.fabric node) }
     {
         let _count = self.net.count();
         self.sent.clear();
-        let seat = &self.seats[usize::from(node.number())];
-        let now = seat.clock.now();
+        let unit = &self.units[usize::from(node.number())];
+        let now = unit.clock.now();
         let out = Out {
             to: controller(),
             body: Body::Ready(ready),

@@ -1,6 +1,6 @@
 //! What a node sends: into the network, and on the list of what a call sent.
 ghost use Rattle.std.specs.Prelude.{◌≡◌, ◌+◌, ◌<◌, ◌≤◌, ◌^◌, nat_lt, ◌++◌, [], ◌∷◌, length, vec_capacity};
-ghost use Rattle.sn_model.specs.Net.{posted, sent_by};
+ghost use Rattle.sn_model.specs.Net.{net_after_sends, sent_by};
 ghost use Rattle.switch_net.specs.Net.{IsNet};
 ghost use Rattle.sn_fabric.specs.Nets.{net_as};
 
@@ -32,7 +32,7 @@ pub fn post(
     requires sender { from < net.old.routes.nodes }
     requires receiver { out.now.to < net.old.routes.nodes }
     requires place { length sent.old.items < vec_capacity sent.old }
-    ensures net { net_as net.new ≡ posted net.old.routes (net_as net.old) from tag block (out.now ∷ []) }
+    ensures net { net_as net.new ≡ net_after_sends net.old.routes (net_as net.old) from tag block (out.now ∷ []) }
     ensures routes { net.new.routes ≡ net.old.routes }
     ensures sent { sent.new.items ≡ sent.old.items ++ sent_by net.old.routes (net_as net.old) from tag block (out.now ∷ []) }
     ensures capacity { vec_capacity sent.old ≤ vec_capacity sent.new }

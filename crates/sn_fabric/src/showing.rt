@@ -18,7 +18,7 @@ impl Fabric {
         ensures some { IfSome result
             (λ line. (line ≡ line_of (node_at self.now.fabric node).cache block) × (is_present line.state ≡ true)) }
     {
-        self.seats[usize::from(node.number())].cache.line(block)
+        self.units[usize::from(node.number())].cache.line(block)
     }
 
     /// The open miss of a node, if there is one.
@@ -26,7 +26,7 @@ impl Fabric {
         requires { node < length self.now.fabric.nodes }
         ensures { result ≡ (node_at self.now.fabric node).cache.miss }
     {
-        self.seats[usize::from(node.number())].cache.miss()
+        self.units[usize::from(node.number())].cache.miss()
     }
 
     /// The open put of a node, if there is one.
@@ -34,7 +34,7 @@ impl Fabric {
         requires { node < length self.now.fabric.nodes }
         ensures { result ≡ (node_at self.now.fabric node).cache.put }
     {
-        self.seats[usize::from(node.number())].cache.put()
+        self.units[usize::from(node.number())].cache.put()
     }
 
     /// The log of a node, of both its sides.
@@ -42,7 +42,7 @@ impl Fabric {
         requires { node < length self.now.fabric.nodes }
         ensures { result.now.entries ≡ (node_at self.now.fabric node).log }
     {
-        &self.seats[usize::from(node.number())].log
+        &self.units[usize::from(node.number())].log
     }
 
     /// The home of a block.

@@ -2,10 +2,10 @@
 ghost use Rattle.std.specs.Prelude.{◌≡◌, ◌<◌, ◌≤◌, true, [], IfOk};
 ghost use Rattle.sn_base.specs.Config.{config_fits};
 ghost use Rattle.sn_model.specs.Fabric.{first_fabric};
-ghost use Rattle.sn_fabric.specs.Start.{first_seat, seats_below, homes_below};
+ghost use Rattle.sn_fabric.specs.Start.{first_unit, units_below, homes_below};
 
 use crate::Fabric;
-use crate::node::Seat;
+use crate::node::NodeUnit;
 use ckpt_clock::Clock;
 use home_directory::Home;
 use log_buffer::LogBuffer;
@@ -14,31 +14,31 @@ use sn_base::{Config, Image, Memory, NodeId};
 use std::alloc::Global;
 use switch_net::Net;
 
-fn first_seat(alloc: Global, node: NodeId, config: &Config) -> Result<Seat, Memory>
+fn first_unit(alloc: Global, node: NodeId, config: &Config) -> Result<NodeUnit, Memory>
     requires { config_fits config.now ≡ true }
-    ensures { IfOk result (λ x. x ≡ first_seat config.now node) }
+    ensures { IfOk result (λ x. x ≡ first_unit config.now node) }
 {
     let cache = Cache::new(alloc, node, config)?;
     let log = LogBuffer::new(alloc, config.log)?;
-    Ok(Seat {
+    Ok(NodeUnit {
         clock: Clock::start(),
         cache,
         log,
     })
 }
 
-fn first_seats(alloc: Global, config: &Config) -> Result<Vec<Seat>, Memory>
+fn first_units(alloc: Global, config: &Config) -> Result<Vec<NodeUnit>, Memory>
     requires fits { config_fits config.now ≡ true }
     requires few { config.now.nodes ≤ 16 }
-    ensures { IfOk result (λ seats. seats.items ≡ seats_below config.now.nodes config.now) }
+    ensures { IfOk result (λ units. units.items ≡ units_below config.now.nodes config.now) }
 {
-    let mut seats = Vec::with_capacity(alloc, usize::from(config.nodes))?;
+    let mut units = Vec::with_capacity(alloc, usize::from(config.nodes))?;
     'nodes: for number in 0..config.nodes {
         let node = NodeId::new(number).unwrap();
-        let seat = first_seat(alloc, node, config)?;
-        seats.push(seat)?;
+        let unit = first_unit(alloc, node, config)?;
+        units.push(unit)?;
     }
-    Ok(seats)
+    Ok(units)
 }
 
 fn first_homes(alloc: Global, image: &Image, nodes: u8) -> Result<Vec<Home>, Memory>
@@ -61,13 +61,13 @@ impl Fabric {
         requires { config_fits config ≡ true }
         ensures { IfOk result (λ f. f ≡ record { config = config; fabric = first_fabric image.now config.nodes; sent = [] }) }
     {
-        let seats = first_seats(alloc, &config)?;
+        let units = first_units(alloc, &config)?;
         let homes = first_homes(alloc, image, config.nodes)?;
         let net = Net::new(alloc, config.nodes)?;
         let sent = Vec::with_capacity(alloc, 17)?;
         Ok(Fabric {
             config,
-            seats,
+            units,
             homes,
             net,
             point: 0,

@@ -1,6 +1,6 @@
 //! The calls of the network alone: a hop, a loss, a switch that dies.
 ghost use Rattle.std.specs.Prelude.{◌≡◌, ◌*◌, ◌<◌, length};
-ghost use Rattle.sn_model.specs.NetEvents.{hopped, lost, killed};
+ghost use Rattle.sn_model.specs.NetEvents.{step_of_hop, step_of_loss, step_of_kill};
 ghost use Rattle.sn_fabric.specs.Fabric.{IsAfter, IsNetOf};
 ghost use Rattle.sn_fabric.specs.Nets.{hop_as, loss_as, kill_as};
 
@@ -49,7 +49,7 @@ impl Fabric {
 
     /// Moves a message to its next switch.
     pub fn hop(&mut self, id: MsgId) -> Answer
-        ensures { IsAfter self.old self.new result (hopped self.old.fabric id) }
+        ensures { IsAfter self.old self.new result (step_of_hop self.old.fabric id) }
     {
         self.sent.clear();
         let answer = self.net.hop(id);
@@ -58,7 +58,7 @@ impl Fabric {
 
     /// Loses a message.
     pub fn lose(&mut self, id: MsgId) -> Answer
-        ensures { IsAfter self.old self.new result (lost self.old.fabric id) }
+        ensures { IsAfter self.old self.new result (step_of_loss self.old.fabric id) }
     {
         self.sent.clear();
         let found = self.net.lose(id);
@@ -68,7 +68,7 @@ impl Fabric {
     /// A switch dies, and the messages in it are lost.
     pub fn kill(&mut self, switch: SwitchId) -> Answer
         requires { switch < 2 * length self.old.fabric.nodes }
-        ensures { IsAfter self.old self.new result (killed self.old.fabric switch) }
+        ensures { IsAfter self.old self.new result (step_of_kill self.old.fabric switch) }
     {
         self.sent.clear();
         let killed = self.net.kill(switch);

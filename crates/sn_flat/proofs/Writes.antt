@@ -8,7 +8,7 @@ use Rattle.rv_core.specs.declared.state.CoreState.{CoreState}
 use Rattle.rv_core.specs.declared.step.Want.{Want}
 use Rattle.rv_core.specs.Step.{want_of, next_of}
 use Rattle.rv_core.specs.Wanted.{WriteFits}
-use Rattle.rv_core.specs.Flat.{FlatState, after_write, written}
+use Rattle.rv_core.specs.Flat.{FlatState, after_write, memory_after_write}
 use Rattle.rv_core.proofs.CoreLaws.{write_fits}
 
 abbrev pub IsInMemory : Option Write → Type 0
@@ -29,8 +29,8 @@ nothing-written [] = refl
 nothing-written (core ∷ cores) = ap (λ rest. core ∷ rest) (nothing-written cores)
 
 pub unwritten : (flat : FlatState) (write : Option Write) → write ≡ None →
-    flat ≡ record { memory = written flat.memory write; cores = map (after_write write) flat.cores }
+    flat ≡ record { memory = memory_after_write flat.memory write; cores = map (after_write write) flat.cores }
 unwritten flat write e =
-    let start : flat ≡ record { memory = written flat.memory None; cores = map (after_write None) flat.cores } = ap
+    let start : flat ≡ record { memory = memory_after_write flat.memory None; cores = map (after_write None) flat.cores } = ap
     (λ cores. record { memory = flat.memory; cores = cores }) (sym (nothing-written flat.cores)) in
-    start ∙ ap (λ w. record { memory = written flat.memory w; cores = map (after_write w) flat.cores }) (sym e)
+    start ∙ ap (λ w. record { memory = memory_after_write flat.memory w; cores = map (after_write w) flat.cores }) (sym e)

@@ -5,7 +5,7 @@ ghost use Rattle.sn_base.specs.Blocks.{ram_start, ram_size, bytes_of};
 ghost use Rattle.rv_core.specs.Core.{start_of, block_of, is_input, holds_reservation};
 ghost use Rattle.sn_flat.specs.Reservations.{without};
 ghost use Rattle.rv_core.specs.Wanted.{IsInside, IsAddress};
-ghost use Rattle.rv_core.specs.Flat.{HasStep, flat_start, flat_step, first_cores, initial_memory, core_at, word_at, seen_by, written};
+ghost use Rattle.rv_core.specs.Flat.{HasStep, flat_start, flat_step, first_cores, initial_memory, core_at, word_at, seen_by, memory_after_write};
 ghost use Rattle.rv_core.specs.Flat.{after_write, next_by};
 
 use byteorder::{ByteOrder, LittleEndian};
@@ -105,7 +105,7 @@ impl Flat {
     /// A write reaches memory, and clears the reservations of its block.
     fn write(&mut self, write: Option<Write>)
         requires { IfSome write (λ w. (ram_start ≤ w.address) × (w.address + bytes_of w.width ≤ ram_start + ram_size)) }
-        ensures { self.new ≡ record { memory = written self.old.memory write; cores = map (after_write write) self.old.cores } }
+        ensures { self.new ≡ record { memory = memory_after_write self.old.memory write; cores = map (after_write write) self.old.cores } }
     {
         match write {
             None => {}
@@ -172,7 +172,7 @@ fn store(memory: &mut [u8], write: &Write)
     requires size { length memory.old ≡ ram_size }
     requires above { ram_start ≤ write.now.address }
     requires below { write.now.address + bytes_of write.now.width ≤ ram_start + ram_size }
-    ensures { memory.new ≡ written memory.old (Some write.now) }
+    ensures { memory.new ≡ memory_after_write memory.old (Some write.now) }
 {
     let place = (write.address - RAM_START) as usize;
     let bytes = write.value.to_le_bytes();

@@ -1,6 +1,6 @@
 -- A store in memory.
 use Rattle.std.specs.Prelude.{◌≡◌, ◌↔◌, ℕ, Bool, true, ◌||◌, List, [], ◌∷◌, bytes_eq, if◌then◌else◌, Option, Some, None, is_none}
-use Rattle.sn_io.specs.Outside.{raised, Found, Missing}
+use Rattle.sn_io.specs.Outside.{count_plus_one, Found, Missing}
 use Rattle.sn_io.specs.Calls.{CallsData, next_call, is_next_named}
 
 pub record FileData : Type 0 where
@@ -23,5 +23,5 @@ fails s name = is_next_named s.calls || is_none (file_of s.files name)
 
 -- a fetch of this name: the call is counted, and its failure where it fails; it finds nothing exactly then
 pub record Gives (s : StoreData) (name : List ℕ) (found : Found) (t : StoreData) : Type 0 where
-  pub counted : t ≡ record s { calls = next_call s.calls; faults = (if fails s name then raised s.faults else s.faults) }
+  pub counted : t ≡ record s { calls = next_call s.calls; faults = (if fails s name then count_plus_one s.faults else s.faults) }
   pub missing : (found ≡ Missing) ↔ (fails s name ≡ true)

@@ -5,12 +5,12 @@ use Rattle.sn_io.specs.declared.outside.Fetched.TheVariants.{Whole, Longer}
 use Rattle.sn_io.specs.declared.outside.StoreFault.{StoreFault}
 
 -- a count of 64 bits, one higher, where there is a higher value
-abbrev pub raised : ℕ → ℕ
-raised count = min (count + 1) (2 ^ 64 - 1)
+abbrev pub count_plus_one : ℕ → ℕ
+count_plus_one count = min (count + 1) (2 ^ 64 - 1)
 
 -- the count rose, or stands at the last value of its type
 abbrev pub Rose : ℕ → ℕ → Type 0
-Rose before now_ = raised before ≤ now_
+Rose before now_ = count_plus_one before ≤ now_
 
 -- what was written, followed by more, where it is told
 abbrev pub followed_by : Option (List ℕ) → List ℕ → Option (List ℕ)

@@ -1,6 +1,6 @@
 -- A sink in memory.
 use Rattle.std.specs.Prelude.{ℕ, ◌+◌, Bool, true, false, not, ◌&&◌, nat_le, List, [], ◌∷◌, ◌++◌, length, if◌then◌else◌}
-use Rattle.sn_io.specs.Outside.{raised}
+use Rattle.sn_io.specs.Outside.{count_plus_one}
 use Rattle.sn_io.specs.Calls.{CallsData, next_call, is_next_named}
 
 pub record SinkData : Type 0 where
@@ -17,7 +17,7 @@ takes s piece = nat_le (length s.bytes + length piece) s.room && not (is_next_na
 abbrev pub counted_put : SinkData → List ℕ → SinkData × Bool
 counted_put s piece = if takes s piece
     then (record s { bytes = s.bytes ++ piece; calls = next_call s.calls }, true)
-    else (record s { faults = raised s.faults; calls = next_call s.calls }, false)
+    else (record s { faults = count_plus_one s.faults; calls = next_call s.calls }, false)
 
 -- what a put leaves, and whether the piece was taken; an empty piece changes nothing
 abbrev pub after_put : SinkData → List ℕ → SinkData × Bool

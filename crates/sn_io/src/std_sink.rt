@@ -1,7 +1,7 @@
 //! A sink over a writer: a trusted edge.
 ghost use Rattle.std.specs.Prelude.{◌≡◌, ℕ, ◌≤◌, take, length, IsOk, OnOk, OnErr};
 ghost use Rattle.std.specs.Io.KnownBytes.{Appends, Keeps};
-ghost use Rattle.sn_io.specs.Outside.{Rose, raised};
+ghost use Rattle.sn_io.specs.Outside.{Rose, count_plus_one};
 
 use crate::outside::{Failed, Sink};
 use std::io;
@@ -38,7 +38,7 @@ impl<W: io::Write + Drop> StdSink<W> {
 
     // Counts a failure.
     fn fails(&mut self) -> Failed
-        ensures counted { self.new ≡ record self.old { faults = raised self.old.faults } }
+        ensures counted { self.new ≡ record self.old { faults = count_plus_one self.old.faults } }
         ensures later { self.old.faults ≤ self.new.faults }
     {
         self.faults = self.faults.saturating_add(1);

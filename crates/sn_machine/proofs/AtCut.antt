@@ -11,12 +11,12 @@ use Rattle.sn_model.specs.Machine.{State}
 use Rattle.sn_model.specs.Step.{step_of}
 use Rattle.sn_model.specs.Trace.{TraceEntry}
 use Rattle.consistent_cuts.specs.Headline.{IsStepOfRun, retirements}
-use Rattle.consistent_cuts.specs.Joined.{Holds}
+use Rattle.consistent_cuts.specs.RunInvariant.{Holds}
 use Rattle.fabric_coherence.specs.Steps.{IsShaped}
 use Rattle.sn_machine.specs.declared.hardware.Hardware.{Hardware}
-use Rattle.sn_machine.specs.Kept.{IsMachine}
+use Rattle.sn_machine.specs.Invariant.{IsMachine}
 use Rattle.sn_machine.specs.Parts.{state_of}
-use Rattle.sn_machine.proofs.Kept.{consistent, holds, step-of-run, some_nodes, few_nodes}
+use Rattle.sn_machine.proofs.Invariant.{consistent, holds, step-of-run, some_nodes, few_nodes}
 use Rattle.sn_machine.proofs.Shown.{contents}
 
 shape_of : (image : ImageData) (nodes : ℕ) (s : State) (trace : List TraceEntry) → Holds image nodes s trace → IsShaped s.fabric

@@ -1,5 +1,5 @@
 pub mod Parts
-pub mod Seats
+pub mod Units
 pub mod Lists
 pub mod Validations
 pub mod Turns
@@ -7,6 +7,6 @@ pub mod Retires
 pub mod Deliveries
 pub mod Restorations
 pub mod FirstParts
-pub mod Kept
+pub mod Invariant
 pub mod Shown
 pub mod AtCut

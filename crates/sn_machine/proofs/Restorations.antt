@@ -8,20 +8,20 @@ use Rattle.sn_base.specs.declared.event.Answer.{Answer}
 use Rattle.sn_base.specs.declared.event.Answer.TheVariants.{Recovered, CutOff}
 use Rattle.sn_base.specs.declared.event.Undo.{Undo}
 use Rattle.rv_core.specs.declared.state.CoreState.{CoreState}
-use Rattle.reg_ckpt.specs.Kept.{Checkpoints, HasCheckpoint, core_at, freed_below, dropped_above}
+use Rattle.reg_ckpt.specs.Checkpoints.{Checkpoints, HasCheckpoint, core_at, freed_below, dropped_above}
 use Rattle.interval_list.specs.WaitingList.{waiting_below}
 use Rattle.route_plan.specs.Routes.{first_cut_off}
 use Rattle.fabric_coherence.proofs.Recovery.{each_node}
-use Rattle.sn_model.specs.Fabric.{Fabric, node_at, refused}
+use Rattle.sn_model.specs.Fabric.{Fabric, node_at, step_refused}
 use Rattle.sn_model.specs.Machine.{Processor}
 use Rattle.sn_model.specs.MachineEvents.{restored_processors, restored_processor, restored_rest, restores}
-use Rattle.sn_model.specs.PointEvents.{recovered, recovers, restored, restored_node, living_switches, undone}
+use Rattle.sn_model.specs.PointEvents.{step_of_recovery, recovers, restored, restored_node, living_switches, undone_count}
 use Rattle.sn_fabric.specs.Fabric.{IsAfter}
 use Rattle.consistent_cuts.proofs.Clocks.{same_clocks}
-use Rattle.sn_machine.specs.declared.processor.Processor.{Processor as Seat}
+use Rattle.sn_machine.specs.declared.processor.Processor.{Processor as ProcessorUnit}
 use Rattle.sn_machine.specs.declared.hardware.Hardware.{Hardware}
-use Rattle.sn_machine.specs.Parts.{processor_as, state_of, seat_at, IsWhole, Does}
-use Rattle.sn_machine.specs.Restored.{kept_core, restored_seat}
+use Rattle.sn_machine.specs.Parts.{processor_as, state_of, unit_at, IsWhole, Does}
+use Rattle.sn_machine.specs.Restored.{kept_core, restored_unit}
 use Rattle.sn_machine.specs.Sound.{IsSound}
 use Rattle.sn_machine.proofs.Lists.{held-dropped}
 use Rattle.sn_machine.proofs.Parts.{processor-at, HasSameRest, carried-does}
@@ -31,9 +31,9 @@ use Rattle.sn_machine.proofs.Parts.{processor-at, HasSameRest, carried-does}
 one_left : (xs : List CoreState) (i : ℕ) (d : CoreState) → i < length xs → take 1 (drop i xs) ≡ get_or xs i d ∷ []
 one_left xs i d l = ap (take 1) (drop-cons xs i d l)
 
-pub restored-one : (x : Seat) (k : ℕ) (core : CoreState) (kept : Checkpoints) → HasCheckpoint x.checkpoints k →
+pub restored-one : (x : ProcessorUnit) (k : ℕ) (core : CoreState) (kept : Checkpoints) → HasCheckpoint x.checkpoints k →
     core_at x.checkpoints k ≡ Some core → kept ≡ dropped_above (freed_below x.checkpoints k) k →
-    record { core = core; checkpoints = kept; input = x.input } ≡ restored_seat k x
+    record { core = core; checkpoints = kept; input = x.input } ≡ restored_unit k x
 restored-one x k core kept is at leaves =
     let first : max x.checkpoints.first k ≡ k = (let a = is.from in omega (arith, a)) in
     let i : k - x.checkpoints.first < length x.checkpoints.cores = (let a = is.from in let b = is.below in omega (arith, a, b)) in
@@ -42,41 +42,41 @@ restored-one x k core kept is at leaves =
     rw (leaves, first, one, one_left x.checkpoints.cores (k - x.checkpoints.first) x.core i, c) refl
 
 -- and all of them
-pub restored-more : (k : ℕ) (old mid : List Seat) (i : ℕ) (x y : Seat) → i < length old →
-    mid ≡ map (restored_seat k) (take i old) ++ drop i old → x ≡ get_or mid i x → y ≡ restored_seat k x →
-    set mid i y ≡ map (restored_seat k) (take (i + 1) old) ++ drop (i + 1) old
-restored-more k old mid i x y l is at restores = rw restores (map_over_more (restored_seat k) old mid i x l is at)
+pub restored-more : (k : ℕ) (old mid : List ProcessorUnit) (i : ℕ) (x y : ProcessorUnit) → i < length old →
+    mid ≡ map (restored_unit k) (take i old) ++ drop i old → x ≡ get_or mid i x → y ≡ restored_unit k x →
+    set mid i y ≡ map (restored_unit k) (take (i + 1) old) ++ drop (i + 1) old
+restored-more k old mid i x y l is at restores = rw restores (map_over_more (restored_unit k) old mid i x l is at)
 
 -- as the definitions restore them
 
-core_as : (x : Seat) (known k : ℕ) → x.checkpoints.first ≡ known →
-    processor_as (restored_seat k x) ≡ restored_processor (processor_as x) known k
+core_as : (x : ProcessorUnit) (known k : ℕ) → x.checkpoints.first ≡ known →
+    processor_as (restored_unit k x) ≡ restored_processor (processor_as x) known k
 core_as x known k e = rw (← e) refl
 
-pub restored-shown : (fabric : Fabric) (k n : ℕ) (xs : List Seat) →
-    ((m : ℕ) → m < length xs → (seat_at xs m).checkpoints.first ≡ (node_at fabric (n + m)).known) →
-    map processor_as (map (restored_seat k) xs) ≡ restored_processors fabric k n (map processor_as xs)
+pub restored-shown : (fabric : Fabric) (k n : ℕ) (xs : List ProcessorUnit) →
+    ((m : ℕ) → m < length xs → (unit_at xs m).checkpoints.first ≡ (node_at fabric (n + m)).known) →
+    map processor_as (map (restored_unit k) xs) ≡ restored_processors fabric k n (map processor_as xs)
 restored-shown fabric k n [] first = refl
 restored-shown fabric k n (x ∷ xs) first =
     let here : x.checkpoints.first
     ≡ (node_at fabric n).known = (let e : n + 0 ≡ n = omega arith in first 0 (omega arith) ∙ ap (λ j. (node_at fabric j).known) e) in
     let rest = restored-shown fabric k (n + 1) xs
     (λ m l. (let e : n + suc m ≡ n + 1 + m = omega arith in first (suc m) (omega (arith, l)) ∙ ap (λ j. (node_at fabric j).known) e)) in
-    ap (λ p. p ∷ map processor_as (map (restored_seat k) xs)) (core_as x (node_at fabric n).known k here)
+    ap (λ p. p ∷ map processor_as (map (restored_unit k) xs)) (core_as x (node_at fabric n).known k here)
     ∙ ap (λ ps. restored_processor (processor_as x) (node_at fabric n).known k ∷ ps) rest
 
 all_same : (p : ℕ) (xs : List ℕ) → replicate (length xs) p ≡ map (λ (k : ℕ). p) xs
 all_same p [] = refl
 all_same p (x ∷ xs) = ap (λ ys. p ∷ ys) (all_same p xs)
 
-seat-mapped : (k : ℕ) (xs : List Seat) (n : ℕ) → n < length xs → seat_at (map (restored_seat k) xs) n ≡ restored_seat k (seat_at xs n)
-seat-mapped k [] n l = absurd (omega arith)
-seat-mapped k (x ∷ xs) zero l = refl
-seat-mapped k (x ∷ xs) (suc n) l = seat-mapped k xs n (omega (arith, l))
+unit-mapped : (k : ℕ) (xs : List ProcessorUnit) (n : ℕ) → n < length xs → unit_at (map (restored_unit k) xs) n ≡ restored_unit k (unit_at xs n)
+unit-mapped k [] n l = absurd (omega arith)
+unit-mapped k (x ∷ xs) zero l = refl
+unit-mapped k (x ∷ xs) (suc n) l = unit-mapped k xs n (omega (arith, l))
 
 -- checkpoint k is kept at each node, where k is the recovery point
 pub kept-all : (h : Hardware) → IsWhole h → IsSound (state_of h) → (n : ℕ) → n < length h.processors.items →
-    HasCheckpoint (seat_at h.processors.items n).checkpoints h.fabric.fabric.point
+    HasCheckpoint (unit_at h.processors.items n).checkpoints h.fabric.fabric.point
 kept-all h w sound n l =
     let here : n < length h.fabric.fabric.nodes = (let e = w.count in omega (arith, e, l)) in
     let first = w.known n l in
@@ -104,22 +104,22 @@ module _ (h g : Hardware) (w : IsWhole h) (sound : IsSound (state_of h)) where
 
   -- a machine whose nodes aren't joined
   pub recover-refused : (answer : Answer) → ((undo : Undo) → answer ≢ Recovered undo) →
-      IsAfter h.fabric g.fabric answer (recovered s s.point) → HasSameRest h g → g.is_carried ≡ true →
-      Does h g answer (restores (state_of h) (recovered s s.point))
+      IsAfter h.fabric g.fabric answer (step_of_recovery s s.point) → HasSameRest h g → g.is_carried ≡ true →
+      Does h g answer (restores (state_of h) (step_of_recovery s s.point))
   recover-refused answer not after same is = go (first_cut_off (living_switches s)) after
     where
       go : (cut : Option (ℕ × ℕ)) → IsAfter h.fabric g.fabric answer (recovers s s.point cut) →
           Does h g answer (restores (state_of h) (recovers s s.point cut))
-      go (Some pair) a = carried-does h g answer (refused s (CutOff pair.0 pair.1)) w a (same_clocks s) same is
-      go None a = absurd (not (record { to = s.point; undone = undone s s.point; dropped = length s.net.flights }) a.answer)
+      go (Some pair) a = carried-does h g answer (step_refused s (CutOff pair.0 pair.1)) w a (same_clocks s) same is
+      go None a = absurd (not (record { to = s.point; undone = undone_count s s.point; dropped = length s.net.flights }) a.answer)
 
   -- one that is back
-  pub recover-done : (answer : Answer) (undo : Undo) → answer ≡ Recovered undo → IsAfter h.fabric g.fabric answer (recovered s s.point) →
-      g.processors.items ≡ map (restored_seat s.point) h.processors.items →
+  pub recover-done : (answer : Answer) (undo : Undo) → answer ≡ Recovered undo → IsAfter h.fabric g.fabric answer (step_of_recovery s s.point) →
+      g.processors.items ≡ map (restored_unit s.point) h.processors.items →
       g.controller ≡ record h.controller { reported = replicate (length h.controller.reported) h.controller.point } →
       g.history ≡ record h.history { pending = [] } → g.output ≡ record h.output { held = waiting_below s.point h.output.held } →
       g.is_carried ≡ true →
-      Does h g answer (restores (state_of h) (recovered s s.point))
+      Does h g answer (restores (state_of h) (step_of_recovery s s.point))
   unfolding restored_rest
   recover-done answer undo said after processors controller history output is = go (first_cut_off (living_switches s)) after
     where
@@ -145,12 +145,12 @@ module _ (h g : Hardware) (w : IsWhole h) (sound : IsSound (state_of h)) where
         sizes = rw a.left refl;
         whole = record {
           count =
-              rw (processors, a.left) (length-map h.processors.items (restored_seat s.point) ∙ w.count ∙ sym (restored_count s s.point));
+              rw (processors, a.left) (length-map h.processors.items (restored_unit s.point) ∙ w.count ∙ sym (restored_count s s.point));
           known =
               rw (processors, a.left)
-              (λ n l. let here : n < length h.processors.items = (let e = length-map h.processors.items (restored_seat s.point) in
+              (λ n l. let here : n < length h.processors.items = (let e = length-map h.processors.items (restored_unit s.point) in
               omega (arith, e, l)) in
-              ap (λ (x : Seat). x.checkpoints.first) (seat-mapped s.point h.processors.items n here)
+              ap (λ (x : ProcessorUnit). x.checkpoints.first) (unit-mapped s.point h.processors.items n here)
               ∙ sym (restored_known s n (let e = w.count in omega (arith, e, here))));
           point = rw (controller, a.left) (w.point ∙ sym (restored_point s s.point));
         };
@@ -159,7 +159,7 @@ module _ (h g : Hardware) (w : IsWhole h) (sound : IsSound (state_of h)) where
           bytes = rw output (let x = room.bytes in omega (arith, x));
           given =
               rw processors (λ n l. let here : n < length h.processors.items = (let e = length-map h.processors.items
-              (restored_seat s.point) in omega (arith, e, l)) in
-              rw (seat-mapped s.point h.processors.items n here) (let x = room.given n here in omega (arith, x)));
+              (restored_unit s.point) in omega (arith, e, l)) in
+              rw (unit-mapped s.point h.processors.items n here) (let x = room.given n here in omega (arith, x)));
         };
       }

@@ -23,15 +23,15 @@ use Rattle.fabric_coherence.specs.Events.{CanUse}
 use Rattle.sn_model.specs.declared.cache.Need.TheVariants as need
 use Rattle.sn_model.specs.Fabric.{node_at}
 use Rattle.sn_model.specs.Machine.{State, Processor, processor_at}
-use Rattle.sn_model.specs.Instructions.{found_at, next_with, record_with, retired, written_by}
+use Rattle.sn_model.specs.Instructions.{found_at, next_with, record_with, step_of_retirement, written_by}
 use Rattle.consistent_cuts.specs.Accesses.{CanServe, CanServeWant, CanRetire}
 use Rattle.consistent_cuts.proofs.Places.{same_length, same_known, same_point}
-use Rattle.sn_machine.specs.declared.processor.Processor.{Processor as Seat}
+use Rattle.sn_machine.specs.declared.processor.Processor.{Processor as ProcessorUnit}
 use Rattle.sn_machine.specs.declared.hardware.Hardware.{Hardware}
-use Rattle.sn_machine.specs.Parts.{processor_as, state_of, seat_at, IsWhole, Does}
+use Rattle.sn_machine.specs.Parts.{processor_as, state_of, unit_at, IsWhole, Does}
 use Rattle.sn_machine.specs.Turns.{CanBeWritten, CanWriteAny, PutsOut}
-use Rattle.sn_machine.proofs.Parts.{processor-at, is_here, seat-read}
-use Rattle.sn_machine.proofs.Seats.{HasSeat, KeepsKnown, seat-whole, seat-room, seat_placed}
+use Rattle.sn_machine.proofs.Parts.{processor-at, is_here, unit-read}
+use Rattle.sn_machine.proofs.Units.{HasUnit, KeepsKnown, unit-whole, unit-room, unit_placed}
 
 -- what it writes can be written
 
@@ -66,7 +66,7 @@ module _ (config : Config) (s : State) (n : ℕ) where
 
 pub can-write : (image : ImageData) (h : Hardware) (n : ℕ) (did : Record) (core : CoreState) (effect : Effect) → IsWhole h →
     CanRetire image h.fabric.config (state_of h) n → did ≡ record_with n (found_at image (state_of h) n) →
-    core ≡ (seat_at h.processors.items n).core → effect ≡ (next_of image core did.seen did.sc_done did.read).effect →
+    core ≡ (unit_at h.processors.items n).core → effect ≡ (next_of image core did.seen did.sc_done did.read).effect →
     CanWriteAny h.fabric.config h.fabric.fabric n effect.write
 can-write image h n did core effect w can found is does =
     let p = processor-at h n (is_here h n w can.node) in
@@ -79,38 +79,38 @@ can-write image h n did core effect w can found is does =
 
 -- what it comes to
 
-pub retire-does : (image : ImageData) (h g : Hardware) (n place interval : ℕ) (did : Record) (x : Seat) (core : CoreState)
+pub retire-does : (image : ImageData) (h g : Hardware) (n place interval : ℕ) (did : Record) (x : ProcessorUnit) (core : CoreState)
     (effect : Effect) → IsWhole h → CanRetire image h.fabric.config (state_of h) n → did ≡ record_with n (found_at image (state_of h) n) →
     interval ≡ (node_at h.fabric.fabric n).now → place ≡ n → x ≡ get_or h.processors.items place x →
     core ≡ (next_of image x.core did.seen did.sc_done did.read).core →
     effect ≡ (next_of image x.core did.seen did.sc_done did.read).effect →
     g.fabric.fabric ≡ written_by h.fabric.fabric n effect.write → g.fabric.config ≡ h.fabric.config →
-    HasSeat h (record g { history = h.history; output = h.output }) place (record x { core = core }) →
+    HasUnit h (record g { history = h.history; output = h.output }) place (record x { core = core }) →
     g.history ≡ record h.history {
       pending = h.history.pending ++ record { interval = interval; entry = did } ∷ [];
       room = h.history.room - 1;
     } → PutsOut h.output g.output interval effect.out → g.is_carried ≡ false →
-    Does h g Retired (retired image (state_of h) n)
-retire-does image h g n place interval did x core effect w can found at i r cores effects fabric sizes seat history puts is =
+    Does h g Retired (step_of_retirement image (state_of h) n)
+retire-does image h g n place interval did x core effect w can found at i r cores effects fabric sizes unit history puts is =
     let here = is_here h n w can.node in
-    let e = seat-read h n place x w can.node i r in
-    let y = record (seat_at h.processors.items n) { core = core } in
+    let e = unit-read h n place x w can.node i r in
+    let y = record (unit_at h.processors.items n) { core = core } in
     let middle = record g { history = h.history; output = h.output } in
-    let same : HasSeat h middle n y = seat_placed h middle n place y i (rw e at seat) in
+    let same : HasUnit h middle n y = unit_placed h middle n place y i (rw e at unit) in
     let keeps : KeepsKnown h.fabric.fabric g.fabric.fabric = record {
       count = rw fabric (same_length h.fabric.fabric n effect.write);
       known = rw fabric (λ m. same_known h.fabric.fabric n m effect.write can.node);
       point = rw fabric (same_point h.fabric.fabric n effect.write);
     } in
-    let whole = seat-whole h middle n y same here w keeps refl in
+    let whole = unit-whole h middle n y same here w keeps refl in
     let p = processor-at h n here in
     let core_is : core ≡ (next_with image (processor_at (state_of h) n) (found_at image (state_of h) n)).core = cores
     ∙ rw (e, found, p) refl in
     let effect_is : effect ≡ (next_with image (processor_at (state_of h) n) (found_at image (state_of h) n)).effect = effects
     ∙ rw (e, found, p) refl in
     let checkpoints_are : (processor_at (state_of h) n).checkpoints
-    ≡ (seat_at h.processors.items n).checkpoints.cores = ap (λ (q : Processor). q.checkpoints) p in
-    let given_is : (processor_at (state_of h) n).given ≡ (seat_at h.processors.items n).input.given = ap (λ (q : Processor). q.given) p in
+    ≡ (unit_at h.processors.items n).checkpoints.cores = ap (λ (q : Processor). q.checkpoints) p in
+    let given_is : (processor_at (state_of h) n).given ≡ (unit_at h.processors.items n).input.given = ap (λ (q : Processor). q.given) p in
     record {
       state =
           rw (
@@ -136,6 +136,6 @@ retire-does image h g n place interval did x core effect w can found at i r core
       room = λ events room. record {
         records = rw history (let a = room.records in omega (arith, a));
         bytes = let a = room.bytes in let b = puts.room in omega (arith, a, b);
-        given = (seat-room h middle n y same here (omega arith) events room).given;
+        given = (unit-room h middle n y same here (omega arith) events room).given;
       };
     }

@@ -11,7 +11,7 @@ use Rattle.sn_base.specs.Blocks.{ram_start, ram_size}
 use Rattle.rv_core.specs.Core.{bare, block_of, is_running}
 use Rattle.rv_core.specs.Flat.{FlatState, core_at as flat_core, word_at}
 use Rattle.rv_core.specs.Execution.{end_of}
-use Rattle.reg_ckpt.specs.Kept.{HasCheckpoint, core_at}
+use Rattle.reg_ckpt.specs.Checkpoints.{HasCheckpoint, core_at}
 use Rattle.sn_model.specs.Machine.{Processor, processor_at}
 use Rattle.sn_consistency.specs.Words.{block_word, block_in as sorted_block_in}
 use Rattle.sn_consistency.proofs.BlockLaws.{word_block}
@@ -21,14 +21,14 @@ use Rattle.sn_model.specs.Fabric.{Fabric, node_at, home_of}
 use Rattle.sn_model.specs.Homes.{Holder, Itself, OfCache}
 use Rattle.sn_model.specs.RecoveryPoint.{HasOneHolderWith, block_in}
 use Rattle.fabric_coherence.proofs.Finished.{home_finished}
-use Rattle.sn_machine.specs.declared.processor.Processor.{Processor as Seat}
+use Rattle.sn_machine.specs.declared.processor.Processor.{Processor as ProcessorUnit}
 use Rattle.sn_machine.specs.declared.hardware.Hardware.{Hardware}
-use Rattle.sn_machine.specs.Kept.{IsMachine}
+use Rattle.sn_machine.specs.Invariant.{IsMachine}
 use Rattle.sn_machine.specs.Looks.{have_ended}
 use Rattle.sn_machine.specs.Machine.{MachineData, flat_of}
-use Rattle.sn_machine.specs.Parts.{state_of, seat_at}
-use Rattle.sn_machine.proofs.Kept.{consistent, sound}
-use Rattle.sn_machine.proofs.Parts.{processor-at, is_here, seat-read}
+use Rattle.sn_machine.specs.Parts.{state_of, unit_at}
+use Rattle.sn_machine.proofs.Invariant.{consistent, sound}
+use Rattle.sn_machine.proofs.Parts.{processor-at, is_here, unit-read}
 
 injected : (a b : CoreState) → Some a ≡ Some b → a ≡ b
 injected a b e = cc
@@ -38,36 +38,36 @@ module _ (image : ImageData) (config : Config) (h : Hardware) (applied spare : �
   here n l = let e = m.nodes in omega (arith, e, l)
 
   -- it keeps the register checkpoint at the recovery point
-  pub core-kept : (n place point : ℕ) (x : Seat) → n < config.nodes → place ≡ n → x ≡ get_or h.processors.items place x →
+  pub core-kept : (n place point : ℕ) (x : ProcessorUnit) → n < config.nodes → place ≡ n → x ≡ get_or h.processors.items place x →
       point ≡ h.fabric.fabric.point → HasCheckpoint x.checkpoints point
   core-kept n place point x l i r at =
       let lh = here n l in
-      let e = seat-read h n place x m.whole lh i r in
+      let e = unit-read h n place x m.whole lh i r in
       let s = sound image config h applied spare m in
       let known : (node_at h.fabric.fabric n).known ≤ h.fabric.fabric.point = (s.times n lh).known in
       let reached : h.fabric.fabric.point ≤ (node_at h.fabric.fabric n).now = (s.times n lh).reached in
       let count : (node_at h.fabric.fabric n).known + length (processor_at (state_of h) n).checkpoints ≡ (node_at h.fabric.fabric n).now + 1 =
       s.shape.checkpoints n lh in
-      let cores : length (processor_at (state_of h) n).checkpoints ≡ length (seat_at h.processors.items n).checkpoints.cores =
+      let cores : length (processor_at (state_of h) n).checkpoints ≡ length (unit_at h.processors.items n).checkpoints.cores =
       ap (λ (q : Processor). length q.checkpoints) (processor-at h n (is_here h n m.whole lh)) in
       let first = m.whole.known n (is_here h n m.whole lh) in
       rw (e, at) (record { from = omega (arith, first, known); below = omega (arith, first, reached, count, cores) })
 
-  pub core-shown : (n place : ℕ) (x : Seat) (core : CoreState) → n < config.nodes → place ≡ n → x ≡ get_or h.processors.items place x →
+  pub core-shown : (n place : ℕ) (x : ProcessorUnit) (core : CoreState) → n < config.nodes → place ≡ n → x ≡ get_or h.processors.items place x →
       core_at x.checkpoints h.fabric.fabric.point ≡ Some core →
       core ≡ bare (flat_core (end_of image config.nodes h.history.committed) n)
   core-shown n place x core l i r at =
       let lh = here n l in
-      let e = seat-read h n place x m.whole lh i r in
+      let e = unit-read h n place x m.whole lh i r in
       let keeps = (consistent image config h applied spare m).cut.cores n lh in
       let p = processor-at h n (is_here h n m.whole lh) in
       let first = m.whole.known n (is_here h n m.whole lh) in
-      let a : slice_get (seat_at h.processors.items n).checkpoints.cores (h.fabric.fabric.point - (node_at h.fabric.fabric n).known)
+      let a : slice_get (unit_at h.processors.items n).checkpoints.cores (h.fabric.fabric.point - (node_at h.fabric.fabric n).known)
       ≡ Some (bare (flat_core (end_of image config.nodes h.history.committed) n)) =
       ap (λ (q : Processor). slice_get q.checkpoints (h.fabric.fabric.point - (node_at h.fabric.fabric n).known)) (sym p) ∙ keeps.same in
-      let b : slice_get (seat_at h.processors.items n).checkpoints.cores
-      (h.fabric.fabric.point - (seat_at h.processors.items n).checkpoints.first) ≡ Some core = (rw e at at) in
-      injected core _ (sym b ∙ ap (λ k. slice_get (seat_at h.processors.items n).checkpoints.cores (h.fabric.fabric.point - k)) first ∙ a)
+      let b : slice_get (unit_at h.processors.items n).checkpoints.cores
+      (h.fabric.fabric.point - (unit_at h.processors.items n).checkpoints.first) ≡ Some core = (rw e at at) in
+      injected core _ (sym b ∙ ap (λ k. slice_get (unit_at h.processors.items n).checkpoints.cores (h.fabric.fabric.point - k)) first ∙ a)
 
 -- a word of memory
 

@@ -5,12 +5,12 @@ use Rattle.std.specs.Prelude.{Result, Ok, IfOk}
 use Rattle.sn_base.specs.declared.event.Answer.{Answer}
 use Rattle.sn_base.specs.declared.event.Answer.TheVariants.{Validated, NetFull}
 use Rattle.validation.specs.declared.NotReady.{NotReady as Behind}
-use Rattle.validation.specs.Ready.{Reports, least_behind, next_or_behind, checked}
+use Rattle.validation.specs.Ready.{Reports, least_behind, next_or_behind, next_point_of}
 use Rattle.interval_list.specs.WaitingList.{entries_below, waiting_from}
-use Rattle.sn_model.specs.Fabric.{Fabric, refused}
-use Rattle.sn_model.specs.MachineEvents.{commits, validated, unready_node}
+use Rattle.sn_model.specs.Fabric.{Fabric, step_refused}
+use Rattle.sn_model.specs.MachineEvents.{commits, step_of_validation, unready_node}
 use Rattle.sn_model.specs.Net.{sending, is_full}
-use Rattle.sn_model.specs.PointEvents.{advanced, advances}
+use Rattle.sn_model.specs.PointEvents.{step_of_advance, advances}
 use Rattle.sn_fabric.specs.Fabric.{IsAfter}
 use Rattle.consistent_cuts.proofs.Clocks.{same_clocks}
 use Rattle.sn_machine.specs.declared.hardware.Hardware.{Hardware}
@@ -28,7 +28,7 @@ next_ready r (Some n) k e = absurd cc
 unready : (h : Hardware) → IsWhole h → least_behind h.controller.point h.controller.reported ≡ unready_node (state_of h)
 unready h w = ap (λ (p : ℕ). least_behind p h.controller.reported) w.point
 
-pub check-ready : (h : Hardware) (k : ℕ) → IsWhole h → Ok k ≡ checked h.controller →
+pub check-ready : (h : Hardware) (k : ℕ) → IsWhole h → Ok k ≡ next_point_of h.controller →
     (unready_node (state_of h) ≡ None) × (k ≡ h.fabric.fabric.point + 1)
 check-ready h k w e =
     let found = next_ready h.controller (least_behind h.controller.point h.controller.reported) k e in
@@ -36,7 +36,7 @@ check-ready h k w e =
 
 -- what an advance of the controller leaves, where all are ready
 pub controller-next : (h : Hardware) (r : Result ℕ Behind) (after : Reports) → IsWhole h → unready_node (state_of h) ≡ None →
-    r ≡ checked h.controller → IfOk r (λ k. after ≡ record h.controller { point = k }) →
+    r ≡ next_point_of h.controller → IfOk r (λ k. after ≡ record h.controller { point = k }) →
     after ≡ record h.controller { point = h.controller.point + 1 }
 controller-next h r after w ready is moved =
     let e : r ≡ Ok (h.controller.point + 1) = is ∙ ap (next_or_behind h.controller) (unready h w ∙ ready) in
@@ -47,21 +47,21 @@ module _ (h g : Hardware) (k : ℕ) (w : IsWhole h) (next : k ≡ h.fabric.fabri
   s = h.fabric.fabric
 
   -- a network that is too full
-  pub commit-refused : (answer : Answer) → ((j : ℕ) → answer ≢ Validated j) → IsAfter h.fabric g.fabric answer (advanced s k) →
+  pub commit-refused : (answer : Answer) → ((j : ℕ) → answer ≢ Validated j) → IsAfter h.fabric g.fabric answer (step_of_advance s k) →
       HasSameRest h g → g.is_carried ≡ true →
-      Does h g answer (commits (state_of h) (advanced s k))
+      Does h g answer (commits (state_of h) (step_of_advance s k))
   commit-refused answer not after same is = go (is_full s (length s.nodes)) after
     where
       go : (full : Bool) → IsAfter h.fabric g.fabric answer
-          (if full then refused s NetFull else sending (record s { point = k }) 0 0 (advances k 0 s.nodes) (Validated k)) →
+          (if full then step_refused s NetFull else sending (record s { point = k }) 0 0 (advances k 0 s.nodes) (Validated k)) →
           Does h g answer (commits (state_of h)
-          (if full then refused s NetFull else sending (record s { point = k }) 0 0 (advances k 0 s.nodes) (Validated k)))
-      go true a = carried-does h g answer (refused s NetFull) w a (same_clocks s) same is
+          (if full then step_refused s NetFull else sending (record s { point = k }) 0 0 (advances k 0 s.nodes) (Validated k)))
+      go true a = carried-does h g answer (step_refused s NetFull) w a (same_clocks s) same is
       go false a = absurd (not k a.answer)
 
   -- the interval before the point is committed
   pub commit-done : (answer : Answer) (j : ℕ) → answer ≡ Validated j → IsSound (state_of h) →
-      IsAfter h.fabric g.fabric answer (advanced s k) → g.processors.items ≡ h.processors.items →
+      IsAfter h.fabric g.fabric answer (step_of_advance s k) → g.processors.items ≡ h.processors.items →
       g.controller ≡ record h.controller { point = h.controller.point + 1 } →
       g.history ≡ record h.history {
         pending = waiting_from k h.history.pending;
@@ -69,13 +69,13 @@ module _ (h g : Hardware) (k : ℕ) (w : IsWhole h) (next : k ≡ h.fabric.fabri
       } →
       g.output ≡ record h.output { held = waiting_from k h.output.held; released = h.output.released ++ entries_below k h.output.held } →
       g.is_carried ≡ true →
-      Does h g answer (commits (state_of h) (advanced s k))
+      Does h g answer (commits (state_of h) (step_of_advance s k))
   commit-done answer j said sound after processors controller history output is = go (is_full s (length s.nodes)) after
     where
       go : (full : Bool) → IsAfter h.fabric g.fabric answer
-          (if full then refused s NetFull else sending (record s { point = k }) 0 0 (advances k 0 s.nodes) (Validated k)) →
+          (if full then step_refused s NetFull else sending (record s { point = k }) 0 0 (advances k 0 s.nodes) (Validated k)) →
           Does h g answer (commits (state_of h)
-          (if full then refused s NetFull else sending (record s { point = k }) 0 0 (advances k 0 s.nodes) (Validated k)))
+          (if full then step_refused s NetFull else sending (record s { point = k }) 0 0 (advances k 0 s.nodes) (Validated k)))
       go true a = absurd (let e = sym said ∙ a.answer in cc)
       go false a = record {
         state =
@@ -108,5 +108,5 @@ module _ (h g : Hardware) (k : ℕ) (w : IsWhole h) (next : k ≡ h.fabric.fabri
 
 -- where all nodes are ready, a validation is just this
 pub commits-all : (h g : Hardware) (answer : Answer) (k : ℕ) → unready_node (state_of h) ≡ None → k ≡ h.fabric.fabric.point + 1 →
-    Does h g answer (commits (state_of h) (advanced h.fabric.fabric k)) → Does h g answer (validated (state_of h))
+    Does h g answer (commits (state_of h) (step_of_advance h.fabric.fabric k)) → Does h g answer (step_of_validation (state_of h))
 commits-all h g answer k ready next done = rw ready (rw next at done)

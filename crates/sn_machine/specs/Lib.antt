@@ -1,6 +1,6 @@
 pub mod Hearing
 pub mod Input
-pub mod Kept
+pub mod Invariant
 pub mod Looks
 pub mod Machine
 pub mod Parts

@@ -7,10 +7,10 @@ use Rattle.sn_base.specs.declared.event.Answer.{Answer}
 use Rattle.rv_core.specs.Flat.{FlatState}
 use Rattle.rv_core.specs.Execution.{end_of}
 use Rattle.sn_model.specs.declared.net.Sent.{Sent}
-use Rattle.sn_model.specs.Instructions.{Stepped}
+use Rattle.sn_model.specs.Instructions.{MachineStep}
 use Rattle.sn_model.specs.Machine.{State}
 use Rattle.sn_model.specs.Step.{step_of}
-use Rattle.consistent_cuts.specs.Headline.{IsRun, IsConsistent, reached, retirements}
+use Rattle.consistent_cuts.specs.Headline.{IsRun, IsConsistent, state_of_run, retirements}
 
 -- a machine and the life that it has: its program and sizes, its state, what the last event sent, how many events were
 -- applied, and for how many more there is room
@@ -23,7 +23,7 @@ pub record MachineData : Type 0 where
   pub spare : ℕ
 
 -- what an event comes to
-abbrev pub next_of : MachineData → Event → Stepped
+abbrev pub next_of : MachineData → Event → MachineStep
 next_of m event = step_of m.image m.config m.state event
 
 -- an event was applied: its answer, its state and what it sent are the definitions', and one room less is left
@@ -44,7 +44,7 @@ flat_of m = end_of m.image m.config.nodes m.state.committed
 -- were applied
 pub record HasRun (m : MachineData) (events : List Event) : Type 0 where
   pub run : IsRun m.config events
-  pub state : m.state ≡ reached m.image m.config events
+  pub state : m.state ≡ state_of_run m.image m.config events
   pub count : length events ≡ m.applied
 
 -- the recovery point is a consistent cut, for what retired along these events and was not taken back

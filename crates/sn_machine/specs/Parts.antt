@@ -7,12 +7,12 @@ use Rattle.interval_list.specs.declared.Waiting.{Waiting}
 use Rattle.sn_model.specs.declared.net.Sent.{Sent}
 use Rattle.sn_model.specs.Fabric.{node_at}
 use Rattle.sn_model.specs.Machine.{State, Processor, Retirement, HeldByte}
-use Rattle.sn_model.specs.Instructions.{Stepped}
-use Rattle.sn_machine.specs.declared.processor.Processor.{Processor as Seat}
+use Rattle.sn_model.specs.Instructions.{MachineStep}
+use Rattle.sn_machine.specs.declared.processor.Processor.{Processor as ProcessorUnit}
 use Rattle.sn_machine.specs.declared.hardware.Hardware.{Hardware}
 
 -- a processor: its core, its register checkpoints and the bytes that it was given
-abbrev pub processor_as : Seat → Processor
+abbrev pub processor_as : ProcessorUnit → Processor
 processor_as x = record { core = x.core; checkpoints = x.checkpoints.cores; given = x.input.given }
 
 abbrev pub retirement_as : Waiting Record → Retirement
@@ -38,31 +38,31 @@ abbrev pub sent_of : Hardware → List Sent
 sent_of h = if h.is_carried then h.fabric.sent else []
 
 -- a processor by its number; past the end one that is nobody's
-abbrev pub no_seat : Seat
-no_seat = record {
+abbrev pub no_unit : ProcessorUnit
+no_unit = record {
   core = start_core 0 0;
   checkpoints = record { first = 0; cores = [] };
   input = record { given = []; room = 0 };
 }
 
-abbrev pub seat_at : List Seat → ℕ → Seat
-seat_at seats n = slice_index_or seats n no_seat
+abbrev pub unit_at : List ProcessorUnit → ℕ → ProcessorUnit
+unit_at units n = slice_index_or units n no_unit
 
 -- parts that belong together: a processor for each node, whose checkpoints begin at the recovery point that its node knows;
 -- and the controller stands at the fabric's recovery point
 pub record IsWhole (h : Hardware) : Type 0 where
   pub count : length h.processors.items ≡ length h.fabric.fabric.nodes
-  pub known : (n : ℕ) → n < length h.processors.items → (seat_at h.processors.items n).checkpoints.first ≡ (node_at h.fabric.fabric n).known
+  pub known : (n : ℕ) → n < length h.processors.items → (unit_at h.processors.items n).checkpoints.first ≡ (node_at h.fabric.fabric n).known
   pub point : h.controller.point ≡ h.fabric.fabric.point
 
 -- room for so many events: each adds at most one record, one byte put out, and one byte given
 pub record HasRoom (events : ℕ) (h : Hardware) : Type 0 where
   pub records : events ≤ h.history.room
   pub bytes : events ≤ h.output.room
-  pub given : (n : ℕ) → n < length h.processors.items → events ≤ (seat_at h.processors.items n).input.room
+  pub given : (n : ℕ) → n < length h.processors.items → events ≤ (unit_at h.processors.items n).input.room
 
 -- the parts went through this step, and it took the room of one event at most
-pub record Does (old new : Hardware) (answer : Answer) (step : Stepped) : Type 0 where
+pub record Does (old new : Hardware) (answer : Answer) (step : MachineStep) : Type 0 where
   pub state : state_of new ≡ step.state
   pub says : answer ≡ step.answer
   pub sent : sent_of new ≡ step.sent

@@ -5,7 +5,7 @@ use Rattle.sn_model.specs.Fabric.{node_at}
 use Rattle.sn_model.specs.Machine.{State}
 use Rattle.sn_model.specs.MachineEvents.{unready_node}
 use Rattle.fabric_coherence.specs.Coherent.{Keeps, NothingUnfinished, IsInTime}
-use Rattle.consistent_cuts.specs.Outlined.{IsRestShaped}
+use Rattle.consistent_cuts.specs.Outlines.{IsRestShaped}
 
 -- numbers that don't run out; all sentences of coherence; a processor for each node, with the register checkpoints from the
 -- point that its node knows on, and the clocks in order; what waits is of no interval below the recovery point; and where every

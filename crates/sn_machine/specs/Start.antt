@@ -4,22 +4,22 @@ use Rattle.sn_base.specs.Image.{ImageData}
 use Rattle.sn_base.specs.declared.config.Config.{Config}
 use Rattle.rv_core.specs.Core.{start_of as start_core}
 use Rattle.sn_model.specs.Machine.{start_of}
-use Rattle.sn_machine.specs.declared.processor.Processor.{Processor as Seat}
+use Rattle.sn_machine.specs.declared.processor.Processor.{Processor as ProcessorUnit}
 use Rattle.sn_machine.specs.declared.hardware.Hardware.{Hardware}
-use Rattle.sn_machine.specs.Parts.{processor_as, state_of, sent_of, seat_at, IsWhole, HasRoom}
+use Rattle.sn_machine.specs.Parts.{processor_as, state_of, sent_of, unit_at, IsWhole, HasRoom}
 
 -- a processor at the program's entry, with its start as checkpoint 0
-abbrev pub first_seat : ℕ → ℕ → Seat
-first_seat entry n = record {
+abbrev pub first_unit : ℕ → ℕ → ProcessorUnit
+first_unit entry n = record {
   core = start_core n entry;
   checkpoints = record { first = 0; cores = start_core n entry ∷ [] };
   input = record { given = []; room = 0 };
 }
 
 -- the first so many
-abbrev pub seats_below : ℕ → ℕ → List Seat
-seats_below zero entry = []
-seats_below (suc n) entry = seats_below n entry ++ first_seat entry n ∷ []
+abbrev pub units_below : ℕ → ℕ → List ProcessorUnit
+units_below zero entry = []
+units_below (suc n) entry = units_below n entry ++ first_unit entry n ∷ []
 
 pub record IsFirst (h : Hardware) (image : ImageData) (config : Config) : Type 0 where
   pub state : state_of h ≡ start_of image config.nodes
@@ -28,11 +28,11 @@ pub record IsFirst (h : Hardware) (image : ImageData) (config : Config) : Type 0
   pub whole : IsWhole h
 
 -- processors that are the same but for the room for more input
-pub record AreRoomier (old new : List Seat) : Type 0 where
+pub record AreRoomier (old new : List ProcessorUnit) : Type 0 where
   pub shown : map processor_as new ≡ map processor_as old
   pub count : length new ≡ length old
-  pub firsts : (n : ℕ) → n < length old → (seat_at new n).checkpoints.first ≡ (seat_at old n).checkpoints.first
-  pub rooms : (n : ℕ) → n < length old → (seat_at old n).input.room ≤ (seat_at new n).input.room
+  pub firsts : (n : ℕ) → n < length old → (unit_at new n).checkpoints.first ≡ (unit_at old n).checkpoints.first
+  pub rooms : (n : ℕ) → n < length old → (unit_at old n).input.room ≤ (unit_at new n).input.room
 
 -- the same parts, with as much room or more
 pub record IsRoomier (old new : Hardware) : Type 0 where

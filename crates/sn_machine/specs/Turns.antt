@@ -11,9 +11,9 @@ use Rattle.sn_model.specs.declared.cache.Need.{Need}
 use Rattle.sn_model.specs.declared.cache.Need.TheVariants.{Write}
 use Rattle.sn_model.specs.Fabric.{Fabric, node_at}
 use Rattle.sn_model.specs.Fabric as fabric
-use Rattle.sn_model.specs.Access.{accessed, lacks_room}
+use Rattle.sn_model.specs.Access.{step_of_access, lacks_room}
 use Rattle.sn_model.specs.Machine.{State, processor_at}
-use Rattle.sn_model.specs.Instructions.{FoundOutside, Stepped, nothing_found, next_byte, is_retired, refused, carried, retired, record_with}
+use Rattle.sn_model.specs.Instructions.{FoundOutside, MachineStep, nothing_found, next_byte, is_retired, refused, machine_step_of, step_of_retirement, record_with}
 use Rattle.sn_model.specs.Instructions.{found_at, held_in}
 use Rattle.fabric_coherence.specs.Events.{CanWrite}
 use Rattle.consistent_cuts.specs.Accesses.{CanRetire}
@@ -22,18 +22,18 @@ use Rattle.sn_machine.specs.declared.steps.NodeStep.{NodeStep}
 use Rattle.sn_machine.specs.declared.steps.NodeStep.TheVariants.{Retires, Misses, Refused}
 
 -- a step of node n that comes to x: it retires, it misses, or it is refused
-abbrev pub ComesTo : ImageData → Config → State → ℕ → Stepped → NodeStep → Type 0
-ComesTo image config s n x (Retires did) = CanRetire image config s n × (did ≡ record_with n (found_at image s n)) × (x ≡ retired image s n)
+abbrev pub ComesTo : ImageData → Config → State → ℕ → MachineStep → NodeStep → Type 0
+ComesTo image config s n x (Retires did) = CanRetire image config s n × (did ≡ record_with n (found_at image s n)) × (x ≡ step_of_retirement image s n)
 ComesTo image config s n x (Misses block need) =
-    ((accessed config s.fabric n block need).answer ≡ Missed) × (x ≡ carried s (accessed config s.fabric n block need))
+    ((step_of_access config s.fabric n block need).answer ≡ Missed) × (x ≡ machine_step_of s (step_of_access config s.fabric n block need))
 ComesTo image config s n x (Refused answer) = x ≡ refused s answer
 
 -- the same of an access of a block that an instruction wants, with what it finds
 abbrev pub IsAccess : Config → Fabric → ℕ → ℕ → Need → FoundOutside → NodeStep → Type 0
-IsAccess config s n block need found (Retires did) = ((accessed config s n block need).answer ≡ WasRetired) × (did ≡ record_with n found)
-IsAccess config s n block need found (Misses b k) = (b ≡ block) × (k ≡ need) × ((accessed config s n block need).answer ≡ Missed)
+IsAccess config s n block need found (Retires did) = ((step_of_access config s n block need).answer ≡ WasRetired) × (did ≡ record_with n found)
+IsAccess config s n block need found (Misses b k) = (b ≡ block) × (k ≡ need) × ((step_of_access config s n block need).answer ≡ Missed)
 IsAccess config s n block need found (Refused answer) =
-    (is_retired answer ≡ false) × (accessed config s n block need ≡ fabric.refused s answer)
+    (is_retired answer ≡ false) × (step_of_access config s n block need ≡ fabric.step_refused s answer)
 
 -- of a store-conditional: where the core hasn't reserved the block, it retires without an access
 abbrev pub conditional : Config → State → ℕ → ℕ → NodeStep → Type 0

@@ -1,7 +1,7 @@
 //! A clock edge, with its register checkpoint.
 ghost use Rattle.std.specs.Prelude.{◌≡◌, ◌<◌, ◌+◌, length};
-ghost use Rattle.reg_ckpt.specs.Kept.{next};
-ghost use Rattle.sn_model.specs.NodeEvents.{edged};
+ghost use Rattle.reg_ckpt.specs.Checkpoints.{next};
+ghost use Rattle.sn_model.specs.NodeEvents.{step_of_edge};
 ghost use Rattle.sn_model.specs.MachineEvents.{edges, with_checkpoint};
 ghost use Rattle.sn_machine.specs.Parts.{state_of, processor_as, IsWhole, Does};
 ghost use Rattle.sn_machine.specs.Sound.{IsSound};
@@ -28,7 +28,7 @@ impl Hardware {
         requires whole { IsWhole self.old }
         requires sound { IsSound (state_of self.old) }
         requires here { node < length self.old.fabric.fabric.nodes }
-        ensures { Does self.old self.new result (edges (state_of self.old) node (edged self.old.fabric.fabric node)) }
+        ensures { Does self.old self.new result (edges (state_of self.old) node (step_of_edge self.old.fabric.fabric node)) }
     {
         self.is_carried = true;
         let answer = self.fabric.edge(node);

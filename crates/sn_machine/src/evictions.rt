@@ -1,8 +1,8 @@
 //! An eviction, of which a core hears where its copy is lost.
 ghost use Rattle.std.specs.Prelude.{◌≡◌, ◌<◌, length};
 ghost use Rattle.sn_model.specs.Caches.{block_count};
-ghost use Rattle.sn_model.specs.NodeEvents.{evicted};
-ghost use Rattle.sn_model.specs.MachineEvents.{hearing};
+ghost use Rattle.sn_model.specs.NodeEvents.{step_of_eviction};
+ghost use Rattle.sn_model.specs.MachineEvents.{machine_step_with_news};
 ghost use Rattle.sn_machine.specs.Parts.{state_of, IsWhole, Does};
 ghost use Rattle.sn_machine.specs.Sound.{IsSound};
 
@@ -16,7 +16,7 @@ impl Hardware {
         requires whole { IsWhole self.old }
         requires sound { IsSound (state_of self.old) }
         requires here { node < length self.old.fabric.fabric.nodes }
-        ensures done { Does self.old self.new result (hearing (state_of self.old) (evicted self.old.fabric.fabric node block)) }
+        ensures done { Does self.old self.new result (machine_step_with_news (state_of self.old) (step_of_eviction self.old.fabric.fabric node block)) }
         ensures low { block < block_count }
     {
         let _number = block.number();

@@ -1,12 +1,12 @@
 //! What the processors and the service controller hear of an event of the fabric.
 ghost use Rattle.std.specs.Prelude.{◌≡◌, ◌<◌, length, Some};
-ghost use Rattle.reg_ckpt.specs.Kept.{next};
+ghost use Rattle.reg_ckpt.specs.Checkpoints.{next};
 ghost use Rattle.sn_machine.specs.Hearing.{CanHear, Hear, after_loss, after_news};
-ghost use Rattle.sn_machine.specs.Parts.{seat_at};
+ghost use Rattle.sn_machine.specs.Parts.{unit_at};
 
 use crate::processor::{Processor, unreserve};
 use sn_base::{BlockNo, Interval, NodeId};
-use sn_model::Told;
+use sn_model::News;
 use validation::Controller;
 
 /// A core keeps no reservation on a copy that is lost.
@@ -21,7 +21,7 @@ fn lose_copy(processors: &mut Vec<Processor>, node: NodeId, block: BlockNo)
 /// A node frees the checkpoints below a recovery point.
 fn free_below(processors: &mut Vec<Processor>, node: NodeId, k: Interval)
     requires here { node < length processors.old.items }
-    requires below { k < next (seat_at processors.old.items node).checkpoints }
+    requires below { k < next (unit_at processors.old.items node).checkpoints }
     ensures { processors.new.items ≡ after_news processors.old.items node k }
 {
     let processor = &mut processors[usize::from(node.number())];
@@ -29,13 +29,13 @@ fn free_below(processors: &mut Vec<Processor>, node: NodeId, k: Interval)
 }
 
 /// A copy is lost, the controller gets a report, or a node hears of a recovery point.
-pub fn hear(processors: &mut Vec<Processor>, controller: &mut Controller, told: &Told)
+pub fn hear(processors: &mut Vec<Processor>, controller: &mut Controller, told: &News)
     requires { CanHear processors.old.items controller.old (Some told.now) }
     ensures { Hear processors.old.items controller.old (Some told.now) processors.new.items controller.new }
 {
     match told {
-        Told::LostCopy(node, block) => lose_copy(processors, *node, *block),
-        Told::Ready(node, k) => controller.ready(*node, *k),
-        Told::Advance(node, k) => free_below(processors, *node, *k),
+        News::LostCopy(node, block) => lose_copy(processors, *node, *block),
+        News::Ready(node, k) => controller.ready(*node, *k),
+        News::Advance(node, k) => free_below(processors, *node, *k),
     }
 }

@@ -1,6 +1,6 @@
 //! Input that comes from outside.
 ghost use Rattle.std.specs.Prelude.{◌≡◌, ◌<◌, length};
-ghost use Rattle.sn_model.specs.MachineEvents.{given};
+ghost use Rattle.sn_model.specs.MachineEvents.{step_of_input};
 ghost use Rattle.sn_machine.specs.Parts.{state_of, IsWhole, HasRoom, Does};
 
 use crate::hardware::Hardware;
@@ -12,7 +12,7 @@ impl Hardware {
         requires whole { IsWhole self.old }
         requires here { node < length self.old.fabric.fabric.nodes }
         requires room { HasRoom 1 self.old }
-        ensures { Does self.old self.new result (given (state_of self.old) node byte) }
+        ensures { Does self.old self.new result (step_of_input (state_of self.old) node byte) }
     {
         let processor = &mut self.processors[usize::from(node.number())];
         processor.input.give(byte);

@@ -27,7 +27,7 @@ pub struct Machine {
 }
 
 impl Model for Machine {
-    ghost use Rattle.sn_machine.specs.Kept.{IsMachine};
+    ghost use Rattle.sn_machine.specs.Invariant.{IsMachine};
     ghost use Rattle.sn_machine.specs.Machine.{MachineData};
     ghost use Rattle.sn_machine.specs.Parts.{state_of, sent_of};
 

@@ -1,9 +1,9 @@
 //! Messages on their way, and switches that die.
 ghost use Rattle.std.specs.Prelude.{◌≡◌, ◌*◌, ◌<◌, length};
-ghost use Rattle.sn_model.specs.Instructions.{carried};
-ghost use Rattle.sn_model.specs.MachineEvents.{hearing};
-ghost use Rattle.sn_model.specs.NetEvents.{hopped, lost, killed, delivered};
-ghost use Rattle.sn_model.specs.NodeEvents.{reported};
+ghost use Rattle.sn_model.specs.Instructions.{machine_step_of};
+ghost use Rattle.sn_model.specs.MachineEvents.{machine_step_with_news};
+ghost use Rattle.sn_model.specs.NetEvents.{step_of_hop, step_of_loss, step_of_kill, step_of_delivery};
+ghost use Rattle.sn_model.specs.NodeEvents.{step_of_report};
 ghost use Rattle.sn_machine.specs.Parts.{state_of, IsWhole, HasRoom, Does};
 ghost use Rattle.sn_machine.specs.Sound.{IsSound};
 
@@ -14,7 +14,7 @@ use sn_base::{Answer, MsgId, NodeId, SwitchId};
 impl Hardware {
     pub fn hop(&mut self, id: MsgId) -> Answer
         requires whole { IsWhole self.old }
-        ensures { Does self.old self.new result (carried (state_of self.old) (hopped self.old.fabric.fabric id)) }
+        ensures { Does self.old self.new result (machine_step_of (state_of self.old) (step_of_hop self.old.fabric.fabric id)) }
     {
         self.is_carried = true;
         self.fabric.hop(id)
@@ -22,7 +22,7 @@ impl Hardware {
 
     pub fn lose(&mut self, id: MsgId) -> Answer
         requires whole { IsWhole self.old }
-        ensures { Does self.old self.new result (carried (state_of self.old) (lost self.old.fabric.fabric id)) }
+        ensures { Does self.old self.new result (machine_step_of (state_of self.old) (step_of_loss self.old.fabric.fabric id)) }
     {
         self.is_carried = true;
         self.fabric.lose(id)
@@ -31,7 +31,7 @@ impl Hardware {
     pub fn kill(&mut self, switch: SwitchId) -> Answer
         requires whole { IsWhole self.old }
         requires here { switch < 2 * length self.old.fabric.fabric.nodes }
-        ensures { Does self.old self.new result (carried (state_of self.old) (killed self.old.fabric.fabric switch)) }
+        ensures { Does self.old self.new result (machine_step_of (state_of self.old) (step_of_kill self.old.fabric.fabric switch)) }
     {
         self.is_carried = true;
         self.fabric.kill(switch)
@@ -42,7 +42,7 @@ impl Hardware {
         requires whole { IsWhole self.old }
         requires sound { IsSound (state_of self.old) }
         requires here { node < length self.old.fabric.fabric.nodes }
-        ensures { Does self.old self.new result (carried (state_of self.old) (reported self.old.fabric.fabric node)) }
+        ensures { Does self.old self.new result (machine_step_of (state_of self.old) (step_of_report self.old.fabric.fabric node)) }
     {
         self.is_carried = true;
         self.fabric.report(node)
@@ -53,7 +53,7 @@ impl Hardware {
     pub fn deliver(&mut self, id: MsgId) -> Answer
         requires whole { IsWhole self.old }
         requires sound { IsSound (state_of self.old) }
-        ensures { Does self.old self.new result (hearing (state_of self.old) (delivered self.old.fabric.config self.old.fabric.fabric id)) }
+        ensures { Does self.old self.new result (machine_step_with_news (state_of self.old) (step_of_delivery self.old.fabric.config self.old.fabric.fabric id)) }
     {
         self.is_carried = true;
         let delivery = self.fabric.deliver(id);

@@ -1,7 +1,7 @@
 //! The recovery point: it rises, and the machine goes back to it.
 ghost use Rattle.std.specs.Prelude.{◌≡◌, ◌+◌, None};
-ghost use Rattle.sn_model.specs.MachineEvents.{validated, commits, restores, unready_node};
-ghost use Rattle.sn_model.specs.PointEvents.{advanced, recovered};
+ghost use Rattle.sn_model.specs.MachineEvents.{step_of_validation, commits, restores, unready_node};
+ghost use Rattle.sn_model.specs.PointEvents.{step_of_advance, step_of_recovery};
 ghost use Rattle.sn_machine.specs.Parts.{state_of, IsWhole, Does};
 ghost use Rattle.sn_machine.specs.Sound.{IsSound};
 
@@ -14,7 +14,7 @@ impl Hardware {
     pub fn validate(&mut self) -> Answer
         requires whole { IsWhole self.old }
         requires sound { IsSound (state_of self.old) }
-        ensures { Does self.old self.new result (validated (state_of self.old)) }
+        ensures { Does self.old self.new result (step_of_validation (state_of self.old)) }
     {
         match self.controller.check() {
             Ok(k) => self.commit(k),
@@ -30,7 +30,7 @@ impl Hardware {
         requires sound { IsSound (state_of self.old) }
         requires ready { unready_node (state_of self.old) ≡ None }
         requires next { k ≡ self.old.fabric.fabric.point + 1 }
-        ensures { Does self.old self.new result (commits (state_of self.old) (advanced self.old.fabric.fabric k)) }
+        ensures { Does self.old self.new result (commits (state_of self.old) (step_of_advance self.old.fabric.fabric k)) }
     {
         self.is_carried = true;
         let answer = self.fabric.advance(k);
@@ -48,7 +48,7 @@ impl Hardware {
     pub fn foresee_validate(&self) -> Answer
         requires whole { IsWhole self.now }
         requires sound { IsSound (state_of self.now) }
-        ensures { result ≡ (validated (state_of self.now)).answer }
+        ensures { result ≡ (step_of_validation (state_of self.now)).answer }
     {
         match self.controller.check() {
             Ok(k) => self.fabric.foresee(Event::Validate, k),
@@ -61,7 +61,7 @@ impl Hardware {
         requires whole { IsWhole self.old }
         requires sound { IsSound (state_of self.old) }
         ensures { Does self.old self.new result
-            (restores (state_of self.old) (recovered self.old.fabric.fabric self.old.fabric.fabric.point)) }
+            (restores (state_of self.old) (step_of_recovery self.old.fabric.fabric self.old.fabric.fabric.point)) }
     {
         self.is_carried = true;
         let point = self.controller.point();

@@ -1,7 +1,7 @@
 //! A node's processor: its core, the core's copies at the checkpoints, and its input.
 ghost use Rattle.std.specs.Prelude.{◌≡◌};
 ghost use Rattle.rv_core.specs.Core.{is_reserved};
-ghost use Rattle.sn_model.specs.MachineEvents.{unreserved};
+ghost use Rattle.sn_model.specs.MachineEvents.{core_without_reservation};
 
 use crate::input::Input;
 use reg_ckpt::RegCheckpoints;
@@ -27,7 +27,7 @@ pub fn is_reserved(core: &CoreState, block: BlockNo) -> bool
 
 /// The core keeps no reservation on a block whose copy is lost.
 pub fn unreserve(core: &mut CoreState, block: BlockNo)
-    ensures { core.new ≡ unreserved core.old block }
+    ensures { core.new ≡ core_without_reservation core.old block }
 {
     if is_reserved(core, block) {
         core.reservation = None;

@@ -1,8 +1,8 @@
 //! Processors that are put back to a checkpoint.
 ghost use Rattle.std.specs.Prelude.{◌≡◌, ℕ, ◌<◌, length, map};
-ghost use Rattle.reg_ckpt.specs.Kept.{HasCheckpoint};
-ghost use Rattle.sn_machine.specs.Parts.{seat_at};
-ghost use Rattle.sn_machine.specs.Restored.{restored_seat};
+ghost use Rattle.reg_ckpt.specs.Checkpoints.{HasCheckpoint};
+ghost use Rattle.sn_machine.specs.Parts.{unit_at};
+ghost use Rattle.sn_machine.specs.Restored.{restored_unit};
 
 use crate::processor::Processor;
 use sn_base::Interval;
@@ -10,7 +10,7 @@ use sn_base::Interval;
 /// The core is as checkpoint k keeps it, and no other checkpoint is kept.
 fn restore(processor: &mut Processor, k: Interval)
     requires { HasCheckpoint processor.old.checkpoints k }
-    ensures { processor.new ≡ restored_seat k processor.old }
+    ensures { processor.new ≡ restored_unit k processor.old }
 {
     processor.core = *processor.checkpoints.get(k);
     processor.checkpoints.free_below(k);
@@ -18,8 +18,8 @@ fn restore(processor: &mut Processor, k: Interval)
 }
 
 pub fn restore_all(processors: &mut Vec<Processor>, k: Interval)
-    requires { (n : ℕ) → n < length processors.old.items → HasCheckpoint (seat_at processors.old.items n).checkpoints k }
-    ensures { processors.new.items ≡ map (restored_seat k) processors.old.items }
+    requires { (n : ℕ) → n < length processors.old.items → HasCheckpoint (unit_at processors.old.items n).checkpoints k }
+    ensures { processors.new.items ≡ map (restored_unit k) processors.old.items }
 {
     let count = processors.len();
     'processors: for place in 0..count {

@@ -1,8 +1,8 @@
 //! The parts at a program's start, and the room that they take beforehand.
 ghost use Rattle.std.specs.Prelude.{◌≡◌, ℕ, ◌<◌, ◌≤◌, true, length, IfOk, OnOk};
 ghost use Rattle.sn_base.specs.Config.{config_fits};
-ghost use Rattle.sn_machine.specs.Parts.{seat_at, HasRoom};
-ghost use Rattle.sn_machine.specs.Start.{first_seat, seats_below, IsFirst, AreRoomier, IsRoomier};
+ghost use Rattle.sn_machine.specs.Parts.{unit_at, HasRoom};
+ghost use Rattle.sn_machine.specs.Start.{first_unit, units_below, IsFirst, AreRoomier, IsRoomier};
 
 use crate::hardware::Hardware;
 use crate::input::Input;
@@ -17,7 +17,7 @@ use std::alloc::Global;
 use validation::Controller;
 
 fn first_processor(alloc: Global, node: NodeId, entry: u32) -> Result<Processor, Memory>
-    ensures { IfOk result (λ p. p ≡ first_seat entry node) }
+    ensures { IfOk result (λ p. p ≡ first_unit entry node) }
 {
     let checkpoints = RegCheckpoints::new(alloc, CoreState::start(node, entry))?;
     let input = Input::new(alloc);
@@ -30,7 +30,7 @@ fn first_processor(alloc: Global, node: NodeId, entry: u32) -> Result<Processor,
 
 fn first_processors(alloc: Global, nodes: u8, entry: u32) -> Result<Vec<Processor>, Memory>
     requires few { nodes ≤ 16 }
-    ensures { IfOk result (λ processors. processors.items ≡ seats_below nodes entry) }
+    ensures { IfOk result (λ processors. processors.items ≡ units_below nodes entry) }
 {
     let mut processors = Vec::with_capacity(alloc, usize::from(nodes))?;
     'nodes: for number in 0..nodes {
@@ -44,7 +44,7 @@ fn first_processors(alloc: Global, nodes: u8, entry: u32) -> Result<Vec<Processo
 /// Each processor has the room for so many bytes more.
 fn reserve_inputs(processors: &mut Vec<Processor>, bytes: usize) -> Result<(), Memory>
     ensures same { AreRoomier processors.old.items processors.new.items }
-    ensures ok { OnOk result ((n : ℕ) → n < length processors.new.items → bytes ≤ (seat_at processors.new.items n).input.room) }
+    ensures ok { OnOk result ((n : ℕ) → n < length processors.new.items → bytes ≤ (unit_at processors.new.items n).input.room) }
 {
     let count = processors.len();
     'processors: for place in 0..count {

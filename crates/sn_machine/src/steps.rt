@@ -3,10 +3,10 @@ ghost use Rattle.std.specs.Prelude.{◌≡◌, ◌<◌, ◌≤◌, ◌+◌, leng
 ghost use Rattle.sn_base.specs.Blocks.{ram_start, ram_size};
 ghost use Rattle.rv_core.specs.Core.{block_of};
 ghost use Rattle.rv_core.specs.Step.{want_of};
-ghost use Rattle.sn_model.specs.Access.{accessed, loaded};
+ghost use Rattle.sn_model.specs.Access.{step_of_access, word_found};
 ghost use Rattle.sn_model.specs.Fabric.{node_at};
 ghost use Rattle.sn_model.specs.Machine.{processor_at};
-ghost use Rattle.sn_model.specs.Instructions.{retired, stepped, carried, record_with, found_at, nothing_found, written_by};
+ghost use Rattle.sn_model.specs.Instructions.{step_of_retirement, step_of_instruction, machine_step_of, record_with, found_at, nothing_found, written_by};
 ghost use Rattle.consistent_cuts.specs.Accesses.{CanRetire};
 ghost use Rattle.sn_machine.specs.Parts.{state_of, IsWhole, HasRoom, Does, held_as};
 ghost use Rattle.sn_machine.specs.Sound.{IsSound};
@@ -76,7 +76,7 @@ impl Hardware {
         requires sound { IsSound (state_of self.old) }
         requires here { node < length self.old.fabric.fabric.nodes }
         requires room { HasRoom 1 self.old }
-        ensures { Does self.old self.new result (stepped image.now self.old.fabric.config (state_of self.old) node) }
+        ensures { Does self.old self.new result (step_of_instruction image.now self.old.fabric.config (state_of self.old) node) }
     {
         match self.look(image, node) {
             NodeStep::Retires(did) => self.retire(image, node, did),
@@ -93,7 +93,7 @@ impl Hardware {
         requires whole { IsWhole self.now }
         requires sound { IsSound (state_of self.now) }
         requires here { node < length self.now.fabric.fabric.nodes }
-        ensures { result ≡ (stepped image.now self.now.fabric.config (state_of self.now) node).answer }
+        ensures { result ≡ (step_of_instruction image.now self.now.fabric.config (state_of self.now) node).answer }
     {
         match self.look(image, node) {
             NodeStep::Retires(_) => Answer::Retired,
@@ -108,7 +108,7 @@ impl Hardware {
         requires sound { IsSound (state_of self.now) }
         requires here { node < length self.now.fabric.fabric.nodes }
         ensures { ComesTo image.now self.now.fabric.config (state_of self.now) node
-            (stepped image.now self.now.fabric.config (state_of self.now) node) result }
+            (step_of_instruction image.now self.now.fabric.config (state_of self.now) node) result }
     {
         let core = &self.processors[usize::from(node.number())].core;
         if !core.is_running() {
@@ -149,7 +149,7 @@ impl Hardware {
         requires low { ram_start ≤ address }
         requires high { address < ram_start + ram_size }
         ensures { IsAccess self.now.fabric.config self.now.fabric.fabric node (block_of address) need
-            (record nothing_found { seen = loaded self.now.fabric.fabric node address }) result }
+            (record nothing_found { seen = word_found self.now.fabric.fabric node address }) result }
     {
         match self.look_access(node, address, need) {
             NodeStep::Retires(quiet) => NodeStep::Retires(Record {
@@ -204,7 +204,7 @@ impl Hardware {
         requires sound { IsSound (state_of self.old) }
         requires here { node < length self.old.fabric.fabric.nodes }
         ensures { Does self.old self.new result
-            (carried (state_of self.old) (accessed self.old.fabric.config self.old.fabric.fabric node block need)) }
+            (machine_step_of (state_of self.old) (step_of_access self.old.fabric.config self.old.fabric.fabric node block need)) }
     {
         self.is_carried = true;
         self.fabric.access(node, block, need)
@@ -216,7 +216,7 @@ impl Hardware {
         requires can { CanRetire image.now self.old.fabric.config (state_of self.old) node }
         requires found { did ≡ record_with node (found_at image.now (state_of self.old) node) }
         requires room { HasRoom 1 self.old }
-        ensures { Does self.old self.new result (retired image.now (state_of self.old) node) }
+        ensures { Does self.old self.new result (step_of_retirement image.now (state_of self.old) node) }
     {
         let interval = self.fabric.now(node);
         let processor = &mut self.processors[usize::from(node.number())];

@@ -11,7 +11,7 @@ use Rattle.sn_model.specs.declared.cache.LineState.TheVariants.{Absent, Shared, 
 use Rattle.sn_model.specs.declared.cache.Need.{Need}
 use Rattle.sn_model.specs.declared.cache.Need.TheVariants.{Read, Write}
 use Rattle.sn_model.specs.declared.cache.Out.{Out}
-use Rattle.log_buffer.specs.Log.{noted}
+use Rattle.log_buffer.specs.Log.{log_with_note}
 use Rattle.sn_model.specs.Caches.{Cache, Miss, line_of, with_line, without_line, is_present, is_owned, puts_on}
 
 -- a cache with its node's log
@@ -35,14 +35,14 @@ content_of at block = (line_of at.cache block).content
 abbrev pub given_up : Logged → ℕ → ℕ → Logged
 given_up at block now = record {
   cache = without_line at.cache block;
-  log = noted at.log now block (WasOwned (content_of at block));
+  log = log_with_note at.log now block (WasOwned (content_of at block));
 }
 
 -- the line of a block that arrives with its ownership, noted under the message's tag
 abbrev pub taken_over : Logged → ℕ → ℕ → LineState → List ℕ → Logged
 taken_over at block tag state content = record {
   cache = with_line at.cache block state content;
-  log = noted at.log tag block NotOwned;
+  log = log_with_note at.log tag block NotOwned;
 }
 
 abbrev pub with_miss : Logged → Option Miss → Logged
@@ -63,8 +63,8 @@ line_when_done Modified Write = Modified
 line_when_done Exclusive Write = Modified
 
 -- the miss is complete: its home gets the interval of atomicity
-abbrev pub completed : Logged → ℕ → Miss → ℕ → CacheReply
-completed at home miss fixed = record {
+abbrev pub reply_when_complete : Logged → ℕ → Miss → ℕ → CacheReply
+reply_when_complete at home miss fixed = record {
   after =
       record at {
         cache = record
@@ -76,17 +76,17 @@ completed at home miss fixed = record {
 }
 
 -- the miss waits for acknowledgements
-abbrev pub waiting : Logged → Miss → CacheReply
-waiting at miss = record { after = with_miss at (Some miss); sends = []; lost = None }
+abbrev pub reply_that_waits : Logged → Miss → CacheReply
+reply_that_waits at miss = record { after = with_miss at (Some miss); sends = []; lost = None }
 
 -- the miss with what it knows now: complete where it is fixed and all acknowledgements due are in
-abbrev pub completed_or_waiting_by : Logged → ℕ → Miss → Option ℕ → CacheReply
-completed_or_waiting_by at home miss None = waiting at miss
-completed_or_waiting_by at home miss (Some fixed) = if nat_eq miss.acks miss.due then completed at home miss fixed else waiting at miss
+abbrev pub reply_or_wait_by : Logged → ℕ → Miss → Option ℕ → CacheReply
+reply_or_wait_by at home miss None = reply_that_waits at miss
+reply_or_wait_by at home miss (Some fixed) = if nat_eq miss.acks miss.due then reply_when_complete at home miss fixed else reply_that_waits at miss
 
-abbrev pub completed_or_waiting : Logged → ℕ → Option Miss → CacheReply
-completed_or_waiting at home None = record { after = at; sends = []; lost = None }
-completed_or_waiting at home (Some miss) = completed_or_waiting_by at home miss miss.fixed
+abbrev pub reply_or_wait : Logged → ℕ → Option Miss → CacheReply
+reply_or_wait at home None = record { after = at; sends = []; lost = None }
+reply_or_wait at home (Some miss) = reply_or_wait_by at home miss miss.fixed
 
 -- the open miss, fixed at an interval with so many acknowledgements due
 abbrev pub fixed_at : Option Miss → ℕ → ℕ → Option Miss
@@ -94,9 +94,9 @@ fixed_at None tag due = None
 fixed_at (Some miss) tag due = Some (record miss { fixed = Some tag; due = due })
 
 -- the open miss, with one more acknowledgement
-abbrev pub acknowledged : Option Miss → Option Miss
-acknowledged None = None
-acknowledged (Some miss) = Some (record miss { acks = miss.acks + 1 })
+abbrev pub miss_with_ack : Option Miss → Option Miss
+miss_with_ack None = None
+miss_with_ack (Some miss) = Some (record miss { acks = miss.acks + 1 })
 
 -- what rows ask of the miss and the line
 
@@ -150,7 +150,7 @@ invalidate at block requester = record {
 -- DataS: the line is Shared; the read is complete, since none are due and none are in
 abbrev pub data_shared : Logged → ℕ → ℕ → ℕ → List ℕ → CacheReply
 data_shared at home block tag content =
-    completed_or_waiting (record at { cache = with_line at.cache block Shared content }) home (fixed_at at.cache.miss tag 0)
+    reply_or_wait (record at { cache = with_line at.cache block Shared content }) home (fixed_at at.cache.miss tag 0)
 
 abbrev pub MayTakeCopy : Logged → ℕ → Type 0
 MayTakeCopy at block =
@@ -159,21 +159,21 @@ MayTakeCopy at block =
 -- DataM with so many acknowledgements due: that nothing was owned is noted under the tag; the line is Modified
 abbrev pub data_modified : Logged → ℕ → ℕ → ℕ → List ℕ → ℕ → CacheReply
 data_modified at home block tag content due =
-    completed_or_waiting (taken_over at block tag Modified content) home (fixed_at at.cache.miss tag due)
+    reply_or_wait (taken_over at block tag Modified content) home (fixed_at at.cache.miss tag due)
 
 abbrev pub MayTakeOwnership : Logged → ℕ → Type 0
 MayTakeOwnership at block = AwaitsAnswer at.cache.miss block Write × (is_absent_or_shared (line_of at.cache block).state ≡ true)
 
 -- UpgOk with so many acknowledgements due: the owner may write once they are in
 abbrev pub upgrade_granted : Logged → ℕ → ℕ → ℕ → CacheReply
-upgrade_granted at home tag due = completed_or_waiting at home (fixed_at at.cache.miss tag due)
+upgrade_granted at home tag due = reply_or_wait at home (fixed_at at.cache.miss tag due)
 
 abbrev pub MayUpgrade : Logged → ℕ → Type 0
 MayUpgrade at block = AwaitsAnswer at.cache.miss block Write × ((line_of at.cache block).state ≡ Owned)
 
 -- InvAck: one more acknowledgement is in
 abbrev pub acknowledge : Logged → ℕ → CacheReply
-acknowledge at home = completed_or_waiting at home (acknowledged at.cache.miss)
+acknowledge at home = reply_or_wait at home (miss_with_ack at.cache.miss)
 
 abbrev pub MayCount : Option Miss → ℕ → Type 0
 MayCount None block = ⊥
@@ -200,4 +200,4 @@ MayClosePut at block = puts_on at.cache.put block ≡ true
 -- DataE: that nothing was owned is noted under the tag; the line is Exclusive; the read is complete, as above
 abbrev pub data_exclusive : Logged → ℕ → ℕ → ℕ → List ℕ → CacheReply
 data_exclusive at home block tag content =
-    completed_or_waiting (taken_over at block tag Exclusive content) home (fixed_at at.cache.miss tag 0)
+    reply_or_wait (taken_over at block tag Exclusive content) home (fixed_at at.cache.miss tag 0)

@@ -7,7 +7,7 @@ use Rattle.sn_msg.specs.declared.Body.TheVariants.{FwdGetS, FwdGetM, Inv, DataS,
 use Rattle.sn_model.specs.declared.home.Kind.{Kind}
 use Rattle.sn_model.specs.declared.home.Kind.TheVariants.{Read, Take, Move, Upgrade, Put}
 use Rattle.sn_model.specs.declared.cache.Out.{Out}
-use Rattle.log_buffer.specs.Log.{noted}
+use Rattle.log_buffer.specs.Log.{log_with_note}
 use Rattle.sn_model.specs.Homes.{HomeEntry, Holder, Itself, OfCache, Transaction, no_sharers}
 use Rattle.sn_model.specs.CacheRows.{send}
 
@@ -41,7 +41,7 @@ invalidations node (false ∷ marks) r = invalidations (node + 1) marks r
 abbrev pub taken_from_home : LoggedEntry → ℕ → ℕ → ℕ → List ℕ → LoggedEntry
 taken_from_home at block now r content = record {
   entry = record { holder = OfCache r; sharers = no_sharers; transaction = transaction_by Take r now };
-  log = noted at.log now block (WasHome content);
+  log = log_with_note at.log now block (WasHome content);
 }
 
 -- GetS where the home owns and others share: r joins the sharers and gets a copy
@@ -80,24 +80,24 @@ upgrade at now r = record {
   sends = send r (UpgOk (count_others at.entry.sharers r)) ∷ invalidations 0 (others at.entry.sharers r) r;
 }
 
-abbrev pub closed : LoggedEntry → LoggedEntry
-closed at = record at { entry = record at.entry { transaction = None } }
+abbrev pub without_transaction : LoggedEntry → LoggedEntry
+without_transaction at = record at { entry = record at.entry { transaction = None } }
 
 -- the name of the owner before a Move, noted under the interval of atomicity
 abbrev pub noted_owner : List LogEntry → ℕ → ℕ → Holder → List LogEntry
 noted_owner log interval block (Itself content) = log
-noted_owner log interval block (OfCache owner) = noted log interval block (WasCache owner)
+noted_owner log interval block (OfCache owner) = log_with_note log interval block (WasCache owner)
 
 -- Unblock with its interval of atomicity: of a Move, r is the owner from then on; the transaction is closed
 abbrev pub unblock_of : LoggedEntry → ℕ → ℕ → Kind → ℕ → LoggedEntry
-unblock_of at block fixed Move r = closed (record {
+unblock_of at block fixed Move r = without_transaction (record {
   entry = record at.entry { holder = OfCache r };
   log = noted_owner at.log fixed block at.entry.holder;
 })
-unblock_of at block fixed Read r = closed at
-unblock_of at block fixed Take r = closed at
-unblock_of at block fixed Upgrade r = closed at
-unblock_of at block fixed Put r = closed at
+unblock_of at block fixed Read r = without_transaction at
+unblock_of at block fixed Take r = without_transaction at
+unblock_of at block fixed Upgrade r = without_transaction at
+unblock_of at block fixed Put r = without_transaction at
 
 abbrev pub unblock : LoggedEntry → ℕ → ℕ → Option Transaction → HomeReply
 unblock at block fixed None = record { after = at; sends = [] }
@@ -117,9 +117,9 @@ put_is_stale at r = record { after = at; sends = send r PutDone ∷ [] }
 -- PutData: that r owned is noted under the tag; the home owns
 abbrev pub put_data : LoggedEntry → ℕ → ℕ → ℕ → List ℕ → HomeReply
 put_data at block tag r content = record {
-  after = closed (record {
+  after = without_transaction (record {
     entry = record at.entry { holder = Itself content };
-    log = noted at.log tag block (WasCache r);
+    log = log_with_note at.log tag block (WasCache r);
   });
   sends = [];
 }

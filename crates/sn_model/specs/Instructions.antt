@@ -15,27 +15,27 @@ use Rattle.rv_core.specs.Execution.{in_of}
 use Rattle.sn_model.specs.declared.cache.Need.{Need}
 use Rattle.sn_model.specs.declared.cache.Need.TheVariants.{Read, Write as ToWrite}
 use Rattle.sn_model.specs.declared.net.Sent.{Sent}
-use Rattle.sn_model.specs.Fabric.{Fabric, Moved, node_at}
-use Rattle.sn_model.specs.Access.{loaded, stored, has_miss, accessed}
+use Rattle.sn_model.specs.Fabric.{Fabric, FabricStep, node_at}
+use Rattle.sn_model.specs.Access.{word_found, fabric_with_write, has_miss, step_of_access}
 use Rattle.sn_model.specs.Machine.{State, Processor, Retirement, HeldByte, processor_at}
 
 -- what an event comes to
-pub record Stepped : Type 0 where
+pub record MachineStep : Type 0 where
   pub state : State
   pub answer : Answer
   pub sent : List Sent
 
 -- the answer of an event that changes nothing
-abbrev pub refused : State → Answer → Stepped
+abbrev pub refused : State → Answer → MachineStep
 refused s answer = record { state = s; answer = answer; sent = [] }
 
 -- the answer of an event that sends nothing
-abbrev pub answered : State → Answer → Stepped
-answered s answer = record { state = s; answer = answer; sent = [] }
+abbrev pub machine_step_with_answer : State → Answer → MachineStep
+machine_step_with_answer s answer = record { state = s; answer = answer; sent = [] }
 
 -- an event of the fabric that leaves the rest as it is
-abbrev pub carried : State → Moved → Stepped
-carried s moved = record { state = record s { fabric = moved.fabric }; answer = moved.answer; sent = moved.sent }
+abbrev pub machine_step_of : State → FabricStep → MachineStep
+machine_step_of s moved = record { state = record s { fabric = moved.fabric }; answer = moved.answer; sent = moved.sent }
 
 -- what an instruction finds from outside its core: the word, the permission of a store-conditional, the byte
 pub record FoundOutside : Type 0 where
@@ -60,10 +60,10 @@ next_byte s n =
 
 abbrev pub found_by : State → ℕ → Want → FoundOutside
 found_by s n Nothing = nothing_found
-found_by s n (Load address) = record nothing_found { seen = loaded s.fabric n address }
+found_by s n (Load address) = record nothing_found { seen = word_found s.fabric n address }
 found_by s n (Store address) = nothing_found
-found_by s n (Amo address) = record nothing_found { seen = loaded s.fabric n address }
-found_by s n (Lr address) = record nothing_found { seen = loaded s.fabric n address }
+found_by s n (Amo address) = record nothing_found { seen = word_found s.fabric n address }
+found_by s n (Lr address) = record nothing_found { seen = word_found s.fabric n address }
 found_by s n (Sc address) = record nothing_found { sc_done = is_reserved (processor_at s n).core.reservation (block_of address) }
 found_by s n Input = record nothing_found { read = next_byte s n }
 
@@ -81,23 +81,23 @@ record_with n found = record { core = n; seen = found.seen; sc_done = found.sc_d
 -- what it wrote, if anything, is in the fabric
 abbrev pub written_by : Fabric → ℕ → Option Write → Fabric
 written_by s n None = s
-written_by s n (Some w) = stored s n w
+written_by s n (Some w) = fabric_with_write s n w
 
 -- the byte that it put out, held for its interval
 abbrev pub held_in : ℕ → Option ℕ → List HeldByte
 held_in interval out = map (λ (b : ℕ). record { interval = interval; byte = b }) (option_to_list out)
 
 -- the instruction is done; its record and its byte wait for the validation of its interval
-abbrev pub retired_with : State → ℕ → FoundOutside → Next → Stepped
-retired_with s n found next = answered (record s {
+abbrev pub retired_with : State → ℕ → FoundOutside → Next → MachineStep
+retired_with s n found next = machine_step_with_answer (record s {
   fabric = written_by s.fabric n next.effect.write;
   processors = slice_set s.processors n (record (processor_at s n) { core = next.core });
   pending = s.pending ++ record { interval = (node_at s.fabric n).now; did = record_with n found } ∷ [];
   held = s.held ++ held_in (node_at s.fabric n).now next.effect.out;
 }) Retired
 
-abbrev pub retired : ImageData → State → ℕ → Stepped
-retired image s n = retired_with s n (found_at image s n) (next_with image (processor_at s n) (found_at image s n))
+abbrev pub step_of_retirement : ImageData → State → ℕ → MachineStep
+step_of_retirement image s n = retired_with s n (found_at image s n) (next_with image (processor_at s n) (found_at image s n))
 
 -- step n: the tests in their order
 
@@ -106,19 +106,19 @@ is_retired Retired = true
 is_retired _ = false
 
 -- an instruction whose access is served retires; of any other the fabric has done what there is to do
-abbrev pub after_access : ImageData → State → ℕ → Moved → Stepped
-after_access image s n moved = if is_retired moved.answer then retired image s n else carried s moved
+abbrev pub after_access : ImageData → State → ℕ → FabricStep → MachineStep
+after_access image s n moved = if is_retired moved.answer then step_of_retirement image s n else machine_step_of s moved
 
-abbrev pub accessing : ImageData → Config → State → ℕ → ℕ → Need → Stepped
-accessing image config s n address need = after_access image s n (accessed config s.fabric n (block_of address) need)
+abbrev pub accessing : ImageData → Config → State → ℕ → ℕ → Need → MachineStep
+accessing image config s n address need = after_access image s n (step_of_access config s.fabric n (block_of address) need)
 
-abbrev pub takes_input : ImageData → State → ℕ → Option ℕ → Stepped
+abbrev pub takes_input : ImageData → State → ℕ → Option ℕ → MachineStep
 takes_input image s n None = refused s NoInput
-takes_input image s n (Some byte) = retired image s n
+takes_input image s n (Some byte) = step_of_retirement image s n
 
-abbrev pub step_wanting : ImageData → Config → State → ℕ → Want → Stepped
+abbrev pub step_wanting : ImageData → Config → State → ℕ → Want → MachineStep
 step_wanting image config s n Input = takes_input image s n (next_byte s n)
-step_wanting image config s n Nothing = retired image s n
+step_wanting image config s n Nothing = step_of_retirement image s n
 step_wanting image config s n (Load address) = accessing image config s n address Read
 step_wanting image config s n (Lr address) = accessing image config s n address Read
 step_wanting image config s n (Store address) = accessing image config s n address ToWrite
@@ -126,10 +126,10 @@ step_wanting image config s n (Amo address) = accessing image config s n address
 step_wanting image config s n (Sc address) =
     if is_reserved (processor_at s n).core.reservation (block_of address)
     then accessing image config s n address ToWrite
-    else retired image s n
+    else step_of_retirement image s n
 
-abbrev pub stepped : ImageData → Config → State → ℕ → Stepped
-stepped image config s n =
+abbrev pub step_of_instruction : ImageData → Config → State → ℕ → MachineStep
+step_of_instruction image config s n =
     if not (is_running (processor_at s n).core.end) then refused s Ended
     else if has_miss (node_at s.fabric n).cache.miss then refused s Waits
     else step_wanting image config s n (want_of image (processor_at s n).core)

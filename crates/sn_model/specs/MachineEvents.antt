@@ -5,41 +5,41 @@ use Rattle.sn_base.specs.declared.event.Answer.{Answer}
 use Rattle.sn_base.specs.declared.event.Answer.TheVariants.{Edged, Validated, NotReady, Recovered, Given}
 use Rattle.rv_core.specs.declared.state.CoreState.{CoreState}
 use Rattle.rv_core.specs.Core.{bare, is_reserved}
-use Rattle.sn_model.specs.declared.net.Told.{Told}
-use Rattle.sn_model.specs.declared.net.Told.TheVariants.{LostCopy, Ready, Advance}
-use Rattle.sn_model.specs.Fabric.{Fabric, Moved, node_at}
-use Rattle.sn_model.specs.PointEvents.{advanced}
+use Rattle.sn_model.specs.declared.net.News.{News}
+use Rattle.sn_model.specs.declared.net.News.TheVariants.{LostCopy, Ready, Advance}
+use Rattle.sn_model.specs.Fabric.{Fabric, FabricStep, node_at}
+use Rattle.sn_model.specs.PointEvents.{step_of_advance}
 use Rattle.sn_model.specs.Machine.{State, Processor, HeldByte, processor_at, with_processor}
-use Rattle.sn_model.specs.Instructions.{Stepped, refused, answered, carried, records_of}
+use Rattle.sn_model.specs.Instructions.{MachineStep, refused, machine_step_with_answer, machine_step_of, records_of}
 
 -- what the rest makes of what it hears
 
 -- the core without a reservation on this block
-abbrev pub unreserved : CoreState → ℕ → CoreState
-unreserved core block = if is_reserved core.reservation block then bare core else core
+abbrev pub core_without_reservation : CoreState → ℕ → CoreState
+core_without_reservation core block = if is_reserved core.reservation block then bare core else core
 
 -- the core keeps no reservation on a block whose copy was lost
 abbrev pub without_reservation : Processor → ℕ → Processor
-without_reservation processor block = record processor { core = unreserved processor.core block }
+without_reservation processor block = record processor { core = core_without_reservation processor.core block }
 
 -- the register checkpoints below a recovery point of which the node hears are freed; `known` is what it knew
-abbrev pub freed : Processor → ℕ → ℕ → Processor
-freed processor known k = record processor { checkpoints = drop (k - known) processor.checkpoints }
+abbrev pub processor_with_freed : Processor → ℕ → ℕ → Processor
+processor_with_freed processor known k = record processor { checkpoints = drop (k - known) processor.checkpoints }
 
 -- the reported number of a node is the greatest that its reports said
-abbrev pub heard : State → Option Told → State
-heard s None = s
-heard s (Some (LostCopy n block)) = with_processor s n (without_reservation (processor_at s n) block)
-heard s (Some (Ready n k)) = record s { reported = slice_set s.reported n (max (slice_index s.reported n) k) }
-heard s (Some (Advance n k)) = with_processor s n (freed (processor_at s n) (node_at s.fabric n).known k)
+abbrev pub state_after_news : State → Option News → State
+state_after_news s None = s
+state_after_news s (Some (LostCopy n block)) = with_processor s n (without_reservation (processor_at s n) block)
+state_after_news s (Some (Ready n k)) = record s { reported = slice_set s.reported n (max (slice_index s.reported n) k) }
+state_after_news s (Some (Advance n k)) = with_processor s n (processor_with_freed (processor_at s n) (node_at s.fabric n).known k)
 
 -- an event of the fabric of which the rest hears: an eviction or a delivery
-abbrev pub hearing : State → Moved → Stepped
-hearing s moved = carried (heard s moved.told) moved
+abbrev pub machine_step_with_news : State → FabricStep → MachineStep
+machine_step_with_news s moved = machine_step_of (state_after_news s moved.told) moved
 
 -- an event of the fabric with which the rest changes, where it was done
-abbrev pub with_rest : State → Bool → State → Moved → Stepped
-with_rest s done changed moved = carried (if done then changed else s) moved
+abbrev pub with_rest : State → Bool → State → FabricStep → MachineStep
+with_rest s done changed moved = machine_step_of (if done then changed else s) moved
 
 -- edge n: a checkpoint of the core's registers is taken
 
@@ -50,7 +50,7 @@ is_edged _ = false
 abbrev pub with_checkpoint : Processor → Processor
 with_checkpoint processor = record processor { core = bare processor.core; checkpoints = processor.checkpoints ++ bare processor.core ∷ [] }
 
-abbrev pub edges : State → ℕ → Moved → Stepped
+abbrev pub edges : State → ℕ → FabricStep → MachineStep
 edges s n moved = with_rest s (is_edged moved.answer) (with_processor s n (with_checkpoint (processor_at s n))) moved
 
 -- validate
@@ -75,15 +75,15 @@ abbrev pub is_validated : Answer → Bool
 is_validated (Validated k) = true
 is_validated _ = false
 
-abbrev pub commits : State → Moved → Stepped
+abbrev pub commits : State → FabricStep → MachineStep
 commits s moved = with_rest s (is_validated moved.answer) (committed_next s) moved
 
-abbrev pub validates : State → Option ℕ → Stepped
+abbrev pub validates : State → Option ℕ → MachineStep
 validates s (Some node) = refused s (NotReady node)
-validates s None = commits s (advanced s.fabric (s.fabric.point + 1))
+validates s None = commits s (step_of_advance s.fabric (s.fabric.point + 1))
 
-abbrev pub validated : State → Stepped
-validated s = validates s (unready_node s)
+abbrev pub step_of_validation : State → MachineStep
+step_of_validation s = validates s (unready_node s)
 
 -- recover
 
@@ -114,10 +114,10 @@ abbrev pub is_recovered : Answer → Bool
 is_recovered (Recovered undo) = true
 is_recovered _ = false
 
-abbrev pub restores : State → Moved → Stepped
+abbrev pub restores : State → FabricStep → MachineStep
 restores s moved = with_rest s (is_recovered moved.answer) (restored_rest s) moved
 
 -- input n v: the byte is given, for good
 
-abbrev pub given : State → ℕ → ℕ → Stepped
-given s n byte = answered (with_processor s n (record (processor_at s n) { given = (processor_at s n).given ++ byte ∷ [] })) Given
+abbrev pub step_of_input : State → ℕ → ℕ → MachineStep
+step_of_input s n byte = machine_step_with_answer (with_processor s n (record (processor_at s n) { given = (processor_at s n).given ++ byte ∷ [] })) Given

@@ -9,7 +9,7 @@ use Rattle.route_plan.specs.Distances.{Switches, is_dead}
 use Rattle.route_plan.specs.Routes.{enter_of, next_of}
 use Rattle.sn_model.specs.declared.cache.Out.{Out}
 use Rattle.sn_model.specs.declared.net.Sent.{Sent}
-use Rattle.sn_model.specs.Fabric.{Fabric, Net, Flight, Moved, node_at}
+use Rattle.sn_model.specs.Fabric.{Fabric, Net, Flight, FabricStep, node_at}
 
 -- how many messages may be in flight
 abbrev pub net_limit : ℕ
@@ -38,9 +38,9 @@ post routes net m = record net {
 }
 
 -- the network after these messages from a node, in order
-abbrev pub posted : Switches → Net → ℕ → ℕ → ℕ → List Out → Net
-posted routes net from tag block [] = net
-posted routes net from tag block (out ∷ outs) = posted routes (post routes net (message_of net from tag block out)) from tag block outs
+abbrev pub net_after_sends : Switches → Net → ℕ → ℕ → ℕ → List Out → Net
+net_after_sends routes net from tag block [] = net
+net_after_sends routes net from tag block (out ∷ outs) = net_after_sends routes (post routes net (message_of net from tag block out)) from tag block outs
 
 -- them as they were sent
 abbrev pub sent_by : Switches → Net → ℕ → ℕ → ℕ → List Out → List Sent
@@ -70,17 +70,17 @@ abbrev pub next_switch : Switches → Flight → ℕ
 next_switch routes f = or_own (next_of routes f.message.to f.place) f.place
 
 -- a message in another switch, where it has the number
-abbrev pub placed : ℕ → ℕ → Flight → Flight
-placed id place f = if nat_eq f.message.id id then record f { place = place } else f
+abbrev pub flight_in_switch : ℕ → ℕ → Flight → Flight
+flight_in_switch id place f = if nat_eq f.message.id id then record f { place = place } else f
 
 -- the message of a number in another switch
-abbrev pub moved : Net → ℕ → ℕ → Net
-moved net id place = record net { flights = map (placed id place) net.flights }
+abbrev pub net_with_flight_in : Net → ℕ → ℕ → Net
+net_with_flight_in net id place = record net { flights = map (flight_in_switch id place) net.flights }
 
 -- an event by which a node sends messages about a block, in its interval
-abbrev pub sending : Fabric → ℕ → ℕ → List Out → Answer → Moved
+abbrev pub sending : Fabric → ℕ → ℕ → List Out → Answer → FabricStep
 sending s from block outs answer = record {
-  fabric = record s { net = posted (routes_of s) s.net from (node_at s from).now block outs };
+  fabric = record s { net = net_after_sends (routes_of s) s.net from (node_at s from).now block outs };
   answer = answer;
   sent = sent_by (routes_of s) s.net from (node_at s from).now block outs;
   told = None;

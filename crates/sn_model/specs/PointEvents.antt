@@ -11,7 +11,7 @@ use Rattle.sn_model.specs.declared.cache.Out.{Out}
 use Rattle.sn_model.specs.Caches.{Cache, Line, no_line}
 use Rattle.sn_model.specs.Homes.{HomeEntry, no_sharers}
 use Rattle.sn_model.specs.CacheRows.{send}
-use Rattle.sn_model.specs.Fabric.{Fabric, Node, Net, Moved, node_at, home_node, refused, answered}
+use Rattle.sn_model.specs.Fabric.{Fabric, Node, Net, FabricStep, node_at, home_node, step_refused, step_with_answer}
 use Rattle.sn_model.specs.Net.{sending, is_full}
 use Rattle.sn_model.specs.Cuts.{held_by, named_by}
 
@@ -22,9 +22,9 @@ abbrev pub advances : ℕ → ℕ → List Node → List Out
 advances k to [] = []
 advances k to (node ∷ nodes) = send to (Advance k) ∷ advances k (to + 1) nodes
 
-abbrev pub advanced : Fabric → ℕ → Moved
-advanced s k =
-    if is_full s (length s.nodes) then refused s NetFull
+abbrev pub step_of_advance : Fabric → ℕ → FabricStep
+step_of_advance s k =
+    if is_full s (length s.nodes) then step_refused s NetFull
     else sending (record s { point = k }) 0 0 (advances k 0 s.nodes) (Validated k)
 
 -- recover k: all is as it was at checkpoint k
@@ -62,15 +62,15 @@ unfoldable pub restored : Fabric → ℕ → Fabric
 restored s k = record s { nodes = map (restored_node k) s.nodes; homes = restored_homes s k 0 s.homes; net = restored_net s.net }
 
 -- how many log entries are undone: those at or above the checkpoint, in all logs
-abbrev pub undone : Fabric → ℕ → ℕ
-undone s k = sum_by (λ node. length (entries_from k node.log)) s.nodes
+abbrev pub undone_count : Fabric → ℕ → ℕ
+undone_count s k = sum_by (λ node. length (entries_from k node.log)) s.nodes
 
 abbrev pub living_switches : Fabric → Switches
 living_switches s = record { nodes = length s.nodes; dead = s.net.dead }
 
-abbrev pub recovers : Fabric → ℕ → Option (ℕ × ℕ) → Moved
-recovers s k (Some pair) = refused s (CutOff pair.0 pair.1)
-recovers s k None = answered (restored s k) (Recovered (record { to = k; undone = undone s k; dropped = length s.net.flights }))
+abbrev pub recovers : Fabric → ℕ → Option (ℕ × ℕ) → FabricStep
+recovers s k (Some pair) = step_refused s (CutOff pair.0 pair.1)
+recovers s k None = step_with_answer (restored s k) (Recovered (record { to = k; undone = undone_count s k; dropped = length s.net.flights }))
 
-abbrev pub recovered : Fabric → ℕ → Moved
-recovered s k = recovers s k (first_cut_off (living_switches s))
+abbrev pub step_of_recovery : Fabric → ℕ → FabricStep
+step_of_recovery s k = recovers s k (first_cut_off (living_switches s))

@@ -32,16 +32,16 @@ with_event image s (Step n) trace = trace ++ entry_at image s n ∷ []
 with_event image s _ trace = trace
 
 -- an instruction that retired is added; a recovery takes those from its checkpoint on away; nothing else changes the list
-abbrev pub traced : ImageData → State → Event → Answer → List TraceEntry → List TraceEntry
-traced image s event Retired trace = with_event image s event trace
-traced image s event (Recovered undo) trace = filter (λ e. nat_lt e.interval undo.to) trace
-traced image s event _ trace = trace
+abbrev pub trace_after_event : ImageData → State → Event → Answer → List TraceEntry → List TraceEntry
+trace_after_event image s event Retired trace = with_event image s event trace
+trace_after_event image s event (Recovered undo) trace = filter (λ e. nat_lt e.interval undo.to) trace
+trace_after_event image s event _ trace = trace
 
 -- the retirements along the events, from this list on
 abbrev pub trace_after : ImageData → Config → State → List Event → List TraceEntry → List TraceEntry
 trace_after image config s [] trace = trace
 trace_after image config s (event ∷ events) trace =
-    trace_after image config (step_of image config s event).state events (traced image s event (step_of image config s event).answer trace)
+    trace_after image config (step_of image config s event).state events (trace_after_event image s event (step_of image config s event).answer trace)
 
 -- those of an interval, in order of retirement
 abbrev pub of_interval : List TraceEntry → ℕ → List TraceEntry

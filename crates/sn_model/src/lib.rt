@@ -18,4 +18,4 @@ pub use cache::{LineState, Need, Out};
 pub use home::{Kind, Owner};
 pub use laws::refusal_changes_nothing;
 pub use look::Look;
-pub use net::{Sent, Told};
+pub use net::{News, Sent};

@@ -12,7 +12,7 @@ pub struct Sent {
 /// What the layer above has to hear of an event of the fabric: a node lost its copy of a block, so that its core keeps no
 /// reservation on it; the service controller got a node's report; a node heard of a recovery point.
 #[derive(Clone, Copy, PartialEq, Eq, Debug)]
-pub enum Told {
+pub enum News {
     LostCopy(NodeId, BlockNo),
     Ready(NodeId, Interval),
     Advance(NodeId, Interval),

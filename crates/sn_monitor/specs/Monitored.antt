@@ -19,8 +19,8 @@ pub record MonitoredData : Type 0 where
   pub published : List SnapData
 
 -- a start: the one snapshot that is published is the start's
-abbrev pub begun : MachineData → DriverData → ℕ → MonitoredData
-begun m driver watch = record { machine = m; driver = driver; watch = watch; published = snap_now m watch ∷ [] }
+abbrev pub first_monitored : MachineData → DriverData → ℕ → MonitoredData
+first_monitored m driver watch = record { machine = m; driver = driver; watch = watch; published = snap_now m watch ∷ [] }
 
 -- whether a turn did a validation
 abbrev pub is_validation : Turn → Bool

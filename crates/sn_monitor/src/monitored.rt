@@ -7,7 +7,7 @@ ghost use Rattle.snap_board.specs.Fronts.{EndsIn};
 ghost use Rattle.snap_board.specs.Snap.{SnapData};
 ghost use Rattle.sn_monitor.specs.Cut.{snap_now};
 ghost use Rattle.sn_monitor.specs.Goes.{IsWatchable};
-ghost use Rattle.sn_monitor.specs.Monitored.{Shows, IsTurn, begun, is_validation};
+ghost use Rattle.sn_monitor.specs.Monitored.{Shows, IsTurn, first_monitored, is_validation};
 
 use crate::cut::snap_of;
 use sn_base::{Answer, Event, Memory};
@@ -91,7 +91,7 @@ impl Monitored {
         requires nodes { driver.nodes ≡ machine.config.nodes }
         requires first { driver.numbers ≡ first_numbers }
         requires watched { IsWatchable watch }
-        ensures ok { IfOk result (λ made. (made.0 ≡ begun machine driver watch)
+        ensures ok { IfOk result (λ made. (made.0 ≡ first_monitored machine driver watch)
             × (made.1 ≡ record { front = snap_now machine watch ∷ []; told = machine.state.fabric.point; late = false })) }
         ensures err { IfErr result (λ refused. (refused.machine ≡ machine) × (refused.driver ≡ driver)) }
     {

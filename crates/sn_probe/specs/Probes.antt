@@ -26,12 +26,12 @@ abbrev pub told_of : ℕ → Event → Answer → Meter → Meter
 told_of number event answer m = record m { tally = m.step m.tally number event answer }
 
 -- an event that was applied, and its answer
-pub record Told : Type 0 where
+pub record Observation : Type 0 where
   pub event : Event
   pub answer : Answer
 
 -- one that has been told all these, the first of which has this number
-abbrev pub told_from : ℕ → List Told → Meter → Meter
+abbrev pub told_from : ℕ → List Observation → Meter → Meter
 told_from number [] m = m
 told_from number (told ∷ more) m = told_from (number + 1) more (told_of number told.event told.answer m)
 

@@ -18,6 +18,6 @@ place_of Recover = Some 9
 place_of (Input node byte) = None
 
 -- one more at a place, which stops at the greatest number of 64 bits
-abbrev pub counted : List ℕ → Option ℕ → List ℕ
-counted tally None = tally
-counted tally (Some place) = slice_set tally place (min (slice_index tally place + 1) (2 ^ 64 - 1))
+abbrev pub tally_with_one : List ℕ → Option ℕ → List ℕ
+tally_with_one tally None = tally
+tally_with_one tally (Some place) = slice_set tally place (min (slice_index tally place + 1) (2 ^ 64 - 1))

@@ -1,6 +1,6 @@
 //! How often each kind of event came.
 ghost use Rattle.std.specs.Prelude.{◌≡◌, ◌<◌, replicate};
-ghost use Rattle.sn_probe.specs.Tally.{place_of, counted};
+ghost use Rattle.sn_probe.specs.Tally.{place_of, tally_with_one};
 
 use crate::probe::Probe;
 use sn_base::{Answer, Event};
@@ -65,7 +65,7 @@ impl Probe for EventTally {
 
     ghost tally = { λ t. t };
 
-    ghost step = { λ _ tally number event answer. counted tally (place_of event) };
+    ghost step = { λ _ tally number event answer. tally_with_one tally (place_of event) };
 
     fn told(&mut self, _number: u64, event: &Event, _answer: &Answer) {
         if let Some(place) = place_of(event) {

@@ -7,7 +7,7 @@ use Rattle.std.specs.List.{flat_map}
 use Rattle.std.specs.Prelude.{true, false, nat_eq, nat_le, Result, Ok}
 use Rattle.text_lines.specs.Lines.{without_return, lines_from}
 use Rattle.sn_text.specs.declared.cause.Fault.{Fault}
-use Rattle.sn_text.specs.Items.{most_items, is_skipped, followed, items_from, items_of}
+use Rattle.sn_text.specs.Items.{most_items, is_skipped, items_and, items_from, items_of}
 use Rattle.sn_text.specs.Written.{SaysNothing}
 use Rattle.sn_text.proofs.Printed.{From}
 
@@ -89,7 +89,7 @@ module _ {A : Type 0} (item_of : List ℕ → Result A Fault) (text_of line_of :
       ap (λ t. items_from item_of number count (lines_from [] t)) (append_assoc (line_of x) (flat_map line_of items) comments)
       ∙ ap (items_from item_of number count) (lines-next x (flat_map line_of items ++ comments) g)
       ∙ rw (not_skipped (text_of x) (is_line x g), back x g, room)
-      (ap (followed (x ∷ [])) (read_on (number + 1) (count + 1) items comments more (omega (arith, few)) nothing))
+      (ap (items_and (x ∷ [])) (read_on (number + 1) (count + 1) items comments more (omega (arith, few)) nothing))
 
   -- a text of such lines is read back as the list of their items, also where comments stand behind it
   pub text-read_back : (items : List A) (comments : List ℕ) → All Good items → length items ≤ most_items → SaysNothing comments →

@@ -7,7 +7,7 @@ use Rattle.std.proofs.lemmas.List.{length-append}
 use Rattle.std.specs.List.{position_or_len}
 use Rattle.std.specs.Prelude.{⊤, Bool, true, false, nat_eq, nat_lt, nat_le, ◌&&◌, if◌then◌else◌, decimal, Some, None}
 use Rattle.sn_text.specs.Digits.{is_digit, number_of, number_from, if_below}
-use Rattle.sn_text.specs.Script.{hex_value, byte_of, parted}
+use Rattle.sn_text.specs.Script.{hex_value, byte_of, parts_at_blank}
 use Rattle.text_lines.specs.Hex.{hex_digit, hex_byte, hex_word}
 use Rattle.sn_text.specs.Trace.{word_of}
 use Rattle.sn_text.proofs.Digits.{number_of-plain, number-ends}
@@ -148,12 +148,12 @@ behind : (xs : List ℕ) (y : ℕ) (ys : List ℕ) → drop (suc (length xs)) (x
 behind [] y ys = refl
 behind (x ∷ xs) y ys = behind xs y ys
 
-pub parted-words : (xs ys : List ℕ) → From 33 xs → parted (xs ++ 32 ∷ ys) ≡ Some (xs, ys)
+pub parted-words : (xs ys : List ℕ) → From 33 xs → parts_at_blank (xs ++ 32 ∷ ys) ≡ Some (xs, ys)
 parted-words xs ys a =
     let inside : nat_lt (length xs) (length (xs ++ 32 ∷ ys)) ≡ true = grind (arith, nat_tests, length-append xs (32 ∷ ys)) in
     let next : length xs + 1 ≡ suc (length xs) = omega arith in
     rw (first_blank xs ys a, inside, before xs (32 ∷ ys), next, behind xs 32 ys) refl
 
-pub parted-word : (xs : List ℕ) → From 33 xs → parted xs ≡ None
+pub parted-word : (xs : List ℕ) → From 33 xs → parts_at_blank xs ≡ None
 parted-word xs a =
     let past : nat_lt (length xs) (length xs) ≡ false = grind (arith, nat_tests) in rw (no_blank xs a, past) refl

@@ -10,7 +10,7 @@ use Rattle.sn_base.specs.declared.event.Event.{Event}
 use Rattle.sn_base.specs.declared.event.Event.TheVariants.{Step, Evict, Edge, Hop, Deliver, Lose, Kill, Report, Validate, Recover, Input}
 use Rattle.rv_core.specs.declared.step.Record.{Record}
 use Rattle.sn_model.specs.Caches.{block_count}
-use Rattle.sn_text.specs.Script.{node_in, message_in, switch_in, said, parted, eviction_in, input_in, event_of, script_of}
+use Rattle.sn_text.specs.Script.{node_in, message_in, switch_in, event_said, parts_at_blank, eviction_in, input_in, event_of, script_of}
 use Rattle.sn_text.specs.Items.{most_items}
 use Rattle.text_lines.specs.Hex.{hex_byte, hex_word}
 use Rattle.sn_text.specs.Text.{event_text, switch_text, flag_text, read_text, record_text, script_line, trace_line}
@@ -70,15 +70,15 @@ input-back nodes n byte few fits l =
 pub event-back : (nodes : ℕ) (event : Event) → nodes ≤ 16 → event_fits nodes event ≡ true → HasNumbers event →
     event_of nodes (event_text event) ≡ Ok event
 unfolding event_of
-event-back nodes (Step n) few fits numbers = ap (said Step) (node-back nodes n few fits)
+event-back nodes (Step n) few fits numbers = ap (event_said Step) (node-back nodes n few fits)
 event-back nodes (Evict n block) few fits numbers =
     ap (eviction_in nodes) (append_assoc (decimal n) (32 ∷ []) (decimal block)) ∙ eviction-back nodes n block few fits numbers
-event-back nodes (Edge n) few fits numbers = ap (said Edge) (node-back nodes n few fits)
-event-back nodes (Hop id) few fits numbers = ap (said Hop) (message-back id numbers)
-event-back nodes (Deliver id) few fits numbers = ap (said Deliver) (message-back id numbers)
-event-back nodes (Lose id) few fits numbers = ap (said Lose) (message-back id numbers)
-event-back nodes (Kill switch) few fits numbers = ap (said Kill) (switch-back nodes switch few fits)
-event-back nodes (Report n) few fits numbers = ap (said Report) (node-back nodes n few fits)
+event-back nodes (Edge n) few fits numbers = ap (event_said Edge) (node-back nodes n few fits)
+event-back nodes (Hop id) few fits numbers = ap (event_said Hop) (message-back id numbers)
+event-back nodes (Deliver id) few fits numbers = ap (event_said Deliver) (message-back id numbers)
+event-back nodes (Lose id) few fits numbers = ap (event_said Lose) (message-back id numbers)
+event-back nodes (Kill switch) few fits numbers = ap (event_said Kill) (switch-back nodes switch few fits)
+event-back nodes (Report n) few fits numbers = ap (event_said Report) (node-back nodes n few fits)
 event-back nodes Validate few fits numbers = refl
 event-back nodes Recover few fits numbers = refl
 event-back nodes (Input n byte) few fits numbers =
@@ -146,7 +146,7 @@ text-is : (taken : Record) → record_text taken ≡ record_words taken.core tak
 text-is taken = joined (decimal taken.core) (hex_word taken.seen) (flag_text taken.sc_done) (read_text taken.read) (32 ∷ [])
 
 last-back : (nodes : ℕ) (core seen : Option ℕ) (sc_done : Bool) (read : Option ℕ) → IfSome read (λ byte. byte < 256) →
-    with_last nodes core seen (last_words sc_done read) (parted (last_words sc_done read))
+    with_last nodes core seen (last_words sc_done read) (parts_at_blank (last_words sc_done read))
     ≡ record_by nodes core seen (Some sc_done) (Some read)
 last-back nodes core seen true None l = refl
 last-back nodes core seen false None l = refl

@@ -7,10 +7,11 @@ use Rattle.sn_text.specs.declared.cause.ScriptCause.{ScriptCause}
 use Rattle.sn_text.specs.declared.cause.ScriptCause.TheVariants.{BadLine, OutOfRange, TooMany}
 use Rattle.sn_text.specs.declared.cause.ScriptFault.{ScriptFault}
 use Rattle.sn_text.specs.declared.cause.ScriptFault.TheVariants.{Refused, Memory}
+use Rattle.sn_base.specs.declared.limits.TheConstants.{EVENTS}
 
 -- the most items that a text may have
 abbrev pub most_items : ℕ
-most_items = 1000000
+most_items = EVENTS
 
 abbrev pub is_skipped : List ℕ → Bool
 is_skipped [] = true
@@ -22,14 +23,14 @@ cause_at line NotOfForm = BadLine line
 cause_at line NotThere = OutOfRange line
 
 -- these items, and then the others
-abbrev pub followed : {A : Type 0} → List A → Result (List A) ScriptCause → Result (List A) ScriptCause
-followed items (Ok others) = Ok (items ++ others)
-followed items (Err cause) = Err cause
+abbrev pub items_and : {A : Type 0} → List A → Result (List A) ScriptCause → Result (List A) ScriptCause
+items_and items (Ok others) = Ok (items ++ others)
+items_and items (Err cause) = Err cause
 
 -- what a line says, after so many items, and then the others
 abbrev pub with_item : {A : Type 0} → ℕ → ℕ → Result A Fault → Result (List A) ScriptCause → Result (List A) ScriptCause
 with_item line count (Err fault) others = Err (cause_at line fault)
-with_item line count (Ok item) others = if nat_le most_items count then Err TooMany else followed (item ∷ []) others
+with_item line count (Ok item) others = if nat_le most_items count then Err TooMany else items_and (item ∷ []) others
 
 -- the items of these lines, of which the first has this number and comes after so many items
 unfoldable pub items_from : {A : Type 0} → (List ℕ → Result A Fault) → ℕ → ℕ → List (List ℕ) → Result (List A) ScriptCause

@@ -40,17 +40,17 @@ switch_in nodes (letter ∷ text) =
     else Err NotOfForm
 
 -- the event of a number that is good
-abbrev pub said : (ℕ → Event) → Result ℕ Fault → Result Event Fault
-said event_with (Ok number) = Ok (event_with number)
-said event_with (Err fault) = Err fault
+abbrev pub event_said : (ℕ → Event) → Result ℕ Fault → Result Event Fault
+event_said event_with (Ok number) = Ok (event_with number)
+event_said event_with (Err fault) = Err fault
 
 -- two words with one blank between them: what stands before the first blank, and what stands after it
 abbrev pub parted_at : List ℕ → Option ℕ → Option (List ℕ × List ℕ)
 parted_at text None = None
 parted_at text (Some place) = Some (take place text, drop (place + 1) text)
 
-abbrev pub parted : List ℕ → Option (List ℕ × List ℕ)
-parted text = parted_at text (position (λ byte. nat_eq byte 32) text)
+abbrev pub parts_at_blank : List ℕ → Option (List ℕ × List ℕ)
+parts_at_blank text = parted_at text (position (λ byte. nat_eq byte 32) text)
 
 -- a node and a block of memory
 abbrev pub evicted_at : ℕ → Option ℕ → Option ℕ → Result Event Fault
@@ -63,7 +63,7 @@ eviction_by nodes None = Err NotOfForm
 eviction_by nodes (Some words) = evicted_at nodes (number_of words.0) (number_of words.1)
 
 abbrev pub eviction_in : ℕ → List ℕ → Result Event Fault
-eviction_in nodes text = eviction_by nodes (parted text)
+eviction_in nodes text = eviction_by nodes (parts_at_blank text)
 
 -- the value of a lower-case hexadecimal digit
 abbrev pub hex_value : ℕ → Option ℕ
@@ -92,7 +92,7 @@ input_by nodes None = Err NotOfForm
 input_by nodes (Some words) = given_to nodes (number_of words.0) (byte_of words.1)
 
 abbrev pub input_in : ℕ → List ℕ → Result Event Fault
-input_in nodes text = input_by nodes (parted text)
+input_in nodes text = input_by nodes (parts_at_blank text)
 
 -- whether a line begins with a word, and what stands after it
 abbrev pub begins : List ℕ → List ℕ → Bool
@@ -106,13 +106,13 @@ unfoldable pub event_of : ℕ → List ℕ → Result Event Fault
 event_of nodes line =
     if bytes_eq line (codes "validate") then Ok Validate
     else if bytes_eq line (codes "recover") then Ok Recover
-    else if begins (codes "step ") line then said Step (node_in nodes (after (codes "step ") line))
-    else if begins (codes "edge ") line then said Edge (node_in nodes (after (codes "edge ") line))
-    else if begins (codes "report ") line then said Report (node_in nodes (after (codes "report ") line))
-    else if begins (codes "hop ") line then said Hop (message_in (after (codes "hop ") line))
-    else if begins (codes "deliver ") line then said Deliver (message_in (after (codes "deliver ") line))
-    else if begins (codes "lose ") line then said Lose (message_in (after (codes "lose ") line))
-    else if begins (codes "kill ") line then said Kill (switch_in nodes (after (codes "kill ") line))
+    else if begins (codes "step ") line then event_said Step (node_in nodes (after (codes "step ") line))
+    else if begins (codes "edge ") line then event_said Edge (node_in nodes (after (codes "edge ") line))
+    else if begins (codes "report ") line then event_said Report (node_in nodes (after (codes "report ") line))
+    else if begins (codes "hop ") line then event_said Hop (message_in (after (codes "hop ") line))
+    else if begins (codes "deliver ") line then event_said Deliver (message_in (after (codes "deliver ") line))
+    else if begins (codes "lose ") line then event_said Lose (message_in (after (codes "lose ") line))
+    else if begins (codes "kill ") line then event_said Kill (switch_in nodes (after (codes "kill ") line))
     else if begins (codes "evict ") line then eviction_in nodes (after (codes "evict ") line)
     else if begins (codes "input ") line then input_in nodes (after (codes "input ") line)
     else Err NotOfForm

@@ -4,7 +4,7 @@ use Rattle.std.specs.Prelude.{Option, Some, None, option_map, Result, Ok, Err}
 use Rattle.rv_core.specs.declared.step.Record.{Record}
 use Rattle.sn_text.specs.Digits.{number_of}
 use Rattle.sn_text.specs.Items.{items_of}
-use Rattle.sn_text.specs.Script.{parted, byte_of}
+use Rattle.sn_text.specs.Script.{parts_at_blank, byte_of}
 use Rattle.sn_text.specs.declared.cause.Fault.{Fault}
 use Rattle.sn_text.specs.declared.cause.Fault.TheVariants.{NotOfForm, NotThere}
 use Rattle.sn_text.specs.declared.cause.ScriptCause.{ScriptCause}
@@ -39,15 +39,15 @@ with_last nodes core seen text (Some words) = record_by nodes core seen (flag_of
 -- the words after the core
 abbrev pub with_seen : ℕ → Option ℕ → Option (List ℕ × List ℕ) → Result Record Fault
 with_seen nodes core None = Err NotOfForm
-with_seen nodes core (Some words) = with_last nodes core (word_of words.0) words.1 (parted words.1)
+with_seen nodes core (Some words) = with_last nodes core (word_of words.0) words.1 (parts_at_blank words.1)
 
 abbrev pub with_core : ℕ → Option (List ℕ × List ℕ) → Result Record Fault
 with_core nodes None = Err NotOfForm
-with_core nodes (Some words) = with_seen nodes (number_of words.0) (parted words.1)
+with_core nodes (Some words) = with_seen nodes (number_of words.0) (parts_at_blank words.1)
 
 -- the record that a line says, in a machine of so many nodes
 unfoldable pub record_of : ℕ → List ℕ → Result Record Fault
-record_of nodes line = with_core nodes (parted line)
+record_of nodes line = with_core nodes (parts_at_blank line)
 
 -- the records of a trace, or the first cause for which it is refused
 abbrev pub trace_of : ℕ → List ℕ → Result (List Record) ScriptCause

@@ -4,13 +4,14 @@ ghost use Rattle.sn_base.specs.Events.{event_fits};
 ghost use Rattle.sn_text.specs.Script.{event_of};
 ghost use Rattle.sn_text.specs.Written.{HasNumbers};
 ghost use Rattle.sn_text.specs.Text.{named_number, switch_text, event_text, answer_text, event_line, script_line};
+ghost use Rattle.sn_text.specs.declared.line.TheConstants.{LINE_ROOM};
 
 use crate::line::Line;
 use sn_base::{Answer, Event, NodeId, SwitchId};
 
 impl Line {
     fn named_node(&mut self, name: &str, node: NodeId)
-        requires { length self.old + length name.now + 21 ≤ 8192 }
+        requires { length self.old + length name.now + 21 ≤ LINE_ROOM }
         ensures text { self.new ≡ self.old ++ named_number name.now node }
         ensures short { length self.new ≤ length self.old + length name.now + 21 }
     {
@@ -18,7 +19,7 @@ impl Line {
     }
 
     fn switch(&mut self, switch: SwitchId)
-        requires { length self.old + 21 ≤ 8192 }
+        requires { length self.old + 21 ≤ LINE_ROOM }
         ensures text { self.new ≡ self.old ++ switch_text switch }
         ensures short { length self.new ≤ length self.old + 21 }
     {
@@ -28,7 +29,7 @@ impl Line {
     }
 
     fn the_event(&mut self, event: &Event)
-        requires { length self.old + 60 ≤ 8192 }
+        requires { length self.old + 60 ≤ LINE_ROOM }
         ensures text { self.new ≡ self.old ++ event_text event.now }
         ensures short { length self.new ≤ length self.old + 60 }
         ensures numbers { HasNumbers event.now }
@@ -60,7 +61,7 @@ impl Line {
     }
 
     fn the_answer(&mut self, answer: &Answer)
-        requires { length self.old + 100 ≤ 8192 }
+        requires { length self.old + 100 ≤ LINE_ROOM }
         ensures text { self.new ≡ self.old ++ answer_text answer.now }
         ensures short { length self.new ≤ length self.old + 100 }
     {
@@ -110,7 +111,7 @@ impl Line {
     /// The line of an event: its place from 1, the event as a script has it, and its answer.
     #[tactic(auto, unfolding(crate::specs::Text::event_line))]
     pub fn event(&mut self, place: u64, event: &Event, answer: &Answer)
-        requires { length self.old + 192 ≤ 8192 }
+        requires { length self.old + 192 ≤ LINE_ROOM }
         ensures text { self.new ≡ self.old ++ event_line place event.now answer.now }
         ensures short { length self.new ≤ length self.old + 192 }
     {
@@ -125,7 +126,7 @@ impl Line {
     /// An event as a line of a script. The line, without its end, is read back as the event.
     #[tactic(auto, unfolding(crate::specs::Text::script_line))]
     pub fn script(&mut self, event: &Event)
-        requires { length self.old + 64 ≤ 8192 }
+        requires { length self.old + 64 ≤ LINE_ROOM }
         ensures text { self.new ≡ self.old ++ script_line event.now }
         ensures short { length self.new ≤ length self.old + 64 }
         ensures numbers { HasNumbers event.now }

@@ -1,13 +1,15 @@
 //! Reads texts in which each line says one item.
 ghost use Rattle.std.specs.Prelude.{◌≡◌, ℕ, ◌+◌, ◌<◌, ◌≤◌, ◌^◌, ◌++◌, [], ◌∷◌, List, All, IfOk, IfErr, OnOk, Ok, length, vec_len};
-ghost use Rattle.sn_text.specs.Items.{is_skipped, cause_at, followed, items_from, items_of, IsRefusedAs};
+ghost use Rattle.sn_text.specs.Items.{is_skipped, cause_at, items_and, items_from, items_of, IsRefusedAs};
+ghost use Rattle.sn_base.specs.declared.limits.TheConstants.{EVENTS};
 
 use crate::cause::{Fault, ScriptCause, ScriptFault};
+use sn_base::EVENTS;
 use std::alloc::Global;
 use text_lines::lines_of;
 
 /// The most items that a text may have.
-const MOST_ITEMS: usize = 1_000_000;
+const MOST_ITEMS: usize = EVENTS as usize;
 
 /// A form of text: what one of its lines says.
 pub trait Form {
@@ -52,13 +54,13 @@ fn add_line<F: Form>(
 ) -> Result<(), ScriptFault>
     ensures ok { OnOk result
         ((lines : List (List ℕ)) →
-        followed items.old.items (items_from (F.item_of form.now) number (length items.old.items) (line.now ∷ lines))
-        ≡ followed items.new.items (items_from (F.item_of form.now) (number + 1) (length items.new.items) lines)) }
+        items_and items.old.items (items_from (F.item_of form.now) number (length items.old.items) (line.now ∷ lines))
+        ≡ items_and items.new.items (items_from (F.item_of form.now) (number + 1) (length items.new.items) lines)) }
     ensures good { OnOk result (All (F.good form.now) items.old.items → All (F.good form.now) items.new.items) }
-    ensures few { OnOk result (length items.old.items ≤ 1000000 → length items.new.items ≤ 1000000) }
+    ensures few { OnOk result (length items.old.items ≤ EVENTS → length items.new.items ≤ EVENTS) }
     ensures refused { IfErr result
         (λ fault. (lines : List (List ℕ)) →
-        IsRefusedAs (followed items.old.items (items_from (F.item_of form.now) number (length items.old.items) (line.now ∷ lines))) fault) }
+        IsRefusedAs (items_and items.old.items (items_from (F.item_of form.now) number (length items.old.items) (line.now ∷ lines))) fault) }
 {
     if is_skipped(line) {
         return Ok(());
@@ -79,7 +81,7 @@ pub fn read_items<F: Form>(
     requires { length bytes.now < 2 ^ 62 }
     ensures ok { IfOk result (λ items. items_of (F.item_of form.now) bytes.now ≡ Ok items.items) }
     ensures good { IfOk result (λ items. All (F.good form.now) items.items) }
-    ensures few { IfOk result (λ items. length items.items ≤ 1000000) }
+    ensures few { IfOk result (λ items. length items.items ≤ EVENTS) }
     ensures refused { IfErr result (IsRefusedAs (items_of (F.item_of form.now) bytes.now)) }
 {
     let mut items = Vec::new(alloc);

@@ -21,7 +21,7 @@ mod trace_text;
 pub use cause::{Fault, ScriptCause, ScriptFault};
 pub use items::{Form, read_items};
 pub use laws::{scripts_are_read_back, traces_are_read_back};
-pub use line::Line;
+pub use line::{LINE_ROOM, Line};
 pub use operands::{message_in, node_in};
 pub use script::{read_script, rest_after};
 pub use state_text::trap_name;

@@ -2,6 +2,7 @@
 ghost use Rattle.std.specs.Prelude.{◌≡◌, ℕ, ◌+◌, ◌<◌, ◌≤◌, ◌^◌, ◌++◌, [], length, decimal, codes, IfOk};
 ghost use Rattle.text_lines.specs.Hex.{hex_byte, hex_word};
 ghost use Rattle.sn_text.specs.Text.{named_number, count_line, watch_line, probe_line};
+ghost use Rattle.sn_text.specs.declared.line.TheConstants.{LINE_ROOM};
 
 use itoa::Buffer;
 use sn_base::Memory;
@@ -10,7 +11,7 @@ use std::marker::Model;
 use text_lines::{hex_byte, hex_word};
 
 /// The bytes that a line has room for: enough for the group of any one event, a recovery of 16 nodes among them.
-const ROOM: usize = 8192;
+pub const LINE_ROOM: usize = 8_192;
 
 /// A text as it is written, of one event's group at most. It has all its room from the start and takes no memory after `new`.
 /// Contracts see the bytes.
@@ -21,19 +22,20 @@ pub struct Line {
 
 impl Model for Line {
     ghost use Rattle.std.specs.Prelude.{ℕ, List, ◌≤◌, vec_capacity};
+    ghost use Rattle.sn_text.specs.declared.line.TheConstants.{LINE_ROOM};
 
     ghost Value = { List ℕ };
 
     ghost view = { λ l. l.text.items };
 
-    ghost invariant = { λ l. 8192 ≤ vec_capacity l.text };
+    ghost invariant = { λ l. LINE_ROOM ≤ vec_capacity l.text };
 }
 
 impl Line {
     pub fn new(alloc: Global) -> Result<Line, Memory>
         ensures { IfOk result (λ line. line ≡ []) }
     {
-        let text = Vec::with_capacity(alloc, ROOM)?;
+        let text = Vec::with_capacity(alloc, LINE_ROOM)?;
         Ok(Line { text })
     }
 
@@ -51,7 +53,7 @@ impl Line {
 
     /// A text as it is.
     pub fn text(&mut self, text: &str)
-        requires { length self.old + length text.now ≤ 8192 }
+        requires { length self.old + length text.now ≤ LINE_ROOM }
         ensures { self.new ≡ self.old ++ text.now }
     {
         self.text.extend_from_slice(text.as_bytes()).unwrap();
@@ -60,7 +62,7 @@ impl Line {
     /// A number. The clause `number` here, and its like in the calls below, says what the type does, so that the layer above
     /// knows in its clauses that what it writes is read back.
     pub fn number(&mut self, number: u64)
-        requires { length self.old + 20 ≤ 8192 }
+        requires { length self.old + 20 ≤ LINE_ROOM }
         ensures text { self.new ≡ self.old ++ decimal number }
         ensures short { length self.new ≤ length self.old + 20 }
         ensures number { number < 2 ^ 64 }
@@ -71,7 +73,7 @@ impl Line {
 
     /// A name, a blank and a number.
     pub fn named(&mut self, name: &str, number: u64)
-        requires { length self.old + length name.now + 21 ≤ 8192 }
+        requires { length self.old + length name.now + 21 ≤ LINE_ROOM }
         ensures text { self.new ≡ self.old ++ named_number name.now number }
         ensures short { length self.new ≤ length self.old + length name.now + 21 }
         ensures number { number < 2 ^ 64 }
@@ -83,7 +85,7 @@ impl Line {
 
     /// A number below 256, which has three digits at most.
     pub(crate) fn small(&mut self, number: u8)
-        requires { length self.old + 3 ≤ 8192 }
+        requires { length self.old + 3 ≤ LINE_ROOM }
         ensures text { self.new ≡ self.old ++ decimal number }
         ensures short { length self.new ≤ length self.old + 3 }
     {
@@ -93,7 +95,7 @@ impl Line {
 
     /// A name, a blank and such a number.
     pub(crate) fn named_small(&mut self, name: &str, number: u8)
-        requires { length self.old + length name.now + 4 ≤ 8192 }
+        requires { length self.old + length name.now + 4 ≤ LINE_ROOM }
         ensures text { self.new ≡ self.old ++ named_number name.now number }
         ensures short { length self.new ≤ length self.old + length name.now + 4 }
     {
@@ -105,7 +107,7 @@ impl Line {
     /// A byte as two hexadecimal digits.
     #[tactic(auto, unfolding(text_lines::specs::Hex::hex_byte))]
     pub(crate) fn byte(&mut self, byte: u8)
-        requires { length self.old + 2 ≤ 8192 }
+        requires { length self.old + 2 ≤ LINE_ROOM }
         ensures text { self.new ≡ self.old ++ hex_byte byte }
         ensures number { byte < 256 }
         ensures short { length self.new ≡ length self.old + 2 }
@@ -116,7 +118,7 @@ impl Line {
     /// A word as eight hexadecimal digits.
     #[tactic(auto, unfolding(text_lines::specs::Hex::hex_word))]
     pub(crate) fn word(&mut self, word: u32)
-        requires { length self.old + 8 ≤ 8192 }
+        requires { length self.old + 8 ≤ LINE_ROOM }
         ensures text { self.new ≡ self.old ++ hex_word word }
         ensures number { word < 2 ^ 32 }
         ensures short { length self.new ≡ length self.old + 8 }
@@ -127,7 +129,7 @@ impl Line {
     /// A line of a name and a number.
     #[tactic(auto, unfolding(crate::specs::Text::count_line))]
     pub fn count(&mut self, before: &str, name: &str, number: u64)
-        requires room { length self.old + 64 ≤ 8192 }
+        requires room { length self.old + 64 ≤ LINE_ROOM }
         requires before_short { length before.now ≤ 2 }
         requires name_short { length name.now ≤ 16 }
         ensures text { self.new ≡ self.old ++ count_line before.now name.now number }
@@ -141,7 +143,7 @@ impl Line {
     /// The line of a watched word and its address.
     #[tactic(auto, unfolding(crate::specs::Text::watch_line))]
     pub fn watch(&mut self, before: &str, address: u32, word: u32)
-        requires room { length self.old + 32 ≤ 8192 }
+        requires room { length self.old + 32 ≤ LINE_ROOM }
         requires before_short { length before.now ≤ 2 }
         ensures text { self.new ≡ self.old ++ watch_line before.now address word }
         ensures short { length self.new ≤ length self.old + 32 }
@@ -158,7 +160,7 @@ impl Line {
     /// number.
     #[tactic(auto, unfolding(crate::specs::Text::probe_line))]
     pub fn probe(&mut self, before: &str, probe: u64, place: u64, value: u64)
-        requires room { length self.old + 80 ≤ 8192 }
+        requires room { length self.old + 80 ≤ LINE_ROOM }
         requires before_short { length before.now ≤ 2 }
         ensures text { self.new ≡ self.old ++ probe_line before.now probe place value }
         ensures short { length self.new ≤ length self.old + 80 }

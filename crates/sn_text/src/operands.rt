@@ -4,7 +4,7 @@ ghost use Rattle.std.specs.Prelude.{length, true};
 ghost use Rattle.std.specs.List.{position};
 ghost use Rattle.sn_base.specs.Events.{event_fits};
 ghost use Rattle.sn_model.specs.Caches.{block_count};
-ghost use Rattle.sn_text.specs.Script.{node_in, message_in, switch_in, parted, evicted_at, eviction_in, hex_value, byte_of, given_to};
+ghost use Rattle.sn_text.specs.Script.{node_in, message_in, switch_in, parts_at_blank, evicted_at, eviction_in, hex_value, byte_of, given_to};
 ghost use Rattle.sn_text.specs.Script.{input_in};
 
 use crate::cause::Fault;
@@ -63,7 +63,7 @@ fn first_blank(text: &[u8]) -> Option<usize>
 
 /// What stands before the first blank, and what stands after it.
 pub(crate) fn parted(text: &[u8]) -> Option<(&[u8], &[u8])>
-    ensures { MatchOption result (parted text.now ≡ None) (λ words. parted text.now ≡ Some (words.0.now, words.1.now)) }
+    ensures { MatchOption result (parts_at_blank text.now ≡ None) (λ words. parts_at_blank text.now ≡ Some (words.0.now, words.1.now)) }
 {
     let blank = first_blank(text)?;
     Some((&text[..blank], &text[blank + 1..]))

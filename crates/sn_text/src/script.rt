@@ -3,6 +3,7 @@ ghost use Rattle.std.specs.Prelude.{◌≡◌, ◌<◌, ◌≤◌, ◌^◌, true
 ghost use Rattle.sn_base.specs.Events.{event_fits};
 ghost use Rattle.sn_text.specs.Script.{begins, after, event_of, script_of};
 ghost use Rattle.sn_text.specs.Items.{IsRefusedAs};
+ghost use Rattle.sn_base.specs.declared.limits.TheConstants.{EVENTS};
 
 use crate::cause::{Fault, ScriptFault};
 use crate::items::{Form, read_items};
@@ -93,7 +94,7 @@ pub fn read_script(alloc: Global, bytes: &[u8], nodes: u8) -> Result<Vec<Event>,
     requires length { length bytes.now < 2 ^ 62 }
     ensures ok { IfOk result (λ events. script_of nodes bytes.now ≡ Ok events.items) }
     ensures fit { IfOk result (λ events. All (λ event. event_fits nodes event ≡ true) events.items) }
-    ensures few { IfOk result (λ events. length events.items ≤ 1000000) }
+    ensures few { IfOk result (λ events. length events.items ≤ EVENTS) }
     ensures refused { IfErr result (IsRefusedAs (script_of nodes bytes.now)) }
 {
     read_items(alloc, &ScriptForm { nodes }, bytes)

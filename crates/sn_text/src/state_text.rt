@@ -2,6 +2,7 @@
 ghost use Rattle.std.specs.Prelude.{◌≡◌, ◌+◌, ◌*◌, ◌≤◌, ◌++◌, [], length, drop, codes, if◌then◌else◌};
 ghost use Rattle.sn_text.specs.Text.{body_name, body_place, body_fields, message_head, message_route, lost_mark, sent_line, sent_lines};
 ghost use Rattle.sn_text.specs.Text.{cause_text, end_text, register_text, registers_text, core_head, core_line};
+ghost use Rattle.sn_text.specs.declared.line.TheConstants.{LINE_ROOM};
 
 use crate::line::Line;
 use rv_core::{Cause, CoreState, End};
@@ -80,7 +81,7 @@ fn after_zero(core: &CoreState) -> &[u32]
 
 impl Line {
     fn fields(&mut self, body: &Body)
-        requires { length self.old + 60 ≤ 8192 }
+        requires { length self.old + 60 ≤ LINE_ROOM }
         ensures text { self.new ≡ self.old ++ body_fields body.now }
         ensures short { length self.new ≤ length self.old + 60 }
     {
@@ -100,7 +101,7 @@ impl Line {
     }
 
     fn message_head(&mut self, message: &Message)
-        requires { length self.old + 64 ≤ 8192 }
+        requires { length self.old + 64 ≤ LINE_ROOM }
         ensures text { self.new ≡ self.old ++ message_head message.now }
         ensures short { length self.new ≤ length self.old + 64 }
     {
@@ -110,7 +111,7 @@ impl Line {
     }
 
     fn message_route(&mut self, message: &Message)
-        requires { length self.old + 84 ≤ 8192 }
+        requires { length self.old + 84 ≤ LINE_ROOM }
         ensures text { self.new ≡ self.old ++ message_route message.now }
         ensures short { length self.new ≤ length self.old + 84 }
     {
@@ -123,7 +124,7 @@ impl Line {
     /// The line of a message that an event sent.
     #[tactic(auto, unfolding(crate::specs::Text::sent_line))]
     pub fn sent(&mut self, sent: &Sent)
-        requires { length self.old + 256 ≤ 8192 }
+        requires { length self.old + 256 ≤ LINE_ROOM }
         ensures text { self.new ≡ self.old ++ sent_line sent.now }
         ensures short { length self.new ≤ length self.old + 256 }
     {
@@ -137,7 +138,7 @@ impl Line {
     /// The lines of the messages that an event sent, at most 17.
     pub fn all_sent(&mut self, sent: &[Sent])
         requires few { length sent.now ≤ 17 }
-        requires room { length self.old + 4352 ≤ 8192 }
+        requires room { length self.old + 4352 ≤ LINE_ROOM }
         ensures text { self.new ≡ self.old ++ sent_lines sent.now }
         ensures short { length self.new ≤ length self.old + 4352 }
     {
@@ -147,7 +148,7 @@ impl Line {
     }
 
     fn end(&mut self, end: &End)
-        requires { length self.old + 30 ≤ 8192 }
+        requires { length self.old + 30 ≤ LINE_ROOM }
         ensures text { self.new ≡ self.old ++ end_text end.now }
         ensures short { length self.new ≤ length self.old + 30 }
     {
@@ -162,7 +163,7 @@ impl Line {
     }
 
     fn register(&mut self, number: u8, value: u32)
-        requires { length self.old + 14 ≤ 8192 }
+        requires { length self.old + 14 ≤ LINE_ROOM }
         ensures text { self.new ≡ self.old ++ register_text number value }
         ensures short { length self.new ≤ length self.old + 14 }
     {
@@ -174,7 +175,7 @@ impl Line {
 
     fn registers(&mut self, values: &[u32])
         requires few { length values.now ≤ 31 }
-        requires room { length self.old + 434 ≤ 8192 }
+        requires room { length self.old + 434 ≤ LINE_ROOM }
         ensures text { self.new ≡ self.old ++ registers_text 1 values.now }
         ensures short { length self.new ≤ length self.old + 434 }
     {
@@ -186,7 +187,7 @@ impl Line {
     }
 
     fn core_head(&mut self, before: &str, node: NodeId, pc: u32)
-        requires room { length self.old + 19 ≤ 8192 }
+        requires room { length self.old + 19 ≤ LINE_ROOM }
         requires before_short { length before.now ≤ 2 }
         ensures text { self.new ≡ self.old ++ core_head before.now node pc }
         ensures short { length self.new ≤ length self.old + 19 }
@@ -200,7 +201,7 @@ impl Line {
     /// The line of a core: its program counter, its end and the registers that aren't 0.
     #[tactic(auto, unfolding(crate::specs::Text::core_line))]
     pub fn core(&mut self, before: &str, node: NodeId, core: &CoreState)
-        requires room { length self.old + 488 ≤ 8192 }
+        requires room { length self.old + 488 ≤ LINE_ROOM }
         requires before_short { length before.now ≤ 2 }
         ensures text { self.new ≡ self.old ++ core_line before.now node core.now }
         ensures short { length self.new ≤ length self.old + 488 }

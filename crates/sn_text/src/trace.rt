@@ -2,6 +2,7 @@
 ghost use Rattle.std.specs.Prelude.{◌≡◌, ◌<◌, ◌≤◌, ◌^◌, All, IfOk, IfErr, MatchOption, Some, None, length, Ok};
 ghost use Rattle.sn_text.specs.Items.{IsRefusedAs};
 ghost use Rattle.sn_text.specs.Trace.{word_of, flag_of, record_by, record_of, trace_of};
+ghost use Rattle.sn_base.specs.declared.limits.TheConstants.{EVENTS};
 
 use crate::cause::{Fault, ScriptFault};
 use crate::items::{Form, read_items};
@@ -126,7 +127,7 @@ pub fn read_trace(alloc: Global, bytes: &[u8], nodes: u8) -> Result<Vec<Record>,
     requires length { length bytes.now < 2 ^ 62 }
     ensures ok { IfOk result (λ records. trace_of nodes bytes.now ≡ Ok records.items) }
     ensures fit { IfOk result (λ records. All (λ taken. taken.core < nodes) records.items) }
-    ensures few { IfOk result (λ records. length records.items ≤ 1000000) }
+    ensures few { IfOk result (λ records. length records.items ≤ EVENTS) }
     ensures refused { IfErr result (IsRefusedAs (trace_of nodes bytes.now)) }
 {
     read_items(alloc, &TraceForm { nodes }, bytes)

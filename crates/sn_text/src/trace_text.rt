@@ -3,6 +3,7 @@ ghost use Rattle.std.specs.Prelude.{◌≡◌, ℕ, ◌+◌, ◌<◌, ◌≤◌,
 ghost use Rattle.sn_text.specs.Trace.{record_of};
 ghost use Rattle.sn_text.specs.Text.{flag_text, read_text, record_text, trace_line};
 ghost use Rattle.sn_text.specs.Written.{HasValues};
+ghost use Rattle.sn_text.specs.declared.line.TheConstants.{LINE_ROOM};
 
 use crate::line::Line;
 use rv_core::Record;
@@ -16,7 +17,7 @@ fn flag_of(sc_done: bool) -> &'static str
 
 impl Line {
     fn byte_read(&mut self, read: Option<u8>)
-        requires { length self.old + 3 ≤ 8192 }
+        requires { length self.old + 3 ≤ LINE_ROOM }
         ensures text { self.new ≡ self.old ++ read_text read }
         ensures number { IfSome read (λ byte. byte < 256) }
         ensures short { length self.new ≤ length self.old + 3 }
@@ -28,7 +29,7 @@ impl Line {
     }
 
     fn record(&mut self, taken: &Record)
-        requires { length self.old + 17 ≤ 8192 }
+        requires { length self.old + 17 ≤ LINE_ROOM }
         ensures text { self.new ≡ self.old ++ record_text taken.now }
         ensures short { length self.new ≤ length self.old + 17 }
         ensures values { HasValues taken.now }
@@ -45,7 +46,7 @@ impl Line {
     /// input that it read, if any. The line, without its end, is read back as the record.
     #[tactic(auto, unfolding(crate::specs::Text::trace_line))]
     pub fn trace(&mut self, taken: &Record)
-        requires { length self.old + 18 ≤ 8192 }
+        requires { length self.old + 18 ≤ LINE_ROOM }
         ensures text { self.new ≡ self.old ++ trace_line taken.now }
         ensures short { length self.new ≤ length self.old + 18 }
         ensures values { HasValues taken.now }

@@ -18,15 +18,15 @@ pub record Follows (published : List SnapData) (k : Knowledge) : Type 0 where
   pub leads : k.leads ≡ true → k.seen ≡ published
 
 -- there is a published list: its points strictly grow; what is shown is its last snapshot, and before anything was published it is
--- empty and nobody leads; what each seat has seen is a beginning of it; and one leads at most
-pub record Keeps (x : Shown) (seats : List Knowledge) : Type 0 where
+-- empty and nobody leads; what each unit has seen is a beginning of it; and one leads at most
+pub record Keeps (x : Shown) (units : List Knowledge) : Type 0 where
   pub published : List SnapData
   pub rises : Rises published
   pub shows : x.live ≡ true → EndsIn published x.snap
   pub empty : x.live ≡ false → published ≡ []
-  pub unled : x.live ≡ false → (seat : ℕ) (k : Knowledge) → get_elem? seats seat ≡ some k → k.leads ≡ false
-  pub each : (seat : ℕ) (k : Knowledge) → get_elem? seats seat ≡ some k → Follows published k
-  pub one : (a b : ℕ) (k l : Knowledge) → get_elem? seats a ≡ some k → get_elem? seats b ≡ some l → k.leads ≡ true → l.leads ≡ true → a ≡ b
+  pub unled : x.live ≡ false → (unit : ℕ) (k : Knowledge) → get_elem? units unit ≡ some k → k.leads ≡ false
+  pub each : (unit : ℕ) (k : Knowledge) → get_elem? units unit ≡ some k → Follows published k
+  pub one : (a b : ℕ) (k l : Knowledge) → get_elem? units a ≡ some k → get_elem? units b ≡ some l → k.leads ≡ true → l.leads ≡ true → a ≡ b
 
 -- a look: what is seen then begins with what was seen, its points strictly grow, and it ends in what is shown, where anything was
 -- seen before
@@ -48,9 +48,9 @@ pub record MayPublish (before : Knowledge) (was is : Shown) : Type 0 where
   pub rises : Rises (before.seen ++ is.snap ∷ [])
 
 -- what the writer tells: all that it has seen
-abbrev pub told : Knowledge → Knowledge
-told k = record { seen = k.seen; leads = false }
+abbrev pub knowledge_told : Knowledge → Knowledge
+knowledge_told k = record { seen = k.seen; leads = false }
 
 -- one who hears it has seen that
-abbrev pub heard : Knowledge → Knowledge → Knowledge
-heard k note = record { seen = note.seen; leads = k.leads }
+abbrev pub knowledge_after : Knowledge → Knowledge → Knowledge
+knowledge_after k note = record { seen = note.seen; leads = k.leads }

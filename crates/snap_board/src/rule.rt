@@ -81,20 +81,20 @@ impl Outcome<Shown, Knowledge> for Publishes {
 pub(crate) struct Tells;
 
 impl Split<Knowledge> for Tells {
-    ghost use Rattle.snap_board.specs.Keeps.{told};
+    ghost use Rattle.snap_board.specs.Keeps.{knowledge_told};
 
     ghost left = { λ k. k };
 
-    ghost right = { told };
+    ghost right = { knowledge_told };
 }
 
 /// What a watcher makes of what it hears.
 pub(crate) struct Hears;
 
 impl Join<Knowledge> for Hears {
-    ghost use Rattle.snap_board.specs.Keeps.{heard, newcomer};
+    ghost use Rattle.snap_board.specs.Keeps.{knowledge_after, newcomer};
 
-    ghost both = { heard };
+    ghost both = { knowledge_after };
 
     ghost spent = { newcomer };
 }

@@ -9,7 +9,7 @@ use Rattle.std.proofs.lemmas.List.{map_push}
 use Rattle.std.proofs.lemmas.List.Folds.{find-append}
 use Rattle.indexmap.specs.IndexMap.{insert_entry}
 use Rattle.switch_net.specs.declared.flight.Flight.{Flight}
-use Rattle.switch_net.specs.Net.{find_flight, without, moved, outside}
+use Rattle.switch_net.specs.Net.{find_flight, without, flights_with_move, outside}
 use Rattle.switch_net.specs.InFlight.{IsKeyed}
 use Rattle.switch_net.proofs.Nets.{without-none}
 
@@ -74,21 +74,21 @@ IsKeyed-insert id f (e ∷ es) i h =
 
 moved_step : (id at : ℕ) (e : ℕ × Flight) (f : Flight) (es rest : List (ℕ × Flight)) (b : Bool) → eqb id e.0 ≡ b → OwnNumber e →
     cond b (Some e.1) (lookup (eqb id) es) ≡ Some f →
-    (lookup (eqb id) es ≡ Some f → values_of rest ≡ moved (values_of es) id at) →
-    values_of (cond b ((e.0, record f { at = at }) ∷ es) (e ∷ rest)) ≡ moved (values_of (e ∷ es)) id at
+    (lookup (eqb id) es ≡ Some f → values_of rest ≡ flights_with_move (values_of es) id at) →
+    values_of (cond b ((e.0, record f { at = at }) ∷ es) (e ∷ rest)) ≡ flights_with_move (values_of (e ∷ es)) id at
 moved_step id at e f es rest true q h k r =
     ap (λ (g : Flight). record g { at = at } ∷ values_of es) (same f e.1 k)
-    ∙ sym (ap (λ b. cond b (record e.1 { at = at } ∷ values_of es) (e.1 ∷ moved (values_of es) id at)) (own_number id e true q h))
+    ∙ sym (ap (λ b. cond b (record e.1 { at = at } ∷ values_of es) (e.1 ∷ flights_with_move (values_of es) id at)) (own_number id e true q h))
   where
     same : (f g : Flight) → ◌≡◌ {A = Option Flight} (Some g) (Some f) → f ≡ g
     same f g k = cc
 moved_step id at e f es rest false q h k r =
     ap (λ fs. e.1 ∷ fs) (r k)
-    ∙ sym (ap (λ b. cond b (record e.1 { at = at } ∷ values_of es) (e.1 ∷ moved (values_of es) id at)) (own_number id e false q h))
+    ∙ sym (ap (λ b. cond b (record e.1 { at = at } ∷ values_of es) (e.1 ∷ flights_with_move (values_of es) id at)) (own_number id e false q h))
 
 -- a message that is there is put into another switch
 pub moved-keyed : (id at : ℕ) (f : Flight) (es : List (ℕ × Flight)) → IsKeyed es → lookup (eqb id) es ≡ Some f →
-    values_of (insert_entry eqb es id (record f { at = at })) ≡ moved (values_of es) id at
+    values_of (insert_entry eqb es id (record f { at = at })) ≡ flights_with_move (values_of es) id at
 moved-keyed id at f [] h k = absurd (none_some f k)
   where
     none_some : (f : Flight) → ◌≡◌ {A = Option Flight} None (Some f) → ⊥
@@ -105,13 +105,13 @@ found_step false at g f xs ys rest xs' o h k = ap (λ fs. f ∷ fs) (k h)
 
 -- a message of the first list
 pub moved-append_found : (id at : ℕ) (g : Flight) (xs ys : List Flight) → find_flight xs id ≡ Some g →
-    moved (xs ++ ys) id at ≡ moved xs id at ++ ys
+    flights_with_move (xs ++ ys) id at ≡ flights_with_move xs id at ++ ys
 moved-append_found id at g [] ys h = absurd (none_some g h)
   where
     none_some : (f : Flight) → ◌≡◌ {A = Option Flight} None (Some f) → ⊥
     none_some f k = cc
 moved-append_found id at g (f ∷ xs) ys h =
-    found_step (eqb f.message.id id) at g f xs ys (moved (xs ++ ys) id at) (moved xs id at) (find_flight xs id) h
+    found_step (eqb f.message.id id) at g f xs ys (flights_with_move (xs ++ ys) id at) (flights_with_move xs id at) (find_flight xs id) h
     (moved-append_found id at g xs ys)
 
 absent_step : (b : Bool) (at : ℕ) (f : Flight) (xs ys rest ys' : List Flight) (o : Option Flight) → cond b (Some f) o ≡ None →
@@ -124,10 +124,10 @@ absent_step true at f xs ys rest ys' o h k = absurd (some_none f h)
 absent_step false at f xs ys rest ys' o h k = ap (λ fs. f ∷ fs) (k h)
 
 -- or none of it
-pub moved-append_absent : (id at : ℕ) (xs ys : List Flight) → find_flight xs id ≡ None → moved (xs ++ ys) id at ≡ xs ++ moved ys id at
+pub moved-append_absent : (id at : ℕ) (xs ys : List Flight) → find_flight xs id ≡ None → flights_with_move (xs ++ ys) id at ≡ xs ++ flights_with_move ys id at
 moved-append_absent id at [] ys h = refl
 moved-append_absent id at (f ∷ xs) ys h =
-    absent_step (eqb f.message.id id) at f xs ys (moved (xs ++ ys) id at) (moved ys id at) (find_flight xs id) h
+    absent_step (eqb f.message.id id) at f xs ys (flights_with_move (xs ++ ys) id at) (flights_with_move ys id at) (find_flight xs id) h
     (moved-append_absent id at xs ys)
 
 values_step : (b : Bool) (e : ℕ × Flight) (rest : List (ℕ × Flight)) (fs : List Flight) → values_of rest ≡ fs →

@@ -11,7 +11,7 @@ use Rattle.std.proofs.lemmas.List.Elements.{All-nil, All-cons, All-head, All-tai
 use Rattle.route_plan.specs.Distances.{Switches, is_living}
 use Rattle.route_plan.specs.Routes.{first_cut_off}
 use Rattle.switch_net.specs.declared.flight.Flight.{Flight}
-use Rattle.switch_net.specs.Net.{NetData, IsNet, IsPlaced, AreNumbered, find_flight, moved, without}
+use Rattle.switch_net.specs.Net.{NetData, IsNet, IsPlaced, AreNumbered, find_flight, flights_with_move, without}
 
 numbered-le : (least bound : ℕ) (fs : List Flight) → AreNumbered least fs bound → least ≤ bound
 numbered-le least bound [] h = h
@@ -97,19 +97,19 @@ numbered_put : (least bound at : ℕ) (b : Bool) (f : Flight) (fs rest : List Fl
 numbered_put least bound at true f fs rest h g = h
 numbered_put least bound at false f fs rest h g = (h.0, g)
 
-moved_numbered : (least bound id at : ℕ) (fs : List Flight) → AreNumbered least fs bound → AreNumbered least (moved fs id at) bound
+moved_numbered : (least bound id at : ℕ) (fs : List Flight) → AreNumbered least fs bound → AreNumbered least (flights_with_move fs id at) bound
 moved_numbered least bound id at [] h = h
 moved_numbered least bound id at (f ∷ fs) h =
-    numbered_put least bound at (eqb f.message.id id) f fs (moved fs id at) h (moved_numbered (f.message.id + 1) bound id at fs h.1)
+    numbered_put least bound at (eqb f.message.id id) f fs (flights_with_move fs id at) h (moved_numbered (f.message.id + 1) bound id at fs h.1)
 
 length_put : (at : ℕ) (b : Bool) (f : Flight) (fs rest : List Flight) → length rest ≡ length fs →
     length (cond b (record f { at = at } ∷ fs) (f ∷ rest)) ≡ suc (length fs)
 length_put at true f fs rest e = refl
 length_put at false f fs rest e = ap suc e
 
-moved_length : (id at : ℕ) (fs : List Flight) → length (moved fs id at) ≡ length fs
+moved_length : (id at : ℕ) (fs : List Flight) → length (flights_with_move fs id at) ≡ length fs
 moved_length id at [] = refl
-moved_length id at (f ∷ fs) = length_put at (eqb f.message.id id) f fs (moved fs id at) (moved_length id at fs)
+moved_length id at (f ∷ fs) = length_put at (eqb f.message.id id) f fs (flights_with_move fs id at) (moved_length id at fs)
 
 placed_put : (routes : Switches) (at : ℕ) (b : Bool) (f : Flight) (fs rest : List Flight) → is_living routes at ≡ true →
     All (IsPlaced routes) (f ∷ fs) →
@@ -121,14 +121,14 @@ placed_put routes at true f fs rest e h g =
 placed_put routes at false f fs rest e h g = All-cons (IsPlaced routes) f rest (All-head (IsPlaced routes) f fs h) g
 
 moved_placed : (routes : Switches) (id at : ℕ) (fs : List Flight) → is_living routes at ≡ true → All (IsPlaced routes) fs →
-    All (IsPlaced routes) (moved fs id at)
+    All (IsPlaced routes) (flights_with_move fs id at)
 moved_placed routes id at [] e h = h
 moved_placed routes id at (f ∷ fs) e h =
-    placed_put routes at (eqb f.message.id id) f fs (moved fs id at) e h
+    placed_put routes at (eqb f.message.id id) f fs (flights_with_move fs id at) e h
     (moved_placed routes id at fs e (All-tail (IsPlaced routes) f fs h))
 
 -- a network with a message in another switch that was living when the routes were made
-pub net-moved : (n : NetData) (id at : ℕ) → IsNet n → is_living n.routes at ≡ true → IsNet (record n { flights = moved n.flights id at })
+pub net-moved : (n : NetData) (id at : ℕ) → IsNet n → is_living n.routes at ≡ true → IsNet (record n { flights = flights_with_move n.flights id at })
 net-moved n id at h e = record {
   some = h.some;
   few = h.few;
@@ -189,10 +189,10 @@ moved_at_step false id at zero f d fs rest e l h g k = absurd (false≢true (sym
 moved_at_step false id at (suc i) f d fs rest e l h g k = ap (λ xs. f ∷ xs) (k i refl)
 
 pub moved-at : (id at i : ℕ) (fs : List Flight) (d : Flight) → i < length fs → eqb (get_or fs i d).message.id id ≡ true →
-    ((k : ℕ) → k < i → eqb (get_or fs k d).message.id id ≡ false) → moved fs id at ≡ set fs i (record (get_or fs i d) { at = at })
+    ((k : ℕ) → k < i → eqb (get_or fs k d).message.id id ≡ false) → flights_with_move fs id at ≡ set fs i (record (get_or fs i d) { at = at })
 moved-at id at i [] d l h g = absurd (omega arith)
 moved-at id at i (f ∷ fs) d l h g =
-    moved_at_step (eqb f.message.id id) id at i f d fs (moved fs id at) refl l h g
+    moved_at_step (eqb f.message.id id) id at i f d fs (flights_with_move fs id at) refl l h g
     (λ j e. moved-at id at j fs d (omega arith) (rw e at h) (λ k m. g (suc k) (omega arith)))
 
 moved_no_step : (b : Bool) (at : ℕ) (f : Flight) (fs rest : List Flight) → b ≡ false → rest ≡ fs →
@@ -200,13 +200,13 @@ moved_no_step : (b : Bool) (at : ℕ) (f : Flight) (fs rest : List Flight) → b
 moved_no_step b at f fs rest e h = rw (e, h) refl
 
 moved-no : (id at : ℕ) (fs : List Flight) → ((k : ℕ) (d : Flight) → k < length fs → eqb (get_or fs k d).message.id id ≡ false) →
-    moved fs id at ≡ fs
+    flights_with_move fs id at ≡ fs
 moved-no id at [] h = refl
 moved-no id at (f ∷ fs) h =
-    moved_no_step (eqb f.message.id id) at f fs (moved fs id at) (h 0 f (omega arith))
+    moved_no_step (eqb f.message.id id) at f fs (flights_with_move fs id at) (h 0 f (omega arith))
     (moved-no id at fs (λ k d l. h (suc k) d (omega arith)))
 
-pub moved-none : (id at : ℕ) (fs : List Flight) → position (λ f. eqb f.message.id id) fs ≡ None → moved fs id at ≡ fs
+pub moved-none : (id at : ℕ) (fs : List Flight) → position (λ f. eqb f.message.id id) fs ≡ None → flights_with_move fs id at ≡ fs
 moved-none id at fs e =
     moved-no id at fs (λ k d l. fails_before_first (λ f. eqb f.message.id id) fs k d (omega (arith, past fs (λ f. eqb f.message.id id) e)))
   where
@@ -218,7 +218,7 @@ moved-none id at fs e =
     past fs p e = ltb-false (position_or_len p fs) (length fs) (none _ _ e)
 
 pub moved-some : (id at i : ℕ) (fs : List Flight) (d : Flight) → position (λ f. eqb f.message.id id) fs ≡ Some i →
-    moved fs id at ≡ set fs i (record (get_or fs i d) { at = at })
+    flights_with_move fs id at ≡ set fs i (record (get_or fs i d) { at = at })
 moved-some id at i fs d e =
     let h = position-Some (λ f. eqb f.message.id id) fs i d e in
     moved-at id at i fs d h.0 h.1 h.2

@@ -33,9 +33,9 @@ abbrev pub outside : List Flight → ℕ → List Flight
 outside flights switch = filter (λ f. not (f.at == switch)) flights
 
 -- the same messages, that of this number in another switch
-abbrev pub moved : List Flight → ℕ → ℕ → List Flight
-moved [] id at = []
-moved (f ∷ flights) id at = if f.message.id == id then record f { at = at } ∷ flights else f ∷ moved flights id at
+abbrev pub flights_with_move : List Flight → ℕ → ℕ → List Flight
+flights_with_move [] id at = []
+flights_with_move (f ∷ flights) id at = if f.message.id == id then record f { at = at } ∷ flights else f ∷ flights_with_move flights id at
 
 -- whether it stands in a switch of its receiver
 abbrev pub has_arrived : Flight → Bool
@@ -70,7 +70,7 @@ after_hop n id None = n
 after_hop n id (Some f) =
     if has_arrived f then n
     else if is_dead n.dead (next_switch n.routes f) then record n { flights = without n.flights id }
-    else record n { flights = moved n.flights id (next_switch n.routes f) }
+    else record n { flights = flights_with_move n.flights id (next_switch n.routes f) }
 
 -- a message is taken
 abbrev pub take_answer : Option Flight → Result Message TakeFault

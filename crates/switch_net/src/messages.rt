@@ -8,7 +8,7 @@ ghost use Rattle.std.specs.Prelude.{◌≤◌, ◌==◌};
 ghost use Rattle.std.specs.List.{position, filter};
 ghost use Rattle.std.specs.Option.{option_copied};
 ghost use Rattle.indexmap.specs.IndexMap.{get, insert_entry, shift_remove_entry};
-ghost use Rattle.switch_net.specs.Net.{find_flight, without, outside, moved};
+ghost use Rattle.switch_net.specs.Net.{find_flight, without, outside, flights_with_move};
 
 use crate::flight::Flight;
 use indexmap::IndexMap;
@@ -43,7 +43,7 @@ fn place_of(flights: &[Flight], id: MsgId) -> Option<usize>
 }
 
 fn put_in(flights: &mut Vec<Flight>, id: MsgId, switch: SwitchId)
-    ensures moved { flights.new.items ≡ moved flights.old.items id switch }
+    ensures moved { flights.new.items ≡ flights_with_move flights.old.items id switch }
     ensures room { vec_capacity flights.old ≤ vec_capacity flights.new }
 {
     if let Some(place) = place_of(flights.as_slice(), id) {
@@ -165,7 +165,7 @@ impl Messages {
     }
 
     pub fn put(&mut self, id: MsgId, switch: SwitchId)
-        ensures { self.new ≡ moved self.old id switch }
+        ensures { self.new ≡ flights_with_move self.old id switch }
     {
         match self.numbered.get(&id) {
             Some(flight) => {

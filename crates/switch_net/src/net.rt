@@ -6,7 +6,7 @@ ghost use Rattle.std.specs.Option.{option_copied};
 ghost use Rattle.route_plan.specs.Distances.{is_dead, is_living};
 ghost use Rattle.route_plan.specs.Routes.{first_cut_off};
 ghost use Rattle.route_plan.specs.Paths.{AreJoined, IsFirstCutOff};
-ghost use Rattle.switch_net.specs.Net.{NetData, IsNet, IsPlaced, has_arrived, next_switch, find_flight, without, moved, outside, entry_of};
+ghost use Rattle.switch_net.specs.Net.{NetData, IsNet, IsPlaced, has_arrived, next_switch, find_flight, without, flights_with_move, outside, entry_of};
 ghost use Rattle.switch_net.specs.Net.{after_send, hop_answer, after_hop, take_answer, living_now};
 
 use crate::answers::{HopAnswer, TakeFault};
@@ -110,7 +110,7 @@ impl Net {
 
     fn put_into(&mut self, id: MsgId, switch: SwitchId)
         requires { is_living self.old.routes switch ≡ true }
-        ensures { self.new ≡ record self.old { flights = moved self.old.flights id switch } }
+        ensures { self.new ≡ record self.old { flights = flights_with_move self.old.flights id switch } }
     {
         self.messages.put(id, switch);
     }

@@ -21,13 +21,13 @@ use Rattle.rv_core.proofs.CoreLaws.{want_bare, effect_bare, want_inside, write_f
 use Rattle.sn_consistency.specs.Words as words
 use Rattle.sn_consistency.specs.Words.{Content, kind, kind_of, address_of, block, place, block_word, reads, writes, content_after}
 use Rattle.sn_consistency.specs.Words.{write_block}
-use Rattle.sn_consistency.specs.Entries.{Entry, wrote, writes_to}
+use Rattle.sn_consistency.specs.Entries.{Entry, is_writer, writes_to}
 use Rattle.sn_consistency.specs.Projections.{BlockState, BlockLegal, block_step, block_of_state, entries, core_after}
 use Rattle.projection_places.specs.Passes.{Passes}
 use Rattle.projection_places.proofs.Folds.{block_after, block_more, block_last, block_next}
-use Rattle.trace_check.specs.DeedData.{DeedData}
+use Rattle.trace_check.specs.EffectData.{EffectData}
 use Rattle.trace_check.specs.declared.cell.Cell.{Cell}
-use Rattle.trace_check.specs.Deeds.{reads_memory, deed_of}
+use Rattle.trace_check.specs.TaggedEffects.{reads_memory, effect_of}
 use Rattle.trace_check.specs.Cells.{is_lr, is_sc, word_in, Finds, Stands, IsAfter}
 use Rattle.trace_check.specs.declared.cells.Cells.{Cells}
 use Rattle.trace_check.specs.CellPlaces.{first_cell, missing, cell_by, cell_at, IsReplay}
@@ -109,52 +109,52 @@ test_same a b e = grind (arith, nat_tests)
 test_other : (a b : ℕ) → a ≢ b → (a == b) ≡ false
 test_other a b e = grind (arith, nat_tests)
 
--- an entry and its deed
-module _ (image : ImageData) (c : CoreState) (r : Record) (deed : DeedData) (is : deed ≡ deed_of image c r) where
+-- an entry and its effect
+module _ (image : ImageData) (c : CoreState) (r : Record) (effect : EffectData) (is : effect ≡ effect_of image c r) where
   abbrev E : Entry
   E = record { found = bare c; did = r }
 
-  want_is : want_of image (bare c) ≡ deed.want
+  want_is : want_of image (bare c) ≡ effect.want
   want_is = want_bare image c ∙ sym (ap (λ d. d.want) is)
 
-  write_is : (next_of image (bare c) r.seen r.sc_done r.read).effect.write ≡ deed.write
+  write_is : (next_of image (bare c) r.seen r.sc_done r.read).effect.write ≡ effect.write
   write_is = ap (λ x. x.write) (effect_bare image c r.seen r.sc_done r.read) ∙ sym (ap (λ d. d.write) is)
 
-  reads_is : reads (kind image (bare c)) ≡ reads_memory deed.want
+  reads_is : reads (kind image (bare c)) ≡ reads_memory effect.want
   unfolding kind
-  reads_is = ap (λ w. reads (kind_of w)) want_is ∙ (same deed.want r.sc_done).reads
+  reads_is = ap (λ w. reads (kind_of w)) want_is ∙ (same effect.want r.sc_done).reads
 
-  lr_is : words.is_lr (kind image (bare c)) ≡ is_lr deed.want
+  lr_is : words.is_lr (kind image (bare c)) ≡ is_lr effect.want
   unfolding kind
-  lr_is = ap (λ w. words.is_lr (kind_of w)) want_is ∙ (same deed.want r.sc_done).lr
+  lr_is = ap (λ w. words.is_lr (kind_of w)) want_is ∙ (same effect.want r.sc_done).lr
 
-  sc_is : words.is_sc (kind image (bare c)) ≡ is_sc deed.want
+  sc_is : words.is_sc (kind image (bare c)) ≡ is_sc effect.want
   unfolding kind
-  sc_is = ap (λ w. words.is_sc (kind_of w)) want_is ∙ (same deed.want r.sc_done).sc
+  sc_is = ap (λ w. words.is_sc (kind_of w)) want_is ∙ (same effect.want r.sc_done).sc
 
-  block_is : block image (bare c) ≡ wanted_block deed.want
+  block_is : block image (bare c) ≡ wanted_block effect.want
   unfolding block
-  block_is = ap (λ w. block_of (address_of w)) want_is ∙ ap block_of (same deed.want r.sc_done).address
+  block_is = ap (λ w. block_of (address_of w)) want_is ∙ ap block_of (same effect.want r.sc_done).address
 
-  place_is : place image (bare c) ≡ (wanted_address deed.want - ram_start) % 64 / 4 * 4
+  place_is : place image (bare c) ≡ (wanted_address effect.want - ram_start) % 64 / 4 * 4
   unfolding place
-  place_is = ap (λ w. (address_of w - ram_start) % 64 / 4 * 4) want_is ∙ ap (λ a. (a - ram_start) % 64 / 4 * 4) (same deed.want r.sc_done).address
+  place_is = ap (λ w. (address_of w - ram_start) % 64 / 4 * 4) want_is ∙ ap (λ a. (a - ram_start) % 64 / 4 * 4) (same effect.want r.sc_done).address
 
-  content_is : (v : Content) → content_after image (bare c) r v ≡ write_block deed.write v
+  content_is : (v : Content) → content_after image (bare c) r v ≡ write_block effect.write v
   unfolding content_after
   content_is v = ap (λ x. write_block x v) write_is
 
-  writes_is : writes (kind image (bare c)) r.sc_done ≡ writes_memory deed.want r.sc_done
+  writes_is : writes (kind image (bare c)) r.sc_done ≡ writes_memory effect.want r.sc_done
   unfolding kind
-  writes_is = ap (λ w. writes (kind_of w) r.sc_done) want_is ∙ (same deed.want r.sc_done).writes
+  writes_is = ap (λ w. writes (kind_of w) r.sc_done) want_is ∙ (same effect.want r.sc_done).writes
 
-  word_is : (v : Content) → block_word v (place image (bare c)) ≡ word_in v (wanted_address deed.want)
+  word_is : (v : Content) → block_word v (place image (bare c)) ≡ word_in v (wanted_address effect.want)
   unfolding block_word
   word_is v = ap (λ p. little_number 4 (drop p v)) place_is
 
-  module _ (fits : WriteFits deed.want r.sc_done deed.write) where
-    wrote_is : wrote image E ≡ is_some deed.write
-    wrote_is = writes_is ∙ written_where deed.want r.sc_done deed.write fits
+  module _ (fits : WriteFits effect.want r.sc_done effect.write) where
+    wrote_is : is_writer image E ≡ is_some effect.write
+    wrote_is = writes_is ∙ written_where effect.want r.sc_done effect.write fits
 
     -- an access to another block, or none, leaves the block
     module _ (b : ℕ) (v : BlockState) (cell : Cell) (s : Stands cell v) where
@@ -170,50 +170,50 @@ module _ (image : ImageData) (c : CoreState) (r : Record) (deed : DeedData) (is 
             ∙ same_either (n == r.core) (v.intact n));
       }
 
-      stands_elsewhere : b ≢ wanted_block deed.want → Stands cell (block_step image b v E)
+      stands_elsewhere : b ≢ wanted_block effect.want → Stands cell (block_step image b v E)
       stands_elsewhere o =
           let t : (b == block image (bare c)) ≡ false = test_other b (block image (bare c)) (λ e. o (e ∙ block_is)) in
-          leaves (ap (λ q. wrote image E && q) t ∙ and_false (wrote image E))
+          leaves (ap (λ q. is_writer image E && q) t ∙ and_false (is_writer image E))
           (ap (λ q. words.is_lr (kind image (bare c)) && q) t ∙ and_false (words.is_lr (kind image (bare c))))
 
-      stands_idle : is_access deed.want ≡ false → Stands cell (block_step image b v E)
+      stands_idle : is_access effect.want ≡ false → Stands cell (block_step image b v E)
       stands_idle i =
-          let k = idle deed.want r.sc_done i in
+          let k = idle effect.want r.sc_done i in
           leaves (ap (λ q. q && (b == block image (bare c))) (writes_is ∙ k.writes)) (ap (λ q. q && (b == block image (bare c))) (lr_is ∙ k.lr))
 
       -- an access to the block leaves it as the cell after it is
-      stands_after : b ≡ wanted_block deed.want → (after : Cell) → IsAfter cell deed r after → Stands after (block_step image b v E)
+      stands_after : b ≡ wanted_block effect.want → (after : Cell) → IsAfter cell effect r after → Stands after (block_step image b v E)
       stands_after e after h =
           let t : (b == block image (bare c)) ≡ true = test_same b (block image (bare c)) (e ∙ sym block_is) in
-          let w : writes_to image E b ≡ is_some deed.write = ap (λ q. wrote image E && q) t ∙ and_true (wrote image E) ∙ wrote_is in
-          let l : (words.is_lr (kind image (bare c)) && (b == block image (bare c))) ≡ is_lr deed.want = ap (λ q. words.is_lr (kind image (bare c)) && q) t ∙ and_true (words.is_lr (kind image (bare c))) ∙ lr_is in
+          let w : writes_to image E b ≡ is_some effect.write = ap (λ q. is_writer image E && q) t ∙ and_true (is_writer image E) ∙ wrote_is in
+          let l : (words.is_lr (kind image (bare c)) && (b == block image (bare c))) ≡ is_lr effect.want = ap (λ q. words.is_lr (kind image (bare c)) && q) t ∙ and_true (words.is_lr (kind image (bare c))) ∙ lr_is in
           record {
-            content = h.0 ∙ ap (write_block deed.write) s.content ∙ sym (
+            content = h.0 ∙ ap (write_block effect.write) s.content ∙ sym (
                 ap (λ q. cond q (content_after image (bare c) r v.content) v.content) w
-                ∙ ap (λ x. cond (is_some deed.write) x v.content) (content_is v.content)
-                ∙ write_or_not deed.write v.content);
+                ∙ ap (λ x. cond (is_some effect.write) x v.content) (content_is v.content)
+                ∙ write_or_not effect.write v.content);
             intact = λ n. h.1 n
-                ∙ ap (λ x. cond (n == r.core) (x || is_lr deed.want) (x && not (is_some deed.write))) (s.intact n)
+                ∙ ap (λ x. cond (n == r.core) (x || is_lr effect.want) (x && not (is_some effect.write))) (s.intact n)
                 ∙ sym (ap (λ q. cond (n == r.core) (v.intact n || q) (v.intact n && not (writes_to image E b))) l
-                ∙ ap (λ q. cond (n == r.core) (v.intact n || is_lr deed.want) (v.intact n && not q)) w);
+                ∙ ap (λ q. cond (n == r.core) (v.intact n || is_lr effect.want) (v.intact n && not q)) w);
           }
 
   module _ (b : ℕ) (v : BlockState) (cell : Cell) (s : Stands cell v) where
-    legal_to : Finds cell deed.want r → BlockLegal image v E
+    legal_to : Finds cell effect.want r → BlockLegal image v E
     legal_to f = record {
-      seen = λ q. f.0 (sym reads_is ∙ q) ∙ ap (λ x. word_in x (wanted_address deed.want)) s.content ∙ sym (word_is v.content);
+      seen = λ q. f.0 (sym reads_is ∙ q) ∙ ap (λ x. word_in x (wanted_address effect.want)) s.content ∙ sym (word_is v.content);
       done = λ q d. sym (s.intact r.core) ∙ f.1 (sym sc_is ∙ q) d;
     }
 
-    legal_from : BlockLegal image v E → Finds cell deed.want r
+    legal_from : BlockLegal image v E → Finds cell effect.want r
     legal_from l = (
-      (λ q. l.seen (reads_is ∙ q) ∙ word_is v.content ∙ sym (ap (λ x. word_in x (wanted_address deed.want)) s.content)),
+      (λ q. l.seen (reads_is ∙ q) ∙ word_is v.content ∙ sym (ap (λ x. word_in x (wanted_address effect.want)) s.content)),
       (λ q d. s.intact r.core ∙ l.done (sc_is ∙ q) d),
     )
 
-  legal_idle : (v : BlockState) → is_access deed.want ≡ false → BlockLegal image v E
+  legal_idle : (v : BlockState) → is_access effect.want ≡ false → BlockLegal image v E
   legal_idle v i =
-      let k = idle deed.want r.sc_done i in
+      let k = idle effect.want r.sc_done i in
       record {
         seen = λ q. let f : false ≡ true = sym (reads_is ∙ k.reads) ∙ q in absurd (cc);
         done = λ q d. let f : false ≡ true = sym (sc_is ∙ k.sc) ∙ q in absurd (cc);
@@ -288,30 +288,30 @@ part_start image N parts part rs cells f = record {
 
 module _
     (image : ImageData) (N parts part : ℕ) (rs : List Record) (k : ℕ) (cells : ℕ → Cell) (p : IsPartReplayed image N parts part rs k cells)
-    (r : Record) (e : slice_get rs k ≡ Some r) (deed : DeedData)
-    (is : deed ≡ deed_of image (core_after image r.core (core_at (flat_start image N) r.core) (take k rs)) r) (fits : IsFitting deed r) where
+    (r : Record) (e : slice_get rs k ≡ Some r) (effect : EffectData)
+    (is : effect ≡ effect_of image (core_after image r.core (core_at (flat_start image N) r.core) (take k rs)) r) (fits : IsFitting effect r) where
   abbrev X : CoreState
   X = core_after image r.core (core_at (flat_start image N) r.core) (take k rs)
 
   abbrev w : Want
-  w = deed.want
+  w = effect.want
 
   here : (b : ℕ) → is_access w ≡ true → b ≡ wanted_block w → b % parts ≡ part → Stands (cells (wanted_block w)) (block_now image N rs b k)
   here b a i m = let s = p.stands b (let l = in_memory w fits.0 a in omega (arith, i, l)) m in subst (λ x. Stands (cells x) (block_now image N rs b k)) i s
 
   pub part_more : (after : ℕ → Cell) → (is_in parts part w ≡ false → (b : ℕ) → after b ≡ cells b) →
       (is_in parts part w ≡ true → Finds (cells (wanted_block w)) w r) →
-      (is_in parts part w ≡ true → IsAfter (cells (wanted_block w)) deed r (after (wanted_block w))) →
+      (is_in parts part w ≡ true → IsAfter (cells (wanted_block w)) effect r (after (wanted_block w))) →
       ((b : ℕ) → b ≢ wanted_block w → after b ≡ cells b) →
       IsPartReplayed image N parts part rs (suc k) after
   part_more after away finds done others = record {
-    good = λ b m. block_more image b (block_of_state (flat_start image N) b) (core_at (flat_start image N)) rs k r e (p.good b m) (λ i. legal b m (i ∙ block_is image X r deed is) (tested (is_access w)));
+    good = λ b m. block_more image b (block_of_state (flat_start image N) b) (core_at (flat_start image N)) rs k r e (p.good b m) (λ i. legal b m (i ∙ block_is image X r effect is) (tested (is_access w)));
     stands = λ b l m. subst (Stands (after b)) (sym (block_next image b (block_of_state (flat_start image N) b) (core_at (flat_start image N)) rs k r e)) (later b l m (tested (is_access w)) (pick b (wanted_block w)));
   }
     where
       legal : (b : ℕ) → b % parts ≡ part → b ≡ wanted_block w → ((is_access w ≡ true) ⊎ (is_access w ≡ false)) → BlockLegal image (block_now image N rs b k) (record { found = bare X; did = r })
-      legal b m i (inl a) = legal_to image X r deed is b (block_now image N rs b k) (cells (wanted_block w)) (here b a i m) (finds (inside_part parts part w a (subst (λ x. x % parts ≡ part) i m)))
-      legal b m i (inr a) = legal_idle image X r deed is (block_now image N rs b k) a
+      legal b m i (inl a) = legal_to image X r effect is b (block_now image N rs b k) (cells (wanted_block w)) (here b a i m) (finds (inside_part parts part w a (subst (λ x. x % parts ≡ part) i m)))
+      legal b m i (inr a) = legal_idle image X r effect is (block_now image N rs b k) a
 
       stays : (b : ℕ) → b < 65536 → b % parts ≡ part → after b ≡ cells b → Stands (after b) (block_now image N rs b k)
       stays b l m s = subst (λ x. Stands x (block_now image N rs b k)) (sym s) (p.stands b l m)
@@ -320,9 +320,9 @@ module _
           Stands (after b) (block_step image b (block_now image N rs b k) (record { found = bare X; did = r }))
       later b l m (inl a) (inl i) =
           subst (λ x. Stands (after x) (block_step image b (block_now image N rs b k) (record { found = bare X; did = r }))) (sym i)
-          (stands_after image X r deed is fits.1 b (block_now image N rs b k) (cells (wanted_block w)) (here b a i m) i (after (wanted_block w)) (done (inside_part parts part w a (subst (λ x. x % parts ≡ part) i m))))
-      later b l m (inl a) (inr n) = stands_elsewhere image X r deed is fits.1 b (block_now image N rs b k) (after b) (stays b l m (others b n)) n
-      later b l m (inr a) i = stands_idle image X r deed is fits.1 b (block_now image N rs b k) (after b) (stays b l m (away (idle_part parts part w a) b)) a
+          (stands_after image X r effect is fits.1 b (block_now image N rs b k) (cells (wanted_block w)) (here b a i m) i (after (wanted_block w)) (done (inside_part parts part w a (subst (λ x. x % parts ≡ part) i m))))
+      later b l m (inl a) (inr n) = stands_elsewhere image X r effect is fits.1 b (block_now image N rs b k) (after b) (stays b l m (others b n)) n
+      later b l m (inr a) i = stands_idle image X r effect is fits.1 b (block_now image N rs b k) (after b) (stays b l m (away (idle_part parts part w a) b)) a
 
   pub part_stops : (limit : ℕ) → k < limit → is_in parts part w ≡ true → (Finds (cells (wanted_block w)) w r → ⊥) →
       Passes (PartPasses image N parts part rs) limit k
@@ -332,8 +332,8 @@ module _
       record {
         within = omega (arith, l);
         good = p.good;
-        bad = λ q g. lost (legal_from image X r deed is b (block_now image N rs b k) (cells b) (here b h.0 refl h.1)
-            (block_last image b (block_of_state (flat_start image N) b) (core_at (flat_start image N)) rs k r e (g b h.1) (sym (block_is image X r deed is))));
+        bad = λ q g. lost (legal_from image X r effect is b (block_now image N rs b k) (cells b) (here b h.0 refl h.1)
+            (block_last image b (block_of_state (flat_start image N) b) (core_at (flat_start image N)) rs k r e (g b h.1) (sym (block_is image X r effect is))));
       }
 
 pub part_all : (image : ImageData) (N parts part : ℕ) (rs : List Record) (k : ℕ) (cells : ℕ → Cell) → IsPartReplayed image N parts part rs k cells →
@@ -345,8 +345,8 @@ module _ (image : ImageData) (N parts part : ℕ) (rs : List Record) (k : ℕ) (
   abbrev Y : CoreState
   Y = core_after image r.core (core_at (flat_start image N) r.core) (take k rs)
 
-  abbrev did : DeedData
-  did = deed_of image Y r
+  abbrev did : EffectData
+  did = effect_of image Y r
 
   does_fit : IsFitting did r
   does_fit = (want_inside image Y, write_fits image Y r.seen r.sc_done r.read)

@@ -20,37 +20,37 @@ use Rattle.projection_places.proofs.Least.{all_done, first_refused}
 use Rattle.sn_consistency.proofs.Start.{start_shows}
 use Rattle.trace_check.specs.Verdict.{IsReplayedTo}
 use Rattle.trace_check.specs.declared.cores.Slot.{Slot}
-use Rattle.trace_check.specs.DeedData.{DeedData}
-use Rattle.trace_check.specs.Deeds.{deed_of, core_deeds}
+use Rattle.trace_check.specs.EffectData.{EffectData}
+use Rattle.trace_check.specs.TaggedEffects.{effect_of, core_effects}
 use Rattle.trace_check.specs.Tags.{AreKept, IsKeptAt, tag_by}
-use Rattle.trace_check.specs.Slots.{AreReplayed, AreInside, IsPassed, HasSlots, HasDeeds, HasTag, access_place, own_before}
+use Rattle.trace_check.specs.Slots.{AreReplayed, AreInside, IsPassed, HasSlots, HasEffects, HasTag, access_place, own_before}
 use Rattle.trace_check.specs.Parts.{AreFitting, IsFitting}
 use Rattle.trace_check.proofs.CorePlaces.{core_of, inside_fewer, inside_from}
 use Rattle.trace_check.proofs.Tagged.{access_tag, kept_at, some_same}
 
--- the deed of a core's record stands where as many of the core's are before it
-core_deed_at : (image : ImageData) (n : ℕ) (c : CoreState) (rs : List Record) (m k : ℕ) (r : Record) → k < m → slice_get rs k ≡ Some r → n ≡ r.core →
-    slice_get (core_deeds image n c (take m rs)) (own_before rs n k) ≡ Some (deed_of image (core_after image n c (take k rs)) r)
-core_deed_at image n c [] m k r l e i = absurd (cc)
-core_deed_at image n c (x ∷ rs) zero k r l e i = absurd (omega (arith, l))
-core_deed_at image n c (x ∷ rs) (suc m) zero r l e i =
+-- the effect of a core's record stands where as many of the core's are before it
+core_effect_at : (image : ImageData) (n : ℕ) (c : CoreState) (rs : List Record) (m k : ℕ) (r : Record) → k < m → slice_get rs k ≡ Some r → n ≡ r.core →
+    slice_get (core_effects image n c (take m rs)) (own_before rs n k) ≡ Some (effect_of image (core_after image n c (take k rs)) r)
+core_effect_at image n c [] m k r l e i = absurd (cc)
+core_effect_at image n c (x ∷ rs) zero k r l e i = absurd (omega (arith, l))
+core_effect_at image n c (x ∷ rs) (suc m) zero r l e i =
     let j : x ≡ r = cc in
     let t : (n == x.core) ≡ true = let f : n ≡ x.core = i ∙ sym (ap (λ y. y.core) j) in grind (arith, nat_tests) in
-    ap (λ q. slice_get (cond q (deed_of image c x ∷ core_deeds image n (next image c x) (take m rs)) (core_deeds image n c (take m rs))) 0) t
-    ∙ ap (λ y. Some (deed_of image c y)) j
-core_deed_at image n c (x ∷ rs) (suc m) (suc k) r l e i = go (n == x.core) (λ d. core_deed_at image n d rs m k r (omega (arith, l)) e i)
+    ap (λ q. slice_get (cond q (effect_of image c x ∷ core_effects image n (next image c x) (take m rs)) (core_effects image n c (take m rs))) 0) t
+    ∙ ap (λ y. Some (effect_of image c y)) j
+core_effect_at image n c (x ∷ rs) (suc m) (suc k) r l e i = go (n == x.core) (λ d. core_effect_at image n d rs m k r (omega (arith, l)) e i)
   where
-    go : (q : Bool) → ((d : CoreState) → slice_get (core_deeds image n d (take m rs)) (own_before rs n k) ≡ Some (deed_of image (core_after image n d (take k rs)) r)) →
-        slice_get (cond q (deed_of image c x ∷ core_deeds image n (next image c x) (take m rs)) (core_deeds image n c (take m rs)))
+    go : (q : Bool) → ((d : CoreState) → slice_get (core_effects image n d (take m rs)) (own_before rs n k) ≡ Some (effect_of image (core_after image n d (take k rs)) r)) →
+        slice_get (cond q (effect_of image c x ∷ core_effects image n (next image c x) (take m rs)) (core_effects image n c (take m rs)))
         (length (cond q (x ∷ records_of n (take k rs)) (records_of n (take k rs))))
-        ≡ Some (deed_of image (core_after image n (cond q (next image c x) c) (take k rs)) r)
+        ≡ Some (effect_of image (core_after image n (cond q (next image c x) c) (take k rs)) r)
     go true h = h (next image c x)
     go false h = h c
 
 record Done (image : ImageData) (N parts n : ℕ) (rs : List Record) (slot : Slot) : Type 0 where
   count : ℕ
   passes : Passes (IsPassed image N n rs) (length rs) count
-  deeds : AreKept parts (core_deeds image n (core_at (flat_start image N) n) (take count rs)) slot.deeds
+  tagged : AreKept parts (core_effects image n (core_at (flat_start image N) n) (take count rs)) slot.tagged
 
 module _
     (image : ImageData) (N parts : ℕ) (rs : List Record) (slots : List Slot) (replayed : AreReplayed image N parts rs slots)
@@ -58,14 +58,14 @@ module _
     (q : ℕ) (cores : Passes (CoresPass image N (flat_start image N) rs) (length rs) q) where
   done_in : (n : ℕ) → n < N → (slot : Slot) (core : ℕ) → core ≡ n → (passed : Result ℕ Memory) → is_ok passed ≡ true →
       IfOk passed (λ p. Passes (IsPassed image N core rs) (length rs) p
-      × AreKept parts (core_deeds image core (start_of core image.entry) (take p rs)) slot.deeds) → Done image N parts n rs slot
+      × AreKept parts (core_effects image core (start_of core image.entry) (take p rs)) slot.tagged) → Done image N parts n rs slot
   done_in n l slot core e (Ok p) t h =
       let i : core_at (flat_start image N) n ≡ start_of n image.entry = core_of image N n l in
-      let g = subst (λ x. Passes (IsPassed image N x rs) (length rs) p × AreKept parts (core_deeds image x (start_of x image.entry) (take p rs)) slot.deeds) e h in
+      let g = subst (λ x. Passes (IsPassed image N x rs) (length rs) p × AreKept parts (core_effects image x (start_of x image.entry) (take p rs)) slot.tagged) e h in
       record {
         count = p;
         passes = g.0;
-        deeds = subst (λ x. AreKept parts (core_deeds image n x (take p rs)) slot.deeds) (sym i) g.1;
+        tagged = subst (λ x. AreKept parts (core_effects image n x (take p rs)) slot.tagged) (sym i) g.1;
       }
   done_in n l slot core e (Err m) t h = absurd (cc)
 
@@ -90,39 +90,39 @@ module _
           ))
 
   module _ (k : ℕ) (r : Record) (l : k < q) (e : slice_get rs k ≡ Some r) where
-    abbrev deed : DeedData
-    deed = deed_of image (core_after image r.core (core_at (flat_start image N) r.core) (take k rs)) r
+    abbrev effect : EffectData
+    effect = effect_of image (core_after image r.core (core_at (flat_start image N) r.core) (take k rs)) r
 
-    kept_there : (d : Slot) → IsKeptAt parts (get_or slots r.core d).deeds (own_before rs r.core k) deed
+    kept_there : (d : Slot) → IsKeptAt parts (get_or slots r.core d).tagged (own_before rs r.core k) effect
     kept_there d =
         let p = of_core r.core d (inside k r l e) in
         let w = enough r.core (inside k r l e) (get_or slots r.core d) p in
-        kept_at parts (core_deeds image r.core (core_at (flat_start image N) r.core) (take p.count rs)) (get_or slots r.core d).deeds p.deeds
-        (own_before rs r.core k) deed (core_deed_at image r.core (core_at (flat_start image N) r.core) rs p.count k r (omega (arith, l, w)) e refl)
+        kept_at parts (core_effects image r.core (core_at (flat_start image N) r.core) (take p.count rs)) (get_or slots r.core d).tagged p.tagged
+        (own_before rs r.core k) effect (core_effect_at image r.core (core_at (flat_start image N) r.core) rs p.count k r (omega (arith, l, w)) e refl)
 
     access_there : (d : Slot) (tag : ℕ) → HasTag rs k r (get_or slots r.core d) tag → 0 < tag →
-        (is_access deed.want ≡ true) × (slice_get (get_or slots r.core d).deeds.accesses.items (access_place rs k r (get_or slots r.core d)) ≡ Some deed)
+        (is_access effect.want ≡ true) × (slice_get (get_or slots r.core d).tagged.accesses.items (access_place rs k r (get_or slots r.core d)) ≡ Some effect)
     access_there d tag h g =
         let a = kept_there d in
-        let i = some_same (slice_get (get_or slots r.core d).deeds.tags.items (own_before rs r.core k)) tag (tag_by parts deed.want) h a.tag in
-        let c = access_tag parts deed.want (subst (λ x. 0 < x) i g) in
+        let i = some_same (slice_get (get_or slots r.core d).tagged.tags.items (own_before rs r.core k)) tag (tag_by parts effect.want) h a.tag in
+        let c = access_tag parts effect.want (subst (λ x. 0 < x) i g) in
         (c, a.access c)
 
   pub has_room : HasSlots slots rs q
   has_room = record {
     inside = λ k r l e. let h = inside k r l e in let c = replayed.count in omega (arith, h, c);
-    room = λ k r d l e. slice_get_within (get_or slots r.core d).deeds.tags.items (own_before rs r.core k) _ (kept_there k r l e d).tag;
-    accesses = λ k r d tag l e h g. slice_get_within (get_or slots r.core d).deeds.accesses.items (access_place rs k r (get_or slots r.core d)) _ (access_there k r l e d tag h g).1;
+    room = λ k r d l e. slice_get_within (get_or slots r.core d).tagged.tags.items (own_before rs r.core k) _ (kept_there k r l e d).tag;
+    accesses = λ k r d tag l e h g. slice_get_within (get_or slots r.core d).tagged.accesses.items (access_place rs k r (get_or slots r.core d)) _ (access_there k r l e d tag h g).1;
   }
 
-  pub has_deeds : HasDeeds image N parts rs q slots
-  has_deeds = λ k r d l e. kept_there k r l e d
+  pub has_tagged : HasEffects image N parts rs q slots
+  has_tagged = λ k r d l e. kept_there k r l e d
 
   pub are_fitting : AreFitting rs q slots
   are_fitting = λ k r d tag did l e h g f.
       let a = access_there k r l e d tag h g in
       let c = core_after image r.core (core_at (flat_start image N) r.core) (take k rs) in
-      let i = some_same (slice_get (get_or slots r.core d).deeds.accesses.items (access_place rs k r (get_or slots r.core d))) did (deed_of image c r) f a.1 in
+      let i = some_same (slice_get (get_or slots r.core d).tagged.accesses.items (access_place rs k r (get_or slots r.core d))) did (effect_of image c r) f a.1 in
       subst (λ x. (is_access x.want ≡ true) × IsFitting x r) (sym i) (a.0, (want_inside image c, write_fits image c r.seen r.sc_done r.read))
 
 -- what holds of a result holds of it in other words

@@ -9,7 +9,7 @@ use Rattle.rv_core.specs.Core.{is_running, is_reserved, is_input, holds_reservat
 use Rattle.rv_core.specs.Step.{want_of}
 use Rattle.sn_consistency.specs.Words.{kind, kind_of, block, address_of, reads, is_sc, takes}
 use Rattle.sn_consistency.specs.Projections.{Replays}
-use Rattle.trace_check.specs.Deeds.{reads_memory, MayDo}
+use Rattle.trace_check.specs.TaggedEffects.{reads_memory, MayDo}
 
 reads_same : (w : Want) → reads (kind_of w) ≡ reads_memory w
 unfolding kind_of

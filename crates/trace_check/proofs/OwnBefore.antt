@@ -64,15 +64,15 @@ module _ (rs : List Record) (k : ℕ) (r : Record) (e : slice_get rs k ≡ Some 
       (λ n s. let f = same_more n s in omega (arith, f)) other_more
 
   pub next_set : (slots : List Slot) (tag step : ℕ) → ((d : Slot) → HasTag rs k r (get_or slots r.core d) tag) → step ≡ cond (of_access tag) 1 0 →
-      (next : List ℕ) → length next ≡ 16 → (d : Slot) → ((n : ℕ) → n < 16 → get_or next n 0 ≡ accesses_before (get_or slots n d).deeds (own_before rs n k)) →
-      (n : ℕ) → n < 16 → get_or (set next core (get_or next core 0 + step)) n 0 ≡ accesses_before (get_or slots n d).deeds (own_before rs n (k + 1))
+      (next : List ℕ) → length next ≡ 16 → (d : Slot) → ((n : ℕ) → n < 16 → get_or next n 0 ≡ accesses_before (get_or slots n d).tagged (own_before rs n k)) →
+      (n : ℕ) → n < 16 → get_or (set next core (get_or next core 0 + step)) n 0 ≡ accesses_before (get_or slots n d).tagged (own_before rs n (k + 1))
   next_set slots tag step has is next wide d h =
-      counted next wide step (λ n. accesses_before (get_or slots n d).deeds (own_before rs n k)) (λ n. accesses_before (get_or slots n d).deeds (own_before rs n (k + 1))) h
-      more (λ n o. ap (accesses_before (get_or slots n d).deeds) (other_more n o))
+      counted next wide step (λ n. accesses_before (get_or slots n d).tagged (own_before rs n k)) (λ n. accesses_before (get_or slots n d).tagged (own_before rs n (k + 1))) h
+      more (λ n o. ap (accesses_before (get_or slots n d).tagged) (other_more n o))
     where
-      more : (n : ℕ) → n ≡ core → accesses_before (get_or slots n d).deeds (own_before rs n (k + 1)) ≡ accesses_before (get_or slots n d).deeds (own_before rs n k) + step
+      more : (n : ℕ) → n ≡ core → accesses_before (get_or slots n d).tagged (own_before rs n (k + 1)) ≡ accesses_before (get_or slots n d).tagged (own_before rs n k) + step
       more n s =
-          let t = subst (λ x. slice_get (get_or slots x d).deeds.tags.items (own_before rs x k) ≡ Some tag) (sym (s ∙ i)) (has d) in
-          ap (accesses_before (get_or slots n d).deeds) (same_more n s)
-          ∙ accesses_next (get_or slots n d).deeds.tags.items (own_before rs n k) tag t
-          ∙ ap (λ x. accesses_before (get_or slots n d).deeds (own_before rs n k) + x) (sym is)
+          let t = subst (λ x. slice_get (get_or slots x d).tagged.tags.items (own_before rs x k) ≡ Some tag) (sym (s ∙ i)) (has d) in
+          ap (accesses_before (get_or slots n d).tagged) (same_more n s)
+          ∙ accesses_next (get_or slots n d).tagged.tags.items (own_before rs n k) tag t
+          ∙ ap (λ x. accesses_before (get_or slots n d).tagged (own_before rs n k) + x) (sym is)

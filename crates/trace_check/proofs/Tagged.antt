@@ -4,8 +4,8 @@ use Rattle.std.proofs.Common.{slice_get, Option, Some, refl, sym, ap, subst, ◌
 use Rattle.std.specs.Prelude.{filter}
 use Rattle.rv_core.specs.declared.step.Want.{Want}
 use Rattle.rv_core.specs.Core.{is_access}
-use Rattle.trace_check.specs.DeedData.{DeedData}
-use Rattle.trace_check.specs.declared.deeds.Deeds.{Deeds}
+use Rattle.trace_check.specs.EffectData.{EffectData}
+use Rattle.trace_check.specs.declared.tagged_effects.TaggedEffects.{TaggedEffects}
 use Rattle.trace_check.specs.Tags.{wanted_block, tag_by, of_access, AreKept, IsKeptAt, KeepsNone}
 
 -- the tag and whether it is an access's
@@ -32,71 +32,71 @@ tag_tells parts want = go (is_access want)
 
 -- one more
 module _ (parts : ℕ) where
-  abbrev tag : DeedData → ℕ
-  tag deed = tag_by parts deed.want
+  abbrev tag : EffectData → ℕ
+  tag effect = tag_by parts effect.want
 
-  abbrev access : DeedData → Bool
-  access deed = is_access deed.want
+  abbrev access : EffectData → Bool
+  access effect = is_access effect.want
 
-  map_more : (did : List DeedData) (deed : DeedData) → map tag (did ++ deed ∷ []) ≡ map tag did ++ tag deed ∷ []
-  map_more [] deed = refl
-  map_more (x ∷ did) deed = ap (λ xs. tag x ∷ xs) (map_more did deed)
+  map_more : (did : List EffectData) (effect : EffectData) → map tag (did ++ effect ∷ []) ≡ map tag did ++ tag effect ∷ []
+  map_more [] effect = refl
+  map_more (x ∷ did) effect = ap (λ xs. tag x ∷ xs) (map_more did effect)
 
-  filter_more : (did : List DeedData) (deed : DeedData) → filter access (did ++ deed ∷ []) ≡ filter access did ++ filter access (deed ∷ [])
-  filter_more [] deed = refl
-  filter_more (x ∷ did) deed = go (access x) (filter_more did deed)
+  filter_more : (did : List EffectData) (effect : EffectData) → filter access (did ++ effect ∷ []) ≡ filter access did ++ filter access (effect ∷ [])
+  filter_more [] effect = refl
+  filter_more (x ∷ did) effect = go (access x) (filter_more did effect)
     where
-      go : (q : Bool) → filter access (did ++ deed ∷ []) ≡ filter access did ++ filter access (deed ∷ []) →
-          cond q (x ∷ filter access (did ++ deed ∷ [])) (filter access (did ++ deed ∷ []))
-          ≡ cond q (x ∷ filter access did) (filter access did) ++ filter access (deed ∷ [])
+      go : (q : Bool) → filter access (did ++ effect ∷ []) ≡ filter access did ++ filter access (effect ∷ []) →
+          cond q (x ∷ filter access (did ++ effect ∷ [])) (filter access (did ++ effect ∷ []))
+          ≡ cond q (x ∷ filter access did) (filter access did) ++ filter access (effect ∷ [])
       go true h = ap (λ xs. x ∷ xs) h
       go false h = h
 
-  pub kept_none : (kept : Deeds) → KeepsNone kept → AreKept parts [] kept
+  pub kept_none : (kept : TaggedEffects) → KeepsNone kept → AreKept parts [] kept
   kept_none kept n = record { tags = n.0; accesses = n.1 }
 
-  module _ (did : List DeedData) (deed : DeedData) (old new : Deeds) (k : AreKept parts did old) (t : new.tags.items ≡ old.tags.items ++ tag deed ∷ []) where
-    kept_more : new.accesses.items ≡ old.accesses.items ++ filter access (deed ∷ []) → AreKept parts (did ++ deed ∷ []) new
+  module _ (did : List EffectData) (effect : EffectData) (old new : TaggedEffects) (k : AreKept parts did old) (t : new.tags.items ≡ old.tags.items ++ tag effect ∷ []) where
+    kept_more : new.accesses.items ≡ old.accesses.items ++ filter access (effect ∷ []) → AreKept parts (did ++ effect ∷ []) new
     kept_more a = record {
-      tags = t ∙ ap (λ xs. xs ++ tag deed ∷ []) k.tags ∙ sym (map_more did deed);
-      accesses = a ∙ ap (λ xs. xs ++ filter access (deed ∷ [])) k.accesses ∙ sym (filter_more did deed);
+      tags = t ∙ ap (λ xs. xs ++ tag effect ∷ []) k.tags ∙ sym (map_more did effect);
+      accesses = a ∙ ap (λ xs. xs ++ filter access (effect ∷ [])) k.accesses ∙ sym (filter_more did effect);
     }
 
-    pub kept_idle : access deed ≡ false → new.accesses.items ≡ old.accesses.items → AreKept parts (did ++ deed ∷ []) new
-    kept_idle i a = kept_more (a ∙ sym (ap (λ q. old.accesses.items ++ cond q (deed ∷ []) []) i ∙ append-nil old.accesses.items))
+    pub kept_idle : access effect ≡ false → new.accesses.items ≡ old.accesses.items → AreKept parts (did ++ effect ∷ []) new
+    kept_idle i a = kept_more (a ∙ sym (ap (λ q. old.accesses.items ++ cond q (effect ∷ []) []) i ∙ append-nil old.accesses.items))
 
-    pub kept_access : access deed ≡ true → new.accesses.items ≡ old.accesses.items ++ deed ∷ [] → AreKept parts (did ++ deed ∷ []) new
-    kept_access i a = kept_more (a ∙ sym (ap (λ q. old.accesses.items ++ cond q (deed ∷ []) []) i))
+    pub kept_access : access effect ≡ true → new.accesses.items ≡ old.accesses.items ++ effect ∷ [] → AreKept parts (did ++ effect ∷ []) new
+    kept_access i a = kept_more (a ∙ sym (ap (λ q. old.accesses.items ++ cond q (effect ∷ []) []) i))
 
   -- where what a record does is kept
-  tag_at : (did : List DeedData) (k : ℕ) (deed : DeedData) → slice_get did k ≡ Some deed → slice_get (map tag did) k ≡ Some (tag deed)
-  tag_at [] k deed e = absurd (cc)
-  tag_at (x ∷ did) zero deed e = let i : x ≡ deed = cc in ap (λ y. Some (tag y)) i
-  tag_at (x ∷ did) (suc k) deed e = tag_at did k deed e
+  tag_at : (did : List EffectData) (k : ℕ) (effect : EffectData) → slice_get did k ≡ Some effect → slice_get (map tag did) k ≡ Some (tag effect)
+  tag_at [] k effect e = absurd (cc)
+  tag_at (x ∷ did) zero effect e = let i : x ≡ effect = cc in ap (λ y. Some (tag y)) i
+  tag_at (x ∷ did) (suc k) effect e = tag_at did k effect e
 
-  access_at : (did : List DeedData) (k : ℕ) (deed : DeedData) → slice_get did k ≡ Some deed → access deed ≡ true →
-      slice_get (filter access did) (length (filter of_access (take k (map tag did)))) ≡ Some deed
-  access_at [] k deed e i = absurd (cc)
-  access_at (x ∷ did) zero deed e i =
-      let j : x ≡ deed = cc in
+  access_at : (did : List EffectData) (k : ℕ) (effect : EffectData) → slice_get did k ≡ Some effect → access effect ≡ true →
+      slice_get (filter access did) (length (filter of_access (take k (map tag did)))) ≡ Some effect
+  access_at [] k effect e i = absurd (cc)
+  access_at (x ∷ did) zero effect e i =
+      let j : x ≡ effect = cc in
       ap (λ q. slice_get (cond q (x ∷ filter access did) (filter access did)) 0) (ap access j ∙ i) ∙ ap (λ y. Some y) j
-  access_at (x ∷ did) (suc k) deed e i =
+  access_at (x ∷ did) (suc k) effect e i =
       ap (λ q. slice_get (cond (access x) (x ∷ filter access did) (filter access did))
       (length (cond q (tag x ∷ filter of_access (take k (map tag did))) (filter of_access (take k (map tag did)))))) (tag_tells parts x.want)
-      ∙ go (access x) (access_at did k deed e i)
+      ∙ go (access x) (access_at did k effect e i)
     where
-      go : (q : Bool) → slice_get (filter access did) (length (filter of_access (take k (map tag did)))) ≡ Some deed →
+      go : (q : Bool) → slice_get (filter access did) (length (filter of_access (take k (map tag did)))) ≡ Some effect →
           slice_get (cond q (x ∷ filter access did) (filter access did))
-          (length (cond q (tag x ∷ filter of_access (take k (map tag did))) (filter of_access (take k (map tag did))))) ≡ Some deed
+          (length (cond q (tag x ∷ filter of_access (take k (map tag did))) (filter of_access (take k (map tag did))))) ≡ Some effect
       go true h = h
       go false h = h
 
-  pub kept_at : (did : List DeedData) (kept : Deeds) → AreKept parts did kept → (k : ℕ) (deed : DeedData) → slice_get did k ≡ Some deed → IsKeptAt parts kept k deed
-  kept_at did kept p k deed e = record {
-    tag = ap (λ xs. slice_get xs k) p.tags ∙ tag_at did k deed e;
+  pub kept_at : (did : List EffectData) (kept : TaggedEffects) → AreKept parts did kept → (k : ℕ) (effect : EffectData) → slice_get did k ≡ Some effect → IsKeptAt parts kept k effect
+  kept_at did kept p k effect e = record {
+    tag = ap (λ xs. slice_get xs k) p.tags ∙ tag_at did k effect e;
     access = λ i. ap (λ xs. slice_get xs (length (filter of_access (take k kept.tags.items)))) p.accesses
         ∙ ap (λ xs. slice_get (filter access did) (length (filter of_access (take k xs)))) p.tags
-        ∙ access_at did k deed e i;
+        ∙ access_at did k effect e i;
   }
 
 -- how many tags are of accesses, with one more

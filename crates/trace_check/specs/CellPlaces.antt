@@ -8,7 +8,7 @@ use Rattle.trace_check.specs.declared.cell.Cell.{Cell}
 use Rattle.trace_check.specs.declared.cells.BlockCell.{BlockCell}
 use Rattle.trace_check.specs.declared.cells.Cells.{Cells}
 use Rattle.trace_check.specs.Cells.{Finds, IsAfter}
-use Rattle.trace_check.specs.DeedData.{DeedData}
+use Rattle.trace_check.specs.EffectData.{EffectData}
 use Rattle.trace_check.specs.Tags.{wanted_block}
 
 -- a block's cell at the start: the bytes that the program gives it, and no core has an LR of it
@@ -32,7 +32,7 @@ abbrev pub IsWide : Cells → Type 0
 IsWide cells = length cells.places.items ≡ 65536
 
 -- an access is replayed: whether it finds what the earlier ones left, and if so, what it leaves
-pub record IsReplay (image : ImageData) (old : Cells) (deed : DeedData) (r : Record) (found : Bool) (new : Cells) : Type 0 where
-  pub finds : IsTrue found ↔ Finds (cell_at image old (wanted_block deed.want)) deed.want r
-  pub after : found ≡ true → IsAfter (cell_at image old (wanted_block deed.want)) deed r (cell_at image new (wanted_block deed.want))
-  pub others : (b : ℕ) → b ≢ wanted_block deed.want → cell_at image new b ≡ cell_at image old b
+pub record IsReplay (image : ImageData) (old : Cells) (effect : EffectData) (r : Record) (found : Bool) (new : Cells) : Type 0 where
+  pub finds : IsTrue found ↔ Finds (cell_at image old (wanted_block effect.want)) effect.want r
+  pub after : found ≡ true → IsAfter (cell_at image old (wanted_block effect.want)) effect r (cell_at image new (wanted_block effect.want))
+  pub others : (b : ℕ) → b ≢ wanted_block effect.want → cell_at image new b ≡ cell_at image old b

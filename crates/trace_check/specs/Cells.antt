@@ -10,8 +10,8 @@ use Rattle.rv_core.specs.Wanted.{wanted_address}
 use Rattle.sn_consistency.specs.Words.{write_block}
 use Rattle.sn_consistency.specs.Projections.{BlockState}
 use Rattle.trace_check.specs.declared.cell.Cell.{Cell}
-use Rattle.trace_check.specs.DeedData.{DeedData}
-use Rattle.trace_check.specs.Deeds.{reads_memory}
+use Rattle.trace_check.specs.EffectData.{EffectData}
+use Rattle.trace_check.specs.TaggedEffects.{reads_memory}
 
 abbrev pub is_lr : Want → Bool
 is_lr Nothing = false
@@ -54,7 +54,7 @@ pub record Stands (cell : Cell) (v : BlockState) : Type 0 where
   pub intact : (n : ℕ) → has_node cell.intact n ≡ v.intact n
 
 -- a cell after an access to its block
-abbrev pub IsAfter : Cell → DeedData → Record → Cell → Type 0
-IsAfter old deed r new =
-    (new.content ≡ write_block deed.write old.content)
-    × ((n : ℕ) → has_node new.intact n ≡ still_intact old.intact r.core (is_lr deed.want) (is_some deed.write) n)
+abbrev pub IsAfter : Cell → EffectData → Record → Cell → Type 0
+IsAfter old effect r new =
+    (new.content ≡ write_block effect.write old.content)
+    × ((n : ℕ) → has_node new.intact n ≡ still_intact old.intact r.core (is_lr effect.want) (is_some effect.write) n)

@@ -1,5 +1,5 @@
-pub mod DeedData
-pub mod Deeds
+pub mod EffectData
+pub mod TaggedEffects
 pub mod Tags
 pub mod Cells
 pub mod CellPlaces

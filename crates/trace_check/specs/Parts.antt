@@ -8,26 +8,26 @@ use Rattle.rv_core.specs.Core.{is_access}
 use Rattle.rv_core.specs.Wanted.{IsInside, WriteFits}
 use Rattle.rv_core.specs.Flat.{flat_start}
 use Rattle.projection_places.specs.Passes.{Passes, BlockPasses}
-use Rattle.trace_check.specs.DeedData.{DeedData}
+use Rattle.trace_check.specs.EffectData.{EffectData}
 use Rattle.trace_check.specs.declared.cores.Slot.{Slot}
 use Rattle.trace_check.specs.Tags.{wanted_block}
-use Rattle.trace_check.specs.Slots.{HasDeeds, HasTag, access_place}
+use Rattle.trace_check.specs.Slots.{HasEffects, HasTag, access_place}
 
 -- whether it is an access to a block of the part
 abbrev pub is_in : ℕ → ℕ → Want → Bool
 is_in parts part want = is_access want && nat_eq (wanted_block want % parts) part
 
--- a deed lies in memory
-abbrev pub IsFitting : DeedData → Record → Type 0
-IsFitting deed r = IsInside deed.want × WriteFits deed.want r.sc_done deed.write
+-- a effect lies in memory
+abbrev pub IsFitting : EffectData → Record → Type 0
+IsFitting effect r = IsInside effect.want × WriteFits effect.want r.sc_done effect.write
 
--- so do the deeds that the slots have for the first records, and they are of accesses
+-- so do the tagged that the slots have for the first records, and they are of accesses
 abbrev pub AreFitting : List Record → ℕ → List Slot → Type 0
 AreFitting rs count slots =
-    (k : ℕ) (r : Record) (d : Slot) (tag : ℕ) (deed : DeedData) → k < count → slice_get rs k ≡ Some r →
+    (k : ℕ) (r : Record) (d : Slot) (tag : ℕ) (effect : EffectData) → k < count → slice_get rs k ≡ Some r →
     HasTag rs k r (get_or slots r.core d) tag → 0 < tag →
-    slice_get (get_or slots r.core d).deeds.accesses.items (access_place rs k r (get_or slots r.core d)) ≡ Some deed →
-    (is_access deed.want ≡ true) × IsFitting deed r
+    slice_get (get_or slots r.core d).tagged.accesses.items (access_place rs k r (get_or slots r.core d)) ≡ Some effect →
+    (is_access effect.want ≡ true) × IsFitting effect r
 
 -- each access to a block of the part, among the first k records, finds what the earlier ones leave
 abbrev pub PartPasses : ImageData → ℕ → ℕ → ℕ → List Record → ℕ → Type 0
@@ -36,4 +36,4 @@ PartPasses image N parts part rs k = (b : ℕ) → b % parts ≡ part → BlockP
 -- so many records the blocks of the part pass, or memory was lacking
 abbrev pub HasPassed : ImageData → ℕ → ℕ → List Record → ℕ → List Slot → Result ℕ Memory → Type 0
 HasPassed image parts part rs count slots passed =
-    IfOk passed (λ p. (N : ℕ) → HasDeeds image N parts rs count slots → Passes (PartPasses image N parts part rs) count p)
+    IfOk passed (λ p. (N : ℕ) → HasEffects image N parts rs count slots → Passes (PartPasses image N parts part rs) count p)

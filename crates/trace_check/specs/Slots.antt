@@ -7,12 +7,12 @@ use Rattle.rv_core.specs.Flat.{flat_start, core_at}
 use Rattle.sn_consistency.specs.Projections.{CoreGood, records_of, core_after}
 use Rattle.projection_places.specs.Passes.{Passes}
 use Rattle.trace_check.specs.declared.cores.Slot.{Slot}
-use Rattle.trace_check.specs.Deeds.{core_deeds, deed_of}
+use Rattle.trace_check.specs.TaggedEffects.{core_effects, effect_of}
 use Rattle.trace_check.specs.Tags.{KeepsNone, AreKept, IsKeptAt, accesses_before}
 
 -- a slot of core n that nothing was put into
 abbrev pub IsFresh : ℕ → Slot → Type 0
-IsFresh n slot = (slot.core ≡ n) × KeepsNone slot.deeds
+IsFresh n slot = (slot.core ≡ n) × KeepsNone slot.tagged
 
 -- one for each of N cores
 pub record AreFresh (N : ℕ) (slots : List Slot) : Type 0 where
@@ -32,7 +32,7 @@ abbrev pub HasReplayed : ImageData → ℕ → ℕ → List Record → Slot → 
 HasReplayed image N parts rs slot =
     IfOk slot.passed (λ p.
     Passes (IsPassed image N slot.core rs) (length rs) p
-    × AreKept parts (core_deeds image slot.core (start_of slot.core image.entry) (take p rs)) slot.deeds)
+    × AreKept parts (core_effects image slot.core (start_of slot.core image.entry) (take p rs)) slot.tagged)
 
 pub record AreReplayed (image : ImageData) (N parts : ℕ) (rs : List Record) (slots : List Slot) : Type 0 where
   pub count : length slots ≡ N
@@ -48,24 +48,24 @@ own_before rs n k = length (records_of n (take k rs))
 
 -- the tag that the slot of a record's core has for it, record k of all
 abbrev pub HasTag : List Record → ℕ → Record → Slot → ℕ → Type 0
-HasTag rs k r slot tag = slice_get slot.deeds.tags.items (own_before rs r.core k) ≡ Some tag
+HasTag rs k r slot tag = slice_get slot.tagged.tags.items (own_before rs r.core k) ≡ Some tag
 
 -- the place of what an access does, in the slot of its core
 abbrev pub access_place : List Record → ℕ → Record → Slot → ℕ
-access_place rs k r slot = accesses_before slot.deeds (own_before rs r.core k)
+access_place rs k r slot = accesses_before slot.tagged (own_before rs r.core k)
 
 -- each record's core has a slot, with a tag for the record, and with what it does if it is an access
 pub record HasSlots (slots : List Slot) (rs : List Record) (count : ℕ) : Type 0 where
   pub inside : (k : ℕ) (r : Record) → k < count → slice_get rs k ≡ Some r → r.core < length slots
   pub room : (k : ℕ) (r : Record) (d : Slot) → k < count → slice_get rs k ≡ Some r →
-      own_before rs r.core k < length (get_or slots r.core d).deeds.tags.items
+      own_before rs r.core k < length (get_or slots r.core d).tagged.tags.items
   pub accesses : (k : ℕ) (r : Record) (d : Slot) (tag : ℕ) → k < count → slice_get rs k ≡ Some r →
       HasTag rs k r (get_or slots r.core d) tag → 0 < tag →
-      access_place rs k r (get_or slots r.core d) < length (get_or slots r.core d).deeds.accesses.items
+      access_place rs k r (get_or slots r.core d) < length (get_or slots r.core d).tagged.accesses.items
 
 -- each of the first records has what it does in its core's slot, after what the core's records before it do
-abbrev pub HasDeeds : ImageData → ℕ → ℕ → List Record → ℕ → List Slot → Type 0
-HasDeeds image N parts rs count slots =
+abbrev pub HasEffects : ImageData → ℕ → ℕ → List Record → ℕ → List Slot → Type 0
+HasEffects image N parts rs count slots =
     (k : ℕ) (r : Record) (d : Slot) → k < count → slice_get rs k ≡ Some r →
-    IsKeptAt parts (get_or slots r.core d).deeds (own_before rs r.core k)
-    (deed_of image (core_after image r.core (core_at (flat_start image N) r.core) (take k rs)) r)
+    IsKeptAt parts (get_or slots r.core d).tagged (own_before rs r.core k)
+    (effect_of image (core_after image r.core (core_at (flat_start image N) r.core) (take k rs)) r)

@@ -7,7 +7,7 @@ ghost use Rattle.trace_check.specs.Slots.{HasSlots};
 
 use crate::cells::Cells;
 use crate::cores::Slot;
-use crate::deed::Deed;
+use crate::memory_effect::MemoryEffect;
 use crate::tag::{Part, accesses, block_in, is_of};
 use rv_core::Record;
 use sn_base::{Image, Memory};
@@ -29,11 +29,11 @@ pub fn replay_part(
     ensures { HasPassed image.now part.count part.number records.now count slots.now result }
 {
     let mut cells = Cells::new(alloc)?;
-    replay_deeds(image, part, records, count, slots, &mut cells)
+    replay_tagged(image, part, records, count, slots, &mut cells)
 }
 
 /// The same with cells, of which none was made.
-fn replay_deeds(
+fn replay_tagged(
     image: &Image,
     part: Part,
     records: &[Record],
@@ -54,9 +54,9 @@ fn replay_deeds(
     'records: for place in 0..count {
         let taken = records[place];
         let core = usize::from(taken.core.number());
-        let deeds = &slots[core].deeds;
-        let tag = deeds.tags[own[core]];
-        if is_of(tag, part) && !replay_access(image, cells, &deeds.accesses[next[core]], &taken)? {
+        let tagged = &slots[core].tagged;
+        let tag = tagged.tags[own[core]];
+        if is_of(tag, part) && !replay_access(image, cells, &tagged.accesses[next[core]], &taken)? {
             return Ok(place);
         }
         own[core] += 1;
@@ -69,15 +69,15 @@ fn replay_deeds(
 fn replay_access(
     image: &Image,
     cells: &mut Cells,
-    deed: &Deed,
+    effect: &MemoryEffect,
     taken: &Record,
 ) -> Result<bool, Memory>
     requires wide { IsWide cells.old }
-    requires access { is_access deed.now.want ≡ true }
-    requires fits { IsFitting deed.now taken.now }
+    requires access { is_access effect.now.want ≡ true }
+    requires fits { IsFitting effect.now taken.now }
     ensures wide { IsWide cells.new }
-    ensures done { IfOk result (λ found. IsReplay image.now cells.old deed.now taken.now found cells.new) }
+    ensures done { IfOk result (λ found. IsReplay image.now cells.old effect.now taken.now found cells.new) }
 {
-    let block = block_in(deed.want()).unwrap();
-    cells.replay(image, block, deed, taken)
+    let block = block_in(effect.want()).unwrap();
+    cells.replay(image, block, effect, taken)
 }

@@ -4,7 +4,7 @@ ghost use Rattle.sn_base.specs.Nodes.{has_node};
 ghost use Rattle.rv_core.specs.Wanted.{IsInside, IsAddress, WriteFits};
 ghost use Rattle.trace_check.specs.Cells.{Finds, IsAfter, is_lr, still_intact, word_in};
 
-use crate::deed::Deed;
+use crate::memory_effect::MemoryEffect;
 use rv_core::{Record, Want};
 use sn_base::{Block, BlockNo, NodeId, NodeSet, Width};
 
@@ -41,16 +41,21 @@ impl Cell {
     }
 
     /// What the access leaves.
-    pub fn apply(&mut self, deed: &Deed, taken: &Record)
-        requires { WriteFits deed.now.want taken.now.sc_done deed.now.write }
-        ensures { IsAfter self.old deed.now taken.now self.new }
+    pub fn apply(&mut self, effect: &MemoryEffect, taken: &Record)
+        requires { WriteFits effect.now.want taken.now.sc_done effect.now.write }
+        ensures { IsAfter self.old effect.now taken.now self.new }
     {
-        let write = deed.write();
+        let write = effect.write();
         if let Some(write) = write {
             let place = BlockNo::offset(write.address);
             self.content.store(place, write.width, write.value);
         }
-        self.intact = intact_after(self.intact, taken.core, is_lr(deed.want()), write.is_some());
+        self.intact = intact_after(
+            self.intact,
+            taken.core,
+            is_lr(effect.want()),
+            write.is_some(),
+        );
     }
 }
 

@@ -5,7 +5,7 @@ ghost use Rattle.trace_check.specs.CellPlaces.{IsWide, cell_at, first_cell, miss
 ghost use Rattle.trace_check.specs.Parts.{IsFitting};
 
 use crate::cell::Cell;
-use crate::deed::Deed;
+use crate::memory_effect::MemoryEffect;
 use rv_core::Record;
 use sn_base::{BLOCKS, BlockNo, Image, Memory, NodeSet};
 use std::alloc::Global;
@@ -45,19 +45,19 @@ impl Cells {
         &mut self,
         image: &Image,
         block: BlockNo,
-        deed: &Deed,
+        effect: &MemoryEffect,
         taken: &Record,
     ) -> Result<bool, Memory>
         requires wide { IsWide self.old }
-        requires fits { IsFitting deed.now taken.now }
+        requires fits { IsFitting effect.now taken.now }
         ensures wide { IsWide self.new }
-        ensures finds { IfOk result (λ found. IsTrue found ↔ Finds (cell_at image.now self.old block) deed.now.want taken.now) }
+        ensures finds { IfOk result (λ found. IsTrue found ↔ Finds (cell_at image.now self.old block) effect.now.want taken.now) }
         ensures after { IfOk result (λ found. found ≡ true →
-            IsAfter (cell_at image.now self.old block) deed.now taken.now (cell_at image.now self.new block)) }
+            IsAfter (cell_at image.now self.old block) effect.now taken.now (cell_at image.now self.new block)) }
         ensures others { IfOk result (λ found. (b : ℕ) → b ≢ block → cell_at image.now self.new b ≡ cell_at image.now self.old b) }
     {
         let place = self.place_of(image, block)?;
-        Ok(replay_cell(&mut self.kept[place].cell, deed, taken))
+        Ok(replay_cell(&mut self.kept[place].cell, effect, taken))
     }
 
     /// Where the block's cell is, which is made now if it wasn't yet.
@@ -109,14 +109,14 @@ fn start(image: &Image, block: BlockNo) -> Cell
     }
 }
 
-fn replay_cell(cell: &mut Cell, deed: &Deed, taken: &Record) -> bool
-    requires { IsFitting deed.now taken.now }
-    ensures finds { IsTrue result ↔ Finds cell.old deed.now.want taken.now }
-    ensures after { result ≡ true → IsAfter cell.old deed.now taken.now cell.new }
+fn replay_cell(cell: &mut Cell, effect: &MemoryEffect, taken: &Record) -> bool
+    requires { IsFitting effect.now taken.now }
+    ensures finds { IsTrue result ↔ Finds cell.old effect.now.want taken.now }
+    ensures after { result ≡ true → IsAfter cell.old effect.now taken.now cell.new }
 {
-    if !cell.finds(deed.want(), taken) {
+    if !cell.finds(effect.want(), taken) {
         return false;
     }
-    cell.apply(deed, taken);
+    cell.apply(effect, taken);
     true
 }

@@ -1,25 +1,25 @@
 //! One core's records, replayed by themselves, up to the first record of a core that isn't there.
 ghost use Rattle.std.specs.Prelude.{◌≡◌, ℕ, ◌<◌, ◌≤◌, ◌↔◌, ◌++◌, [], ◌∷◌, List, true, false, is_some, length, take, IfOk, IfSome};
 ghost use Rattle.std.specs.Prelude.{IsSome, IsTrue};
-ghost use Rattle.sn_base.specs.Image.{fetched};
+ghost use Rattle.sn_base.specs.Image.{word_fetched};
 ghost use Rattle.rv_decode.specs.Table.{instr_fits};
 ghost use Rattle.rv_core.specs.Core.{start_of, is_running, is_input, holds_reservation};
 ghost use Rattle.rv_core.specs.Step.{want_of, next_of, instruction_of};
 ghost use Rattle.rv_core.specs.Wanted.{IsInside};
 ghost use Rattle.sn_consistency.specs.Projections.{Replays, core_step};
 ghost use Rattle.projection_places.specs.Passes.{Passes};
-ghost use Rattle.trace_check.specs.Deeds.{reads_memory, MayDo, deed_of, core_deeds};
-ghost use Rattle.trace_check.specs.DeedData.{DeedData};
+ghost use Rattle.trace_check.specs.TaggedEffects.{reads_memory, MayDo, effect_of, core_effects};
+ghost use Rattle.trace_check.specs.EffectData.{EffectData};
 ghost use Rattle.trace_check.specs.Slots.{IsPassed};
 ghost use Rattle.trace_check.specs.Tags.{KeepsNone, AreKept};
 
-use crate::deed::Deed;
-use crate::deeds::Deeds;
+use crate::memory_effect::MemoryEffect;
+use crate::tagged_effects::TaggedEffects;
 use rv_core::{Cause, CoreState, End, Record, Want};
 use rv_decode::Instr;
 use sn_base::{BlockNo, Image, Memory, NodeId};
 
-/// How many records the core passes, from the first on, and what its own among them do, which is put into `deeds` for so
+/// How many records the core passes, from the first on, and what its own among them do, which is put into `tagged` for so
 /// many parts of the blocks.
 pub fn replay(
     image: &Image,
@@ -27,14 +27,14 @@ pub fn replay(
     core: NodeId,
     parts: u16,
     records: &[Record],
-    deeds: &mut Deeds,
+    tagged: &mut TaggedEffects,
 ) -> Result<usize, Memory>
     requires inside { core < nodes }
     requires parts { 0 < parts }
     requires few { parts ≤ 16 }
-    requires fresh { KeepsNone deeds.old }
+    requires fresh { KeepsNone tagged.old }
     ensures passed { IfOk result (λ p. Passes (IsPassed image.now nodes core records.now) (length records.now) p) }
-    ensures deeds { IfOk result (λ p. AreKept parts (core_deeds image.now core (start_of core image.now.entry) (take p records.now)) deeds.new) }
+    ensures tagged { IfOk result (λ p. AreKept parts (core_effects image.now core (start_of core image.now.entry) (take p records.now)) tagged.new) }
 {
     let mut state = CoreState::start(core, image.entry());
     'records: for place in 0..records.len() {
@@ -45,7 +45,7 @@ pub fn replay(
             parts,
             &mut state,
             &records[place],
-            deeds,
+            tagged,
         )? {
             return Ok(place);
         }
@@ -61,7 +61,7 @@ fn replay_record(
     parts: u16,
     state: &mut CoreState,
     taken: &Record,
-    deeds: &mut Deeds,
+    tagged: &mut TaggedEffects,
 ) -> Result<bool, Memory>
     requires inside { core < nodes }
     requires parts { 0 < parts }
@@ -69,9 +69,9 @@ fn replay_record(
     ensures good { IfOk result (λ good. IsTrue good ↔ ((taken.now.core < nodes) × (core ≡ taken.now.core →
         Replays image.now nodes state.old taken.now))) }
     ensures state { IfOk result (λ good. good ≡ true → state.new ≡ core_step image.now core state.old taken.now) }
-    ensures deeds { IfOk result (λ good. good ≡ true → (did : List DeedData) → AreKept parts did deeds.old →
-        AreKept parts (did ++ core_deeds image.now core state.old (taken.now ∷ [])) deeds.new) }
-    ensures kept { IfOk result (λ good. good ≡ false → deeds.new ≡ deeds.old) }
+    ensures tagged { IfOk result (λ good. good ≡ true → (did : List EffectData) → AreKept parts did tagged.old →
+        AreKept parts (did ++ core_effects image.now core state.old (taken.now ∷ [])) tagged.new) }
+    ensures kept { IfOk result (λ good. good ≡ false → tagged.new ≡ tagged.old) }
 {
     if taken.core != core {
         return Ok(taken.core.number() < nodes);
@@ -79,8 +79,8 @@ fn replay_record(
     let Some(step) = may_do(image, state, taken) else {
         return Ok(false);
     };
-    let deed = take(image, state, step, taken);
-    deeds.push(deed, parts)?;
+    let effect = take(image, state, step, taken);
+    tagged.push(effect, parts)?;
     Ok(true)
 }
 
@@ -95,7 +95,7 @@ struct Step {
 fn may_do(image: &Image, state: &CoreState, taken: &Record) -> Option<Step>
     ensures some { IsSome result ↔ ((is_running state.now.end ≡ true) × MayDo state.now (want_of image.now state.now) taken.now) }
     ensures want { IfSome result (λ step. step.want ≡ want_of image.now state.now) }
-    ensures instruction { IfSome result (λ step. step.instruction ≡ instruction_of (fetched image.now.segments state.now.pc)) }
+    ensures instruction { IfSome result (λ step. step.instruction ≡ instruction_of (word_fetched image.now.segments state.now.pc)) }
     ensures fits { IfSome result (λ step. IfOk step.instruction (λ instr. instr_fits instr ≡ true)) }
 {
     if state.end != End::Running {
@@ -113,7 +113,7 @@ fn may_do(image: &Image, state: &CoreState, taken: &Record) -> Option<Step>
 fn next_step(image: &Image, state: &CoreState) -> Step
     requires { is_running state.now.end ≡ true }
     ensures want { result.want ≡ want_of image.now state.now }
-    ensures instruction { result.instruction ≡ instruction_of (fetched image.now.segments state.now.pc) }
+    ensures instruction { result.instruction ≡ instruction_of (word_fetched image.now.segments state.now.pc) }
     ensures fits { IfOk result.instruction (λ instr. instr_fits instr ≡ true) }
 {
     let instruction = state.instruction(image);
@@ -154,13 +154,13 @@ fn holds(state: &CoreState, want: Want) -> bool
 
 /// Does the record's step.
 #[tactic(auto, unfolding(rv_core::specs::Step::want_of, rv_core::specs::Step::next_of))]
-fn take(image: &Image, state: &mut CoreState, step: Step, taken: &Record) -> Deed
+fn take(image: &Image, state: &mut CoreState, step: Step, taken: &Record) -> MemoryEffect
     requires want { step.want ≡ want_of image.now state.old }
-    requires instruction { step.instruction ≡ instruction_of (fetched image.now.segments state.old.pc) }
+    requires instruction { step.instruction ≡ instruction_of (word_fetched image.now.segments state.old.pc) }
     requires fits { IfOk step.instruction (λ instr. instr_fits instr ≡ true) }
     requires running { is_running state.old.end ≡ true }
     requires may { MayDo state.old (want_of image.now state.old) taken.now }
-    ensures deed { result ≡ deed_of image.now state.old taken.now }
+    ensures effect { result ≡ effect_of image.now state.old taken.now }
     ensures state { state.new ≡ (next_of image.now state.old taken.now.seen taken.now.sc_done taken.now.read).core }
 {
     let effect = state.finish_by(
@@ -170,5 +170,5 @@ fn take(image: &Image, state: &mut CoreState, step: Step, taken: &Record) -> Dee
         taken.sc_done,
         taken.read,
     );
-    Deed::new(step.want, effect.write)
+    MemoryEffect::new(step.want, effect.write)
 }

@@ -6,7 +6,7 @@ ghost use Rattle.trace_check.specs.Slots.{IsFresh, AreFresh, HasReplayed, AreRep
 ghost use Rattle.trace_check.specs.Tags.{KeepsNone};
 
 use crate::core_replay::replay;
-use crate::deeds::Deeds;
+use crate::tagged_effects::TaggedEffects;
 use rv_core::Record;
 use sn_base::{Image, Memory, NodeId};
 use sn_io::Gate;
@@ -18,7 +18,7 @@ use std::{mem, thread};
 #[derive(Drop)]
 pub struct Slot {
     pub core: NodeId,
-    pub deeds: Deeds,
+    pub tagged: TaggedEffects,
     pub passed: Result<usize, Memory>,
 }
 
@@ -40,10 +40,10 @@ fn fresh_slot(alloc: Global, number: u8, room: usize) -> Result<Slot, Memory>
     ensures { IfOk result (λ slot. IsFresh number slot) }
 {
     let core = NodeId::new(number).unwrap();
-    let deeds = Deeds::with_room(alloc, room)?;
+    let tagged = TaggedEffects::with_room(alloc, room)?;
     Ok(Slot {
         core,
-        deeds,
+        tagged,
         passed: Ok(0),
     })
 }
@@ -70,7 +70,7 @@ pub fn replay_cores<T: Threads + Sync, G: Gate + Sync>(
         slots,
         usize::from(nodes),
         &|_, slot: &mut Slot|
-            requires { (slot.old.core < nodes) × (0 < parts) × (parts ≤ 16) × KeepsNone slot.old.deeds }
+            requires { (slot.old.core < nodes) × (0 < parts) × (parts ≤ 16) × KeepsNone slot.old.tagged }
             ensures { (slot.new.core ≡ slot.old.core) × HasReplayed image.entry.now nodes parts records.entry.now slot.new }
         { replay_slot(alloc, image, nodes, parts, records, gate, slot) },
     );
@@ -88,15 +88,15 @@ fn replay_slot<G: Gate>(
     requires inside { slot.old.core < nodes }
     requires parts { 0 < parts }
     requires few { parts ≤ 16 }
-    requires fresh { KeepsNone slot.old.deeds }
+    requires fresh { KeepsNone slot.old.tagged }
     ensures core { slot.new.core ≡ slot.old.core }
     ensures replayed { HasReplayed image.now nodes parts records.now slot.new }
 {
     gate.before(u32::from(slot.core.number()), 1);
     // The slots lie side by side, and threads that write next to each other are slow: here each writes vectors of its own.
-    let mut deeds = mem::replace(&mut slot.deeds, Deeds::new(alloc));
-    slot.passed = replay(image, nodes, slot.core, parts, records, &mut deeds);
-    slot.deeds = deeds;
+    let mut tagged = mem::replace(&mut slot.tagged, TaggedEffects::new(alloc));
+    slot.passed = replay(image, nodes, slot.core, parts, records, &mut tagged);
+    slot.tagged = tagged;
 }
 
 /// How many records, from the first on, all cores pass.

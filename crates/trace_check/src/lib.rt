@@ -16,11 +16,11 @@ mod cell;
 mod cells;
 mod core_replay;
 mod cores;
-mod deed;
-mod deeds;
 mod kind;
+mod memory_effect;
 mod parts;
 mod tag;
+mod tagged_effects;
 mod verdict;
 
 pub use verdict::{CheckFault, check};

@@ -4,7 +4,7 @@ ghost use Rattle.sn_base.specs.declared.memory.Memory.{Memory};
 ghost use Rattle.rv_core.specs.Flat.{flat_start};
 ghost use Rattle.projection_places.specs.Passes.{Passes, BlocksPass};
 ghost use Rattle.trace_check.specs.Parts.{AreFitting, HasPassed};
-ghost use Rattle.trace_check.specs.Slots.{HasSlots, HasDeeds};
+ghost use Rattle.trace_check.specs.Slots.{HasSlots, HasEffects};
 
 use crate::blocks::replay_part;
 use crate::cores::Slot;
@@ -40,7 +40,7 @@ pub fn replay_blocks<T: Threads + Sync>(
     requires within { count ≤ length records.now }
     requires room { HasSlots slots.now records.now count }
     requires fits { AreFitting records.now count slots.now }
-    ensures { IfOk result (λ p. (nodes : ℕ) → HasDeeds image.now nodes parts records.now count slots.now →
+    ensures { IfOk result (λ p. (nodes : ℕ) → HasEffects image.now nodes parts records.now count slots.now →
         Passes (BlocksPass image.now (flat_start image.now nodes) records.now) count p) }
 {
     let parts = usize::from(parts);
@@ -105,7 +105,7 @@ fn least_of(
     requires some { 0 < length passed.now }
     requires each { (part : ℕ) (d : Result ℕ Memory) → part < length passed.now →
         HasPassed image.now (length passed.now) part records.now count slots.now (slice_index_or passed.now part d) }
-    ensures { IfOk result (λ p. (nodes : ℕ) → HasDeeds image.now nodes (length passed.now) records.now count slots.now →
+    ensures { IfOk result (λ p. (nodes : ℕ) → HasEffects image.now nodes (length passed.now) records.now count slots.now →
         Passes (BlocksPass image.now (flat_start image.now nodes) records.now) count p) }
 {
     let mut least = count;

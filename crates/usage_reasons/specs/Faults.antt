@@ -64,13 +64,13 @@ file_by (file ∷ rest) command r word = if is_bad_size command word then Err (B
 unfoldable pub with_file : Command → Read → Text → Result Read Fault
 with_file command r word = file_by r.wanted command r word
 
-abbrev pub noted : Quantity → Read → Text → Read
-noted Nodes r value = record r { nodes = Some value }
-noted _ r value = r
+abbrev pub read_with : Quantity → Read → Text → Read
+read_with Nodes r value = record r { nodes = Some value }
+read_with _ r value = r
 
 unfoldable pub with_number : Quantity → Read → Text → Result Read Fault
 with_number quantity r value =
-    if is_some (number_by (rule_of quantity) (Some value)) then Ok (noted quantity r value) else Err (BadNumber quantity value)
+    if is_some (number_by (rule_of quantity) (Some value)) then Ok (read_with quantity r value) else Err (BadNumber quantity value)
 
 unfoldable pub with_address : Read → Text → Result Read Fault
 with_address r value = if is_some (watch_by (Some value)) then Ok r else Err (BadAddress value)

@@ -4,7 +4,7 @@ use Rattle.option_values.specs.Values.{Text, nodes_rule, sets_rule, ways_rule, l
 use Rattle.option_values.specs.Runs.{interval_rule, wait_rule, budget_rule, lose_rule, seed_rule}
 use Rattle.option_values.specs.declared.number.NumberRule.{NumberRule}
 use Rattle.usage_reasons.specs.declared.table.Command.{Command}
-use Rattle.usage_reasons.specs.declared.table.Command.TheVariants.{Replay, Roll, Run, Check, Demo, Asm, Dis}
+use Rattle.usage_reasons.specs.declared.table.Command.TheVariants.{Replay, Roll, Run, Monitor, Check, Demo, Asm, Dis}
 use Rattle.usage_reasons.specs.declared.table.Quantity.{Quantity}
 use Rattle.usage_reasons.specs.declared.table.Quantity.TheVariants.{Nodes, Sets, Ways, Log, Interval, Wait, LoseEvery, Budget, Seed}
 use Rattle.usage_reasons.specs.declared.table.Key.{Key}
@@ -12,7 +12,7 @@ use Rattle.usage_reasons.specs.declared.table.Key.TheVariants.{Number, Watch, Ki
 
 abbrev pub command_names : List Text
 command_names =
-    codes "replay" ∷ codes "roll" ∷ codes "run" ∷ codes "check" ∷ codes "demo" ∷ codes "asm" ∷ codes "dis" ∷ []
+    codes "replay" ∷ codes "roll" ∷ codes "run" ∷ codes "monitor" ∷ codes "check" ∷ codes "demo" ∷ codes "asm" ∷ codes "dis" ∷ []
 
 -- the command of a word, where it is one's name
 abbrev pub command_by : Text → Option Command
@@ -20,6 +20,7 @@ command_by word =
     if bytes_eq word (codes "replay") then Some Replay else
     if bytes_eq word (codes "roll") then Some Roll else
     if bytes_eq word (codes "run") then Some Run else
+    if bytes_eq word (codes "monitor") then Some Monitor else
     if bytes_eq word (codes "check") then Some Check else
     if bytes_eq word (codes "demo") then Some Demo else
     if bytes_eq word (codes "asm") then Some Asm else
@@ -29,6 +30,7 @@ unfoldable pub name_of : Command → Text
 name_of Replay = codes "replay"
 name_of Roll = codes "roll"
 name_of Run = codes "run"
+name_of Monitor = codes "monitor"
 name_of Check = codes "check"
 name_of Demo = codes "demo"
 name_of Asm = codes "asm"
@@ -39,6 +41,7 @@ abbrev pub files_of : Command → List Text
 files_of Replay = codes "PROGRAM" ∷ codes "SCRIPT" ∷ []
 files_of Roll = codes "PROGRAM" ∷ codes "SCRIPT" ∷ codes "CONTROL" ∷ []
 files_of Run = codes "PROGRAM" ∷ []
+files_of Monitor = codes "PROGRAM" ∷ []
 files_of Check = codes "PROGRAM" ∷ codes "TRACE" ∷ []
 files_of Demo = codes "SIZE" ∷ []
 files_of Asm = codes "TEXT" ∷ []
@@ -47,13 +50,18 @@ files_of Dis = codes "PROGRAM" ∷ []
 abbrev pub sizes : List Text
 sizes = codes "--nodes" ∷ codes "--sets" ∷ codes "--ways" ∷ codes "--log" ∷ codes "--watch" ∷ []
 
+-- of a machine that picks its own events
+abbrev pub run_options : List Text
+run_options =
+    codes "--nodes" ∷ codes "--sets" ∷ codes "--ways" ∷ codes "--log" ∷ codes "--watch" ∷ codes "--interval" ∷ codes "--wait"
+    ∷ codes "--lose-every" ∷ codes "--kill" ∷ codes "--budget" ∷ codes "--seed" ∷ []
+
 -- the options that take a value
 abbrev pub options_of : Command → List Text
 options_of Replay = sizes
 options_of Roll = sizes
-options_of Run =
-    codes "--nodes" ∷ codes "--sets" ∷ codes "--ways" ∷ codes "--log" ∷ codes "--watch" ∷ codes "--interval" ∷ codes "--wait"
-    ∷ codes "--lose-every" ∷ codes "--kill" ∷ codes "--budget" ∷ codes "--seed" ∷ []
+options_of Run = run_options
+options_of Monitor = run_options
 options_of Check = codes "--nodes" ∷ []
 options_of Demo = []
 options_of Asm = []
@@ -64,6 +72,7 @@ abbrev pub flags_of : Command → List Text
 flags_of Replay = codes "--trace" ∷ []
 flags_of Roll = []
 flags_of Run = codes "--trace" ∷ codes "--journal" ∷ []
+flags_of Monitor = []
 flags_of Check = []
 flags_of Demo = []
 flags_of Asm = []

@@ -4,7 +4,7 @@ use Rattle.std.specs.Prelude.{Option, Some, None}
 use Rattle.std.specs.Option.{option_or}
 use Rattle.sn_base.specs.declared.limits.TheConstants.{RAM_START, RAM_END}
 use Rattle.text_lines.specs.Hex.{hex_word}
-use Rattle.reasons.specs.Reason.{shown}
+use Rattle.reasons.specs.Reason.{escaped_text}
 use Rattle.reasons.specs.Near.{nearest}
 use Rattle.option_values.specs.Values.{Text}
 use Rattle.usage_reasons.specs.declared.table.Command.{Command}
@@ -19,8 +19,8 @@ use Rattle.usage_reasons.specs.Faults.{BadNumber, BadAddress, BadKill, BadSize, 
 -- a word as one can see it: its first 60 bytes, with two dots behind them where there are more, and quotation marks where it is empty
 unfoldable pub worded : Text → Text
 worded word =
-    if nat_lt 60 (length word) then shown (take 60 word) ++ codes ".."
-    else if nat_eq (length word) 0 then codes "\"\"" else shown word
+    if nat_lt 60 (length word) then escaped_text (take 60 word) ++ codes ".."
+    else if nat_eq (length word) 0 then codes "\"\"" else escaped_text word
 
 -- a text, and then the page that says more: the overview or a command's
 unfoldable pub see : Text → Option Command → Text

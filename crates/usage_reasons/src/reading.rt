@@ -1,6 +1,6 @@
 //! The words of a call, read from left to right.
 ghost use Rattle.std.specs.Prelude.{◌≡◌, ◌≤◌, [], map, option_map, string_bytes};
-ghost use Rattle.usage_reasons.specs.Faults.{first_read, no_such_command, no_such_option, is_bad_size, with_file, noted, with_number};
+ghost use Rattle.usage_reasons.specs.Faults.{first_read, no_such_command, no_such_option, is_bad_size, with_file, read_with, with_number};
 ghost use Rattle.usage_reasons.specs.Faults.{with_address, with_value, with_key, with_flag, with_option, with_word, step, kill_on, kill_fault};
 ghost use Rattle.usage_reasons.specs.Faults.{at_end, fault_from, fault_behind, fault_of};
 ghost use Rattle.usage_reasons.specs.Seen.{read_seen, fault_seen, step_seen};
@@ -93,7 +93,7 @@ fn with_file<'a>(
 }
 
 fn noted<'a>(quantity: Quantity, reading: Reading<'a>, value: &'a str) -> Reading<'a>
-    ensures { read_seen result ≡ noted quantity (read_seen reading.entry) value.entry.now }
+    ensures { read_seen result ≡ read_with quantity (read_seen reading.entry) value.entry.now }
 {
     match quantity {
         Quantity::Nodes => Reading {

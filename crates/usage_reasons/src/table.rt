@@ -13,6 +13,7 @@ pub(crate) enum Command {
     Replay,
     Roll,
     Run,
+    Monitor,
     Check,
     Demo,
     Asm,
@@ -45,7 +46,9 @@ pub(crate) enum Key {
 
 const NONE: &[&str] = &[];
 
-const COMMANDS: &[&str] = &["replay", "roll", "run", "check", "demo", "asm", "dis"];
+const COMMANDS: &[&str] = &[
+    "replay", "roll", "run", "monitor", "check", "demo", "asm", "dis",
+];
 
 const PROGRAM: &[&str] = &["PROGRAM"];
 
@@ -94,6 +97,7 @@ pub(crate) fn command_by(word: &str) -> Option<Command>
         "replay" => Some(Command::Replay),
         "roll" => Some(Command::Roll),
         "run" => Some(Command::Run),
+        "monitor" => Some(Command::Monitor),
         "check" => Some(Command::Check),
         "demo" => Some(Command::Demo),
         "asm" => Some(Command::Asm),
@@ -110,6 +114,7 @@ pub(crate) fn name_of(command: Command) -> &'static str
         Command::Replay => "replay",
         Command::Roll => "roll",
         Command::Run => "run",
+        Command::Monitor => "monitor",
         Command::Check => "check",
         Command::Demo => "demo",
         Command::Asm => "asm",
@@ -124,7 +129,7 @@ pub(crate) fn files_of(command: Command) -> &'static [&'static str]
     match command {
         Command::Replay => PROGRAM_AND_SCRIPT,
         Command::Roll => PROGRAM_AND_CONTROL,
-        Command::Run | Command::Dis => PROGRAM,
+        Command::Run | Command::Monitor | Command::Dis => PROGRAM,
         Command::Check => PROGRAM_AND_TRACE,
         Command::Demo => SIZE,
         Command::Asm => TEXT,
@@ -137,7 +142,7 @@ pub(crate) fn options_of(command: Command) -> &'static [&'static str]
 {
     match command {
         Command::Replay | Command::Roll => SIZES,
-        Command::Run => RUN_OPTIONS,
+        Command::Run | Command::Monitor => RUN_OPTIONS,
         Command::Check => NODES_ALONE,
         Command::Demo | Command::Asm | Command::Dis => NONE,
     }
@@ -150,7 +155,12 @@ pub(crate) fn flags_of(command: Command) -> &'static [&'static str]
     match command {
         Command::Replay => TRACE,
         Command::Run => TRACE_OR_JOURNAL,
-        Command::Roll | Command::Check | Command::Demo | Command::Asm | Command::Dis => NONE,
+        Command::Roll
+        | Command::Monitor
+        | Command::Check
+        | Command::Demo
+        | Command::Asm
+        | Command::Dis => NONE,
     }
 }
 

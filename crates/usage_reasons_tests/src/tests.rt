@@ -157,6 +157,10 @@ const FILES: &[(&str, &str)] = &[
     ),
     ("run", "run: PROGRAM is lacking; see safetynet run --help"),
     (
+        "monitor",
+        "monitor: PROGRAM is lacking; see safetynet monitor --help",
+    ),
+    (
         "check p",
         "check: TRACE is lacking; see safetynet check --help",
     ),
@@ -178,6 +182,10 @@ const FILES: &[(&str, &str)] = &[
     (
         "run p s",
         "s: run takes no more files; see safetynet run --help",
+    ),
+    (
+        "monitor p s",
+        "s: monitor takes no more files; see safetynet monitor --help",
     ),
     (
         "demo 1 2",
@@ -243,6 +251,14 @@ const OPTIONS: &[(&str, &str)] = &[
     (
         "run p --lose_every 4",
         "--lose_every: run has no such option; did you mean --lose-every?",
+    ),
+    (
+        "monitor p --trace",
+        "--trace: monitor has no such option; see safetynet monitor --help",
+    ),
+    (
+        "monitor p --journal",
+        "--journal: monitor has no such option; see safetynet monitor --help",
     ),
     (
         "check p t --kill a0@0",
@@ -371,6 +387,10 @@ const NUMBERS: &[(&str, &str)] = &[
         "--lose-every -1: one is lost of 0 to 1000000 moves of messages, and with 0 none",
     ),
     (
+        "monitor p --budget 0",
+        "--budget 0: a run has 1 to 1000000 events",
+    ),
+    (
         "run p --budget 0",
         "--budget 0: a run has 1 to 1000000 events",
     ),
@@ -437,6 +457,10 @@ const VALUES: &[(&str, &str)] = &[
     (
         "run p --nodes 1 --kill b1@0",
         "--kill b1@0: a switch that dies is a or b, its node below 1, @, and a number of events up to 1000000",
+    ),
+    (
+        "monitor --nodes=2 p --kill=a2@0",
+        "--kill a2@0: a switch that dies is a or b, its node below 2, @, and a number of events up to 1000000",
     ),
     (
         "run p --kill=a8@0 --nodes=8",
@@ -558,7 +582,9 @@ fn all_agree(rt: &impl Abort, alloc: Global, command: &str) -> Result<(), Memory
 fn something_is_said_of_all_words_that_are_refused_and_of_no_others(
     rt: HostRuntime,
 ) -> Result<(), Fail> {
-    for command in ["replay", "roll", "run", "check", "demo", "asm", "dis"] {
+    for command in [
+        "replay", "roll", "run", "monitor", "check", "demo", "asm", "dis",
+    ] {
         all_agree(&rt, rt.alloc(), command)?;
     }
     Ok(())

@@ -4,7 +4,7 @@ use Rattle.std.proofs.Common.{replicate, refl, sym, ap, ◌∙◌, arith}
 use Rattle.std.proofs.lemmas.List.{get_or-take, length-take, take-replicate}
 use Rattle.std.proofs.lemmas.List.Quantifiers.{position-Some}
 use Rattle.std.specs.Prelude.{nat_le}
-use Rattle.validation.specs.Ready.{Reports, least_behind, checked, next_or_behind}
+use Rattle.validation.specs.Ready.{Reports, least_behind, next_point_of, next_or_behind}
 
 pub set-take : (n i : ℕ) (xs : List ℕ) (y : ℕ) → i < n → take n (set xs i y) ≡ set (take n xs) i y
 set-take zero i xs y l = absurd (omega arith)
@@ -33,11 +33,11 @@ one_more point n i k rs v e l =
     (set-take n i rs (max (get_or rs i 0) k) h ∙ ap (λ (x : ℕ). set (take n rs) i (max x k)) (sym (get_or-take n rs i 0 h))))
 
 pub ready-checked : (point n : ℕ) (rs : List ℕ) (v : Reports) → reports point (take n rs) ≡ v → least_behind point (take n rs) ≡ None →
-    Ok (point + 1) ≡ checked v
+    Ok (point + 1) ≡ next_point_of v
 ready-checked point n rs v e h = rw (← e) (ap (next_or_behind (reports point (take n rs))) (sym h))
 
 pub behind-checked : (point n i : ℕ) (rs : List ℕ) (v : Reports) → reports point (take n rs) ≡ v → least_behind point (take n rs) ≡ Some i →
-    Err (record { node = i; reported = get_or rs i 0 }) ≡ checked v
+    Err (record { node = i; reported = get_or rs i 0 }) ≡ next_point_of v
 behind-checked point n i rs v e h =
     let m : i < length (take n rs) = (position-Some (λ k. nat_le k point) (take n rs) i 0 h).0 in
     let l : i < n = omega (arith, length-take n rs) in

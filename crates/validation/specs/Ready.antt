@@ -17,8 +17,8 @@ abbrev pub next_or_behind : Reports → Option ℕ → Result ℕ NotReady
 next_or_behind r None = Ok (r.point + 1)
 next_or_behind r (Some node) = Err (record { node = node; reported = slice_index r.reported node })
 
-abbrev pub checked : Reports → Result ℕ NotReady
-checked r = next_or_behind r (least_behind r.point r.reported)
+abbrev pub next_point_of : Reports → Result ℕ NotReady
+next_point_of r = next_or_behind r (least_behind r.point r.reported)
 
 -- a machine has 1 to 16 nodes
 pub record HasNodes (r : Reports) : Type 0 where

@@ -8,7 +8,7 @@
 #![tactic(auto)]
 
 ghost use Rattle.std.specs.Prelude.{◌≡◌, ◌+◌, ◌<◌, ◌≤◌, max, length, replicate, slice_index, slice_set, IfOk, OnErr};
-ghost use Rattle.validation.specs.Ready.{Reports, HasNodes, least_behind, checked};
+ghost use Rattle.validation.specs.Ready.{Reports, HasNodes, least_behind, next_point_of};
 
 use sn_base::{Interval, NodeId};
 use std::marker::Model;
@@ -72,7 +72,7 @@ impl Controller {
 
     /// The next recovery point, if every node is ready for it.
     pub fn check(&self) -> Result<Interval, NotReady>
-        ensures { result ≡ checked self.now }
+        ensures { result ≡ next_point_of self.now }
     {
         match first_behind(&self.reports[..self.nodes], self.point) {
             None => Ok(self.point + 1),
@@ -85,7 +85,7 @@ impl Controller {
 
     /// Moves the recovery point to the next checkpoint, if every node is ready for it.
     pub fn advance(&mut self) -> Result<Interval, NotReady>
-        ensures same { result ≡ checked self.old }
+        ensures same { result ≡ next_point_of self.old }
         ensures moved { IfOk result (λ k. self.new ≡ record self.old { point = k }) }
         ensures unchanged { OnErr result (self.new ≡ self.old) }
     {

@@ -9,10 +9,10 @@ ghost use Rattle.sn_model.specs.Caches.{line_of, without_line, is_present, is_ow
 ghost use Rattle.sn_model.specs.Caches.{block_count};
 ghost use Rattle.sn_model.specs.CacheRows.{send};
 ghost use Rattle.sn_model.specs.Access.{word_in, request_for};
-ghost use Rattle.mosi_cache.specs.Probe.{log_with, probe_by, probe_miss, with_miss, stored, evict_by, with_put, may_go, least_open_of};
+ghost use Rattle.mosi_cache.specs.Probe.{log_with, probe_by, probe_miss, with_miss, cache_after_write, evict_by, with_put, may_go, least_open_of};
 
 use super::Cache;
-use crate::step::Probe1;
+use crate::step::AccessProbe;
 use log_buffer::LogBuffer;
 use sn_base::{Answer, Block, BlockNo, Interval, Old, Width, Write};
 use sn_model::{LineState, Need, Out};
@@ -37,30 +37,30 @@ impl Cache {
     /// What an access to the block comes to, the first that applies: the open put is on the block (Waits), the line serves it
     /// (Ready, or LogFull for a write whose old content has no room), all frames of the set are taken (NeedsEvict), or the
     /// block has to be asked for (Miss).
-    pub fn probe(&self, block: BlockNo, need: Need, now: Interval, log: &LogBuffer) -> Probe1
+    pub fn probe(&self, block: BlockNo, need: Need, now: Interval, log: &LogBuffer) -> AccessProbe
         requires { IsNone self.now.cache.miss }
         ensures { result ≡ probe_by self.now log.now block now need }
     {
         if self.puts(block) {
-            return Probe1::Waits;
+            return AccessProbe::Waits;
         }
         let state = self.lines.state(block);
         match need {
-            Need::Read if state != LineState::Absent => Probe1::Ready,
+            Need::Read if state != LineState::Absent => AccessProbe::Ready,
             Need::Write if is_writable(state) => self.probe_log(block, now, log),
             _ => self.probe_frames(block),
         }
     }
 
-    fn probe_frames(&self, block: BlockNo) -> Probe1
+    fn probe_frames(&self, block: BlockNo) -> AccessProbe
         requires { IsNone self.now.cache.miss }
         ensures { result ≡ probe_miss self.now block }
     {
         let is_absent = self.lines.state(block) == LineState::Absent;
         if is_absent && self.has_full_set(block) {
-            Probe1::NeedsEvict
+            AccessProbe::NeedsEvict
         } else {
-            Probe1::Miss
+            AccessProbe::Miss
         }
     }
 
@@ -80,22 +80,22 @@ impl Cache {
         }
     }
 
-    fn probe_log(&self, block: BlockNo, now: Interval, log: &LogBuffer) -> Probe1
-        ensures { result ≡ (if nat_lt log.now.limit (length (log_with self.now log.now.entries block now)) then Probe1.LogFull
-            else Probe1.Ready) }
+    fn probe_log(&self, block: BlockNo, now: Interval, log: &LogBuffer) -> AccessProbe
+        ensures { result ≡ (if nat_lt log.now.limit (length (log_with self.now log.now.entries block now)) then AccessProbe.LogFull
+            else AccessProbe.Ready) }
     {
         let room = log.room();
         if room == 0 && !log.has(now, false, block) {
-            Probe1::LogFull
+            AccessProbe::LogFull
         } else {
-            Probe1::Ready
+            AccessProbe::Ready
         }
     }
 
     /// Opens a miss, and gives the request for the block's home.
     pub fn begin_miss(&mut self, block: BlockNo, need: Need, now: Interval) -> Out
         requires none { IsNone self.old.cache.miss }
-        requires miss { (log : LogData) × (probe_by self.old log block now need ≡ Probe1.Miss) }
+        requires miss { (log : LogData) × (probe_by self.old log block now need ≡ AccessProbe.Miss) }
         ensures open_now { self.new ≡ with_miss self.old block need now }
         ensures out { result ≡ send (block % self.old.nodes) (request_for need) }
     {
@@ -211,9 +211,9 @@ impl Cache {
         requires high { write.now.address < ram_start + ram_size }
         requires aligned { write.now.address % bytes_of write.now.width ≡ 0 }
         requires line { is_writable_state (line_of self.old.cache (block_of write.now.address)).state ≡ true }
-        requires ready { probe_by self.old log.old (block_of write.now.address) now Need.Write ≡ Probe1.Ready }
+        requires ready { probe_by self.old log.old (block_of write.now.address) now Need.Write ≡ AccessProbe.Ready }
         requires last { logged_to log.old.entries false (block_of write.now.address) ≤ now + 1 }
-        ensures stored { self.new ≡ stored self.old write.now }
+        ensures stored { self.new ≡ cache_after_write self.old write.now }
         ensures log { log.new ≡ record log.old { entries = log_with self.old log.old.entries (block_of write.now.address) now } }
     {
         let Some(block) = BlockNo::of(write.address) else {

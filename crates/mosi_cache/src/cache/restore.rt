@@ -4,7 +4,7 @@
 //! checkpoint have room as they had then. What was got since is let go and what was lost since is put back, each in Modified,
 //! which is the one state that needs no other node's knowledge.
 ghost use Rattle.std.specs.Prelude.{◌≡◌, false};
-ghost use Rattle.rollback.specs.Unwound.{restored};
+ghost use Rattle.rollback.specs.Unwound.{contents_with_old};
 ghost use Rattle.sn_model.specs.Caches.{line_of, with_line};
 ghost use Rattle.mosi_cache.specs.Controller.{FitsSets};
 ghost use Rattle.mosi_cache.specs.Restored.{begun_restore, held_of, HeldFits, StaysAsItIs};
@@ -27,7 +27,7 @@ impl Cache {
     }
 
     fn hold(&mut self, block: BlockNo, content: Block)
-        requires { HeldFits self.old (restored false (held_of self.old) block (Old.Owned content)) }
+        requires { HeldFits self.old (contents_with_old false (held_of self.old) block (Old.Owned content)) }
         ensures cache { self.new ≡ record self.old { cache = with_line self.old.cache block LineState.Modified content } }
         ensures read { line_of self.new.cache block ≡ record { state = LineState.Modified; content = content } }
         ensures fits { FitsSets self.new.cache self.new.sets self.new.ways }

@@ -1,12 +1,12 @@
 //! The rows of the cache's table, in its order: what each message does at the node that it has come to.
 ghost use Rattle.std.specs.Prelude.{◌≡◌, ◌+◌, ◌%◌, ◌<◌, ◌≤◌, false, List, [], length, IfSome, Some};
 ghost use Rattle.sn_base.specs.declared.log.LogEntry.{LogEntry};
-ghost use Rattle.log_buffer.specs.Log.{logged_to, has_entry, noted};
+ghost use Rattle.log_buffer.specs.Log.{logged_to, has_entry, log_with_note};
 ghost use Rattle.sn_model.specs.Caches.{line_of};
 ghost use Rattle.sn_model.specs.CacheRows.{forward_read, forward_write, invalidate, data_shared, data_modified, upgrade_granted};
-ghost use Rattle.sn_model.specs.CacheRows.{acknowledge, put_go, put_done, data_exclusive, completed_or_waiting, MayForward, MayTakeCopy};
+ghost use Rattle.sn_model.specs.CacheRows.{acknowledge, put_go, put_done, data_exclusive, reply_or_wait, MayForward, MayTakeCopy};
 ghost use Rattle.sn_model.specs.CacheRows.{MayTakeOwnership, MayUpgrade, MayCount, MayGiveBack, MayClosePut};
-ghost use Rattle.mosi_cache.specs.Controller.{logged};
+ghost use Rattle.mosi_cache.specs.Controller.{with_entries};
 ghost use Rattle.mosi_cache.specs.Rows.{IsRowDone};
 
 use super::Cache;
@@ -25,8 +25,8 @@ fn taken(to: NodeId, body: Body, lost: Option<BlockNo>) -> CacheStep
 impl Cache {
     /// A request to read for requester r of a block that is owned here: the line becomes Owned, and the content goes to r.
     pub(super) fn forward_read(&mut self, block: BlockNo, requester: NodeId) -> CacheStep
-        requires { MayForward (logged self.old []) block }
-        ensures { (entries : List LogEntry) → IsRowDone self.old self.new result (forward_read (logged self.old entries) block requester) }
+        requires { MayForward (with_entries self.old []) block }
+        ensures { (entries : List LogEntry) → IsRowDone self.old self.new result (forward_read (with_entries self.old entries) block requester) }
     {
         let content = self.lines.content(block);
         self.lines.put(block, LineState::Owned, content);
@@ -43,13 +43,13 @@ impl Cache {
         due: u8,
         log: &mut LogBuffer,
     ) -> CacheStep
-        requires owned { MayForward (logged self.old []) block }
+        requires owned { MayForward (with_entries self.old []) block }
         requires room { has_entry log.old.entries now false block ≡ false → length log.old.entries < log.old.limit }
         requires last { logged_to log.old.entries false block ≤ now + 1 }
         ensures done { (entries : List LogEntry) →
-            IsRowDone self.old self.new result (forward_write (logged self.old entries) block now requester due) }
+            IsRowDone self.old self.new result (forward_write (with_entries self.old entries) block now requester due) }
         ensures log { log.new ≡
-            record log.old { entries = noted log.old.entries now block (Old.Owned (line_of self.old.cache block).content) } }
+            record log.old { entries = log_with_note log.old.entries now block (Old.Owned (line_of self.old.cache block).content) } }
     {
         let content = self.lines.content(block);
         log.note(now, block, Old::Owned(content));
@@ -59,7 +59,7 @@ impl Cache {
 
     /// An invalidation for requester r: the copy is lost, where there is one, and r gets the acknowledgement.
     pub(super) fn invalidate(&mut self, block: BlockNo, requester: NodeId) -> CacheStep
-        ensures { (entries : List LogEntry) → IsRowDone self.old self.new result (invalidate (logged self.old entries) block requester) }
+        ensures { (entries : List LogEntry) → IsRowDone self.old self.new result (invalidate (with_entries self.old entries) block requester) }
     {
         let had_copy = self.lines.find(block).is_some();
         self.lines.remove(block);
@@ -69,9 +69,9 @@ impl Cache {
 
     /// The content to read: the line is Shared, the message's tag is the interval of atomicity, and the read is complete.
     pub(super) fn data_shared(&mut self, block: BlockNo, tag: Interval, content: Block) -> CacheStep
-        requires { MayTakeCopy (logged self.old []) block }
+        requires { MayTakeCopy (with_entries self.old []) block }
         ensures { (entries : List LogEntry) →
-            IsRowDone self.old self.new result (data_shared (logged self.old entries) (block % self.old.nodes) block tag content) }
+            IsRowDone self.old self.new result (data_shared (with_entries self.old entries) (block % self.old.nodes) block tag content) }
     {
         self.lines.put(block, LineState::Shared, content);
         let _ = self.transactions.answer(tag, 0);
@@ -88,12 +88,12 @@ impl Cache {
         due: u8,
         log: &mut LogBuffer,
     ) -> CacheStep
-        requires missed { MayTakeOwnership (logged self.old []) block }
+        requires missed { MayTakeOwnership (with_entries self.old []) block }
         requires room { has_entry log.old.entries tag false block ≡ false → length log.old.entries < log.old.limit }
         requires last { logged_to log.old.entries false block ≤ tag + 1 }
         ensures done { (entries : List LogEntry) →
-            IsRowDone self.old self.new result (data_modified (logged self.old entries) (block % self.old.nodes) block tag content due) }
-        ensures log { log.new ≡ record log.old { entries = noted log.old.entries tag block Old.NotOwned } }
+            IsRowDone self.old self.new result (data_modified (with_entries self.old entries) (block % self.old.nodes) block tag content due) }
+        ensures log { log.new ≡ record log.old { entries = log_with_note log.old.entries tag block Old.NotOwned } }
     {
         log.note(tag, block, Old::NotOwned);
         self.lines.put(block, LineState::Modified, content);
@@ -104,9 +104,9 @@ impl Cache {
     /// The owner may write, with so many acknowledgements due: the tag is the interval of atomicity, and the write is
     /// complete once they are in.
     pub(super) fn upgrade_granted(&mut self, block: BlockNo, tag: Interval, due: u8) -> CacheStep
-        requires { MayUpgrade (logged self.old []) block }
+        requires { MayUpgrade (with_entries self.old []) block }
         ensures { (entries : List LogEntry) →
-            IsRowDone self.old self.new result (upgrade_granted (logged self.old entries) (block % self.old.nodes) tag due) }
+            IsRowDone self.old self.new result (upgrade_granted (with_entries self.old entries) (block % self.old.nodes) tag due) }
     {
         let _ = self.transactions.answer(tag, due);
         self.complete_or_wait(block)
@@ -116,7 +116,7 @@ impl Cache {
     pub(super) fn acknowledge(&mut self, block: BlockNo) -> CacheStep
         requires { MayCount self.old.cache.miss block }
         ensures { (entries : List LogEntry) →
-            IsRowDone self.old self.new result (acknowledge (logged self.old entries) (block % self.old.nodes)) }
+            IsRowDone self.old self.new result (acknowledge (with_entries self.old entries) (block % self.old.nodes)) }
     {
         let _ = self.transactions.ack();
         self.complete_or_wait(block)
@@ -125,13 +125,13 @@ impl Cache {
     /// The home lets the block be given up: the content is noted under now, the copy is lost, the put is closed, and the home
     /// gets the content.
     pub(super) fn put_go(&mut self, block: BlockNo, now: Interval, log: &mut LogBuffer) -> CacheStep
-        requires owned { MayGiveBack (logged self.old []) block }
+        requires owned { MayGiveBack (with_entries self.old []) block }
         requires room { has_entry log.old.entries now false block ≡ false → length log.old.entries < log.old.limit }
         requires last { logged_to log.old.entries false block ≤ now + 1 }
         ensures done { (entries : List LogEntry) →
-            IsRowDone self.old self.new result (put_go (logged self.old entries) (block % self.old.nodes) block now) }
+            IsRowDone self.old self.new result (put_go (with_entries self.old entries) (block % self.old.nodes) block now) }
         ensures log { log.new ≡
-            record log.old { entries = noted log.old.entries now block (Old.Owned (line_of self.old.cache block).content) } }
+            record log.old { entries = log_with_note log.old.entries now block (Old.Owned (line_of self.old.cache block).content) } }
     {
         let content = self.lines.content(block);
         log.note(now, block, Old::Owned(content));
@@ -142,8 +142,8 @@ impl Cache {
 
     /// The block isn't owned here any more, so that there is nothing to give up: the put is closed.
     pub(super) fn put_done(&mut self, block: BlockNo) -> CacheStep
-        requires { MayClosePut (logged self.old []) block }
-        ensures { (entries : List LogEntry) → IsRowDone self.old self.new result (put_done (logged self.old entries)) }
+        requires { MayClosePut (with_entries self.old []) block }
+        ensures { (entries : List LogEntry) → IsRowDone self.old self.new result (put_done (with_entries self.old entries)) }
     {
         self.transactions.close_put();
         CacheStep::Took(None, None)
@@ -158,12 +158,12 @@ impl Cache {
         content: Block,
         log: &mut LogBuffer,
     ) -> CacheStep
-        requires missed { MayTakeCopy (logged self.old []) block }
+        requires missed { MayTakeCopy (with_entries self.old []) block }
         requires room { has_entry log.old.entries tag false block ≡ false → length log.old.entries < log.old.limit }
         requires last { logged_to log.old.entries false block ≤ tag + 1 }
         ensures done { (entries : List LogEntry) →
-            IsRowDone self.old self.new result (data_exclusive (logged self.old entries) (block % self.old.nodes) block tag content) }
-        ensures log { log.new ≡ record log.old { entries = noted log.old.entries tag block Old.NotOwned } }
+            IsRowDone self.old self.new result (data_exclusive (with_entries self.old entries) (block % self.old.nodes) block tag content) }
+        ensures log { log.new ≡ record log.old { entries = log_with_note log.old.entries tag block Old.NotOwned } }
     {
         log.note(tag, block, Old::NotOwned);
         self.lines.put(block, LineState::Exclusive, content);
@@ -177,7 +177,7 @@ impl Cache {
         requires { IfSome self.old.cache.miss (λ m. m.block ≡ block) }
         ensures { (entries : List LogEntry) →
             IsRowDone self.old self.new result
-            (completed_or_waiting (logged self.old entries) (block % self.old.nodes) self.old.cache.miss) }
+            (reply_or_wait (with_entries self.old entries) (block % self.old.nodes) self.old.cache.miss) }
     {
         let Some(miss) = self.transactions.miss() else {
             return CacheStep::Took(None, None);

@@ -7,8 +7,8 @@ ghost use Rattle.sn_base.specs.declared.log.LogEntry.{LogEntry};
 ghost use Rattle.log_buffer.specs.Log.{logged_to};
 ghost use Rattle.sn_model.specs.CacheRows.{AwaitsAnswer, NoneIn, MayCount};
 ghost use Rattle.sn_model.specs.Caches.{is_owned, puts_on};
-ghost use Rattle.mosi_cache.specs.Controller.{logged};
-ghost use Rattle.mosi_cache.specs.Rows.{MeetsRow, NotesLast, noted_in};
+ghost use Rattle.mosi_cache.specs.Controller.{with_entries};
+ghost use Rattle.mosi_cache.specs.Rows.{MeetsRow, NotesInLogOrder, noted_in};
 
 mod access;
 mod restore;
@@ -16,7 +16,7 @@ mod rows;
 mod schedules;
 
 use super::{Cache, noting};
-use crate::step::{CacheStep, Probe1};
+use crate::step::{AccessProbe, CacheStep};
 use log_buffer::LogBuffer;
 use sn_base::{Answer, Block, BlockNo, Config, Interval, Memory, NodeId, Old, Width, Write};
 use sn_model::{LineState, Look, Need, Out};
@@ -240,7 +240,7 @@ fn counts(cache: &Cache, block: BlockNo) -> bool
 
 /// Whether the message meets its row's condition, as the protocol's table has it.
 fn meets(cache: &Cache, message: &Message) -> bool
-    ensures { (entries : List LogEntry) → result ≡ true → MeetsRow (logged cache.now entries) message.now.block message.now.body }
+    ensures { (entries : List LogEntry) → result ≡ true → MeetsRow (with_entries cache.now entries) message.now.block message.now.body }
 {
     let block = message.block;
     let state = cache.lines.state(block);
@@ -273,7 +273,7 @@ fn is_last(log: &LogBuffer, block: BlockNo, interval: Interval) -> bool
 }
 
 fn notes_last(message: &Message, now: Interval, log: &LogBuffer) -> bool
-    ensures { result ≡ true → NotesLast log.now.entries message.now.block (noted_in now message.now.tag message.now.body) }
+    ensures { result ≡ true → NotesInLogOrder log.now.entries message.now.block (noted_in now message.now.tag message.now.body) }
 {
     match noting(message, now) {
         Some(interval) => is_last(log, message.block, interval),
@@ -315,7 +315,7 @@ fn miss(
     block: BlockNo,
     need: Need,
 ) -> Option<Came> {
-    if cache.open_block().is_some() || cache.probe(block, need, now, log) != Probe1::Miss {
+    if cache.open_block().is_some() || cache.probe(block, need, now, log) != AccessProbe::Miss {
         return None;
     }
     let out = cache.begin_miss(block, need, now);
@@ -351,7 +351,7 @@ fn store(cache: &mut Cache, log: &mut LogBuffer, now: Interval, value: u32) -> O
     }
     let state = cache.lines.state(block);
     let is_writable = state == LineState::Modified || state == LineState::Exclusive;
-    if !is_writable || cache.probe(block, Need::Write, now, log) != Probe1::Ready {
+    if !is_writable || cache.probe(block, Need::Write, now, log) != AccessProbe::Ready {
         return None;
     }
     cache.store(&write, now, log);

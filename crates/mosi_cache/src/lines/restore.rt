@@ -3,7 +3,7 @@ ghost use Rattle.std.specs.Prelude.{◌≡◌, ℕ, ◌*◌, ◌<◌, length, ma
 ghost use Rattle.cache_array.specs.Slots.{AreSlots, block_at};
 ghost use Rattle.mosi_cache.specs.Frames.{FrameLine};
 ghost use Rattle.mosi_cache.specs.Restored.{begun_line};
-ghost use Rattle.mosi_cache.specs.Unshared.{unshared, AreUnshared, modified};
+ghost use Rattle.mosi_cache.specs.Unshared.{slot_unless_shared, AreUnshared, as_modified};
 
 use super::{FrameLine, Lines};
 use cache_array::Frames;
@@ -14,7 +14,7 @@ fn free_if_shared(frames: &mut Frames, frame: usize, state: LineState)
     requires inside { frame < frames.old.sets * frames.old.ways }
     requires slots { AreSlots frames.old }
     ensures freed { frames.new
-        ≡ record frames.old { slots = slice_set frames.old.slots frame (unshared state (block_at frames.old frame)) } }
+        ≡ record frames.old { slots = slice_set frames.old.slots frame (slot_unless_shared state (block_at frames.old frame)) } }
     ensures slots { AreSlots frames.new }
 {
     if !matches!(state, LineState::Shared) {
@@ -37,7 +37,7 @@ fn free_shared(frames: &mut Frames, kept: &[FrameLine])
 
 fn make_modified(kept: &mut [FrameLine])
     ensures { (frame : ℕ) (d : FrameLine) → frame < length kept.old →
-        slice_index_or kept.new frame d ≡ modified (slice_index_or kept.old frame d) }
+        slice_index_or kept.new frame d ≡ as_modified (slice_index_or kept.old frame d) }
 {
     'frames: for line in kept.iter_mut() {
         line.state = LineState::Modified;

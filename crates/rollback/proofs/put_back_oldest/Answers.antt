@@ -2,7 +2,7 @@ use Rattle.std.proofs.Common.{◌≡◌, ℕ, ◌<◌, ◌∙◌, false, take, l
 use Rattle.std.proofs.Math.Seq.{take-length}
 use Rattle.std.proofs.lemmas.Option.{get_or_from_slice_get}
 use Rattle.log_buffer.specs.Log.{is_home_side}
-use Rattle.rollback.specs.Unwound.{is_changed, unwound}
+use Rattle.rollback.specs.Unwound.{is_changed, content_unwound}
 use Rattle.rollback.proofs.Steps.{back_more, back_over, back_between, back_last, was_false, was_true}
 use Rattle.std.proofs.lemmas.Bool.Decides.{nat_tests}
 use Rattle.rollback.proofs.put_back_oldest.Goals as goal
@@ -21,8 +21,8 @@ put_back-requires g c =
     (c.requires.fits c.places.place c.entry-entry.result.now l
     (rw
     (get_or_from_slice_get es c.places.place c.entry-entry.result.now c.entry-entry.result.now c.entry-entry.ensures) c.if-entry-k.true)) in
-    let z = c.places.invariant.room (unwound es s c.args.k first) c.requires.last in
-    g.met.T.Restore.way c.places.target first (unwound es s c.args.k first) _ a z
+    let z = c.places.invariant.room (content_unwound es s c.args.k first) c.requires.last in
+    g.met.T.Restore.way c.places.target first (content_unwound es s c.args.k first) _ a z
     (back_between es c.places.place c.args.k c.entry-entry.result.now s first
     (g.T.Restore.holds c.places.target) l c.entry-entry.ensures c.requires.growing c.if-entry-k.true o c.requires.gone c.places.invariant.held)
 

@@ -1,7 +1,7 @@
 use Rattle.std.proofs.Common.{◌≡◌, ℕ, ◌+◌, ◌-◌, ◌*◌, Bool, Option, List, ◌++◌, sym, ap, ◌∙◌, arith}
 use Rattle.std.specs.Option.{is_some}
 use Rattle.sn_base.specs.Blocks.{ram_start}
-use Rattle.sn_base.specs.Image.{fetched}
+use Rattle.sn_base.specs.Image.{word_fetched}
 use Rattle.asm_texts.specs.Texts.{lines_at, first_lines}
 use Rattle.asm_texts.proofs.Steps.{lines-none, lines-more, lines-all}
 use Rattle.asm_texts.proofs.listing.listing_of.Goals as goal
@@ -24,10 +24,10 @@ places-preserved c =
           ∙ ap (λ (t : List ℕ). t ++ lines_at c.places.is_next here c.fetch-word.result) c.places.invariant.written
           ∙ ap (λ (b : Bool). first_lines segments place ++ lines_at b here c.fetch-word.result) c.places.invariant.next
           ∙ ap (λ (w : Option ℕ). first_lines segments place
-          ++ lines_at (is_some (fetched segments (here - 4))) here w) c.fetch-word.ensures
+          ++ lines_at (is_some (word_fetched segments (here - 4))) here w) c.fetch-word.ensures
           ∙ sym (lines-more segments place);
       next =
-          c.is_some-is_next-in-places.ensures ∙ ap is_some c.fetch-word.ensures ∙ ap (λ (a : ℕ). is_some (fetched segments a)) (sym same);
+          c.is_some-is_next-in-places.ensures ∙ ap is_some c.fetch-word.ensures ∙ ap (λ (a : ℕ). is_some (word_fetched segments a)) (sym same);
     }
 
 pub returns : goal.returns

@@ -1,5 +1,5 @@
 use Rattle.std.proofs.Common.{arith}
-use Rattle.sn_coherence.specs.Kept.{Clocks}
+use Rattle.sn_coherence.specs.Invariant.{Clocks}
 use Rattle.fabric_coherence.specs.View.{block_seen}
 use Rattle.std.specs.Prelude.{length}
 use Rattle.fabric_coherence.proofs.laws.nodes_are_in_time.Goals as goal

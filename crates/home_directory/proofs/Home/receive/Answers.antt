@@ -1,6 +1,6 @@
 use Rattle.std.proofs.Common.{◌≡◌, ◌<◌, length, ap, ◌∙◌, arith, length-set}
 use Rattle.home_directory.specs.Home.{HomeData}
-use Rattle.home_directory.specs.Open.{relisted}
+use Rattle.home_directory.specs.Open.{opens_after}
 use Rattle.home_directory.proofs.Opens.{short_is, relisted_is}
 use Rattle.home_directory.proofs.Listing.{cleared-touched}
 use Rattle.home_directory.proofs.Home.receive.Goals as goal
@@ -25,8 +25,8 @@ invariant_of-self c =
         filled = s ∙ c.self.invariant.0.filled;
       },
       c.relist.ensures.listed
-          ∙ ap (λ o. relisted c.place-place.result o c.self.inside.opens.items) c.begun-begun.ensures
-          ∙ ap (relisted c.place-place.result _) c.self.invariant.1
+          ∙ ap (λ o. opens_after c.place-place.result o c.self.inside.opens.items) c.begun-begun.ensures
+          ∙ ap (opens_after c.place-place.result _) c.self.invariant.1
           ∙ relisted_is c.self.inside.entries.items c.place-place.result c.receive-step.new.entry l,
       omega (arith, s, c.self.invariant.2, c.relist.ensures.room),
       rw c.touch.ensures

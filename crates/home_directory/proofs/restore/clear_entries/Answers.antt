@@ -3,7 +3,7 @@ use Rattle.std.specs.Prelude.{slice_index_or}
 use Rattle.std.proofs.lemmas.List.{get_or_default}
 use Rattle.sn_model.specs.Homes.{HomeEntry}
 use Rattle.sn_model.specs.Fabric.{no_entry}
-use Rattle.home_directory.specs.Restored.{cleared}
+use Rattle.home_directory.specs.Restored.{entry_without_sharers}
 use Rattle.home_directory.proofs.Listing.{AreClearing, clearing-more, clearing-all}
 use Rattle.home_directory.proofs.restore.clear_entries.Goals as goal
 
@@ -17,7 +17,7 @@ places-preserved c =
     let l : i < length places = omega arith in
     let m : place < length now = omega (arith, c.places-place-items.ensures.inside i 0 l, c.requires.whole, c.places.invariant.whole) in
     rw c.empty-entry-inside.ensures
-    (subst (λ (x : HomeEntry). AreClearing c.args.entries.now.items (set now place (cleared x)) (drop (i + 1) places)) (sym c.entry.view_is)
+    (subst (λ (x : HomeEntry). AreClearing c.args.entries.now.items (set now place (entry_without_sharers x)) (drop (i + 1) places)) (sym c.entry.view_is)
     (clearing-more c.args.entries.now.items now places i place c.index_mut-entry.result.now l (get_or_default places i 0 place l) m
     (c.index_mut-entry.ensures.value ∙ get_or_default now place c.index_mut-entry.result.now no_entry m) c.places.invariant))
 

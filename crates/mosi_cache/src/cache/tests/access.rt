@@ -4,7 +4,7 @@ use super::{
     ABSENT, EXCLUSIVE, GONE, Held, MODIFIED, OWNED, PUTTING, READING, Row, SHARED, SHARED_WRITING,
     cache_after, holds,
 };
-use crate::step::Probe1;
+use crate::step::AccessProbe;
 use log_buffer::LogBuffer;
 use sn_base::{Answer, BlockNo, Interval, Memory};
 use sn_model::{LineState, Need};
@@ -33,8 +33,8 @@ struct State {
     miss: Option<Interval>,
     put: Option<Interval>,
     room: u16,
-    read: Option<Probe1>,
-    write: Option<Probe1>,
+    read: Option<AccessProbe>,
+    write: Option<AccessProbe>,
     evict: Evict,
     left: Held,
 }
@@ -46,8 +46,8 @@ const WITH_MODIFIED: State = State {
     miss: None,
     put: None,
     room: 4,
-    read: Some(Probe1::Ready),
-    write: Some(Probe1::Ready),
+    read: Some(AccessProbe::Ready),
+    write: Some(AccessProbe::Ready),
     evict: Evict::PutBegun,
     left: (LineState::Modified, Some(7)),
 };
@@ -67,8 +67,8 @@ const STATES: &[State] = &[
         miss: None,
         put: None,
         room: 4,
-        read: Some(Probe1::Miss),
-        write: Some(Probe1::Miss),
+        read: Some(AccessProbe::Miss),
+        write: Some(AccessProbe::Miss),
         evict: Evict::NotCached,
         left: GONE,
     },
@@ -79,8 +79,8 @@ const STATES: &[State] = &[
         miss: None,
         put: None,
         room: 4,
-        read: Some(Probe1::Ready),
-        write: Some(Probe1::Miss),
+        read: Some(AccessProbe::Ready),
+        write: Some(AccessProbe::Miss),
         evict: Evict::Evicted,
         left: GONE,
     },
@@ -88,7 +88,7 @@ const STATES: &[State] = &[
         name: "owned",
         rows: OWNED,
         held: (LineState::Owned, Some(7)),
-        write: Some(Probe1::Miss),
+        write: Some(AccessProbe::Miss),
         ..WITH_MODIFIED
     },
     WITH_MODIFIED,
@@ -96,21 +96,21 @@ const STATES: &[State] = &[
     State {
         name: "modified, and no room for the old content",
         room: 0,
-        write: Some(Probe1::LogFull),
+        write: Some(AccessProbe::LogFull),
         ..WITH_MODIFIED
     },
     State {
         name: "exclusive, and no room for the old content",
         room: 0,
-        write: Some(Probe1::LogFull),
+        write: Some(AccessProbe::LogFull),
         ..WITH_EXCLUSIVE
     },
     State {
         name: "in a put",
         rows: PUTTING,
         put: Some(2),
-        read: Some(Probe1::Waits),
-        write: Some(Probe1::Waits),
+        read: Some(AccessProbe::Waits),
+        write: Some(AccessProbe::Waits),
         evict: Evict::PutOpen,
         ..WITH_MODIFIED
     },
@@ -158,7 +158,7 @@ fn shows(cache: &Cache, state: &State) -> bool {
 }
 
 /// None while a miss is open.
-pub(super) fn probe(cache: &Cache, log: &LogBuffer, block: u16, need: Need) -> Option<Probe1> {
+pub(super) fn probe(cache: &Cache, log: &LogBuffer, block: u16, need: Need) -> Option<AccessProbe> {
     if cache.open_block().is_some() {
         return None;
     }

@@ -1,7 +1,7 @@
 //! A recovery of a cache with one set of two ways: a log unwound into it.
 ghost use Rattle.std.specs.Prelude.{◌≡◌, ◌≢◌, ℕ, ◌<◌, true, false};
 ghost use Rattle.log_buffer.specs.Log.{IsGrowing};
-ghost use Rattle.rollback.specs.Unwound.{unwound};
+ghost use Rattle.rollback.specs.Unwound.{content_unwound};
 ghost use Rattle.sn_model.specs.Caches.{block_count};
 ghost use Rattle.mosi_cache.specs.Restored.{held_of};
 
@@ -20,7 +20,7 @@ use std::test::Fail;
 /// Whether the block isn't owned at checkpoint k, by the log or, where that says nothing, by the cache.
 fn is_unowned(cache: &Cache, log: &LogBuffer, k: Interval, block: BlockNo) -> bool
     ensures growing { IsGrowing log.now.entries }
-    ensures unowned { result ≡ true → unwound log.now.entries false k (held_of cache.now) block ≡ Old.NotOwned }
+    ensures unowned { result ≡ true → content_unwound log.now.entries false k (held_of cache.now) block ≡ Old.NotOwned }
 {
     match log.old_at(false, block, k) {
         Some(old) => matches!(old, Old::NotOwned),
@@ -31,7 +31,7 @@ fn is_unowned(cache: &Cache, log: &LogBuffer, k: Interval, block: BlockNo) -> bo
 /// Whether only these two blocks, if they, are owned at checkpoint k.
 fn owns_two(cache: &Cache, log: &LogBuffer, k: Interval, first: u16, second: u16) -> bool
     ensures growing { IsGrowing log.now.entries }
-    ensures others { result ≡ true → (b : ℕ) → b < block_count → b ≢ first → b ≢ second → unwound log.now.entries false k (held_of cache.now) b ≡ Old.NotOwned }
+    ensures others { result ≡ true → (b : ℕ) → b < block_count → b ≢ first → b ≢ second → content_unwound log.now.entries false k (held_of cache.now) b ≡ Old.NotOwned }
 {
     'numbers: for number in 0..u16::MAX {
         let is_other = number != first && number != second;

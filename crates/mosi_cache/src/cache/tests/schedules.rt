@@ -2,7 +2,7 @@
 use super::super::Cache;
 use super::access::probe;
 use super::{Act, Does, Had, Row, Says, all_come, old_of, small_cache};
-use crate::step::Probe1;
+use crate::step::AccessProbe;
 use log_buffer::LogBuffer;
 use sn_base::{Answer, BlockNo, Entries, Interval, Memory};
 use sn_model::{LineState, Need};
@@ -20,7 +20,7 @@ enum Sees {
     Entries(usize),
     Evictable,
     NotCached,
-    Access(Need, Probe1),
+    Access(Need, AccessProbe),
     Least(Option<u16>, Option<u16>),
     Open(Option<Interval>, Option<u16>),
 }
@@ -295,10 +295,10 @@ const FULL_SET: Part = Part {
         ),
     ],
     sees: &[
-        (64, Sees::Access(Need::Read, Probe1::NeedsEvict)),
-        (64, Sees::Access(Need::Write, Probe1::NeedsEvict)),
-        (65, Sees::Access(Need::Read, Probe1::Ready)),
-        (65, Sees::Access(Need::Write, Probe1::Miss)),
+        (64, Sees::Access(Need::Read, AccessProbe::NeedsEvict)),
+        (64, Sees::Access(Need::Write, AccessProbe::NeedsEvict)),
+        (65, Sees::Access(Need::Read, AccessProbe::Ready)),
+        (65, Sees::Access(Need::Write, AccessProbe::Miss)),
         (64, Sees::Least(Some(65), Some(65))),
         (64, Sees::Open(None, None)),
     ],

@@ -1,6 +1,6 @@
 use Rattle.std.proofs.Common.{refl, ap, length, arith}
 use Rattle.std.proofs.lemmas.Result.{err_from_is_err_and}
-use Rattle.rv_asm.specs.Kept.{listing_of}
+use Rattle.rv_asm.specs.Lists.{listing_of}
 use Rattle.rv_asm.proofs.Passes.{reader-refuses, reader-next, reader-ends}
 use Rattle.rv_asm.proofs.assembling.listed.Goals as goal
 

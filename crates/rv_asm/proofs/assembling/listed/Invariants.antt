@@ -1,7 +1,7 @@
 use Rattle.std.proofs.Common.{◌≡◌, ◌≤◌, ◌+◌, length, vec_len}
 use Rattle.text_lines.specs.Lines.{lines_of}
 use Rattle.rv_asm.specs.Assembly.{listed_from, nothing_listed}
-use Rattle.rv_asm.specs.Kept.{listing_of}
+use Rattle.rv_asm.specs.Lists.{listing_of}
 use Rattle.rv_asm.proofs.assembling.listed.Given as goal
 
 abbrev pub invariant-lines : goal.invariant-lines

@@ -1,6 +1,6 @@
 use Rattle.std.proofs.Common.{◌≡◌, ◌*◌, length, arith}
 use Rattle.std.proofs.lemmas.Result.{err_from_is_err_and}
-use Rattle.rv_asm.specs.Kept.{place_in}
+use Rattle.rv_asm.specs.Lists.{place_in}
 use Rattle.rv_asm.proofs.Passes.{writer-next, writer-refuses, writer-ends}
 use Rattle.rv_asm.proofs.assembling.words_of.Goals as goal
 

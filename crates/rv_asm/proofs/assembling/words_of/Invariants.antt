@@ -1,6 +1,6 @@
 use Rattle.std.proofs.Common.{◌≡◌, [], drop, map, vec_len}
 use Rattle.rv_asm.specs.Assembly.{words_from}
-use Rattle.rv_asm.specs.Kept.{place_in, item_seen}
+use Rattle.rv_asm.specs.Lists.{place_in, item_seen}
 use Rattle.rv_asm.proofs.assembling.words_of.Given as goal
 
 abbrev pub invariant-items : goal.invariant-items

@@ -7,20 +7,20 @@ use Rattle.safetynet_main.proofs.call.answer.Goals as goal
 
 pub returns-in-Err-Usage-clause-comes : goal.returns-in-Err-Usage-clause-comes
 returns-in-Err-Usage-clause-comes g c = λ no.
-    comes-none (Fetches g.S.Store.files g.S.Store.sure g.S.Store.faults g.S.Store.gave) _ _ _ _
+    comes-none (Fetches g.S.Store.files g.S.Store.sure g.S.Store.faults g.S.Store.gave) _ _ _ _ _ _
     (c.in-Err-Usage.ensures.usage (ap (λ t. Err t) c.in-Err-Usage.field-0-is))
 
 pub returns-in-Demo-clause-comes : goal.returns-in-Demo-clause-comes
 returns-in-Demo-clause-comes g c = λ m.
-    comes-demo (Fetches g.S.Store.files g.S.Store.sure g.S.Store.faults g.S.Store.gave) _ _ c.in-Ok.request _ _ _ _ _ c.in-Ok.ensures.ok
+    comes-demo (Fetches g.S.Store.files g.S.Store.sure g.S.Store.faults g.S.Store.gave) _ _ c.in-Ok.request _ _ _ _ _ _ _ c.in-Ok.ensures.ok
     c.in-Demo.is (c.demo.ensures.follows m)
 
 pub returns-clause-comes : goal.returns-clause-comes
 returns-clause-comes g c = λ no.
     comes-some (Fetches g.S.Store.files g.S.Store.sure g.S.Store.faults g.S.Store.gave) _ _ _
-    (Err c.in-Err.status) _ _ _ _ _ c.in-Ok.ensures.ok (c.in-Err.ensures.loads (λ m. no cc)) (refl, refl)
+    (Err c.in-Err.status) _ _ _ _ _ _ _ c.in-Ok.ensures.ok (c.in-Err.ensures.loads (λ m. no cc)) (refl, refl)
 
 pub returns-in-Ok-load-clause-comes : goal.returns-in-Ok-load-clause-comes
 returns-in-Ok-load-clause-comes g c = λ m.
     comes-some (Fetches g.S.Store.files g.S.Store.sure g.S.Store.faults g.S.Store.gave) _ _ _
-    (Ok c.in-Ok-load.job) _ _ _ _ _ c.in-Ok.ensures.ok (c.in-Ok-load.ensures.loads (λ e. cc)) (c.perform.ensures.follows m)
+    (Ok c.in-Ok-load.job) _ _ _ _ _ _ _ c.in-Ok.ensures.ok (c.in-Ok-load.ensures.loads (λ e. cc)) (c.perform.ensures.follows m)

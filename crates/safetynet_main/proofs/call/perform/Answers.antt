@@ -1,18 +1,29 @@
 use Rattle.std.proofs.Common.{refl, ap}
 use Rattle.std.specs.Prelude.{Err}
-use Rattle.safetynet_main.proofs.CallLaws.{follows-check, follows-run_done, follows-run_broken}
+use Rattle.safetynet_main.proofs.CallLaws.{follows-check, follows-run_done, follows-run_broken, follows-watch_done, follows-watch_broken}
 use Rattle.safetynet_main.proofs.call.perform.Goals as goal
 
 pub returns-in-Check-clause-follows : goal.returns-in-Check-clause-follows
 returns-in-Check-clause-follows g c = λ m.
-    follows-check _ c.args.job c.in-Check.job c.check.result _ _ c.in-Check.is
-    (λ given. c.check.ensures.follows m given (g.C.Sink.written c.args.console.now))
+    follows-check _ c.args.job c.in-Check.job c.check.result _ _ _ _ c.in-Check.is
+    (λ given. c.check.ensures.follows m given (g.C.Sink.faults c.args.console.now) (g.C.Sink.faults c.args.console.now)
+    (g.C.Sink.written c.args.console.now))
 
 pub returns-in-Ok-run-clause-follows : goal.returns-in-Ok-run-clause-follows
 returns-in-Ok-run-clause-follows g c = λ m.
-    follows-run_done _ _ c.args.job c.in-Run.job c.in-Ok-run.ending c.ended_as.result _ _ c.in-Run.is c.ended_as.ensures c.in-Ok-run.ensures.ok
+    follows-run_done _ _ c.args.job c.in-Run.job c.in-Ok-run.ending c.ended_as.result _ _ _ _ c.in-Run.is c.ended_as.ensures c.in-Ok-run.ensures.ok
 
 pub returns-in-Err-Sink-run-clause-follows : goal.returns-in-Err-Sink-run-clause-follows
 returns-in-Err-Sink-run-clause-follows g c = λ m.
-    follows-run_broken _ _ c.args.job c.in-Run.job _ _ _ c.in-Run.is refl
+    follows-run_broken _ _ c.args.job c.in-Run.job _ _ _ _ _ c.in-Run.is refl
     (c.in-Err-Sink-run.ensures.sink (ap (λ t. Err t) c.in-Err-Sink-run.field-0-is))
+
+pub returns-in-Ok-monitor-clause-follows : goal.returns-in-Ok-monitor-clause-follows
+returns-in-Ok-monitor-clause-follows g c = λ m.
+    follows-watch_done _ _ c.args.job c.in-Monitor.job c.in-Ok-monitor.ending c.ended_as-in-Ok-monitor.result _ _ _ _ c.in-Monitor.is c.ended_as-in-Ok-monitor.ensures
+    c.in-Ok-monitor.ensures.ok
+
+pub returns-in-Err-Sink-monitor-clause-follows : goal.returns-in-Err-Sink-monitor-clause-follows
+returns-in-Err-Sink-monitor-clause-follows g c = λ m.
+    follows-watch_broken _ _ c.args.job c.in-Monitor.job _ _ _ _ _ c.in-Monitor.is refl
+    (c.in-Err-Sink-monitor.ensures.sink (ap (λ t. Err t) c.in-Err-Sink-monitor.field-0-is))

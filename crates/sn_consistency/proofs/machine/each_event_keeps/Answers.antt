@@ -1,5 +1,5 @@
-use Rattle.sn_consistency.proofs.Kept.{begun_keeps, retired_keeps, edged_keeps, lost_keeps, learned_keeps, given_keeps, validated_keeps}
-use Rattle.sn_consistency.proofs.Kept.{recovered_keeps}
+use Rattle.sn_consistency.proofs.Outline.{begun_keeps, retired_keeps, edged_keeps, lost_keeps, learned_keeps, given_keeps, validated_keeps}
+use Rattle.sn_consistency.proofs.Outline.{recovered_keeps}
 use Rattle.sn_consistency.proofs.machine.each_event_keeps.Goals as goal
 
 pub returns-clause-begun : goal.returns-clause-begun

@@ -1,5 +1,5 @@
 use Rattle.sn_consistency.proofs.CommittedPart.{committed_execution}
-use Rattle.sn_consistency.proofs.Kept.{end_content, end_core, given_begins}
+use Rattle.sn_consistency.proofs.Outline.{end_content, end_core, given_begins}
 use Rattle.sn_consistency.proofs.machine.point_is_last_state.Goals as goal
 
 pub returns-clause-executes : goal.returns-clause-executes

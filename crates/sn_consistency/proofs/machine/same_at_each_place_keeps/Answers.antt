@@ -1,4 +1,4 @@
-use Rattle.sn_consistency.proofs.Kept.{same_keeps}
+use Rattle.sn_consistency.proofs.Outline.{same_keeps}
 use Rattle.sn_consistency.proofs.machine.same_at_each_place_keeps.Goals as goal
 
 pub returns : goal.returns

@@ -1,7 +1,7 @@
 use Rattle.std.proofs.Common.{arith, ◌++◌, take, drop, length, ◌-◌, ◌≡◌}
 use Rattle.std.proofs.lemmas.Result.{on_err_weaker}
 use Rattle.std.proofs.lemmas.Grind.{common_steps}
-use Rattle.sn_console.specs.Ends.{taken}
+use Rattle.sn_console.specs.Ends.{bytes_taken}
 use Rattle.sn_console.proofs.Begun.{IsBegun-take}
 use Rattle.sn_console.proofs.settling.settle.Goals as goal
 
@@ -9,7 +9,7 @@ pub returns-clause-err : goal.returns-clause-err
 returns-clause-err g c =
     let n = c.meet-waiting.new.outbox.count - c.meet-waiting.result in
     let released = c.args.released.now in
-    let whole : taken c.args.inbox ++ take (length released - n) (drop n released) ≡ released =
+    let whole : bytes_taken c.args.inbox ++ take (length released - n) (drop n released) ≡ released =
     grind (
       arith,
       common_steps,

@@ -6,7 +6,7 @@ pub content_at_cache-requires-clause-here : goal.content_at_cache-requires-claus
 content_at_cache-requires-clause-here c = holder-here c.args.self.now.fabric c.args.block c.args.k
     (rw (← c.self.view_is) (holder-at c.self.inside.config
     (record {
-      seats = c.self.inside.seats.items;
+      units = c.self.inside.units.items;
       homes = c.self.inside.homes.items;
       net = c.self.inside.net;
       point = c.self.inside.point;
@@ -19,7 +19,7 @@ pub content_at_cache-requires-clause-held : goal.content_at_cache-requires-claus
 content_at_cache-requires-clause-held c = holder-holds c.args.self.now.fabric c.args.block c.args.k
     (rw (← c.self.view_is) (holder-at c.self.inside.config
     (record {
-      seats = c.self.inside.seats.items;
+      units = c.self.inside.units.items;
       homes = c.self.inside.homes.items;
       net = c.self.inside.net;
       point = c.self.inside.point;
@@ -32,7 +32,7 @@ pub returns-in-Home : goal.returns-in-Home
 returns-in-Home c = held-home c.args.self.now.fabric c.args.block c.args.k
     (rw (← c.self.view_is) (holder-at c.self.inside.config
     (record {
-      seats = c.self.inside.seats.items;
+      units = c.self.inside.units.items;
       homes = c.self.inside.homes.items;
       net = c.self.inside.net;
       point = c.self.inside.point;
@@ -45,7 +45,7 @@ pub returns-in-Cache : goal.returns-in-Cache
 returns-in-Cache c = held-cache c.args.self.now.fabric c.args.block c.args.k
     (rw (← c.self.view_is) (holder-at c.self.inside.config
     (record {
-      seats = c.self.inside.seats.items;
+      units = c.self.inside.units.items;
       homes = c.self.inside.homes.items;
       net = c.self.inside.net;
       point = c.self.inside.point;

@@ -8,7 +8,7 @@ pub content-requires-clause-owned : goal.content-requires-clause-owned
 content-requires-clause-owned c =
     ap owner_of (sym (kept-name c.self.inside.config
     (record {
-      seats = c.self.inside.seats.items;
+      units = c.self.inside.units.items;
       homes = c.self.inside.homes.items;
       net = c.self.inside.net;
       point = c.self.inside.point;
@@ -23,7 +23,7 @@ pub returns-in-None : goal.returns-in-None
 returns-in-None c = rw (← c.self.view_is)
     (kept-name c.self.inside.config
     (record {
-      seats = c.self.inside.seats.items;
+      units = c.self.inside.units.items;
       homes = c.self.inside.homes.items;
       net = c.self.inside.net;
       point = c.self.inside.point;

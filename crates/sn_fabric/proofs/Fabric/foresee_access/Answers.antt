@@ -7,7 +7,7 @@ returns c =
     rw (← c.self.view_is)
     (foreseen c.self.inside.config
     (record {
-      seats = c.self.inside.seats.items;
+      units = c.self.inside.units.items;
       homes = c.self.inside.homes.items;
       net = c.self.inside.net;
       point = c.self.inside.point;

@@ -1,6 +1,6 @@
 use Rattle.std.proofs.Common.{◌≡◌, ℕ, ◌∙◌, ap, subst, sym}
-use Rattle.sn_model.specs.Fabric.{Moved}
-use Rattle.sn_model.specs.NetEvents.{delivered}
+use Rattle.sn_model.specs.Fabric.{FabricStep}
+use Rattle.sn_model.specs.NetEvents.{step_of_delivery}
 use Rattle.sn_fabric.specs.Deliveries.{HasCome}
 use Rattle.sn_fabric.specs.Fabric.{FabricData}
 use Rattle.sn_fabric.proofs.Come.{come-shown, fault-shown}
@@ -10,7 +10,7 @@ pub foresee_message-requires : goal.foresee_message-requires
 foresee_message-requires c =
     subst (λ (d : FabricData). HasCome d.fabric c.in-Ok.message.now) c.self.view_is
     (come-shown (record {
-      seats = c.self.inside.seats.items;
+      units = c.self.inside.units.items;
       homes = c.self.inside.homes.items;
       net = c.self.inside.net;
       point = c.self.inside.point;
@@ -19,9 +19,9 @@ foresee_message-requires c =
 pub returns-in-Ok : goal.returns-in-Ok
 returns-in-Ok c =
     c.foresee_message.ensures
-    ∙ ap (λ (i : ℕ). (delivered c.args.self.now.config c.args.self.now.fabric i).answer)
+    ∙ ap (λ (i : ℕ). (step_of_delivery c.args.self.now.config c.args.self.now.fabric i).answer)
     (come-shown (record {
-      seats = c.self.inside.seats.items;
+      units = c.self.inside.units.items;
       homes = c.self.inside.homes.items;
       net = c.self.inside.net;
       point = c.self.inside.point;
@@ -29,12 +29,12 @@ returns-in-Ok c =
 
 pub returns-in-Err : goal.returns-in-Err
 returns-in-Err c =
-    subst (λ (d : FabricData). c.fault_answer.result ≡ (delivered d.config d.fabric c.args.id).answer) c.self.view_is
+    subst (λ (d : FabricData). c.fault_answer.result ≡ (step_of_delivery d.config d.fabric c.args.id).answer) c.self.view_is
     (c.fault_answer.ensures
-    ∙ sym (ap (λ (m : Moved). m.answer)
+    ∙ sym (ap (λ (m : FabricStep). m.answer)
     (fault-shown c.self.inside.config
     (record {
-      seats = c.self.inside.seats.items;
+      units = c.self.inside.units.items;
       homes = c.self.inside.homes.items;
       net = c.self.inside.net;
       point = c.self.inside.point;

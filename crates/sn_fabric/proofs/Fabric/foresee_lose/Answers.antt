@@ -6,7 +6,7 @@ pub returns-then-is_there : goal.returns-then-is_there
 returns-then-is_there c =
     rw (← c.self.view_is) (loss-foreseen
     (record {
-      seats = c.self.inside.seats.items;
+      units = c.self.inside.units.items;
       homes = c.self.inside.homes.items;
       net = c.self.inside.net;
       point = c.self.inside.point;
@@ -16,7 +16,7 @@ pub returns-else-is_there : goal.returns-else-is_there
 returns-else-is_there c =
     rw (← c.self.view_is) (loss-foreseen
     (record {
-      seats = c.self.inside.seats.items;
+      units = c.self.inside.units.items;
       homes = c.self.inside.homes.items;
       net = c.self.inside.net;
       point = c.self.inside.point;

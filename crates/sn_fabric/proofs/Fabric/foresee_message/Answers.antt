@@ -1,17 +1,17 @@
 use Rattle.std.proofs.Common.{◌≡◌, ◌<◌, ◌≤◌, length, ◌∙◌, subst, sym, arith}
 use Rattle.sn_base.specs.declared.event.Answer.TheVariants.{Held}
 use Rattle.sn_model.specs.Fabric.{node_at}
-use Rattle.sn_model.specs.NetEvents.{delivered}
+use Rattle.sn_model.specs.NetEvents.{step_of_delivery}
 use Rattle.sn_fabric.specs.Fabric.{FabricData}
 use Rattle.sn_fabric.proofs.Given.{inside}
 use Rattle.sn_fabric.proofs.Delivered.{held-answer, not-held, answer-given, report-given, advance-given}
 use Rattle.sn_fabric.proofs.Fabric.foresee_message.Goals as goal
 
-pub index-seat-requires : goal.index-seat-requires
-index-seat-requires c =
-    let h : c.args.message.now.to < length c.self.inside.seats.items = inside c.self.inside.config
+pub index-unit-requires : goal.index-unit-requires
+index-unit-requires c =
+    let h : c.args.message.now.to < length c.self.inside.units.items = inside c.self.inside.config
     (record {
-      seats = c.self.inside.seats.items;
+      units = c.self.inside.units.items;
       homes = c.self.inside.homes.items;
       net = c.self.inside.net;
       point = c.self.inside.point;
@@ -20,55 +20,55 @@ index-seat-requires c =
 
 pub returns-then-held : goal.returns-then-held
 returns-then-held c =
-    subst (λ (d : FabricData). Held ≡ (delivered d.config d.fabric c.args.message.now.id).answer) c.self.view_is
+    subst (λ (d : FabricData). Held ≡ (step_of_delivery d.config d.fabric c.args.message.now.id).answer) c.self.view_is
     (held-answer c.self.inside.config
     (record {
-      seats = c.self.inside.seats.items;
+      units = c.self.inside.units.items;
       homes = c.self.inside.homes.items;
       net = c.self.inside.net;
       point = c.self.inside.point;
     }) c.self.invariant.0 c.args.message.now
-    (rw (← c.self.view_is) at c.requires) c.from.result c.index-seat.result.now
-    (c.from.ensures ∙ c.number.ensures.same) c.index-seat.ensures (sym c.held.ensures ∙ c.if-held.true))
+    (rw (← c.self.view_is) at c.requires) c.from.result c.index-unit.result.now
+    (c.from.ensures ∙ c.number.ensures.same) c.index-unit.ensures (sym c.held.ensures ∙ c.if-held.true))
 
 pub foresee_at_cache-requires-clause-reached : goal.foresee_at_cache-requires-clause-reached
 foresee_at_cache-requires-clause-reached c =
     subst (λ (d : FabricData). c.args.message.now.tag ≤ (node_at d.fabric c.args.message.now.to).now) c.self.view_is
     (not-held c.self.inside.config
     (record {
-      seats = c.self.inside.seats.items;
+      units = c.self.inside.units.items;
       homes = c.self.inside.homes.items;
       net = c.self.inside.net;
       point = c.self.inside.point;
     }) c.self.invariant.0 c.args.message.now
-    (rw (← c.self.view_is) at c.requires) c.from.result c.index-seat.result.now
-    (c.from.ensures ∙ c.number.ensures.same) c.index-seat.ensures (sym c.held.ensures ∙ c.if-held.false))
+    (rw (← c.self.view_is) at c.requires) c.from.result c.index-unit.result.now
+    (c.from.ensures ∙ c.number.ensures.same) c.index-unit.ensures (sym c.held.ensures ∙ c.if-held.false))
 
 pub foresee_at_home-requires-clause-reached : goal.foresee_at_home-requires-clause-reached
 foresee_at_home-requires-clause-reached c =
     subst (λ (d : FabricData). c.args.message.now.tag ≤ (node_at d.fabric c.args.message.now.to).now) c.self.view_is
     (not-held c.self.inside.config
     (record {
-      seats = c.self.inside.seats.items;
+      units = c.self.inside.units.items;
       homes = c.self.inside.homes.items;
       net = c.self.inside.net;
       point = c.self.inside.point;
     }) c.self.invariant.0 c.args.message.now
-    (rw (← c.self.view_is) at c.requires) c.from.result c.index-seat.result.now
-    (c.from.ensures ∙ c.number.ensures.same) c.index-seat.ensures (sym c.held.ensures ∙ c.if-held.false))
+    (rw (← c.self.view_is) at c.requires) c.from.result c.index-unit.result.now
+    (c.from.ensures ∙ c.number.ensures.same) c.index-unit.ensures (sym c.held.ensures ∙ c.if-held.false))
 
 pub returns-in-Cache : goal.returns-in-Cache
 returns-in-Cache c =
     let h = subst (λ (d : FabricData). c.args.message.now.tag ≤ (node_at d.fabric c.args.message.now.to).now) c.self.view_is
     (not-held c.self.inside.config
     (record {
-      seats = c.self.inside.seats.items;
+      units = c.self.inside.units.items;
       homes = c.self.inside.homes.items;
       net = c.self.inside.net;
       point = c.self.inside.point;
     }) c.self.invariant.0 c.args.message.now
-    (rw (← c.self.view_is) at c.requires) c.from.result c.index-seat.result.now
-    (c.from.ensures ∙ c.number.ensures.same) c.index-seat.ensures (sym c.held.ensures ∙ c.if-held.false)) in
+    (rw (← c.self.view_is) at c.requires) c.from.result c.index-unit.result.now
+    (c.from.ensures ∙ c.number.ensures.same) c.index-unit.ensures (sym c.held.ensures ∙ c.if-held.false)) in
     answer-given c.args.self.now.config c.args.self.now.fabric c.args.message.now c.requires h c.foresee_at_cache.result c.foresee_at_cache.ensures
 
 pub returns-in-Home : goal.returns-in-Home
@@ -76,13 +76,13 @@ returns-in-Home c =
     let h = subst (λ (d : FabricData). c.args.message.now.tag ≤ (node_at d.fabric c.args.message.now.to).now) c.self.view_is
     (not-held c.self.inside.config
     (record {
-      seats = c.self.inside.seats.items;
+      units = c.self.inside.units.items;
       homes = c.self.inside.homes.items;
       net = c.self.inside.net;
       point = c.self.inside.point;
     }) c.self.invariant.0 c.args.message.now
-    (rw (← c.self.view_is) at c.requires) c.from.result c.index-seat.result.now
-    (c.from.ensures ∙ c.number.ensures.same) c.index-seat.ensures (sym c.held.ensures ∙ c.if-held.false)) in
+    (rw (← c.self.view_is) at c.requires) c.from.result c.index-unit.result.now
+    (c.from.ensures ∙ c.number.ensures.same) c.index-unit.ensures (sym c.held.ensures ∙ c.if-held.false)) in
     answer-given c.args.self.now.config c.args.self.now.fabric c.args.message.now c.requires h c.foresee_at_home.result c.foresee_at_home.ensures
 
 pub returns-in-Controller : goal.returns-in-Controller
@@ -90,13 +90,13 @@ returns-in-Controller c =
     let h = subst (λ (d : FabricData). c.args.message.now.tag ≤ (node_at d.fabric c.args.message.now.to).now) c.self.view_is
     (not-held c.self.inside.config
     (record {
-      seats = c.self.inside.seats.items;
+      units = c.self.inside.units.items;
       homes = c.self.inside.homes.items;
       net = c.self.inside.net;
       point = c.self.inside.point;
     }) c.self.invariant.0 c.args.message.now
-    (rw (← c.self.view_is) at c.requires) c.from.result c.index-seat.result.now
-    (c.from.ensures ∙ c.number.ensures.same) c.index-seat.ensures (sym c.held.ensures ∙ c.if-held.false)) in
+    (rw (← c.self.view_is) at c.requires) c.from.result c.index-unit.result.now
+    (c.from.ensures ∙ c.number.ensures.same) c.index-unit.ensures (sym c.held.ensures ∙ c.if-held.false)) in
     report-given c.args.self.now.config c.args.self.now.fabric c.args.message.now c.requires h c.in-Controller.field-0
     (sym c.in-Controller.ensures)
 
@@ -105,11 +105,11 @@ returns-in-Clock c =
     let h = subst (λ (d : FabricData). c.args.message.now.tag ≤ (node_at d.fabric c.args.message.now.to).now) c.self.view_is
     (not-held c.self.inside.config
     (record {
-      seats = c.self.inside.seats.items;
+      units = c.self.inside.units.items;
       homes = c.self.inside.homes.items;
       net = c.self.inside.net;
       point = c.self.inside.point;
     }) c.self.invariant.0 c.args.message.now
-    (rw (← c.self.view_is) at c.requires) c.from.result c.index-seat.result.now
-    (c.from.ensures ∙ c.number.ensures.same) c.index-seat.ensures (sym c.held.ensures ∙ c.if-held.false)) in
+    (rw (← c.self.view_is) at c.requires) c.from.result c.index-unit.result.now
+    (c.from.ensures ∙ c.number.ensures.same) c.index-unit.ensures (sym c.held.ensures ∙ c.if-held.false)) in
     advance-given c.args.self.now.config c.args.self.now.fabric c.args.message.now c.requires h c.in-Clock.field-0 (sym c.in-Clock.ensures)

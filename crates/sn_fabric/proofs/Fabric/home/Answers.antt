@@ -6,7 +6,7 @@ use Rattle.sn_fabric.proofs.Fabric.home.Goals as goal
 pub returns-clause-here : goal.returns-clause-here
 returns-clause-here c =
     let p : Parts = record {
-      seats = c.self.inside.seats.items;
+      units = c.self.inside.units.items;
       homes = c.self.inside.homes.items;
       net = c.self.inside.net;
       point = c.self.inside.point;
@@ -17,7 +17,7 @@ returns-clause-here c =
 pub returns-clause-entry : goal.returns-clause-entry
 returns-clause-entry c =
     let p : Parts = record {
-      seats = c.self.inside.seats.items;
+      units = c.self.inside.units.items;
       homes = c.self.inside.homes.items;
       net = c.self.inside.net;
       point = c.self.inside.point;

@@ -6,7 +6,7 @@ pub returns : goal.returns
 returns c =
     rw (← c.self.view_is) (c.lacks_room.ensures.full
     ∙ sym (full-as (record {
-      seats = c.self.inside.seats.items;
+      units = c.self.inside.units.items;
       homes = c.self.inside.homes.items;
       net = c.self.inside.net;
       point = c.self.inside.point;

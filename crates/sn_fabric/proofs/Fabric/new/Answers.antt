@@ -4,7 +4,7 @@ use Rattle.sn_fabric.proofs.Fabric.new.Goals as goal
 
 pub invariant_of-result : goal.invariant_of-result
 invariant_of-result c = (
-  rw (c.in_ok-seats.ensures, c.in_ok-homes.ensures, c.in_ok-net.ensures) (parts-start c.args.config c.args.image.now c.requires),
+  rw (c.in_ok-units.ensures, c.in_ok-homes.ensures, c.in_ok-net.ensures) (parts-start c.args.config c.args.image.now c.requires),
   omega (arith, c.in_ok-sent.ensures.capacity),
   rw c.in_ok-sent.ensures.items (omega arith),
 )
@@ -12,7 +12,7 @@ invariant_of-result c = (
 pub returns : goal.returns
 returns c =
     rw (
-      c.in_ok-seats.ensures,
+      c.in_ok-units.ensures,
       c.in_ok-homes.ensures,
       c.in_ok-net.ensures,
       c.in_ok-sent.ensures.items,

@@ -8,7 +8,7 @@ returns c =
     rw (← c.self.view_is)
     (named-is c.self.inside.config
     (record {
-      seats = c.self.inside.seats.items;
+      units = c.self.inside.units.items;
       homes = c.self.inside.homes.items;
       net = c.self.inside.net;
       point = c.self.inside.point;

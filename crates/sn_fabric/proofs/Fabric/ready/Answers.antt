@@ -7,11 +7,11 @@ returns c =
     rw (← c.self.view_is)
     (ready-found c.self.inside.config
     (record {
-      seats = c.self.inside.seats.items;
+      units = c.self.inside.units.items;
       homes = c.self.inside.homes.items;
       net = c.self.inside.net;
       point = c.self.inside.point;
-    }) c.args.node c.from-place.result c.index-seat.result.now c.index.result.now c.now-now.result c.least_open-begun.result c.least_open-issued.result c.at_most.result c.at_most-2.result c.self.invariant.0
+    }) c.args.node c.from-place.result c.index-unit.result.now c.index.result.now c.now-now.result c.least_open-begun.result c.least_open-issued.result c.at_most.result c.at_most-2.result c.self.invariant.0
     (rw (← c.self.view_is) at c.requires)
     (c.from-place.ensures
-    ∙ c.number.ensures.same) c.index-seat.ensures c.index.ensures c.now-now.ensures.same c.least_open-begun.ensures c.least_open-issued.ensures c.at_most.ensures c.at_most-2.ensures)
+    ∙ c.number.ensures.same) c.index-unit.ensures c.index.ensures c.now-now.ensures.same c.least_open-begun.ensures c.least_open-issued.ensures c.at_most.ensures c.at_most-2.ensures)

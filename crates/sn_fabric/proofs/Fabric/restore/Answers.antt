@@ -2,9 +2,9 @@ use Rattle.std.proofs.Common.{◌<◌, List, length, map, refl, sym, ap, ◌∙�
 use Rattle.std.specs.List.{sum_by}
 use Rattle.sn_base.specs.declared.event.Answer.TheVariants.{Recovered}
 use Rattle.sn_model.specs.Fabric.{Fabric}
-use Rattle.sn_model.specs.PointEvents.{recovered}
-use Rattle.sn_fabric.specs.declared.node.Seat.{Seat}
-use Rattle.sn_fabric.specs.Recovery.{restored_seat, undone_of}
+use Rattle.sn_model.specs.PointEvents.{step_of_recovery}
+use Rattle.sn_fabric.specs.declared.node.NodeUnit.{NodeUnit}
+use Rattle.sn_fabric.specs.Recovery.{restored_unit, undone_of}
 use Rattle.sn_fabric.proofs.Parts.{kept, after-view}
 use Rattle.sn_fabric.proofs.Recovered.{can-restore, recovery-comes}
 use Rattle.sn_fabric.proofs.Restoring.{written}
@@ -12,11 +12,11 @@ use Rattle.sn_fabric.proofs.Fabric.restore.Goals as goal
 
 pub restore_nodes-undone-requires-clause-can : goal.restore_nodes-undone-requires-clause-can
 restore_nodes-undone-requires-clause-can c n l =
-    let h : n < length c.self.inside.seats.items = subst (λ (xs : List Seat). n < length xs) c.as_mut_slice.ensures.value l in
+    let h : n < length c.self.inside.units.items = subst (λ (xs : List NodeUnit). n < length xs) c.as_mut_slice.ensures.value l in
     rw (c.as_mut_slice.ensures.value, c.as_mut_slice-2.ensures.value)
     (can-restore c.self.inside.config
     (record {
-      seats = c.self.inside.seats.items;
+      units = c.self.inside.units.items;
       homes = c.self.inside.homes.items;
       net = c.self.inside.net;
       point = c.self.inside.point;
@@ -25,15 +25,15 @@ restore_nodes-undone-requires-clause-can c n l =
 pub invariant_of-self : goal.invariant_of-self
 invariant_of-self c =
     rw (
-      (written c.self.inside.seats.len c.restore_nodes-undone.new.seats c.self.inside.seats.items
-          (sym (c.restore_nodes-undone.auto.seats ∙ c.as_mut_slice.ensures.len))
-          ∙ c.restore_nodes-undone.ensures.seats ∙ ap (map (restored_seat c.args.k)) c.as_mut_slice.ensures.value),
+      (written c.self.inside.units.len c.restore_nodes-undone.new.units c.self.inside.units.items
+          (sym (c.restore_nodes-undone.auto.units ∙ c.as_mut_slice.ensures.len))
+          ∙ c.restore_nodes-undone.ensures.units ∙ ap (map (restored_unit c.args.k)) c.as_mut_slice.ensures.value),
       (written c.self.inside.homes.len c.restore_nodes-undone.new.homes c.self.inside.homes.items
           (sym (c.restore_nodes-undone.auto.homes ∙ c.as_mut_slice-2.ensures.len))),
     )
     (kept (recovery-comes c.self.inside.config
     (record {
-      seats = c.self.inside.seats.items;
+      units = c.self.inside.units.items;
       homes = c.self.inside.homes.items;
       net = c.self.inside.net;
       point = c.self.inside.point;
@@ -49,26 +49,26 @@ invariant_of-self c =
 pub returns : goal.returns
 returns c =
     rw (
-      (written c.self.inside.seats.len c.restore_nodes-undone.new.seats c.self.inside.seats.items
-          (sym (c.restore_nodes-undone.auto.seats ∙ c.as_mut_slice.ensures.len))
-          ∙ c.restore_nodes-undone.ensures.seats ∙ ap (map (restored_seat c.args.k)) c.as_mut_slice.ensures.value),
+      (written c.self.inside.units.len c.restore_nodes-undone.new.units c.self.inside.units.items
+          (sym (c.restore_nodes-undone.auto.units ∙ c.as_mut_slice.ensures.len))
+          ∙ c.restore_nodes-undone.ensures.units ∙ ap (map (restored_unit c.args.k)) c.as_mut_slice.ensures.value),
       (written c.self.inside.homes.len c.restore_nodes-undone.new.homes c.self.inside.homes.items
           (sym (c.restore_nodes-undone.auto.homes ∙ c.as_mut_slice-2.ensures.len))),
     )
     (after-view c.self.inside.config
-    (record { seats = c.self.inside.seats.items; homes = c.self.inside.homes.items; net = c.self.inside.net; point = c.self.inside.point })
+    (record { units = c.self.inside.units.items; homes = c.self.inside.homes.items; net = c.self.inside.net; point = c.self.inside.point })
     (record {
-      seats = map (restored_seat c.args.k) c.self.inside.seats.items;
+      units = map (restored_unit c.args.k) c.self.inside.units.items;
       homes = c.restore_nodes-undone.new.homes;
       net = c.recover.new.self;
       point = c.self.inside.point;
     })
     c.self.inside.sent.items c.clear.new.self.items
     (Recovered (record { to = c.args.k; undone = c.restore_nodes-undone.result; dropped = c.unwrap-dropped.result }))
-    (λ (s : Fabric). recovered s c.args.k) c.args.self.now c.self.view_is
+    (λ (s : Fabric). step_of_recovery s c.args.k) c.args.self.now c.self.view_is
     (recovery-comes c.self.inside.config
     (record {
-      seats = c.self.inside.seats.items;
+      units = c.self.inside.units.items;
       homes = c.self.inside.homes.items;
       net = c.self.inside.net;
       point = c.self.inside.point;

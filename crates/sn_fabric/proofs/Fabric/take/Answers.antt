@@ -1,6 +1,6 @@
 use Rattle.std.proofs.Common.{ℕ, ◌∙◌, ap, subst}
 use Rattle.sn_base.specs.declared.event.Answer.TheVariants.{Delivered}
-use Rattle.sn_model.specs.NetEvents.{delivered}
+use Rattle.sn_model.specs.NetEvents.{step_of_delivery}
 use Rattle.sn_fabric.specs.Deliveries.{HasCome}
 use Rattle.sn_fabric.specs.Fabric.{FabricData, IsAfter}
 use Rattle.sn_fabric.proofs.Come.{come-shown}
@@ -11,7 +11,7 @@ pub give-requires-clause-come : goal.give-requires-clause-come
 give-requires-clause-come c =
     subst (λ (d : FabricData). HasCome d.fabric c.in-Ok.message.now) c.self.view_is
     (come-shown (record {
-      seats = c.self.inside.seats.items;
+      units = c.self.inside.units.items;
       homes = c.self.inside.homes.items;
       net = c.self.inside.net;
       point = c.self.inside.point;
@@ -19,9 +19,9 @@ give-requires-clause-come c =
 
 pub give-requires-clause-delivers : goal.give-requires-clause-delivers
 give-requires-clause-delivers c =
-    ap (λ (i : ℕ). (delivered c.args.self.now.config c.args.self.now.fabric i).answer)
+    ap (λ (i : ℕ). (step_of_delivery c.args.self.now.config c.args.self.now.fabric i).answer)
     (come-shown (record {
-      seats = c.self.inside.seats.items;
+      units = c.self.inside.units.items;
       homes = c.self.inside.homes.items;
       net = c.self.inside.net;
       point = c.self.inside.point;
@@ -31,7 +31,7 @@ pub unreachable-requires : goal.unreachable-requires
 unreachable-requires c =
     none-delivered c.self.inside.config
     (record {
-      seats = c.self.inside.seats.items;
+      units = c.self.inside.units.items;
       homes = c.self.inside.homes.items;
       net = c.self.inside.net;
       point = c.self.inside.point;
@@ -39,9 +39,9 @@ unreachable-requires c =
 
 pub returns-clause-after : goal.returns-clause-after
 returns-clause-after c =
-    subst (λ (i : ℕ). IsAfter c.args.self.now c.give.new.self Delivered (delivered c.args.self.now.config c.args.self.now.fabric i))
+    subst (λ (i : ℕ). IsAfter c.args.self.now c.give.new.self Delivered (step_of_delivery c.args.self.now.config c.args.self.now.fabric i))
     (come-shown (record {
-      seats = c.self.inside.seats.items;
+      units = c.self.inside.units.items;
       homes = c.self.inside.homes.items;
       net = c.self.inside.net;
       point = c.self.inside.point;
@@ -49,9 +49,9 @@ returns-clause-after c =
 
 pub returns-clause-told : goal.returns-clause-told
 returns-clause-told c =
-    c.give.ensures.told ∙ ap (λ (i : ℕ). (delivered c.args.self.now.config c.args.self.now.fabric i).told)
+    c.give.ensures.told ∙ ap (λ (i : ℕ). (step_of_delivery c.args.self.now.config c.args.self.now.fabric i).told)
     (come-shown (record {
-      seats = c.self.inside.seats.items;
+      units = c.self.inside.units.items;
       homes = c.self.inside.homes.items;
       net = c.self.inside.net;
       point = c.self.inside.point;

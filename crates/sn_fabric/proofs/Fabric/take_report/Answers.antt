@@ -1,8 +1,8 @@
 use Rattle.std.proofs.Common.{◌≡◌, refl, subst, arith}
 use Rattle.std.specs.Prelude.{Some}
 use Rattle.sn_base.specs.declared.event.Answer.TheVariants.{Delivered}
-use Rattle.sn_model.specs.declared.net.Told.TheVariants.{Ready}
-use Rattle.sn_model.specs.NetEvents.{delivered}
+use Rattle.sn_model.specs.declared.net.News.TheVariants.{Ready}
+use Rattle.sn_model.specs.NetEvents.{step_of_delivery}
 use Rattle.sn_fabric.specs.Fabric.{FabricData}
 use Rattle.sn_fabric.proofs.Parts.{kept, after-whole}
 use Rattle.sn_fabric.proofs.ToNode.{report-tells, report-taken}
@@ -12,7 +12,7 @@ pub invariant_of-self : goal.invariant_of-self
 invariant_of-self c =
     kept (report-taken c.self.inside.config
     (record {
-      seats = c.self.inside.seats.items;
+      units = c.self.inside.units.items;
       homes = c.self.inside.homes.items;
       net = c.self.inside.net;
       point = c.self.inside.point;
@@ -24,17 +24,17 @@ invariant_of-self c =
 pub returns-clause-after : goal.returns-clause-after
 returns-clause-after c =
     after-whole c.self.inside.config
-    (record { seats = c.self.inside.seats.items; homes = c.self.inside.homes.items; net = c.self.inside.net; point = c.self.inside.point })
+    (record { units = c.self.inside.units.items; homes = c.self.inside.homes.items; net = c.self.inside.net; point = c.self.inside.point })
     (record {
-      seats = c.self.inside.seats.items;
+      units = c.self.inside.units.items;
       homes = c.self.inside.homes.items;
       net = c.take_out.new.net;
       point = c.self.inside.point;
     }) c.self.inside.sent.items c.take_out.new.sent.items Delivered
-    (λ (d : FabricData). delivered d.config d.fabric c.args.message.now.id) c.args.self.now c.self.view_is
+    (λ (d : FabricData). step_of_delivery d.config d.fabric c.args.message.now.id) c.args.self.now c.self.view_is
     (report-taken c.self.inside.config
     (record {
-      seats = c.self.inside.seats.items;
+      units = c.self.inside.units.items;
       homes = c.self.inside.homes.items;
       net = c.self.inside.net;
       point = c.self.inside.point;
@@ -45,10 +45,10 @@ returns-clause-after c =
 pub returns-clause-told : goal.returns-clause-told
 returns-clause-told c =
     subst (λ (d : FabricData). Some (Ready c.args.message.now.from c.args.k)
-    ≡ (delivered d.config d.fabric c.args.message.now.id).told) c.self.view_is
+    ≡ (step_of_delivery d.config d.fabric c.args.message.now.id).told) c.self.view_is
     (report-tells c.self.inside.config
     (record {
-      seats = c.self.inside.seats.items;
+      units = c.self.inside.units.items;
       homes = c.self.inside.homes.items;
       net = c.self.inside.net;
       point = c.self.inside.point;

@@ -4,8 +4,8 @@ use Rattle.sn_fabric.specs.Recovery.{undone_of}
 use Rattle.sn_fabric.proofs.foresight.count_all_undone.Given as goal
 
 -- so many entries of the first logs are undone
-abbrev pub invariant-seats : goal.invariant-seats
-invariant-seats l = record {
-  few : l.undone ≤ l.seat-index * 2 ^ 16;
-  same : l.undone ≡ sum_by (undone_of l.k) (take l.seat-index l.seats);
+abbrev pub invariant-units : goal.invariant-units
+invariant-units l = record {
+  few : l.undone ≤ l.unit-index * 2 ^ 16;
+  same : l.undone ≡ sum_by (undone_of l.k) (take l.unit-index l.units);
 }

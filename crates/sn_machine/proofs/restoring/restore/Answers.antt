@@ -1,5 +1,5 @@
 use Rattle.std.proofs.Common.{◌∙◌, ap}
-use Rattle.reg_ckpt.specs.Kept.{Checkpoints, dropped_above}
+use Rattle.reg_ckpt.specs.Checkpoints.{Checkpoints, dropped_above}
 use Rattle.sn_machine.proofs.Restorations.{restored-one}
 use Rattle.sn_machine.proofs.restoring.restore.Goals as goal
 

@@ -1,5 +1,5 @@
 use Rattle.std.proofs.Common.{arith}
-use Rattle.sn_probe.proofs.Told.{told-one, told-next, told-all}
+use Rattle.sn_probe.proofs.Observation.{told-one, told-next, told-all}
 use Rattle.sn_probe.proofs.probe_set.tell_all.Goals as goal
 
 pub each-preserved : goal.each-preserved

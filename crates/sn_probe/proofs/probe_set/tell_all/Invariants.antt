@@ -1,6 +1,6 @@
 use Rattle.std.proofs.Common.{◌≡◌, vec_len}
 use Rattle.sn_probe.specs.Probes.{told_of}
-use Rattle.sn_probe.proofs.Told.{IsToldUpTo}
+use Rattle.sn_probe.proofs.Observation.{IsToldUpTo}
 use Rattle.sn_probe.proofs.probe_set.tell_all.Given as goal
 
 abbrev pub invariant-each : goal.invariant-each

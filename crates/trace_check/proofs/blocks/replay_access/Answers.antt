@@ -14,16 +14,16 @@ pub returns-clause-done : goal.returns-clause-done
 returns-clause-done c =
     let cell : ℕ → Cell = λ b. cell_at c.args.image.now c.args.cells.now b in
     let later : ℕ → Cell = λ b. cell_at c.args.image.now c.replay.new.self b in
-    let want = c.args.deed.now.want in
+    let want = c.args.effect.now.want in
     let block = c.unwrap-block.result in
     let same : block ≡ wanted_block want = subst (λ o. IfSome o (λ b. b ≡ wanted_block c.want.result)) c.unwrap-block.ensures c.block_in.ensures.block ∙ ap wanted_block c.want.ensures in
     all_three c.replay.result (λ found. IsTrue found ↔ Finds (cell block) want c.args.taken.now)
-    (λ found. found ≡ true → IsAfter (cell block) c.args.deed.now c.args.taken.now (later block))
+    (λ found. found ≡ true → IsAfter (cell block) c.args.effect.now c.args.taken.now (later block))
     (λ found. (b : ℕ) → b ≢ block → later b ≡ cell b)
-    (λ found. IsReplay c.args.image.now c.args.cells.now c.args.deed.now c.args.taken.now found c.replay.new.self)
+    (λ found. IsReplay c.args.image.now c.args.cells.now c.args.effect.now c.args.taken.now found c.replay.new.self)
     (λ found f a o. record {
       finds = subst (λ b. IsTrue found ↔ Finds (cell b) want c.args.taken.now) same f;
-      after = λ t. subst (λ b. IsAfter (cell b) c.args.deed.now c.args.taken.now (later b)) same (a t);
+      after = λ t. subst (λ b. IsAfter (cell b) c.args.effect.now c.args.taken.now (later b)) same (a t);
       others = λ b n. o b (λ e. n (e ∙ same));
     })
     c.replay.ensures.finds c.replay.ensures.after c.replay.ensures.others

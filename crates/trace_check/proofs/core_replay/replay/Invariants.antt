@@ -4,4 +4,4 @@ use Rattle.trace_check.proofs.core_replay.replay.Given as goal
 
 -- the core after the records so far, and what its own among them did
 abbrev pub invariant-records : goal.invariant-records
-invariant-records l = IsReplayed l.image l.nodes l.parts l.core (start_of l.core l.image.entry) l.records l.place l.state l.deeds
+invariant-records l = IsReplayed l.image l.nodes l.parts l.core (start_of l.core l.image.entry) l.records l.place l.state l.tagged

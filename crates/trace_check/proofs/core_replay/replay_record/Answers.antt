@@ -5,7 +5,7 @@ use Rattle.rv_core.proofs.CoreLaws.{want_inside}
 use Rattle.sn_consistency.specs.Words.{next}
 use Rattle.trace_check.proofs.MayDo.{replays_to, replays_from}
 use Rattle.trace_check.specs.Tags.{AreKept}
-use Rattle.trace_check.proofs.CoreReplay.{own_step, own_deed, other_deed}
+use Rattle.trace_check.proofs.CoreReplay.{own_step, own_effect, other_effect}
 use Rattle.trace_check.proofs.core_replay.replay_record.Goals as goal
 use Rattle.trace_check.proofs.core_replay.replay_record.Goals.{In_default, In_ok-push}
 
@@ -29,26 +29,26 @@ returns-clause-good c =
       λ h. refl,
     )
 
-as_next : (c : In_ok-push) → c.take-deed.new.state ≡ next c.args.image.now c.args.state.now c.args.taken.now
+as_next : (c : In_ok-push) → c.take-effect.new.state ≡ next c.args.image.now c.args.state.now c.args.taken.now
 unfolding next
-as_next c = c.take-deed.ensures.state
+as_next c = c.take-effect.ensures.state
 
 pub returns-clause-state : goal.returns-clause-state
 returns-clause-state c = λ t. as_next c ∙ sym (own_step c.args.image.now c.args.core c.args.state.now c.args.taken.now (own c))
 
-pub returns-clause-deeds : goal.returns-clause-deeds
-returns-clause-deeds c = λ t did k.
+pub returns-clause-tagged : goal.returns-clause-tagged
+returns-clause-tagged c = λ t did k.
     subst (λ xs. AreKept c.args.parts (did ++ xs) c.push.new.self)
-    (ap (λ d. d ∷ []) c.take-deed.ensures.deed ∙ sym (own_deed c.args.image.now c.args.core c.args.state.now c.args.taken.now (own c)))
+    (ap (λ d. d ∷ []) c.take-effect.ensures.effect ∙ sym (own_effect c.args.image.now c.args.core c.args.state.now c.args.taken.now (own c)))
     (c.in_ok-push.ensures did k)
 
-pub returns-then-ne-clause-deeds : goal.returns-then-ne-clause-deeds
-returns-then-ne-clause-deeds c = λ t did k.
+pub returns-then-ne-clause-tagged : goal.returns-then-ne-clause-tagged
+returns-then-ne-clause-tagged c = λ t did k.
     let a = c.if-ne.true in
     let b = c.ne.ensures in
     let o : c.args.core ≢ c.args.taken.now.core = grind (arith, nat_tests) in
-    subst (λ xs. AreKept c.args.parts xs c.args.deeds.now)
-    (sym (ap (λ xs. did ++ xs) (other_deed c.args.image.now c.args.core c.args.state.now c.args.taken.now o) ∙ append-nil did)) k
+    subst (λ xs. AreKept c.args.parts xs c.args.tagged.now)
+    (sym (ap (λ xs. did ++ xs) (other_effect c.args.image.now c.args.core c.args.state.now c.args.taken.now o) ∙ append-nil did)) k
 
 pub push-requires-clause-inside : goal.push-requires-clause-inside
-push-requires-clause-inside c = subst (λ d. IsInside d.want) (sym c.take-deed.ensures.deed) (want_inside c.args.image.now c.args.state.now)
+push-requires-clause-inside c = subst (λ d. IsInside d.want) (sym c.take-effect.ensures.effect) (want_inside c.args.image.now c.args.state.now)

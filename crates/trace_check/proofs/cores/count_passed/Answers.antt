@@ -6,7 +6,7 @@ use Rattle.rv_core.specs.Core.{start_of}
 use Rattle.projection_places.specs.Passes.{Passes}
 use Rattle.trace_check.specs.declared.cores.Slot.{Slot}
 use Rattle.trace_check.specs.Slots.{IsPassed, CoresBelow, HasReplayed}
-use Rattle.trace_check.specs.Deeds.{core_deeds}
+use Rattle.trace_check.specs.TaggedEffects.{core_effects}
 use Rattle.trace_check.specs.Tags.{AreKept}
 use Rattle.trace_check.proofs.CorePlaces.{least_none, least_more, least_all}
 use Rattle.trace_check.proofs.cores.count_passed.Goals as goal
@@ -27,7 +27,7 @@ slots-preserved c =
     let at = c.requires.replayed.1.each c.slots.place slot inside in
     let mine : (slot.core ≡ c.slots.place) × HasReplayed image c.args.nodes c.requires.replayed.0 rs slot = subst (λ x. (x.core ≡ c.slots.place) × HasReplayed image c.args.nodes c.requires.replayed.0 rs x) (sym c.index-slots-place.is) at in
     let given : slot.passed ≡ Ok c.in_ok-slots.field-0 = ap (λ x. x.passed) c.index-slots-place.is ∙ c.in_ok-slots.was in
-    let passed = subst (λ x. IfOk x (λ p. Passes (IsPassed image c.args.nodes slot.core rs) (length rs) p × AreKept c.requires.replayed.0 (core_deeds image slot.core (start_of slot.core image.entry) (take p rs)) slot.deeds)) given mine.1 in
+    let passed = subst (λ x. IfOk x (λ p. Passes (IsPassed image c.args.nodes slot.core rs) (length rs) p × AreKept c.requires.replayed.0 (core_effects image slot.core (start_of slot.core image.entry) (take p rs)) slot.tagged)) given mine.1 in
     let more = least_more image c.args.nodes rs (length rs) c.slots.place c.slots.least c.in_ok-slots.field-0 c.slots.invariant.least slot.core mine.0 passed.0 in
     record {
       least = subst (Passes (CoresBelow image c.args.nodes rs (c.slots.place + 1)) (length rs)) (sym c.min-least.ensures)

@@ -4,7 +4,7 @@ use Rattle.std.proofs.lemmas.List.{length-take-le, take-append-le}
 use Rattle.sn_base.specs.declared.memory.Memory.{Memory}
 use Rattle.rv_core.specs.Flat.{flat_start}
 use Rattle.projection_places.specs.Passes.{Passes, BlocksPass}
-use Rattle.trace_check.specs.Slots.{HasDeeds}
+use Rattle.trace_check.specs.Slots.{HasEffects}
 use Rattle.trace_check.proofs.parts.replay_blocks.Goals as goal
 
 -- the first places of a list, after they were written
@@ -17,6 +17,6 @@ written n old new l size =
 pub returns : goal.returns
 returns g c =
     let few : c.from-parts.result ≤ 16 = let h = c.requires.few in let f = c.from-parts.ensures in omega (arith, h, f) in
-    subst (λ parts. IfOk c.least_of.result (λ p. (nodes : ℕ) → HasDeeds c.args.image.now nodes parts c.args.records.now c.args.count c.args.slots.now →
+    subst (λ parts. IfOk c.least_of.result (λ p. (nodes : ℕ) → HasEffects c.args.image.now nodes parts c.args.records.now c.args.count c.args.slots.now →
     Passes (BlocksPass c.args.image.now (flat_start c.args.image.now nodes) c.args.records.now) c.args.count p))
     (written c.from-parts.result (replicate 16 (Ok 0)) c.replay_parts.new.passed few c.replay_parts.ensures.size ∙ c.from-parts.ensures) c.least_of.ensures

@@ -1,7 +1,7 @@
 use Rattle.std.proofs.Common.{◌≡◌, ◌%◌, true, sym, subst}
 use Rattle.atomicity_point.specs.Txn.{Open}
 use Rattle.sn_model.specs.Caches.{misses_on}
-use Rattle.mosi_cache.specs.Controller.{CacheData, miss_of, logged}
+use Rattle.mosi_cache.specs.Controller.{CacheData, miss_of, with_entries}
 use Rattle.mosi_cache.proofs.cache.Cache.acknowledge.Goals as goal
 use Rattle.mosi_cache.proofs.Fits.{fits-open, misses-counted}
 use Rattle.sn_model.specs.CacheRows.{acknowledge, MayCount}
@@ -23,6 +23,6 @@ returns c entries =
     (λ (d : CacheData). MayCount d.cache.miss c.args.block) (sym c.self.view_is) c.requires in
     let s = some-counting (miss_of c.self.inside.need c.self.inside.transactions.miss) c.args.block q in
     subst (λ (d : CacheData). IsRowDone d c.complete_or_wait.new.self c.complete_or_wait.result
-    (acknowledge (logged d entries) (c.args.block % d.nodes))) c.self.view_is
+    (acknowledge (with_entries d entries) (c.args.block % d.nodes))) c.self.view_is
     (moved-done _ _ c.complete_or_wait.new.self c.complete_or_wait.result entries c.self.inside.lines.lines _ s.0 c.args.block
     (mid-counted c.self.inside.node c.self.inside.nodes c.self.inside.need c.self.inside.lines c.self.inside.transactions c.ack.new.self c.ack.ensures.miss) s.1 (c.complete_or_wait.ensures entries))

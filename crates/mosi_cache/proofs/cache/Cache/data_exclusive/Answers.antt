@@ -2,11 +2,11 @@ use Rattle.std.proofs.Common.{◌≡◌, ◌%◌, true, sym, subst}
 use Rattle.atomicity_point.specs.Txn.{Open}
 use Rattle.sn_model.specs.declared.cache.Need.TheVariants.{Read}
 use Rattle.sn_model.specs.Caches.{misses_on}
-use Rattle.mosi_cache.specs.Controller.{CacheData, miss_of, logged}
+use Rattle.mosi_cache.specs.Controller.{CacheData, miss_of, with_entries}
 use Rattle.mosi_cache.proofs.cache.Cache.data_exclusive.Goals as goal
 use Rattle.mosi_cache.proofs.Fits.{fits-missed, room-for-miss, misses-awaiting, misses-answered}
 use Rattle.sn_base.specs.declared.log.Old.TheVariants.{NotOwned}
-use Rattle.log_buffer.specs.Log.{noted}
+use Rattle.log_buffer.specs.Log.{log_with_note}
 use Rattle.sn_model.specs.CacheRows.{data_exclusive, AwaitsAnswer}
 use Rattle.mosi_cache.specs.Rows.{IsRowDone}
 use Rattle.mosi_cache.proofs.CompletedOrWaiting.{moved-done, mid-answered, some-awaiting}
@@ -36,7 +36,7 @@ returns-clause-done c entries =
     (λ (d : CacheData). AwaitsAnswer d.cache.miss c.args.block Read) (sym c.self.view_is) c.requires.missed.0 in
     let s = some-awaiting (miss_of c.self.inside.need c.self.inside.transactions.miss) c.args.block Read c.args.tag 0 q in
     subst (λ (d : CacheData). IsRowDone d c.complete_or_wait.new.self c.complete_or_wait.result
-    (data_exclusive (logged d entries) (c.args.block % d.nodes) c.args.block c.args.tag c.args.content)) c.self.view_is
+    (data_exclusive (with_entries d entries) (c.args.block % d.nodes) c.args.block c.args.tag c.args.content)) c.self.view_is
     (moved-done _ _ c.complete_or_wait.new.self c.complete_or_wait.result
-    (noted entries c.args.tag c.args.block NotOwned) _ _ s.0 c.args.block
-    (mid-answered c.self.inside.node c.self.inside.nodes c.self.inside.need c.self.inside.lines c.put.new.self c.self.inside.transactions c.answer.new.self c.args.block _ c.args.tag 0 c.put.ensures.lines c.answer.ensures.miss) s.1 (c.complete_or_wait.ensures (noted entries c.args.tag c.args.block NotOwned)))
+    (log_with_note entries c.args.tag c.args.block NotOwned) _ _ s.0 c.args.block
+    (mid-answered c.self.inside.node c.self.inside.nodes c.self.inside.need c.self.inside.lines c.put.new.self c.self.inside.transactions c.answer.new.self c.args.block _ c.args.tag 0 c.put.ensures.lines c.answer.ensures.miss) s.1 (c.complete_or_wait.ensures (log_with_note entries c.args.tag c.args.block NotOwned)))

@@ -2,7 +2,7 @@ use Rattle.std.proofs.Common.{◌≡◌, ◌%◌, true, sym, subst}
 use Rattle.atomicity_point.specs.Txn.{Open}
 use Rattle.sn_model.specs.declared.cache.Need.TheVariants.{Read}
 use Rattle.sn_model.specs.Caches.{misses_on}
-use Rattle.mosi_cache.specs.Controller.{CacheData, miss_of, logged}
+use Rattle.mosi_cache.specs.Controller.{CacheData, miss_of, with_entries}
 use Rattle.mosi_cache.proofs.cache.Cache.data_shared.Goals as goal
 use Rattle.mosi_cache.proofs.Fits.{fits-missed, room-for-miss, misses-awaiting, misses-answered}
 use Rattle.sn_model.specs.CacheRows.{data_shared, AwaitsAnswer}
@@ -34,6 +34,6 @@ returns c entries =
     (λ (d : CacheData). AwaitsAnswer d.cache.miss c.args.block Read) (sym c.self.view_is) c.requires.0 in
     let s = some-awaiting (miss_of c.self.inside.need c.self.inside.transactions.miss) c.args.block Read c.args.tag 0 q in
     subst (λ (d : CacheData). IsRowDone d c.complete_or_wait.new.self c.complete_or_wait.result
-    (data_shared (logged d entries) (c.args.block % d.nodes) c.args.block c.args.tag c.args.content)) c.self.view_is
+    (data_shared (with_entries d entries) (c.args.block % d.nodes) c.args.block c.args.tag c.args.content)) c.self.view_is
     (moved-done _ _ c.complete_or_wait.new.self c.complete_or_wait.result (entries) _ _ s.0 c.args.block
     (mid-answered c.self.inside.node c.self.inside.nodes c.self.inside.need c.self.inside.lines c.put.new.self c.self.inside.transactions c.answer.new.self c.args.block _ c.args.tag 0 c.put.ensures.lines c.answer.ensures.miss) s.1 (c.complete_or_wait.ensures (entries)))

@@ -6,7 +6,7 @@ use Rattle.sn_model.specs.Caches.{line_of, is_present, is_writable_state}
 use Rattle.sn_model.specs.Access.{place_in_block}
 use Rattle.mosi_cache.specs.Frames.{line_at}
 use Rattle.mosi_cache.specs.Controller.{CacheData}
-use Rattle.mosi_cache.specs.Probe.{stored}
+use Rattle.mosi_cache.specs.Probe.{cache_after_write}
 use Rattle.mosi_cache.proofs.Fits.{fits-line, writable-present}
 use Rattle.mosi_cache.proofs.Stores.{store-done}
 use Rattle.mosi_cache.proofs.cache.Cache.store.Goals as goal
@@ -37,4 +37,4 @@ returns-clause-stored c =
     ∙ ap (λ xs. stored_in xs c.offset-place.result (bytes_written c)) c.content-content.ensures
     ∙ ap (λ place. stored_in (line_at c.self.inside.lines.lines c.in-Some.block).content place (bytes_written c)) c.offset-place.ensures.same)
     (present c)
-    ∙ ap (λ (d : CacheData). stored d c.args.write.now) c.self.view_is
+    ∙ ap (λ (d : CacheData). cache_after_write d c.args.write.now) c.self.view_is

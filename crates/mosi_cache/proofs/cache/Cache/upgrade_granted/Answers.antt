@@ -2,7 +2,7 @@ use Rattle.std.proofs.Common.{◌≡◌, ◌%◌, true, sym, subst}
 use Rattle.atomicity_point.specs.Txn.{Open}
 use Rattle.sn_model.specs.declared.cache.Need.TheVariants.{Write}
 use Rattle.sn_model.specs.Caches.{misses_on}
-use Rattle.mosi_cache.specs.Controller.{CacheData, miss_of, logged}
+use Rattle.mosi_cache.specs.Controller.{CacheData, miss_of, with_entries}
 use Rattle.mosi_cache.proofs.cache.Cache.upgrade_granted.Goals as goal
 use Rattle.mosi_cache.proofs.Fits.{fits-open, misses-answered}
 use Rattle.sn_model.specs.CacheRows.{upgrade_granted, AwaitsAnswer}
@@ -24,6 +24,6 @@ returns c entries =
     (λ (d : CacheData). AwaitsAnswer d.cache.miss c.args.block Write) (sym c.self.view_is) c.requires.0 in
     let s = some-awaiting (miss_of c.self.inside.need c.self.inside.transactions.miss) c.args.block Write c.args.tag c.args.due q in
     subst (λ (d : CacheData). IsRowDone d c.complete_or_wait.new.self c.complete_or_wait.result
-    (upgrade_granted (logged d entries) (c.args.block % d.nodes) c.args.tag c.args.due)) c.self.view_is
+    (upgrade_granted (with_entries d entries) (c.args.block % d.nodes) c.args.tag c.args.due)) c.self.view_is
     (moved-done _ _ c.complete_or_wait.new.self c.complete_or_wait.result entries c.self.inside.lines.lines _ s.0 c.args.block
     (mid-upgraded c.self.inside.node c.self.inside.nodes c.self.inside.need c.self.inside.lines c.self.inside.transactions c.answer.new.self c.args.tag c.args.due c.answer.ensures.miss) s.1 (c.complete_or_wait.ensures entries))

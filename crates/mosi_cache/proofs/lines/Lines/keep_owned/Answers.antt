@@ -5,7 +5,7 @@ use Rattle.std.proofs.lemmas.List.{with_items_is}
 use Rattle.sn_model.specs.Caches.{Line}
 use Rattle.mosi_cache.specs.Frames.{FrameLine, LinesData, lines_of, AreLines}
 use Rattle.mosi_cache.specs.Restored.{begun_line}
-use Rattle.mosi_cache.specs.Unshared.{AreUnshared, modified}
+use Rattle.mosi_cache.specs.Unshared.{AreUnshared, as_modified}
 use Rattle.mosi_cache.proofs.Unshared.{IsBegun, map-begun, lines-begun, kept-begun}
 use Rattle.mosi_cache.proofs.lines.Lines.keep_owned.Goals as goal
 
@@ -28,7 +28,7 @@ begun c = record {
   whole = c.make_modified.auto.kept ∙ ap length c.deref_mut.ensures.value;
   kept = kept-begun c.self.inside.kept.items c.make_modified.new.kept
       (subst (λ (ks : List FrameLine). (f : ℕ) (x : FrameLine) → f < length ks →
-      get_or c.make_modified.new.kept f x ≡ modified (get_or ks f x)) c.deref_mut.ensures.value c.make_modified.ensures);
+      get_or c.make_modified.new.kept f x ≡ as_modified (get_or ks f x)) c.deref_mut.ensures.value c.make_modified.ensures);
 }
 
 pub returns : goal.returns

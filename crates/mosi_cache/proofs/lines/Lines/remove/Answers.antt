@@ -1,6 +1,6 @@
 use Rattle.std.proofs.Common.{◌≡◌, ℕ, List, [], set, Option, Some, None, true, refl, sym, ap, subst, ◌∙◌}
 use Rattle.std.specs.Prelude.{is_some, IfSome}
-use Rattle.cache_array.specs.Slots.{FrameSlots, frame_of, freed}
+use Rattle.cache_array.specs.Slots.{FrameSlots, frame_of, slots_without_block}
 use Rattle.sn_model.specs.Caches.{Line, no_line}
 use Rattle.mosi_cache.specs.Frames.{LinesData, lines_of, line_at}
 use Rattle.mosi_cache.proofs.Changes.{Changed, dropped, nothing-removed, read-absent, is-none}
@@ -17,7 +17,7 @@ gone c =
     (frame_of c.self.inside.frames c.args.block) c.self.invariant.0 refl
     (ap is_some (sym c.find.ensures.frame) ∙ sym c.is_some.ensures ∙ c.if-is_some.true) c.drop_frame.ensures.slots
 
-sizes : (d e : FrameSlots) (o : Option ℕ) → is_some o ≡ true → IfSome o (λ f. e ≡ freed d f) → (d.sets ≡ e.sets) × (d.ways ≡ e.ways)
+sizes : (d e : FrameSlots) (o : Option ℕ) → is_some o ≡ true → IfSome o (λ f. e ≡ slots_without_block d f) → (d.sets ≡ e.sets) × (d.ways ≡ e.ways)
 sizes d e None h q = cc
 sizes d e (Some f) h q = (ap (λ (x : FrameSlots). x.sets) (sym q), ap (λ (x : FrameSlots). x.ways) (sym q))
 

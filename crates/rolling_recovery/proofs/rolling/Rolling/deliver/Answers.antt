@@ -1,6 +1,6 @@
 use Rattle.std.proofs.Common.{Some, sym, ap, ◌∙◌}
 use Rattle.rolling_recovery.specs.declared.messages.ControlMessage.{ControlMessage}
-use Rattle.rolling_recovery.proofs.Kept.{obey-kept, note-kept}
+use Rattle.rolling_recovery.proofs.Invariant.{obey-kept, note-kept}
 use Rattle.rolling_recovery.proofs.rolling.Rolling.deliver.Goals as goal
 
 pub invariant_of-self-in-Order : goal.invariant_of-self-in-Order

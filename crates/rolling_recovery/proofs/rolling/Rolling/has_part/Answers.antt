@@ -1,7 +1,7 @@
 use Rattle.std.proofs.Common.{◌≡◌, ◌<◌, true, ◌∙◌, subst}
 use Rattle.sn_base.specs.Nodes.{has_node}
 use Rattle.rolling_recovery.specs.Rolling.{RollingData}
-use Rattle.rolling_recovery.proofs.Kept.{has-its-node}
+use Rattle.rolling_recovery.proofs.Invariant.{has-its-node}
 use Rattle.rolling_recovery.proofs.rolling.Rolling.has_part.Goals as goal
 
 pub returns-clause-here : goal.returns-clause-here

@@ -1,6 +1,6 @@
 use Rattle.std.proofs.Common.{List, subst}
 use Rattle.rolling_recovery.specs.declared.controls.Control.{Control}
-use Rattle.rolling_recovery.specs.Kept.{HasCalls}
+use Rattle.rolling_recovery.specs.Invariant.{HasCalls}
 use Rattle.rolling_recovery.specs.Recovered.{IsLedTo}
 use Rattle.rolling_recovery.specs.Rolling.{RollingData}
 use Rattle.rolling_recovery.proofs.Led.{IsWhole, led-to}

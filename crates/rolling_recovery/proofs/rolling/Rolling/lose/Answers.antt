@@ -1,4 +1,4 @@
-use Rattle.rolling_recovery.proofs.Kept.{lose-kept}
+use Rattle.rolling_recovery.proofs.Invariant.{lose-kept}
 use Rattle.rolling_recovery.proofs.rolling.Rolling.lose.Goals as goal
 
 pub invariant_of-self : goal.invariant_of-self

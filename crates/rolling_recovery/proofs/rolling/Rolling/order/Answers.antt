@@ -1,4 +1,4 @@
-use Rattle.rolling_recovery.proofs.Kept.{order-kept}
+use Rattle.rolling_recovery.proofs.Invariant.{order-kept}
 use Rattle.rolling_recovery.proofs.rolling.Rolling.order.Goals as goal
 
 pub invariant_of-self : goal.invariant_of-self

@@ -1,4 +1,4 @@
-use Rattle.rolling_recovery.proofs.Kept.{repeat-kept}
+use Rattle.rolling_recovery.proofs.Invariant.{repeat-kept}
 use Rattle.rolling_recovery.proofs.rolling.Rolling.repeat.Goals as goal
 
 pub invariant_of-self : goal.invariant_of-self

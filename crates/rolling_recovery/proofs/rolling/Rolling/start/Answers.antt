@@ -1,6 +1,6 @@
 use Rattle.std.proofs.Common.{◌≤◌, refl, subst}
 use Rattle.sn_machine.specs.Machine.{MachineData}
-use Rattle.rolling_recovery.proofs.Kept.{start-kept}
+use Rattle.rolling_recovery.proofs.Invariant.{start-kept}
 use Rattle.rolling_recovery.proofs.rolling.Rolling.start.Goals as goal
 
 pub invariant_of-result : goal.invariant_of-result

@@ -3,9 +3,9 @@ use Rattle.std.proofs.lemmas.Bool.Decides.{nat_tests}
 use Rattle.sn_base.specs.declared.config.Config.{Config}
 use Rattle.run_journals.specs.declared.entry.JournalEntry.{JournalEntry}
 use Rattle.run_journals.specs.Journal.{Began}
-use Rattle.shared_machine.specs.Drawn.{AreDrawn}
+use Rattle.shared_machine.specs.Pickers.{AreDrawn}
 use Rattle.shared_machine.specs.Shared.{LockedData}
-use Rattle.sn_console.specs.Ends.{passed, free_places}
+use Rattle.sn_console.specs.Ends.{bytes_passed, free_places}
 use Rattle.shared_machine.proofs.Goes.{passed-next, turn-keeps, turn-room, turn-lengths, turn-count, turn-begun}
 use Rattle.shared_machine.proofs.locked.Locked.turn.Goals as goal
 
@@ -22,7 +22,7 @@ invariant_of-self-2 g c =
       budget = c.self.inside.budget;
       journal = c.self.inside.journal.items;
       answers = c.self.inside.answers.items;
-      passed = passed c.self.inside.outbox;
+      passed = bytes_passed c.self.inside.outbox;
       free = free_places c.self.inside.outbox;
       stopped = c.self.inside.stopped;
     } in
@@ -32,7 +32,7 @@ invariant_of-self-2 g c =
     let left : length s.journal < s.budget = grind (arith, nat_tests, over) in
     let there : c.args.worker < s.machine.config.nodes = subst (λ (b : Began). c.args.worker < b.config.nodes)
     (sym c.self.invariant.7) c.requires.worker in
-    let passes : List ℕ = passed c.pass.new.outbox in
+    let passes : List ℕ = bytes_passed c.pass.new.outbox in
     let frees : ℕ = free_places c.pass.new.outbox in
     let longer = c.note.ensures.entry in
     let more = c.note.ensures.answer in (
@@ -41,7 +41,7 @@ invariant_of-self-2 g c =
       omega (arith, c.self.invariant.2, c.note.ensures.room.0),
       omega (arith, c.self.invariant.3, c.note.ensures.room.1),
       turn-lengths s c.args.worker c.in_ok-event.event c.in_ok-event.answer _ _ _ _ passes frees _ _ longer more picked did c.self.invariant.4,
-      subst (λ (l : List JournalEntry). AreDrawn s.seed l c.draw.new.drawings.items) (sym longer)
+      subst (λ (l : List JournalEntry). AreDrawn s.seed l c.draw.new.pickers.items) (sym longer)
           (c.draw.ensures.drawn s.seed s.journal c.in_ok-event.event c.self.invariant.5),
       c.draw.ensures.count ∙ c.self.invariant.6 ∙ ap (λ (k : Config). k.nodes) (sym did.later.config),
       turn-begun s c.args.worker c.in_ok-event.event c.in_ok-event.answer _ _ _ _ passes frees _ _ longer more picked did _ c.self.invariant.7,

@@ -1,7 +1,7 @@
 use Rattle.std.proofs.Common.{List, length, sym, ap, subst, ◌∙◌}
 use Rattle.run_journals.specs.declared.entry.JournalEntry.{JournalEntry}
 use Rattle.sn_base.specs.declared.event.Answer.{Answer}
-use Rattle.shared_machine.specs.Drawn.{AreDrawn}
+use Rattle.shared_machine.specs.Pickers.{AreDrawn}
 use Rattle.shared_machine.specs.Shared.{SharedData, begins_with}
 use Rattle.shared_machine.proofs.Starts.{kept-start, room-start}
 use Rattle.shared_machine.proofs.shared.SharedMachine.begin.Goals as goal
@@ -16,7 +16,7 @@ invariant_of-result g c =
       c.self.invariant.3,
       c.self.invariant.4,
       ap (λ (l : List Answer). length l) answers ∙ sym (ap (λ (l : List JournalEntry). length l) journal),
-      subst (λ (l : List JournalEntry). AreDrawn c.self.inside.seed l c.self.inside.drawings.items) (sym journal) ready.drawn,
+      subst (λ (l : List JournalEntry). AreDrawn c.self.inside.seed l c.self.inside.pickers.items) (sym journal) ready.drawn,
       ready.drawers,
       ap (λ (s : SharedData). begins_with s) c.self.view_is ∙ c.requires.began,
       ap (λ (l : List JournalEntry). length l) journal ∙ sym c.requires.total,

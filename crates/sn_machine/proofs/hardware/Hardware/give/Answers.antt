@@ -1,5 +1,5 @@
 use Rattle.std.proofs.Common.{refl, ◌∙◌}
-use Rattle.sn_machine.proofs.Seats.{given-does}
+use Rattle.sn_machine.proofs.Units.{given-does}
 use Rattle.sn_machine.proofs.hardware.Hardware.give.Goals as goal
 
 pub returns : goal.returns

@@ -4,7 +4,7 @@ use Rattle.sn_model.specs.Step.{step_of}
 use Rattle.consistent_cuts.specs.Headline.{IsStepOfRun}
 use Rattle.sn_machine.specs.Machine.{MachineData, next_of}
 use Rattle.sn_machine.specs.Parts.{state_of, Does}
-use Rattle.sn_machine.proofs.Kept.{sound, leads, applies, refused-same, step-of-run}
+use Rattle.sn_machine.proofs.Invariant.{sound, leads, applies, refused-same, step-of-run}
 use Rattle.sn_machine.proofs.machine.Machine.apply.Goals as goal
 
 pub apply-answer-requires-clause-sound : goal.apply-answer-requires-clause-sound

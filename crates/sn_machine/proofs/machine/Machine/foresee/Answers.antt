@@ -1,4 +1,4 @@
-use Rattle.sn_machine.proofs.Kept.{sound}
+use Rattle.sn_machine.proofs.Invariant.{sound}
 use Rattle.sn_machine.proofs.machine.Machine.foresee.Goals as goal
 
 pub foresee-requires-clause-sound : goal.foresee-requires-clause-sound

@@ -1,4 +1,4 @@
-use Rattle.sn_machine.proofs.Kept.{starts}
+use Rattle.sn_machine.proofs.Invariant.{starts}
 use Rattle.sn_machine.proofs.machine.Machine.new.Goals as goal
 
 pub invariant_of-result : goal.invariant_of-result

@@ -1,6 +1,6 @@
 use Rattle.std.proofs.Common.{subst}
 use Rattle.sn_machine.specs.Machine.{IsConsistentWithItsRun}
-use Rattle.sn_machine.proofs.Kept.{consistent-with_its_run}
+use Rattle.sn_machine.proofs.Invariant.{consistent-with_its_run}
 use Rattle.sn_machine.proofs.machine.Machine.recovered.Goals as goal
 
 pub returns-clause-consistent : goal.returns-clause-consistent

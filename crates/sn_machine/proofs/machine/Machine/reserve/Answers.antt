@@ -1,4 +1,4 @@
-use Rattle.sn_machine.proofs.Kept.{keeps_room, reserves}
+use Rattle.sn_machine.proofs.Invariant.{keeps_room, reserves}
 use Rattle.sn_machine.proofs.machine.Machine.reserve.Goals as goal
 
 pub invariant_of-self : goal.invariant_of-self

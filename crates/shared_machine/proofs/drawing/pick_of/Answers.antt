@@ -1,8 +1,0 @@
-use Rattle.std.proofs.Common.{ap, ◌∙◌}
-use Rattle.shared_machine.specs.declared.drawing.Drawing.{Drawing}
-use Rattle.shared_machine.proofs.drawing.pick_of.Goals as goal
-
-pub returns : goal.returns
-returns c =
-    λ seed journal drawn. c.pick.ensures
-    ∙ ap (λ (d : Drawing). d.pick) (c.index.ensures ∙ drawn.each c.args.worker c.index.result.now c.requires)

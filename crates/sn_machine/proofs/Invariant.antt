@@ -1,0 +1,239 @@
+-- What holds of a machine's parts is enough for each event, and each event keeps it.
+use Rattle.std.proofs.Common.{◌≡◌, ℕ, suc, ◌+◌, ◌-◌, ◌<◌, ◌≤◌, ◌^◌, Bool, true, false, cond, List, [], ◌∷◌, ◌++◌, length, Option, Some}
+use Rattle.std.proofs.Common.{None, refl, sym, ap, ◌∙◌, subst, arith, length-append}
+use Rattle.std.specs.Prelude.{nat_le, flat_map, max}
+use Rattle.std.specs.List.{All}
+use Rattle.std.proofs.lemmas.Bool.Decides.{nat_tests}
+use Rattle.std.proofs.lemmas.List.Elements.{All-nil, All-cons, All-map}
+use Rattle.sn_base.specs.Config.{config_fits}
+use Rattle.sn_base.specs.Image.{ImageData}
+use Rattle.sn_base.specs.declared.config.Config.{Config}
+use Rattle.sn_base.specs.declared.event.Answer.{Answer}
+use Rattle.sn_base.specs.declared.event.Event.{Event}
+use Rattle.sn_model.specs.Fabric.{Fabric}
+use Rattle.sn_model.specs.Machine.{State, Retirement, HeldByte, start_of}
+use Rattle.sn_model.specs.MachineEvents.{unready_node}
+use Rattle.sn_model.specs.Instructions.{held_in}
+use Rattle.sn_model.specs.Refusals.{is_refusal}
+use Rattle.sn_model.specs.Step.{step_of, state_after}
+use Rattle.sn_model.specs.Trace.{TraceEntry}
+use Rattle.sn_model.proofs.Refusals.{refusal-changes_nothing}
+use Rattle.sn_coherence.specs.Invariant.{Clocks}
+use Rattle.sn_coherence.specs.Records.{Records}
+use Rattle.sn_consistency.specs.Entries.{Entry}
+use Rattle.fabric_coherence.specs.Coherent.{FabricInvariant, IsInTime, NothingUnfinished}
+use Rattle.fabric_coherence.specs.View.{GhostState, block_seen}
+use Rattle.fabric_bounds.specs.Counts.{CountsTo}
+use Rattle.fabric_bounds.proofs.Numbers.{far_from_the_end}
+use Rattle.consistent_cuts.specs.Headline.{IsConsistent, IsStepOfRun, retirements}
+use Rattle.consistent_cuts.specs.RunInvariant.{RunInvariant, Holds}
+use Rattle.consistent_cuts.specs.Lists.{retirement_of, held_of, not_validated}
+use Rattle.consistent_cuts.specs.Runs.{EventFits, AllFit}
+use Rattle.consistent_cuts.proofs.EachEvent.{all_reported}
+use Rattle.consistent_cuts.proofs.FabricRuns.{reached_counts}
+use Rattle.consistent_cuts.proofs.Half.{half}
+use Rattle.consistent_cuts.proofs.Run.{run_holds, start_holds, reached_consistent, reached_next}
+use Rattle.sn_machine.specs.declared.hardware.Hardware.{Hardware}
+use Rattle.sn_machine.specs.Invariant.{IsMachine}
+use Rattle.sn_machine.specs.Machine.{MachineData, IsApplied, HasRun, IsConsistentAfter, IsConsistentWithItsRun}
+use Rattle.sn_machine.specs.Parts.{state_of, sent_of, IsWhole, HasRoom, Does}
+use Rattle.sn_machine.specs.Sound.{IsSound}
+use Rattle.sn_machine.specs.Start.{IsFirst, IsRoomier}
+
+-- what waits is of no interval below the point
+
+late_cons : (point : ℕ) (e : TraceEntry) (es : List TraceEntry) → All (λ (x : TraceEntry). point ≤ x.interval) es → (b : Bool) →
+    nat_le point e.interval ≡ b → All (λ (x : TraceEntry). point ≤ x.interval) (cond b (e ∷ es) es)
+late_cons point e es h true is =
+    let l : point ≤ e.interval = grind (arith, nat_tests, is) in All-cons (λ (x : TraceEntry). point ≤ x.interval) e es l h
+late_cons point e es h false is = h
+
+late : (point : ℕ) (trace : List TraceEntry) → All (λ (x : TraceEntry). point ≤ x.interval) (not_validated point trace)
+late point [] = All-nil (λ (x : TraceEntry). point ≤ x.interval)
+late point (e ∷ trace) = late_cons point e (not_validated point trace) (late point trace) (nat_le point e.interval) refl
+
+held_one : (point interval : ℕ) (out : Option ℕ) (rest : List HeldByte) → point ≤ interval →
+    All (λ (b : HeldByte). point ≤ b.interval) rest → All (λ (b : HeldByte). point ≤ b.interval) (held_in interval out ++ rest)
+held_one point interval None rest l h = h
+held_one point interval (Some byte) rest l h =
+    All-cons (λ (b : HeldByte). point ≤ b.interval) (record { interval = interval; byte = byte }) rest l h
+
+held_late : (point : ℕ) (es : List TraceEntry) → All (λ (x : TraceEntry). point ≤ x.interval) es →
+    All (λ (b : HeldByte). point ≤ b.interval) (flat_map held_of es)
+held_late point [] h = All-nil (λ (b : HeldByte). point ≤ b.interval)
+held_late point (e ∷ es) h =
+    held_one point e.interval e.out (flat_map held_of es) (h 0 e (omega arith)) (held_late point es (λ k d l. h (suc k) d (omega arith)))
+
+-- the numbers
+
+pub some_nodes : (config : Config) → config_fits config ≡ true → 1 ≤ config.nodes
+some_nodes config fits = grind (arith, nat_tests)
+
+pub few_nodes : (config : Config) → config_fits config ≡ true → config.nodes ≤ 16
+few_nodes config fits = grind (arith, nat_tests)
+
+far : (next : ℕ) → next < 9223372036854775808 → next ≤ 2 ^ 63
+far next h = omega (arith, h)
+
+in_time : (s : Fabric) (t : GhostState) → FabricInvariant s t → (n : ℕ) → n < length s.nodes → IsInTime s n
+in_time s t k n l =
+    let clocks : Clocks (length s.nodes) (block_seen s t 0) = (k.blocks 0 (omega arith)).clocks in
+    record { known = clocks.known_point n l; reached = clocks.point_now n l; few = clocks.now_known n l }
+
+module _ (image : ImageData) (s : State) (r : ℕ → Records) (list : ℕ → List Entry) (trace : List TraceEntry) (j : RunInvariant image s r list trace) where
+  -- where every node has reported, nothing before the next checkpoint is unfinished
+  finished : (config : Config) → unready_node s ≡ None → NothingUnfinished s.fabric (s.fabric.point + 1)
+  finished config e = half.finished s.fabric r j.fabric (all_reported half image config s trace r list j e)
+
+  joined_sound : (config : Config) (applied : ℕ) → CountsTo applied s.fabric → applied ≤ 4000000000 → IsSound s
+  joined_sound config applied c few = record {
+    numbers = far s.fabric.net.next_id (far_from_the_end s.fabric applied c few);
+    nows = λ n l. let a = c.nows n l in omega (arith, a, few);
+    keeps = (j.fabric.0, j.fabric.1);
+    shape = j.shape;
+    times = in_time s.fabric j.fabric.0 j.fabric.1;
+    pending =
+        rw j.traced.pending (All-map (λ (x : Retirement). s.fabric.point ≤ x.interval) retirement_of (not_validated s.fabric.point trace)
+        (late s.fabric.point trace));
+    held = rw j.traced.held (held_late s.fabric.point (not_validated s.fabric.point trace) (late s.fabric.point trace));
+    finished = finished config;
+  }
+
+-- a machine as its view shows it
+abbrev pub data_of : ImageData → Config → Hardware → ℕ → ℕ → MachineData
+data_of image config h applied spare =
+    record { image = image; config = config; state = state_of h; sent = sent_of h; applied = applied; spare = spare }
+
+-- whatever events led to a machine
+
+pub consistent-after : (m : MachineData) (events : List Event) → HasRun m events → IsConsistentAfter m events
+consistent-after m events led =
+    subst (λ (s : State). IsConsistent m.image m.config.nodes s (retirements m.image m.config events)) (sym led.state)
+    (reached_consistent m.image m.config events led.run)
+
+pub all_fit-last : (nodes : ℕ) (events : List Event) (event : Event) → AllFit nodes events → EventFits nodes event →
+    AllFit nodes (events ++ event ∷ [])
+all_fit-last nodes [] event fits fit = (fit, tt)
+all_fit-last nodes (first ∷ events) event fits fit = (fits.0, all_fit-last nodes events event fits.1 fit)
+
+pub state_after-last : (image : ImageData) (config : Config) (s : State) (events : List Event) (event : Event) →
+    state_after image config s (events ++ event ∷ []) ≡ (step_of image config (state_after image config s events) event).state
+state_after-last image config s [] event = refl
+state_after-last image config s (first ∷ events) event = state_after-last image config (step_of image config s first).state events event
+
+-- one that is applied leads on
+pub leads_on : (m next : MachineData) (event : Event) (said : Answer) (events : List Event) → IsApplied m next event said →
+    EventFits m.config.nodes event → HasRun m events → HasRun next (events ++ event ∷ [])
+leads_on m next event said events is fits led =
+    subst (λ (d : MachineData). HasRun d (events ++ event ∷ [])) (sym is.left)
+    (record {
+      run = record { fits = led.run.fits; events_fit = all_fit-last m.config.nodes events event led.run.events_fit fits };
+      state =
+          ap (λ (s : State). (step_of m.image m.config s event).state) led.state
+          ∙ sym (state_after-last m.image m.config (start_of m.image m.config.nodes) events event);
+      count = length-append events (event ∷ []) ∙ ap (λ n. n + 1) led.count;
+    })
+
+-- a machine
+
+machine-by : (image : ImageData) (config : Config) (h : Hardware) (applied spare : ℕ) (events : List Event) → h.fabric.config ≡ config →
+    IsWhole h → HasRoom spare h → applied + spare ≤ 4000000000 → HasRun (data_of image config h applied spare) events →
+    IsMachine image config h applied spare
+machine-by image config h applied spare events sizes whole room life led = record {
+  sizes = sizes;
+  nodes = (consistent-after (data_of image config h applied spare) events led).count;
+  whole = whole;
+  room = room;
+  life = life;
+  events = events;
+  run = led.run;
+  state = led.state;
+  count = led.count;
+}
+
+module _ (image : ImageData) (config : Config) (h : Hardware) (applied spare : ℕ) (m : IsMachine image config h applied spare) where
+  pub has_run : HasRun (data_of image config h applied spare) m.events
+  has_run = record { run = m.run; state = m.state; count = m.count }
+
+  pub consistent : IsConsistent image config.nodes (state_of h) (retirements image config m.events)
+  consistent = consistent-after (data_of image config h applied spare) m.events has_run
+
+  pub consistent-with_its_run : IsConsistentWithItsRun (data_of image config h applied spare)
+  consistent-with_its_run =
+      record { events = m.events; led = has_run; consistent = consistent-after (data_of image config h applied spare) }
+
+  pub step-of-run : (event : Event) → EventFits config.nodes event →
+      IsStepOfRun image config (state_of h) event (step_of image config (state_of h) event)
+  step-of-run event fits =
+      subst (λ (s : State). IsStepOfRun image config s event (step_of image config s event)) (sym m.state)
+      (reached_next image config m.events m.run event fits)
+
+  pub holds : Holds image config.nodes (state_of h) (retirements image config m.events)
+  holds =
+      subst (λ (s : State). Holds image config.nodes s (retirements image config m.events)) (sym m.state)
+      (run_holds image config config.nodes (start_of image config.nodes) [] m.events m.run.events_fit
+      (start_holds image config.nodes (some_nodes config m.run.fits) (few_nodes config m.run.fits)))
+
+  counts : CountsTo applied h.fabric.fabric
+  counts =
+      subst (λ n. CountsTo n h.fabric.fabric) m.count
+      (subst (λ (s : State). CountsTo (length m.events) s.fabric) (sym m.state) (reached_counts image config m.events m.run))
+
+  pub sound : IsSound (state_of h)
+  sound = go holds
+    where
+      go : Holds image config.nodes (state_of h) (retirements image config m.events) → IsSound (state_of h)
+      go (count, (r, list, j)) =
+          joined_sound image (state_of h) r list (retirements image config m.events) j config applied counts
+          (let a = m.life in omega (arith, a))
+
+-- the start
+pub starts : (image : ImageData) (config : Config) (h : Hardware) → config_fits config ≡ true → IsFirst h image config →
+    IsMachine image config h 0 0
+starts image config h fits first =
+    machine-by image config h 0 0 [] first.sizes first.whole
+    (record { records = omega arith; bytes = omega arith; given = λ n l. omega arith }) (omega arith)
+    (record { run = record { fits = fits; events_fit = tt }; state = first.state; count = refl })
+
+-- more room
+pub reserves : (image : ImageData) (config : Config) (h g : Hardware) (applied spare events : ℕ) → IsMachine image config h applied spare →
+    IsRoomier h g → HasRoom events g → applied + events ≤ 4000000000 → IsMachine image config g applied (max spare events)
+reserves image config h g applied spare events m roomier room few =
+    machine-by image config g applied (max spare events) m.events (roomier.sizes ∙ m.sizes) (roomier.whole m.whole)
+    (record {
+      records = let a = (roomier.room spare m.room).records in let b = room.records in omega (arith, a, b);
+      bytes = let a = (roomier.room spare m.room).bytes in let b = room.bytes in omega (arith, a, b);
+      given = λ n l. let a = (roomier.room spare m.room).given n l in let b = room.given n l in omega (arith, a, b);
+    })
+    (let a = m.life in omega (arith, a, few))
+    (record { run = m.run; state = roomier.state ∙ m.state; count = m.count })
+
+pub keeps_room : (image : ImageData) (config : Config) (h g : Hardware) (applied spare : ℕ) → IsMachine image config h applied spare →
+    IsRoomier h g → IsMachine image config g applied spare
+keeps_room image config h g applied spare m roomier =
+    machine-by image config g applied spare m.events (roomier.sizes ∙ m.sizes) (roomier.whole m.whole) (roomier.room spare m.room) m.life
+    (record { run = m.run; state = roomier.state ∙ m.state; count = m.count })
+
+-- an event
+
+module _ (image : ImageData) (config : Config) (h g : Hardware) (applied spare : ℕ) (event : Event) (said : Answer) (does : Does h g said (step_of image config (state_of h) event)) where
+  pub is-applied : IsApplied (data_of image config h applied spare) (data_of image config g (applied + 1) (spare - 1)) event said
+  is-applied = record { answer = does.says; left = rw (does.state, does.sent) refl }
+
+  pub refused-same : is_refusal said ≡ true → state_of g ≡ state_of h
+  refused-same is = does.state ∙ (refusal-changes_nothing image config (state_of h) event).unchanged (ap is_refusal (sym does.says) ∙ is)
+
+  -- through the view
+  pub leads : (d : MachineData) → data_of image config h applied spare ≡ d → EventFits config.nodes event → (events : List Event) →
+      HasRun d events → HasRun (data_of image config g (applied + 1) (spare - 1)) (events ++ event ∷ [])
+  leads d view fits events led =
+      leads_on (data_of image config h applied spare) (data_of image config g (applied + 1) (spare - 1)) event said events is-applied fits
+      (subst (λ (x : MachineData). HasRun x events) (sym view) led)
+
+  pub applies : (m : IsMachine image config h applied spare) → 1 ≤ spare → EventFits config.nodes event →
+      IsMachine image config g (applied + 1) (spare - 1)
+  applies m some fits =
+      machine-by image config g (applied + 1) (spare - 1) (m.events ++ event ∷ []) (does.sizes ∙ m.sizes) does.whole
+      (does.room (spare - 1) (let e : spare - 1 + 1 ≡ spare = omega (arith, some) in rw e m.room))
+      (let a = m.life in omega (arith, a, some))
+      (leads (data_of image config h applied spare) refl fits m.events (has_run image config h applied spare m))
