@@ -41,9 +41,20 @@ def nodes_in(words: List[str]) -> str:
     return found
 
 
+def order_in(words: List[str]) -> str:
+    """Who has the next turn of a run, as a call's words have it."""
+    found = "threads"
+    for word, following in zip(words, [*words[1:], ""]):
+        if word == "--order":
+            found = following
+        elif word.startswith("--order="):
+            found = word.partition("=")[2]
+    return found
+
+
 def objection(words: List[str]) -> Optional[str]:
     """Why a call has no early answer that could be compared with the proved one, if there is a reason."""
-    if words and words[0] == "run" and nodes_in(words[1:]) != "1":
+    if words and words[0] == "run" and nodes_in(words[1:]) != "1" and order_in(words[1:]) == "threads":
         return "threads decide whose turn comes next, so no two runs need be alike"
     if words and words[0] == "monitor":
         return "threads decide what the watcher sees, so no two runs need be alike"

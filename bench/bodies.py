@@ -15,6 +15,7 @@ import subprocess
 import sys
 import tempfile
 from pathlib import Path
+from typing import Dict, List, Optional, Tuple
 
 ROOT = Path(__file__).resolve().parent.parent
 
@@ -507,15 +508,15 @@ STRUCTURES = {
 }
 
 
-def needs_of(lines):
+def needs_of(lines: str) -> Dict[str, List[str]]:
     """What each crate of a crates.txt names."""
     found = re.findall(r"^(\w+)[^:#\n]*:(.*)$", lines, re.MULTILINE)
     return {name: needs.split() for name, needs in found}
 
 
-def below(names, needs):
+def below(names: List[str], needs: Dict[str, List[str]]) -> List[str]:
     """The crates of the repository that these stand on, themselves among them."""
-    seen = []
+    seen: List[str] = []
     for name in names:
         for lower in below(needs.get(name, []), needs) + [name]:
             if lower in needs and lower not in seen:
@@ -523,7 +524,7 @@ def below(names, needs):
     return seen
 
 
-def copy_crates(folder, revision, names):
+def copy_crates(folder: Path, revision: Optional[str], names: List[str]) -> None:
     """The sources of these crates, as they stand in the revision or, with none, here."""
     paths = [f"crates/{name}" for name in names]
     if revision is None:
@@ -534,7 +535,7 @@ def copy_crates(folder, revision, names):
     subprocess.run(["tar", "-x"], cwd=folder, check=True, input=packed)
 
 
-def times_of(folder, revision, structure):
+def times_of(folder: Path, revision: Optional[str], structure: str) -> Dict[Tuple[str, int], Tuple[float, int]]:
     """The nanoseconds of each call at each size, and what the calls saw."""
     names, program = STRUCTURES[structure]
     if revision is None:
@@ -558,7 +559,7 @@ def times_of(folder, revision, structure):
     return {(call, int(size)): (int(nanoseconds) / int(calls), int(seen)) for call, size, nanoseconds, calls, seen in rows}
 
 
-def main():
+def main() -> None:
     if len(sys.argv) < 2 or any(word not in STRUCTURES for word in sys.argv[2:]):
         sys.exit(__doc__)
     revision, structures = sys.argv[1], sys.argv[2:] or list(STRUCTURES)

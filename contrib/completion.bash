@@ -10,6 +10,7 @@ declare -gA _safetynet_operands=(
   [run]='PROGRAM'
   [monitor]='PROGRAM'
   [check]='PROGRAM TRACE'
+  [judge]='ACCESSES'
   [demo]='SIZE'
   [asm]='TEXT'
   [dis]='PROGRAM'
@@ -17,9 +18,10 @@ declare -gA _safetynet_operands=(
 declare -gA _safetynet_options=(
   [replay]='--nodes= --sets= --ways= --log= --watch= --trace'
   [roll]='--nodes= --sets= --ways= --log= --watch='
-  [run]='--nodes= --sets= --ways= --log= --interval= --wait= --budget= --lose-every= --kill= --seed= --watch= --trace --journal'
+  [run]='--nodes= --sets= --ways= --log= --interval= --wait= --budget= --lose-every= --kill= --seed= --order= --watch= --trace --journal'
   [monitor]='--nodes= --sets= --ways= --log= --interval= --wait= --budget= --lose-every= --kill= --seed= --watch='
   [check]='--nodes='
+  [judge]=''
   [demo]=''
   [asm]=''
   [dis]=''
@@ -35,6 +37,7 @@ _safetynet_offer() { # the word at the cursor, the words, what the cursor's word
 _safetynet_offer_values() { # option, the value's beginning, what stands before it in the cursor's word
   case $1 in
     --nodes | --ways) _safetynet_offer "$2" "$(echo {1..16})" "${3-}" ;;
+    --order) _safetynet_offer "$2" 'threads round drawn' "${3-}" ;;
   esac
 }
 

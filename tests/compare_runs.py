@@ -65,13 +65,19 @@ def differences(command, simulator, choose, folder):
     nodes = choose.choice([1, 2, 2, 3, 4, 4, 6, 8, 16, choose.randrange(1, 17)])
     Path(folder, "program").write_bytes(hexadecimal_image(choose, program(choose)))
     size, rule = sizes(choose, nodes), rules(choose, nodes)
-    status, console, report = call(command, ["run", *size, *rule, "--journal", "program"], folder)
+    # the simulator that judges the journal knows no orders, and each of them gives a run like another
+    order = choose.choice([[], [], ["--order", "round"], ["--order", "drawn"]])
+    words = ["run", *size, *rule, *order]
+    status, console, report = call(command, [*words, "--journal", "program"], folder)
     if status not in ENDS:
         return [f"{size + rule}: status {status}"], "other"
     wrong = [f"{size + rule}: {text}" for text in replay_differences(command, size, console, report, folder)]
-    if nodes == 1 and call(command, ["run", *size, *rule, "--journal", "program"], folder) != (status, console, report):
-        wrong.append(f"{size + rule}: the run on one node is another one the second time")
-    _, _, trace = call(command, ["run", *size, *rule, "--trace", "program"], folder)
+    if (nodes == 1 or order) and call(command, [*words, "--journal", "program"], folder) != (status, console, report):
+        wrong.append(f"{words}: the run on one node or in an order is another one the second time")
+    workers = [line for line in report if line.startswith("# worker ")]
+    if order[1:] == ["round"] and workers != [f"# worker {place % nodes}" for place in range(len(workers))]:
+        wrong.append(f"{words}: the turns don't come in rounds")
+    _, _, trace = call(command, [*words, "--trace", "program"], folder)
     Path(folder, "trace").write_text("".join(line + "\n" for line in trace))
     judged, _, verdict = call(command, ["check", "--nodes", str(nodes), "program", "trace"], folder)
     if judged != 0:

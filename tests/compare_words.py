@@ -9,7 +9,8 @@ form; two thirds then have something wrong: a value that is no number or out of 
 strange, an option of another command, a file that isn't there. Console, report and exit status must be the same; of a run on several
 nodes, whose turns come in an order of their own each time, only whether it is done, or with which status it is refused; and of what was seen of a run
 only the last line. A call that
-isn't done also says why in the line above its last; the simulator has no such line. The commands are those that the program's own page names. Lines that it answers itself, as those for help, are left out, and so are those with words
+isn't done also says why in the line above its last; the simulator has no such line. The commands are those that the program's own page names
+and the simulator has too: `judge` and the option `--order` are left out. Lines that it answers itself, as those for help, are left out, and so are those with words
 that mean something to the simulator alone.
 """
 import random

@@ -31,13 +31,16 @@ class Case(NamedTuple):
 
 
 def values_of(command: str) -> Dict[str, List[str]]:
-    """Of each option that takes a value, those that are offered: a range that its page names, where it is small."""
+    """Of each option that takes a value, those that are offered: a range that its page names, where it is small, and words."""
     found: Dict[str, List[str]] = {}
     for item in list_on(command, "options"):
         option, _, value = item.term.partition(" ")
         limits = re.search(r"\b(\d+) to (\d+)(?![\d^])", item.text)
         is_few = value == "N" and limits and int(limits[2]) <= FEW
-        if value:
+        named = re.search(r": (\w+(?:, \w+)*) or (\w+)", item.text) if value == "WORD" else None
+        if named:
+            found[option] = [*named[1].split(", "), named[2]]
+        elif value:
             found[option] = [str(it) for it in range(int(limits[1]), int(limits[2]) + 1)] if limits and is_few else []
     return found
 

@@ -31,7 +31,7 @@ STATUSES = {0, 1, 2, 3, 4, 5, 6, 7, 8, 9, 10, 13}
 SECONDS = 60
 
 # How often each command comes, of those that the program's page names.
-SHARES = {"replay": 50, "roll": 15, "check": 20, "asm": 12, "dis": 14, "demo": 4, "run": 10, "monitor": 8}
+SHARES = {"replay": 50, "roll": 15, "check": 20, "judge": 12, "asm": 12, "dis": 14, "demo": 4, "run": 10, "monitor": 8}
 
 LETTERS = b" \t\r\n#0123456789abcdefABCDEF-=@xx" + bytes([0, 0x7F, 0x80, 0xEF, 0xBB, 0xBF, 0xFF])
 
@@ -44,6 +44,9 @@ STATEMENTS = [b"addi a0, zero, 65", b"lui t0, 0x80001", b"amoadd.w t2, t1, (t0)"
 CONTROLS = [b"order 0", b"order 1", b"repeat 1", b"repeat 2", b"lose 1", b"lose 3", b"deliver 1", b"deliver 2", b"deliver 3", b"deliver 4", b"finish", b"# a step"]
 
 RECORDS = [b"0 00000000 0", b"1 00000000 0", b"0 00000001 0", b"1 00000001 0", b"0 00000000 1", b"0 00000000 0 41", b"3 00000000 0", b"# a record"]
+
+ACCESSES = [b"0 w 80001000 4 00000001", b"1 r 80001000 4 00000001", b"0 r 80001000 4 00000000", b"1 lr 80001000 4 00000001", b"1 sc 80001000 4 00000002",
+            b"0 scfail 80001000 4 00000003", b"2 amo 80001000 4 00000003 00000002", b"0 r 80001001 1 00", b"3 w 80001002 2 ffff", b"init 80001004 0000002a", b"# an access"]
 
 
 def changed(choose, data):
@@ -100,7 +103,7 @@ def spoiled_words(choose, words):
         elif kind == 1 and words:
             del words[min(place, len(words) - 1)]
         elif kind == 2 and words:
-            words[min(place, len(words) - 1)] = choose.choice(["replay", "roll", "monitor", "check", "asm", "dis", "demo", "fly", "a", "nowhere", "1", "é"])
+            words[min(place, len(words) - 1)] = choose.choice(["replay", "roll", "monitor", "check", "judge", "asm", "dis", "demo", "fly", "a", "nowhere", "1", "é"])
         elif words:
             words.insert(place, words[min(place, len(words) - 1)])
     return words
@@ -109,7 +112,8 @@ def spoiled_words(choose, words):
 def run_words(choose, command):
     """A run with one worker, which is the same each time but for what was seen of it, if it is watched."""
     words = [command, "--nodes", "1", f"--budget={choose.choice([1, 7, 100, 400])}"]
-    for name, values in {"interval": [1, 5, 100], "wait": [1, 50, 20000], "lose-every": [0, 1, 9], "seed": [0, 1, 2**64 - 1], "kill": ["a0@0", "b0@30"]}.items():
+    for name, values in {"interval": [1, 5, 100], "wait": [1, 50, 20000], "lose-every": [0, 1, 9], "seed": [0, 1, 2**64 - 1], "kill": ["a0@0", "b0@30"],
+                         **({"order": ["threads", "round", "drawn"]} if command == "run" else {})}.items():
         if choose.random() < 0.4:
             words.append(f"--{name}={choose.choice(values)}")
     return [*words, *(choose.choice([[], [], ["--journal"], ["--trace"]]) if command == "run" else []), "a"]
@@ -132,6 +136,8 @@ def case_of(choose, commands):
     elif kind == "check":
         files["b"] = maybe_changed(choose, lines(choose, RECORDS, 12), chance)
         words = [kind, f"--nodes={nodes}", "a", "b"]
+    elif kind == "judge":
+        files["a"] = maybe_changed(choose, lines(choose, ACCESSES, 12), chance)
     elif kind == "asm":
         files["a"] = maybe_changed(choose, lines(choose, STATEMENTS, 12), chance)
     elif kind == "demo":

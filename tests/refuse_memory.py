@@ -36,6 +36,7 @@ LETTER = "".join(f"{word:08x}\n" for word in [0x04100513, 0x00100893, 0x00000073
 SCRIPT = b"step 0\nstep 0\nstep 0\nedge 0\nreport 0\ndeliver 1\nvalidate\n"
 RECOVERY = b"step 0\nstep 0\nstep 1\nstep 1\nstep 1\nrecover\nedge 0\n"
 TRACE = b"0 00000000 0\n" * 3 + b"1 00000000 0\n" * 2 + b"1 00000001 0\n"
+ACCESSES = b"init 80001000 0000002a\n0 r 80001000 4 0000002a\n1 w 80001004 1 07\n"
 FOUR_NODES = ["run", "--nodes", "4", "--watch", "80001000"]
 TEXT = b"start:\naddi a0, zero, 65\njal zero, start\n"
 
@@ -61,12 +62,17 @@ RUNS = [
     ("replay of a bad script", ["replay", "--nodes", "1", "a", "b"], {"a": LETTER, "b": b"step 1\n"}),
     ("check", ["check", "--nodes", "2", "a", "b"], {"a": COUNTING, "b": TRACE}),
     ("check, refused", ["check", "--nodes", "2", "a", "b"], {"a": COUNTING, "b": TRACE[:-13] + b"1 00000000 0\n"}),
+    ("judge", ["judge", "a"], {"a": ACCESSES}),
+    ("judge, refused", ["judge", "a"], {"a": ACCESSES + b"1 r 80001000 4 00000007\n"}),
+    ("judge of a bad list", ["judge", "a"], {"a": ACCESSES + b"1 r 80001000 4 7\n"}),
     ("run", ["run", "--nodes", "1", "a"], {"a": LETTER}),
     ("run with its journal", ["run", "--nodes", "1", "--interval", "2", "--journal", "a"], {"a": LETTER}),
     ("run with the trace", ["run", "--nodes", "1", "--trace", "a"], {"a": LETTER}),
     ("run, two nodes", ["run", "--nodes", "2", "--journal", "program"], {"program": COUNTING}),
     ("run, four nodes and lost messages", [*FOUR_NODES, "--lose-every", "60", "--seed", "7", "--journal", "program"], {"program": COUNTING}),
     ("run, four nodes, more lost messages and recoveries", [*FOUR_NODES, "--lose-every", "30", "--wait", "200", "--journal", "program"], {"program": COUNTING}),
+    ("run in rounds", ["run", "--nodes", "2", "--order", "round", "--journal", "program"], {"program": COUNTING}),
+    ("run whose turns are drawn, lost messages", [*FOUR_NODES, "--order", "drawn", "--lose-every", "60", "program"], {"program": COUNTING}),
     ("run that is watched", ["monitor", "--nodes", "1", "a"], {"a": LETTER}),
     ("the same, two nodes and recoveries", ["monitor", "--nodes", "2", "--interval", "2", "--lose-every", "13", "--wait", "400", "a"], {"a": COUNTING}),
     ("demo", ["demo", "100"], {}),

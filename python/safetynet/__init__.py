@@ -1,9 +1,9 @@
 """Drives `safetynet`, a proved simulator of a SafetyNet multiprocessor, from Python.
 
-`Machine` is driven event by event; `replay`, `run`, `check`, `assemble`, `disassemble` and `demo` are the program's commands. Nothing here computes what
-a machine answers: the program is asked. Modules: `machine`, `calls`, `events`, `report`, `trace`, `journal`, `program`, `errors`.
+`Machine` is driven event by event; `replay`, `run`, `check`, `judge`, `assemble`, `disassemble` and `demo` are the program's commands. Nothing here
+computes what a machine answers: the program is asked. Modules: `machine`, `calls`, `events`, `report`, `trace`, `journal`, `program`, `errors`.
 """
-from .calls import Replay, Run, Verdict, assemble, check, demo, disassemble, replay, run
+from .calls import Replay, Run, Verdict, assemble, check, demo, disassemble, judge, replay, run
 from .errors import ProgramKilled, ProgramMissing, ProgramTimeout, ReportError, SafetyNetError
 from .events import (
     Deliver,
@@ -65,6 +65,7 @@ __all__ = [
     "demo",
     "disassemble",
     "find_program",
+    "judge",
     "parse_event",
     "parse_report",
     "parse_script",

@@ -1,4 +1,4 @@
-"""The program's commands as functions: replay, run, check, assemble, disassemble, demo.
+"""The program's commands as functions: replay, run, check, judge, assemble, disassemble, demo.
 
 Each is one call of the program. A program is a path, bytes (a file's content) or a list of words; `command` says where `safetynet` is
 (`safetynet.program.find_program`), `timeout` is the time limit in seconds. All of them raise `SafetyNetError` where the program refuses its words
@@ -20,10 +20,13 @@ from .trace import Trace
 
 _LEGAL = re.compile(r"legal (0|[1-9][0-9]*)\n")
 _REFUSED = re.compile(r"refused ([1-9][0-9]*)\n")
+# The verdict on accesses, with the line that says why.
+_REFUSED_ACCESS = re.compile(r"refused ([1-9][0-9]*)\n((?:expected (?:[0-9a-f]{2}|[0-9a-f]{4}|[0-9a-f]{8})|unreserved) since (?:0|[1-9][0-9]*))\n")
 _WORD = re.compile(r"[0-9a-f]{8}")
 _SWITCH_AT = re.compile(r"[ab](0|[1-9][0-9]*)@(0|[1-9][0-9]*)")
 # The statuses with which a run's report is whole: done, its budget spent, two nodes cut off, a core trapped.
 _RUN_ENDS = (0, 6, 8, 10)
+_ORDERS = ("threads", "round", "drawn")
 
 
 @dataclass(frozen=True)
@@ -81,16 +84,16 @@ class Run:
 
 @dataclass(frozen=True)
 class Verdict:
-    """A verdict on a trace; true where it is legal.
+    """A verdict on a trace or on a list of accesses; true where it is legal.
 
     Attributes
     ----------
     legal : bool
-        Whether the trace is an execution of the program.
+        Whether the trace is an execution of the program, or each access is legal after those before it.
     records : int or None
-        Of a legal one how many records it has.
+        Of a legal one how many records or accesses it has.
     place : int or None
-        Of another the place, from 1, of the first record that can't come after those before it.
+        Of another the place, from 1, of the first record or access that can't come after those before it.
     why : str or None
         What was expected there, where the program says it.
     """
@@ -185,13 +188,14 @@ def run(
     lose_every: int = 0,
     kill: Optional[str] = None,
     seed: int = 1,
+    order: str = "threads",
     watch: Optional[int] = None,
     trace: bool = False,
     journal: bool = False,
     command: Optional[PathLike] = None,
     timeout: float = DEFAULT_TIMEOUT,
 ) -> Run:
-    """Let a worker for each node, in a thread of its own, pick the events.
+    """Let a worker for each node pick the events, in a thread of its own or by turns.
 
     Parameters
     ----------
@@ -210,7 +214,10 @@ def run(
     kill : str, optional
         A switch and after how many events it dies, as ``"a1@500"``.
     seed : int
-        Of the numbers that workers draw. The threads decide whose turn is next, so two runs may differ all the same.
+        Of the numbers that workers draw, and of drawn turns.
+    order : {"threads", "round", "drawn"}
+        Who has the next turn. With ``"threads"`` the threads decide it, so two runs may differ; with the others the same call gives the same
+        run.
     watch : int, optional
         The address of a word that the summary shows.
     trace, journal : bool
@@ -227,10 +234,13 @@ def run(
         raise ValueError("a run gives its trace or its journal, and not both")
     if kill is not None and not (isinstance(kill, str) and _SWITCH_AT.fullmatch(kill)):
         raise ValueError(f"kill is a switch and a number of events, as a1@500, and not {kill!r}")
+    if order not in _ORDERS:
+        raise ValueError(f"an order is threads, round or drawn, and not {order!r}")
     files = Files()
     sizes = options(nodes=nodes, sets=sets, ways=ways, log=log)
     rules = options(interval=interval, wait=wait, budget=budget, lose_every=lose_every, seed=seed)
     words = ["run", *sizes, *rules]
+    words += [f"--order={order}"] if order != "threads" else []
     words += [f"--kill={kill}"] if kill is not None else []
     words += [watch_option(watch)] if watch is not None else []
     words += ["--trace"] if trace else ["--journal"] if journal else []
@@ -287,6 +297,32 @@ def check(
         return Verdict(True, records=int(legal[1]))
     if called.status == 9 and refused and called.words == f"refused {refused[1]}":
         return Verdict(False, place=int(refused[1]), why=called.why)
+    if called.status in (0, 9):
+        raise ReportError("it is no verdict", 1, called.report.split("\n")[0], called.status)
+    called.raise_refusal()
+
+
+def judge(accesses: Union[PathLike, bytes], *, command: Optional[PathLike] = None, timeout: float = DEFAULT_TIMEOUT) -> Verdict:
+    """Judge accesses to memory by themselves, without a program.
+
+    Parameters
+    ----------
+    accesses : path or bytes
+        One access a line, as ``1 r 80001000 4 0000002a``.
+
+    Raises
+    ------
+    SafetyNetError
+        The list's form is refused. That an access isn't legal is a `Verdict`, whose `why` begins with ``expected`` or ``unreserved`` only where
+        the program says no more.
+    """
+    files = Files()
+    called = call(["judge", files.named("accesses", accesses)], files.contents, command=command, timeout=timeout)
+    legal, refused = _LEGAL.fullmatch(called.report), _REFUSED_ACCESS.fullmatch(called.report)
+    if called.status == 0 and legal:
+        return Verdict(True, records=int(legal[1]))
+    if called.status == 9 and refused and called.words == f"refused {refused[1]}":
+        return Verdict(False, place=int(refused[1]), why=called.why or refused[2])
     if called.status in (0, 9):
         raise ReportError("it is no verdict", 1, called.report.split("\n")[0], called.status)
     called.raise_refusal()

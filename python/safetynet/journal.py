@@ -72,6 +72,12 @@ class Journal(Sequence[Turn]):
     def __getitem__(self, place: Union[int, slice]) -> "Union[Turn, Journal]":
         return self._turns[place] if isinstance(place, int) else Journal(self._turns[place])
 
+    def __eq__(self, other: object) -> bool:
+        return isinstance(other, Journal) and self._turns == other._turns
+
+    def __hash__(self) -> int:
+        return hash(self._turns)
+
     def __str__(self) -> str:
         return "".join(map(str, self._turns))
 

@@ -10,7 +10,7 @@ import pytest
 
 import safetynet
 from conftest import Counted
-from safetynet import ReportError, SafetyNetError, Step, Trace, assemble, check, demo, disassemble, replay, run
+from safetynet import ReportError, SafetyNetError, Step, Trace, assemble, check, demo, disassemble, judge, replay, run
 from safetynet.files import ProgramLike
 from stored import CHECKOUT, EXAMPLES, SHARED, options_of, words_of
 
@@ -41,6 +41,22 @@ def test_a_stored_trace_has_its_verdict(file: Path) -> None:
     word, number = report.split("\n")[0].split(" ")
     assert bool(verdict) == (word == "legal")
     assert (verdict.records if verdict.legal else verdict.place) == int(number)
+
+
+@pytest.mark.parametrize("file", sorted((EXAMPLES / "judge").glob("*.accesses")), ids=lambda file: file.stem)
+def test_a_stored_list_of_accesses_has_its_verdict(file: Path) -> None:
+    report = file.with_suffix(".report").read_text()
+    verdict = judge(file)
+    word, number = report.split("\n")[0].split(" ")
+    assert bool(verdict) == (word == "legal")
+    assert (verdict.records if verdict.legal else verdict.place) == int(number)
+    assert judge(file.read_bytes()) == verdict
+
+
+@pytest.mark.parametrize("order", ["round", "drawn"])
+def test_a_run_in_an_order_is_the_same_each_time(order: str) -> None:
+    given = run(COUNT, journal=True, order=order, **SMALL)
+    assert given.journal is not None and run(COUNT, journal=True, order=order, **SMALL) == given
 
 
 def test_a_journal_replays_to_the_same_end() -> None:
@@ -93,6 +109,7 @@ def test_a_demo_is_one_run() -> None:
         (lambda: run(b"\x7fELF"), 3, "program truncated"),
         (lambda: check(COUNT, b"step 0\n"), 4, "script badline"),
         (lambda: check(COUNT, Trace([(9, 0)]), nodes=2), 4, "script outofrange"),  # type: ignore[list-item]
+        (lambda: judge(b"0 x 80001000 4 00000000\n"), 4, "script badline"),
         (lambda: assemble("li x1, 3"), 13, "asm badline"),
         (lambda: assemble("\u00e9"), 13, "asm badline"),
         (lambda: disassemble(b"\n"), 3, "program badentry"),
@@ -118,6 +135,7 @@ BAD: "list[Callable[[Any], Any]]" = [
     lambda it: run(COUNT, journal=True, trace=True, command=it),
     lambda it: run(COUNT, kill="c1@3", command=it),
     lambda it: run(COUNT, kill="a1", command=it),
+    lambda it: run(COUNT, order="slow", command=it),
     lambda it: run(COUNT, seed=1.5, command=it),  # type: ignore[arg-type]
     lambda it: check(COUNT, 3, command=it),  # type: ignore[arg-type]
     lambda it: demo("9", command=it),  # type: ignore[arg-type]

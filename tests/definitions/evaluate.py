@@ -3,6 +3,7 @@
 It reads the part of the definitions' language that the machine's definitions use: functions by clauses, records, variants,
 lists, `if`, `let` and λ. Statements (definitions whose value is a type) are read over: nothing here proves anything.
 """
+import json
 import re
 import sys
 import threading
@@ -11,7 +12,7 @@ from pathlib import Path
 sys.setrecursionlimit(100_000)
 threading.stack_size(512 * 1024 * 1024)
 
-TOKEN = re.compile(r"\s*(--[^\n]*|[A-Za-z_ℕℤ⊤⊥Σ«»][\w'«»]*|\d+|\+\+|&&|\|\||==|[λ∷≡≢≤<×⊎→¬↔(){}\[\];:,.=+\-*/%^|])")
+TOKEN = re.compile(r"\s*(--[^\n]*|\"(?:[^\"\\]|\\.)*\"|[A-Za-z_ℕℤ⊤⊥Σ«»][\w'«»]*|\d+|\+\+|&&|\|\||==|[λ∷≡≢≤<×⊎→¬↔(){}\[\];:,.=+\-*/%^|])")
 BINARY = [["||"], ["&&"], ["==", "≡", "≤", "<", "≢"], ["++", "∷"], ["+", "-"], ["*", "/", "%"], ["^"]]
 RIGHT = {"++", "∷"}
 
@@ -115,7 +116,7 @@ class Parser:
 
     def starts_atom(self):
         token = self.peek()
-        return token is not None and (token in ("(", "[", "record") or re.match(r"[A-Za-z_«]|\d", token)) and token not in ("then", "else", "in", "where")
+        return token is not None and (token in ("(", "[", "record") or re.match(r"[A-Za-z_«\"]|\d", token)) and token not in ("then", "else", "in", "where")
 
     def atom(self):
         token = self.take()
@@ -143,6 +144,8 @@ class Parser:
             found = ("record", base, fields)
         elif token.isdigit():
             found = ("number", int(token))
+        elif token[0] == '"':
+            found = ("text", json.loads(token))
         elif re.match(r"[A-Za-z_«]", token):
             found = ("name", token)
         else:
@@ -193,6 +196,8 @@ BUILTINS = {
     "is_some": (lambda o: o[0] == "Some", 1), "is_none": (lambda o: o[0] == "None", 1),
     "count_by": (lambda f, xs: sum(1 for x in xs if f(x)), 2), "sum_by": (lambda f, xs: sum(map(f, xs)), 2),
     "list_any": (lambda f, xs: any(map(f, xs)), 2), "cond": (lambda t, a, b: a if t else b, 3),
+    "codes": (lambda text: tuple(text.encode()), 1), "decimal": (lambda n: tuple(str(n).encode()), 1), "bytes_eq": (lambda a, b: a == b, 2),
+    "flat_map": (lambda f, xs: tuple(y for x in xs for y in f(x)), 2),
     "little_number": (little_number, 2), "little_bytes": (lambda n, x: tuple((x >> (8 * k)) & 255 for k in range(n)), 2),
 }
 CONSTANTS = {"true": True, "false": False, "zero": 0, "None": Con(("None",)), "Some": lambda x: Con(("Some", x))}
@@ -387,6 +392,8 @@ class Module:
             name = tree[1]
             return lambda bound: bound[name] if name in bound else self.lookup(name)
         if kind == "number":
+            return lambda bound: tree[1]
+        if kind == "text":
             return lambda bound: tree[1]
         if kind == "list":
             return lambda bound: ()

@@ -71,6 +71,43 @@ watched additions 0 --nodes 4 --watch 80001000 examples/shared/count.hex
 watched losses 0 --nodes 4 --watch 80001000 --lose-every 13 --wait 400 examples/shared/count.hex
 watched budget 6 --nodes 1 --budget 50 examples/monitor/round.hex
 
+# Accesses that are judged by themselves: the report is the verdict, and then why and the status, where there is one.
+for accesses in examples/judge/*.accesses; do
+  ./safetynet judge "$accesses" >"$work/console" 2>"$work/report"
+  status=$?
+  grep -v '^# ' "$work/report" >"$work/text"
+  want=0
+  grep -q '^refused ' "${accesses%.accesses}.report" && want=9
+  if [ "$status" -eq "$want" ] && [ ! -s "$work/console" ] && diff "${accesses%.accesses}.report" "$work/text"; then
+    passed=$((passed + 1))
+  else
+    echo "example $accesses: status $status, or another verdict" >&2
+    failed=$((failed + 1))
+  fi
+done
+
+# A run in an order gives the same bytes each time, and its journal replays to the same output.
+ordered() { # order
+  local order=$1 sizes=(--nodes 4) example=examples/order/$1 again
+  for again in 1 2; do
+    ./safetynet run --order "$order" "${sizes[@]}" examples/order/turns.hex >"$work/console.$again" 2>"$work/report.$again" || return
+    ./safetynet run --order "$order" "${sizes[@]}" --journal examples/order/turns.hex >"$work/played.$again" 2>"$work/journal.$again" || return
+    cmp "$work/console.$again" "$work/played.$again" || return
+  done
+  cmp "$work/console.1" "$work/console.2" && cmp "$work/report.1" "$work/report.2" && cmp "$work/journal.1" "$work/journal.2" || return
+  ./safetynet replay "${sizes[@]}" examples/order/turns.hex "$work/journal.1" 2>/dev/null | cmp - "$work/console.1" || return
+  # what is stored is what the program gives
+  [ ! -e "$example.console" ] || { cmp "$example.console" "$work/console.1" && cmp "$example.report" "$work/report.1"; }
+}
+for order in round drawn; do
+  if ordered "$order"; then
+    passed=$((passed + 1))
+  else
+    echo "a run with --order $order isn't the same each time, or isn't the stored one" >&2
+    failed=$((failed + 1))
+  fi
+done
+
 # What a replay shows as its trace is judged legal, with as many records as its summary says.
 for script in examples/{shared,asm,lessons}/*.script; do
   read -r _ line <"$script"

@@ -180,6 +180,9 @@ done
 change low "eleventh"
 early "but a run on one node has one" 7 "eleventh:run --nodes 1 a" run --nodes 1 a
 says "that is compared" "# proved: the same answer"
+change low "eleventh again"
+early "and so has a run in an order" 7 "eleventh again:run --order drawn a" run --order drawn a
+says "which is compared too" "# proved: the same answer"
 change low "twelfth"
 mkfifo "$repo/once"
 early "what can be read once only is not read before the proof" 7 "twelfth:check once" check once
@@ -251,7 +254,7 @@ for words in '' --help -h help; do
   check "the overview that '$words' asks for needs no build" 0 "$(./safetynet --help)" 0 $words
 done
 page_calls=("events=help events" "formats=help formats" "statuses=help statuses" "version=--version")
-for command in replay roll run monitor check demo asm dis; do
+for command in replay roll run monitor check judge demo asm dis; do
   page_calls+=("$command=$command --help" "$command=$command -h" "$command=$command help" "$command=help $command" "version=$command --version")
 done
 for call in "${page_calls[@]}"; do

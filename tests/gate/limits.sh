@@ -80,6 +80,10 @@ echo 0000006f >"$work/spin"
 yes '0 00000000 0' | head -n 1000000 >"$work/trace"
 ends 0 'legal 1000000' check --nodes 1 "$work/spin" "$work/trace"
 ends 9 '# safetynet: refused 6' check --nodes 2 "$count" "$work/trace"
+yes '0 r 80000000 4 00000000' | head -n 1000000 >"$work/accesses"
+ends 0 'legal 1000000' judge "$work/accesses"
+echo '0 r 80000000 4 00000000' >>"$work/accesses"
+refused 4 'script toomany' judge "$work/accesses"
 # As many turns as a run may have, with a watcher beside them.
 ends 6 '# safetynet: budget' monitor --nodes 1 "$work/spin"
 has 1 '^events 1000000$'
@@ -88,6 +92,11 @@ has 1 '^events 1000000$'
 bytes 33554432 '#' >"$work/script"
 ends 0 'probe 0 9 0' replay --nodes 1 "$first" "$work/script"
 ends 0 'legal 0' check --nodes 1 "$first" "$work/script"
+bytes 67108864 '#' >"$work/accesses"
+ends 0 'legal 0' judge "$work/accesses"
+printf '#' >>"$work/accesses"
+refused 4 'script toolong' judge "$work/accesses"
+rm "$work/accesses"
 { cat "$first"; bytes 16777216 '#'; } | head -c 16777216 >"$work/program"
 ends 0 'probe 0 9 0' replay --nodes 1 "$work/program" examples/first/a.script
 bytes 16777216 '#' >"$work/text"
@@ -108,6 +117,7 @@ refused 3 'program toomanywords' dis "$work/program"
 refused 3 'program toolong' dis /dev/zero
 refused 4 'script toolong' replay --nodes 1 "$first" /dev/zero
 refused 4 'script toolong' check --nodes 1 "$first" /dev/zero
+refused 4 'script toolong' judge /dev/zero
 refused 13 'asm toolong' asm /dev/zero
 refused 2 store dis "$work"
 refused 2 store asm ''
@@ -157,6 +167,9 @@ broken "$work/console" /dev/full monitor --nodes 1 "$first"
 broken "$work/console" /dev/full run --nodes 1 --trace "$first"
 broken "$work/console" /dev/full run --nodes 1 --journal "$first"
 broken "$work/console" /dev/full check --nodes 1 "$first" "$work/trace"
+broken "$work/console" /dev/full judge examples/judge/message_passing.accesses
+broken /dev/full "$work/report" run --order drawn --nodes 4 examples/order/turns.hex
+broken "$work/console" /dev/full run --order drawn --nodes 4 examples/order/turns.hex
 broken "$work/console" /dev/full demo 100
 
 echo "limits: $passed passed, $failed failed"

@@ -31,6 +31,7 @@ says 1 usage 'fly: there is no such command; see safetynet --help' fly
 says 1 usage 'reply: there is no such command; did you mean replay?' reply
 says 1 usage '--nodes 17: a machine has 1 to 16 nodes' replay --nodes 17 "$first" a.script
 says 1 usage '--node: replay has no such option; did you mean --nodes?' replay --node 2 "$first" a.script
+says 1 usage '--order slow: an order is threads, round or drawn' run --order slow "$first"
 says 1 usage '--trace and --journal don'\''t stand together' run --trace --journal "$first"
 says 1 usage 'replay: SCRIPT is lacking; see safetynet replay --help' replay "$first"
 says 1 usage 'a word isn'\''t UTF-8' replay $'\xff'
@@ -69,8 +70,16 @@ printf '0 00000000 0\n' >a.trace
 says 4 'script badline' 'a.trace:1: this line is no event: "0 00000000 0"; it is a trace'\''s, which check takes' replay "$first" a.trace
 { printf 'step '; head -c 1000 /dev/zero | tr '\0' '7'; echo; } >long.script
 says 4 'script badline' "long.script:1: this line is no event: \"step $(head -c 55 /dev/zero | tr '\0' '7')\".." replay "$first" long.script
+printf '0 rr 80001000 4 00000000\n' >word.accesses
+says 4 'script badline' 'word.accesses:1: this line is no access: "0 rr 80001000 4 00000000"; did you mean r?' judge word.accesses
+printf '16 r 80001000 4 00000000\n' >core.accesses
+says 4 'script outofrange' 'core.accesses:1: a machine of 16 nodes has no such core or address: "16 r 80001000 4 00000000"' judge core.accesses
 printf '# a\n0 00000000 0\n0 00000000 0\n0 00000001 0\n' >one.trace
 ends 9 'refused 3' 'record 3 (line 4): core 0 saw 00000001, and the memory has 00000000' check "$count" one.trace
+printf '# a\ninit 80001000 00000007\n0 w 80001000 4 0000002a\n1 r 80001000 4 00000007\n' >stale.accesses
+ends 9 'refused 2' 'access 2 (line 4): core 1 read 00000007, and memory has 0000002a, which access 1 wrote last' judge stale.accesses
+printf '1 sc 80001000 4 00000007\n' >sc.accesses
+ends 9 'refused 1' 'access 1 (line 1): core 1 has no reservation' judge sc.accesses
 
 # What comes through a pipe can't be shown once more, and isn't waited for.
 mkfifo pipe

@@ -1,5 +1,5 @@
 #!/usr/bin/env bash
-# The repository cites nothing that isn't in it by number, holds no build output, and keeps its handles.
+# The repository cites nothing that isn't in it by number, holds no build output, keeps its handles, and lists for each crate what it mentions.
 set -u
 cd "$(dirname "$0")/../.." || exit 1
 . tests/gate/lib/checks.sh
@@ -11,5 +11,6 @@ cites=$(grep -rnEI '\b(document 0[1-4]|0[1-4]-(scope|theorems|stages|tables)|04\
 is_so "no paper is cited by number" none_of "$cites"
 is_so "HANDLES is its one line" [ "$(cat HANDLES)" = "Handles allowed: Threads, Wait." ]
 is_so "no build output is committed" none_of "$(git ls-files -- 'crates/*/out/*' 2>/dev/null)"
+is_so "crates.txt has for each crate what its sources mention" python3 tools/crate_edges.py
 
 told "stands alone"

@@ -4,7 +4,7 @@ use Rattle.std.proofs.Common.{None, refl, ap, ◌∙◌, arith, add-one}
 use Rattle.std.proofs.lemmas.Bool.{and_parts, not-true, lt-ltb, le-ltb}
 use Rattle.std.proofs.lemmas.List.{length-append, reverse-reverse, take_at}
 use Rattle.std.specs.List.{position, position_or_len}
-use Rattle.rv_statement.specs.Lines.{is_blank, without_blanks, trimmed, cut, cut_at}
+use Rattle.rv_statement.specs.Lines.{is_blank, without_blanks, without_outer_blanks, cut, cut_at}
 use Rattle.asm_round_trip.proofs.Bytes.{all, none, is_solid, Begins, Ends, solid-begins, solid-ends}
 
 found-at : (test : ℕ → Bool) (front rest : List ℕ) (byte : ℕ) → none test front ≡ true → test byte ≡ true →
@@ -53,16 +53,16 @@ skipped-none : (text : List ℕ) → is_blank (get_or text 0 0) ≡ false → wi
 skipped-none [] h = refl
 skipped-none (x ∷ text) h = rw h refl
 
-pub trimmed-none : (text : List ℕ) → Begins text → Ends text → trimmed text ≡ text
-unfolding trimmed
+pub trimmed-none : (text : List ℕ) → Begins text → Ends text → without_outer_blanks text ≡ text
+unfolding without_outer_blanks
 trimmed-none text b e = rw (skipped-none text b.first, skipped-none (reverse text) e.last) (reverse-reverse text)
 
 -- a blank at the front
-pub trimmed-blank : (text : List ℕ) → Begins text → Ends text → trimmed (32 ∷ text) ≡ text
-unfolding trimmed
+pub trimmed-blank : (text : List ℕ) → Begins text → Ends text → without_outer_blanks (32 ∷ text) ≡ text
+unfolding without_outer_blanks
 trimmed-blank text b e = rw (skipped-none text b.first, skipped-none (reverse text) e.last) (reverse-reverse text)
 
-pub trimmed-solid : (text : List ℕ) → all is_solid text ≡ true → trimmed text ≡ text
-unfolding trimmed
+pub trimmed-solid : (text : List ℕ) → all is_solid text ≡ true → without_outer_blanks text ≡ text
+unfolding without_outer_blanks
 trimmed-solid [] h = refl
 trimmed-solid (x ∷ text) h = trimmed-none (x ∷ text) (solid-begins (x ∷ text) h (omega arith)) (solid-ends (x ∷ text) h (omega arith))

@@ -5,35 +5,35 @@ use Rattle.std.specs.Prelude.{option_map, if◌then◌else◌, ◌-ℤ◌}
 use Rattle.std.specs.Str.{bytes_eq}
 use Rattle.std.proofs.lemmas.Slice.Eq.{bytes_eq-Decides}
 use Rattle.rv_decode.specs.declared.instr.Instr.{Instr}
-use Rattle.rv_decode.specs.Decoded.{decoded}
+use Rattle.rv_decode.specs.Decoded.{instruction_at}
 use Rattle.rv_decode.specs.Table.{word_of, instr_fits}
 use Rattle.rv_decode.proofs.Words.{decoded-word_of}
-use Rattle.rv_statement.specs.Lines.{bare, cut, is_blank, trimmed}
+use Rattle.rv_statement.specs.Lines.{bare, cut, is_blank, without_outer_blanks}
 use Rattle.rv_statement.specs.Operands.{number_of, is_name}
-use Rattle.rv_statement.specs.Reading.{Named, Read, whole, fixed, read_of, coded, with_offset, word_in, named_by, named_in, operation_of}
+use Rattle.rv_statement.specs.Reading.{Named, Read, whole, fixed, read_of, word_of_instruction, with_offset, word_in, named_by, named_in, operation_of}
 use Rattle.rv_statement.specs.Reading.{row_of, on_parts, instruction_of, nothing, label, formless, said, said_or, label_or, statement_of}
 use Rattle.rv_asm.specs.Assembly.{in_range}
 use Rattle.asm_round_trip.specs.Decoding.{Names, Says, HasWord}
 
 -- what has a word is decoded as itself
-coded-decoded : (instr : Instr) (word : ℕ) → coded instr ≡ Some word → decoded word ≡ Some instr
-unfolding coded
+coded-decoded : (instr : Instr) (word : ℕ) → word_of_instruction instr ≡ Some word → instruction_at word ≡ Some instr
+unfolding word_of_instruction
 coded-decoded instr word e = by_test (instr_fits instr) refl e where
-  by_test : (b : Bool) → instr_fits instr ≡ b → (if b then Some (word_of instr) else None) ≡ Some word → decoded word ≡ Some instr
+  by_test : (b : Bool) → instr_fits instr ≡ b → (if b then Some (word_of instr) else None) ≡ Some word → instruction_at word ≡ Some instr
   by_test false t h = cc
-  by_test true t h = subst (λ w. decoded w ≡ Some instr) (same (word_of instr) word h) (decoded-word_of instr t) where
+  by_test true t h = subst (λ w. instruction_at w ≡ Some instr) (same (word_of instr) word h) (decoded-word_of instr t) where
     same : (a b : ℕ) → ◌≡◌ {A = Option ℕ} (Some a) (Some b) → a ≡ b
     same a b h = cc
 
 -- the word of the instruction that a mnemonic and its operands name; `.word` names none
 abbrev IsWord : Option Named → Option Read → Type 0
-IsWord named read = (instr : Instr) (word : ℕ) → named ≡ Some (whole instr) → read ≡ Some (fixed (Some word)) → coded instr ≡ Some word
+IsWord named read = (instr : Instr) (word : ℕ) → named ≡ Some (whole instr) → read ≡ Some (fixed (Some word)) → word_of_instruction instr ≡ Some word
 
 same-read : (a : Option ℕ) (word : ℕ) → ◌≡◌ {A = Option Read} (Some (fixed a)) (Some (fixed (Some word))) → a ≡ Some word
 same-read a word h = cc
 
 read-is : (named : Option Named) → IsWord named (option_map read_of named)
-read-is named instr word n r = same-read (coded instr) word (sym (ap (option_map read_of) n) ∙ r)
+read-is named instr word n r = same-read (word_of_instruction instr) word (sym (ap (option_map read_of) n) ∙ r)
 
 directive-names_none : (name operands : List ℕ) → bytes_eq name (codes ".word") ≡ true → named_by name operands ≡ None
 unfolding row_of
@@ -51,7 +51,7 @@ operation-is name operands = by_test (bytes_eq name (codes ".word")) refl where
 
 on_parts-is : (text : List ℕ) (parts : Option (List ℕ × List ℕ)) → IsWord (on_parts named_by text parts) (on_parts operation_of text parts)
 on_parts-is text None = operation-is text []
-on_parts-is text (Some parts) = operation-is parts.0 (trimmed parts.1)
+on_parts-is text (Some parts) = operation-is parts.0 (without_outer_blanks parts.1)
 
 instruction-is : (text : List ℕ) → IsWord (named_in text) (instruction_of text)
 unfolding named_in instruction_of
@@ -79,7 +79,7 @@ statement-is text read e = by_test (nat_eq (length text) 0) (nat_eq (get_or text
   by_test false true h = absurd (no-label (take (length text - 1) text) (is_name (take (length text - 1) text)) read h)
   by_test false false h = said-is (instruction_of text) read h
 
-pub line-decoded : (line : List ℕ) (instr : Instr) (word : ℕ) → Names line instr → Says line word → decoded word ≡ Some instr
+pub line-decoded : (line : List ℕ) (instr : Instr) (word : ℕ) → Names line instr → Says line word → instruction_at word ≡ Some instr
 line-decoded line instr word n s =
     coded-decoded instr word (instruction-is (bare line) instr word n (statement-is (bare line) (fixed (Some word)) s))
 
@@ -88,7 +88,7 @@ in_range-is line None word h = cc
 in_range-is line (Some other) word h = cc
 
 pub led-decoded : (line : ℕ) (instr : Instr) (here place word : ℕ) → HasWord line instr here place word →
-    decoded word ≡ Some (with_offset instr (pos place -ℤ pos here))
+    instruction_at word ≡ Some (with_offset instr (pos place -ℤ pos here))
 led-decoded line instr here place word h =
     coded-decoded (with_offset instr (pos place -ℤ pos here)) word
-    (in_range-is line (coded (with_offset instr (pos place -ℤ pos here))) word h)
+    (in_range-is line (word_of_instruction (with_offset instr (pos place -ℤ pos here))) word h)

@@ -14,7 +14,7 @@ use Rattle.rv_decode.specs.Table.{word_of, instr_fits, is_signed, is_target, is_
 use Rattle.rv_statement.specs.Lines.{is_blank}
 use Rattle.rv_statement.specs.Names.{mnemonic}
 use Rattle.rv_statement.specs.Forms.{and_then}
-use Rattle.rv_statement.specs.Reading.{Named, whole, fixed, read_of, coded, upper, target, at_number, named_as, operation_of, on_parts}
+use Rattle.rv_statement.specs.Reading.{Named, whole, fixed, read_of, word_of_instruction, upper, target, at_number, named_as, operation_of, on_parts}
 use Rattle.rv_statement.specs.Reading.{instruction_of}
 use Rattle.rv_asm.specs.Text.{register_text, with_comma, address_text, place_text, operands_text, instr_text}
 use Rattle.asm_round_trip.proofs.Bytes.{all, all-append, all-weaker, is_solid, is_inner, solid-inner, solid-unblank, begins-append}
@@ -76,8 +76,8 @@ three false b c h = cc
 three true false c h = cc
 three true true false h = cc
 
-coded-fits : (instr : Instr) → instr_fits instr ≡ true → coded instr ≡ Some (word_of instr)
-unfolding coded
+coded-fits : (instr : Instr) → instr_fits instr ≡ true → word_of_instruction instr ≡ Some (word_of instr)
+unfolding word_of_instruction
 coded-fits instr h = rw h refl
 
 -- ---- operands

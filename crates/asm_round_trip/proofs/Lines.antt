@@ -4,13 +4,13 @@ use Rattle.std.proofs.Common.{None, refl, ap, ◌∙◌, arith, subst}
 use Rattle.std.specs.Prelude.{option_map, if◌then◌else◌, IfSome}
 use Rattle.std.proofs.lemmas.Bool.{eqb-true, ne_eqb, lt-ltb, le-leb}
 use Rattle.rv_decode.specs.declared.instr.Instr.{Instr}
-use Rattle.rv_decode.specs.Decoded.{decoded}
+use Rattle.rv_decode.specs.Decoded.{instruction_at}
 use Rattle.rv_decode.specs.Table.{IsWordOf, word_of, instr_fits}
 use Rattle.rv_decode.proofs.Sound.{decoded-sound}
-use Rattle.rv_statement.specs.Lines.{trimmed, bare, front_or}
+use Rattle.rv_statement.specs.Lines.{without_outer_blanks, bare, front_or}
 use Rattle.rv_statement.specs.Reading.{Read, fixed, word_in, said, said_or, operation_of, instruction_of, statement_of}
 use Rattle.text_lines.specs.Hex.{hex_word}
-use Rattle.rv_asm.specs.Text.{if_written, written, line_of, word_text}
+use Rattle.rv_asm.specs.Text.{if_written, instruction_of_word, line_of, word_text}
 use Rattle.asm_round_trip.proofs.Bytes.{all, all-at, all-weaker, is_solid, is_inner, solid-inner, inner-no_comment, inner-no_colon}
 use Rattle.asm_round_trip.proofs.Bytes.{solid-begins, solid-ends}
 use Rattle.asm_round_trip.proofs.Cuts.{cut-nowhere, trimmed-none}
@@ -52,10 +52,10 @@ plain-says word h = record {
 
 -- ---- each word
 
-decoded-fits : (word : ℕ) (instr : Instr) → decoded word ≡ Some instr → instr_fits instr ≡ true
+decoded-fits : (word : ℕ) (instr : Instr) → instruction_at word ≡ Some instr → instr_fits instr ≡ true
 decoded-fits word instr e = (subst (λ o. IfSome o (λ i. IsWordOf i word)) e (decoded-sound word)).fits
 
-says-of : (word : ℕ) (found : Option Instr) → word < 2 ^ 32 → decoded word ≡ found → Says (line_of word (if_written word found)) word
+says-of : (word : ℕ) (found : Option Instr) → word < 2 ^ 32 → instruction_at word ≡ found → Says (line_of word (if_written word found)) word
 says-of word None h e = plain-says word h
 says-of word (Some instr) h e = by_test (nat_eq (word_of instr) word) refl where
   by_test : (b : Bool) → nat_eq (word_of instr) word ≡ b → Says (line_of word (if b then Some instr else None)) word
@@ -65,8 +65,8 @@ says-of word (Some instr) h e = by_test (nat_eq (word_of instr) word) refl where
       record { stands = l.stands; reads = l.reads ∙ ap (λ w. Some (fixed (Some w))) (eqb-true (word_of instr) word t) }
 
 text-says : (word : ℕ) → word < 2 ^ 32 → Says (word_text word) word
-unfolding word_text written
-text-says word h = says-of word (decoded word) h refl
+unfolding word_text instruction_of_word
+text-says word h = says-of word (instruction_at word) h refl
 
 -- ---- a line of a text
 
@@ -74,7 +74,7 @@ text-says word h = says-of word (decoded word) h refl
 bare-is : (text : List ℕ) → Stands text → bare text ≡ text
 unfolding bare
 bare-is text s =
-    ap (λ parts. trimmed (front_or text parts))
+    ap (λ parts. without_outer_blanks (front_or text parts))
     (cut-nowhere (λ byte. nat_eq byte 35) text (all-weaker is_inner (λ byte. not (nat_eq byte 35)) inner-no_comment text s.inner))
     ∙ trimmed-none text s.begins s.ends
 

@@ -5,7 +5,7 @@ use Rattle.std.proofs.lemmas.Bool.{and_parts, lt-leb}
 use Rattle.std.proofs.lemmas.List.{length-append}
 use Rattle.std.proofs.lemmas.List.Elements.{All-head, All-tail}
 use Rattle.text_lines.specs.Lines.{without_return, lines_from}
-use Rattle.rv_statement.specs.Lines.{bare, trimmed, cut}
+use Rattle.rv_statement.specs.Lines.{bare, without_outer_blanks, cut}
 use Rattle.rv_statement.specs.Reading.{statement_of, nothing, said, fixed}
 use Rattle.rv_asm.specs.declared.fault.AsmCause.{AsmCause}
 use Rattle.rv_asm.specs.Assembly.{known, Listing, with_line, listed_from, words_from, words_of, nothing_listed, asm_of}
@@ -53,7 +53,7 @@ abbrev longer : Listing → List ℕ → Listing
 longer listing words = record { items = listing.items ++ map known words; places = listing.places }
 
 empty-says : statement_of (bare []) ≡ nothing
-unfolding statement_of bare trimmed cut
+unfolding statement_of bare without_outer_blanks cut
 empty-says = refl
 
 -- the empty line at the end of a text

@@ -1,7 +1,7 @@
 //! The laws of the assembler and the disassembler.
 ghost use Rattle.std.specs.Prelude.{◌≡◌, ℕ, List, Some, pos, ◌-ℤ◌};
 ghost use Rattle.rv_decode.specs.declared.instr.Instr.{Instr};
-ghost use Rattle.rv_decode.specs.Decoded.{decoded};
+ghost use Rattle.rv_decode.specs.Decoded.{instruction_at};
 ghost use Rattle.rv_statement.specs.Reading.{with_offset};
 ghost use Rattle.asm_round_trip.specs.RoundTrip.{HasText, ReadsBack};
 ghost use Rattle.asm_round_trip.specs.Decoding.{Names, Says, HasWord};
@@ -15,7 +15,7 @@ pub fn a_text_reads_back()
 /// The word of an instruction's line is decoded as the instruction that the line names. One that leads to a label has the
 /// label's place less its own as its offset.
 pub fn a_word_is_its_lines_instruction()
-    ensures named { (line : List ℕ) (instr : Instr) (word : ℕ) → Names line instr → Says line word → decoded word ≡ Some instr }
+    ensures named { (line : List ℕ) (instr : Instr) (word : ℕ) → Names line instr → Says line word → instruction_at word ≡ Some instr }
     ensures led { (line : ℕ) (instr : Instr) (here place word : ℕ) → HasWord line instr here place word
-        → decoded word ≡ Some (with_offset instr (pos place -ℤ pos here)) }
+        → instruction_at word ≡ Some (with_offset instr (pos place -ℤ pos here)) }
 {}

@@ -3,7 +3,7 @@ use Rattle.std.specs.Prelude.{ℕ, zero, suc, if◌then◌else◌, List, Option,
 use Rattle.sn_io.specs.Outside.{found_in}
 use Rattle.reasons.specs.declared.hints.TextKind.{TextKind}
 use Rattle.reasons.specs.declared.hints.TextKind.TheVariants as kind
-use Rattle.command_words.specs.Request.{Request, Replay, Roll, Run, Monitor, Check, Demo, Assemble, Disassemble}
+use Rattle.command_words.specs.Request.{Request, Replay, Roll, Run, Monitor, Check, Judge, Demo, Assemble, Disassemble}
 use Rattle.call_reasons.specs.Files.{is_refused}
 
 -- the files that are there, by their names
@@ -14,9 +14,10 @@ Files = List ℕ → Option (List ℕ)
 abbrev pub program_of : Request → Option (List ℕ)
 program_of (Replay config trace watch program script) = Some program
 program_of (Roll config watch program script control) = Some program
-program_of (Run config rules report watch program) = Some program
+program_of (Run config rules report order watch program) = Some program
 program_of (Monitor config rules watch program) = Some program
 program_of (Check nodes program trace) = Some program
+program_of (Judge accesses) = None
 program_of (Demo size) = None
 program_of (Assemble text) = None
 program_of (Disassemble program) = Some program
@@ -30,9 +31,10 @@ assembly_of _ = None
 abbrev pub first_of : Request → Option (List ℕ)
 first_of (Replay config trace watch program script) = Some program
 first_of (Roll config watch program script control) = Some program
-first_of (Run config rules report watch program) = Some program
+first_of (Run config rules report order watch program) = Some program
 first_of (Monitor config rules watch program) = Some program
 first_of (Check nodes program trace) = Some program
+first_of (Judge accesses) = Some accesses
 first_of (Demo size) = None
 first_of (Assemble text) = Some text
 first_of (Disassemble program) = Some program
@@ -55,7 +57,7 @@ file_of ask (suc (suc (suc _))) = None
 
 -- how many events a run may have, also one that is watched
 abbrev pub budget_of : Request → Option ℕ
-budget_of (Run config rules report watch program) = Some rules.budget
+budget_of (Run config rules report order watch program) = Some rules.budget
 budget_of (Monitor config rules watch program) = Some rules.budget
 budget_of _ = None
 
@@ -75,4 +77,5 @@ abbrev pub blamed_of : Files → Request → Option Blamed
 blamed_of held (Replay config trace watch program script) = Some (record { kind = kind.Script; nodes = config.nodes; name = script })
 blamed_of held (Roll config watch program script control) = Some (blamed_in_roll held config.nodes script control)
 blamed_of held (Check nodes program trace) = Some (record { kind = kind.Trace; nodes = nodes; name = trace })
+blamed_of held (Judge accesses) = Some (record { kind = kind.Accesses; nodes = 16; name = accesses })
 blamed_of held _ = None

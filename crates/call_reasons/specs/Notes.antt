@@ -12,7 +12,7 @@ use Rattle.sn_model.specs.Refusals.{is_refusal}
 use Rattle.sn_machine.specs.Machine.{MachineData, next_of}
 use Rattle.script_replay.specs.Played.{after_event}
 use Rattle.sn_text.specs.Text.{event_line}
-use Rattle.reasons.specs.Reason.{escaped_text, ended}
+use Rattle.reasons.specs.Reason.{escaped_text, line_of_reason}
 use Rattle.call_reasons.specs.declared.refusals.Refused.{Refused}
 use Rattle.call_reasons.specs.declared.refusals.Refusals.{Refusals}
 
@@ -46,7 +46,7 @@ line_of f = take (length (event_line f.place f.event f.answer) - 1) (event_line 
 -- a text, and then how many of so many events were refused, and which was the first
 unfoldable pub refused_note : List ℕ → ℕ → ℕ → Refused → List ℕ
 refused_note text events count f =
-    ended (text ++ codes "# note: " ++ decimal count ++ codes " of " ++ decimal events ++ codes " events were refused, the first is " ++ escaped_text (line_of f))
+    line_of_reason (text ++ codes "# note: " ++ decimal count ++ codes " of " ++ decimal events ++ codes " events were refused, the first is " ++ escaped_text (line_of f))
 
 -- the same, where there is a first
 abbrev pub first_refused : List ℕ → ℕ → ℕ → Option Refused → List ℕ
@@ -59,7 +59,7 @@ names_fewer nodes events = list_all (λ event. event_fits (nodes - 1) event) eve
 
 -- a text, and then how many nodes there are where nobody said it
 unfoldable pub default_note : List ℕ → ℕ → List ℕ
-default_note text nodes = ended (text ++ codes "# note: --nodes wasn't given: " ++ decimal nodes ++ codes " nodes")
+default_note text nodes = line_of_reason (text ++ codes "# note: --nodes wasn't given: " ++ decimal nodes ++ codes " nodes")
 
 abbrev pub with_default : List ℕ → Bool → ℕ → List Event → List ℕ
 with_default text is_given nodes events = if not is_given && names_fewer nodes events then default_note text nodes else text

@@ -1,17 +1,18 @@
 -- The line that says why a call ended as it did, over the files that are there.
 use Rattle.std.specs.Prelude.{◌≡◌, ℕ, List, ◌++◌, Option, Some, None}
 use Rattle.sn_io.specs.Outside.{found_in}
-use Rattle.reasons.specs.Reason.{of_file, too_long, begun, ended}
-use Rattle.reasons.specs.Ends.{lacked, spent, cut_off, trapped}
+use Rattle.reasons.specs.Reason.{of_file, too_long, begun, line_of_reason}
+use Rattle.reasons.specs.Ends.{lack_reason, spent_reason, cut_off, trap_reason}
 use Rattle.reasons.specs.declared.ends.Lack.TheVariants as lack
 use Rattle.reasons.specs.Places.{record_line}
 use Rattle.reasons.specs.Programs.{program_reason}
-use Rattle.reasons.specs.Scripts.{script_reason}
+use Rattle.reasons.specs.Scripts.{script_reason, limit_of}
 use Rattle.reasons.specs.Assembly.{asm_reason}
-use Rattle.reasons.specs.Verdicts.{numbered, judged}
+use Rattle.reasons.specs.Verdicts.{record_place, verdict_reason}
 use Rattle.rv_asm.specs.declared.fault.AsmCause.{AsmCause}
 use Rattle.sn_text.specs.declared.cause.ScriptCause.{ScriptCause}
-use Rattle.command_words.specs.Request.{Request, Check}
+use Rattle.access_texts.specs.Lists.{said_by}
+use Rattle.command_words.specs.Request.{Request, Check, Judge}
 use Rattle.safetynet_main.specs.declared.status.ProgramCause.{ProgramCause}
 use Rattle.safetynet_main.specs.declared.status.ProgramCause.TheVariants.{TooLong, Load}
 use Rattle.safetynet_main.specs.declared.status.Status.{Status}
@@ -20,6 +21,7 @@ use Rattle.safetynet_main.specs.declared.status.Status.TheVariants.{Memory, CutO
 use Rattle.call_reasons.specs.Files.{bytes_in, records_in}
 use Rattle.call_reasons.specs.Blame.{Files, Blamed, program_of, assembly_of, budget_of, blamed_of}
 use Rattle.call_reasons.specs.Verdict.{record_at, IsFound}
+use Rattle.call_reasons.specs.Accesses.{IsOfAccesses}
 
 -- the bytes of a file as it is now, if it isn't longer than may be
 abbrev pub held_bytes : Files → List ℕ → ℕ → List ℕ
@@ -28,36 +30,38 @@ held_bytes held name limit = bytes_in (found_in (held name) limit)
 -- a text, and then why a program is refused; nothing where the request names none
 abbrev pub of_program : List ℕ → Files → Option (List ℕ) → ProgramCause → List ℕ
 of_program text held None cause = text
-of_program text held (Some name) TooLong = ended (too_long (begun text ++ of_file name) 16777216)
-of_program text held (Some name) (Load cause) = ended (program_reason (begun text) name (held_bytes held name 16777216) cause)
+of_program text held (Some name) TooLong = line_of_reason (too_long (begun text ++ of_file name) 16777216)
+of_program text held (Some name) (Load cause) = line_of_reason (program_reason (begun text) name (held_bytes held name 16777216) cause)
 
--- the same of a script, a control file or a trace
+-- the same of a script, a control file, a trace or a list of accesses
 abbrev pub of_lines : List ℕ → Files → Option Blamed → ScriptCause → List ℕ
 of_lines text held None cause = text
 of_lines text held (Some blamed) cause =
-    ended (script_reason (begun text) blamed.kind blamed.nodes blamed.name (held_bytes held blamed.name 33554432) cause)
+    line_of_reason (script_reason (begun text) blamed.kind blamed.nodes blamed.name (held_bytes held blamed.name (limit_of blamed.kind)) cause)
 
 -- the same of a text that is assembled
 abbrev pub of_assembly : List ℕ → Files → Option (List ℕ) → AsmCause → List ℕ
 of_assembly text held None cause = text
-of_assembly text held (Some name) cause = ended (asm_reason (begun text) name (held_bytes held name 16777216) cause)
+of_assembly text held (Some name) cause = line_of_reason (asm_reason (begun text) name (held_bytes held name 16777216) cause)
 
 -- the same of a run that had all events that it may have
 abbrev pub of_budget : List ℕ → Option ℕ → List ℕ
 of_budget text None = text
-of_budget text (Some budget) = ended (spent (begun text) budget)
+of_budget text (Some budget) = line_of_reason (spent_reason (begun text) budget)
 
 -- a text, and then which record of a trace is no step, with the word that memory has, where that is why
 abbrev pub of_record : List ℕ → ℕ → List ℕ → ℕ → Option ℕ → List ℕ
 of_record text nodes trace place word =
-    ended (judged (numbered (begun text) place (record_line trace place)) (record_at (records_in nodes trace) place) word)
+    line_of_reason (verdict_reason (record_place (begun text) place (record_line trace place)) (record_at (records_in nodes trace) place) word)
 
--- what a text became when it was said which record of a trace is no step
+-- what a text became when it was said which record of a trace is no step, or which access isn't legal
 abbrev pub IsOfRecord : Files → Request → ℕ → List ℕ → List ℕ → Type 0
 IsOfRecord held (Check nodes program trace) place text new =
     (word : Option ℕ)
     × IsFound (held_bytes held program 16777216) nodes (records_in nodes (held_bytes held trace 33554432)) place word
     × (new ≡ of_record text nodes (held_bytes held trace 33554432) place word)
+IsOfRecord held (Judge accesses) place text new =
+    IsOfAccesses (said_by (held_bytes held accesses 67108864)) (held_bytes held accesses 67108864) text new
 IsOfRecord held ask place text new = new ≡ text
 
 -- what a text became when it was said why a call with this request ended so; nothing is said here of what is done, of words that are no
@@ -69,9 +73,9 @@ IsReason held ask StoreFault text new = new ≡ text
 IsReason held ask (BadProgram cause) text new = new ≡ of_program text held (program_of ask) cause
 IsReason held ask (BadScript cause) text new = new ≡ of_lines text held (blamed_of held ask) cause
 IsReason held ask (BadAsm cause) text new = new ≡ of_assembly text held (assembly_of ask) cause
-IsReason held ask SinkFault text new = new ≡ ended (lacked (begun text) lack.Output)
+IsReason held ask SinkFault text new = new ≡ line_of_reason (lack_reason (begun text) lack.Output)
 IsReason held ask Budget text new = new ≡ of_budget text (budget_of ask)
-IsReason held ask Memory text new = new ≡ ended (lacked (begun text) lack.Memory)
-IsReason held ask (CutOff a b) text new = new ≡ ended (cut_off (begun text) a b)
+IsReason held ask Memory text new = new ≡ line_of_reason (lack_reason (begun text) lack.Memory)
+IsReason held ask (CutOff a b) text new = new ≡ line_of_reason (cut_off (begun text) a b)
 IsReason held ask (Refused place) text new = IsOfRecord held ask place text new
-IsReason held ask (Trapped node cause) text new = new ≡ ended (trapped (begun text) node cause)
+IsReason held ask (Trapped node cause) text new = new ≡ line_of_reason (trap_reason (begun text) node cause)

@@ -16,7 +16,7 @@ pub fn program_of(request: &Request) -> Option<&str>
         Request::Monitor(asked) => Some(asked.program.as_str()),
         Request::Check(asked) => Some(asked.program.as_str()),
         Request::Disassemble(program) => Some(program.as_str()),
-        Request::Demo(_) | Request::Assemble(_) => None,
+        Request::Judge(_) | Request::Demo(_) | Request::Assemble(_) => None,
     }
 }
 
@@ -45,6 +45,7 @@ fn first_of(request: &Request) -> Option<&str>
     ensures { option_map (λ name. name.now) result ≡ first_of (as_request request.now) }
 {
     match request {
+        Request::Judge(accesses) => Some(accesses.as_str()),
         Request::Assemble(text) => Some(text.as_str()),
         _ => program_of(request),
     }

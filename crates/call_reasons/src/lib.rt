@@ -6,6 +6,7 @@
 //! `write_notes`. Nothing here writes to a stream.
 #![tactic(auto)]
 
+mod accesses;
 mod blame;
 mod content;
 mod lines;

@@ -1,14 +1,14 @@
-//! Why a script, a control file or a trace is refused: which of them is blamed, and what stands there now.
+//! Why a script, a control file, a trace or a list of accesses is refused: which of them is blamed, and what stands there now.
 ghost use Rattle.std.specs.Prelude.{◌≡◌, ◌≤◌, ℕ, List, Option, Some, OnOk, true};
 ghost use Rattle.command_words.specs.Request.{as_request, as_roll, request_fits};
-ghost use Rattle.reasons.specs.Reason.{begun, ended};
-ghost use Rattle.reasons.specs.Scripts.{script_reason};
+ghost use Rattle.reasons.specs.Reason.{begun, line_of_reason};
+ghost use Rattle.reasons.specs.Scripts.{script_reason, limit_of};
 ghost use Rattle.call_reasons.specs.Blame.{blamed_of};
 ghost use Rattle.call_reasons.specs.Reason.{held_bytes, of_lines};
 
 use crate::content::{SCRIPT_LIMIT, fetch, is_refused};
 use command_words::{Request, Roll};
-use reasons::{Reason, TextKind, write_script};
+use reasons::{Reason, TextKind, limit_of, write_script};
 use sn_base::Memory;
 use sn_io::Store;
 use sn_text::ScriptCause;
@@ -25,11 +25,11 @@ fn write_file<S: Store>(
     cause: ScriptCause,
 ) -> Result<(), Memory>
     ensures told { (held : List ℕ → Option (List ℕ)) → S.sure store.old → S.files store.old ≡ Some held → OnOk result
-        (reason.new ≡ ended (script_reason (begun reason.old) kind nodes name.now (held_bytes held name.now 33554432) cause)) }
+        (reason.new ≡ line_of_reason (script_reason (begun reason.old) kind nodes name.now (held_bytes held name.now (limit_of kind)) cause)) }
     ensures files { S.files store.new ≡ S.files store.old }
     ensures stays_sure { S.sure store.old → S.sure store.new }
 {
-    let content = fetch(alloc, store, name, SCRIPT_LIMIT)?;
+    let content = fetch(alloc, store, name, limit_of(kind))?;
     write_script(reason, kind, nodes, name, content.bytes(), cause)
 }
 
@@ -58,7 +58,7 @@ fn write_rolled<S: Store>(
     }
 }
 
-/// Why the script, the control file or the trace of a request is refused; nothing where it has none.
+/// Why the script, the control file, the trace or the accesses of a request are refused; nothing where it has none.
 pub fn write_lines<S: Store>(
     alloc: Global,
     store: &mut S,
@@ -81,6 +81,10 @@ pub fn write_lines<S: Store>(
         Request::Check(asked) => {
             let (nodes, trace) = (asked.nodes, asked.trace.as_str());
             write_file(alloc, store, reason, TextKind::Trace, nodes, trace, cause)
+        }
+        Request::Judge(accesses) => {
+            let name = accesses.as_str();
+            write_file(alloc, store, reason, TextKind::Accesses, 16, name, cause)
         }
         _ => Ok(()),
     }

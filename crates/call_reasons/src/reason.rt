@@ -4,6 +4,7 @@ ghost use Rattle.command_words.specs.Request.{as_request, request_fits};
 ghost use Rattle.call_reasons.specs.Blame.{budget_of};
 ghost use Rattle.call_reasons.specs.Reason.{of_budget, IsOfRecord, IsReason};
 
+use crate::accesses::write_accesses;
 use crate::blame::budget_of;
 use crate::lines::write_lines;
 use crate::programs::{write_assembly_of, write_program_of};
@@ -25,7 +26,7 @@ fn write_budget(reason: &mut Reason, request: &Request) -> Result<(), Memory>
     }
 }
 
-// Which record of a trace is no step.
+// Which record of a trace is no step, or which access isn't legal.
 fn write_record<S: Store>(
     alloc: Global,
     store: &mut S,
@@ -41,6 +42,7 @@ fn write_record<S: Store>(
 {
     match request {
         Request::Check(asked) => write_verdict(alloc, store, reason, asked, place),
+        Request::Judge(accesses) => write_accesses(alloc, store, reason, accesses.as_str()),
         _ => Ok(()),
     }
 }

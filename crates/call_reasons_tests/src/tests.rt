@@ -91,7 +91,7 @@ fn program_rows() -> [Row; 4] {
 
 const SCRIPT: &[u8] = b"step 0\nstepp 0\n";
 
-fn line_rows() -> [Row; 4] {
+fn line_rows() -> [Row; 5] {
     [
         Row {
             words: "safetynet replay a.hex a.script",
@@ -104,6 +104,12 @@ fn line_rows() -> [Row; 4] {
             files: &[("a.trace", b"2 00000000 0\n")],
             status: Status::BadScript(ScriptCause::OutOfRange(1)),
             line: "# why: a.trace:1: a machine of 2 nodes has no such core: \"2 00000000 0\"\n",
+        },
+        Row {
+            words: "safetynet judge a.accesses",
+            files: &[("a.accesses", b"16 r 80001000 1 00\n")],
+            status: Status::BadScript(ScriptCause::OutOfRange(1)),
+            line: "# why: a.accesses:1: a machine of 16 nodes has no such core or address: \"16 r 80001000 1 00\"\n",
         },
         Row {
             words: "safetynet roll a.hex a.script a.control",
@@ -151,6 +157,47 @@ fn trace_rows() -> [Row; 3] {
             files: &[],
             status: Status::Refused(3),
             line: "# why: record 3: the flat machine has no such step\n",
+        },
+    ]
+}
+
+/// A read of a byte that core 0 has written since, and a store-conditional of a core whose reservation that write ended.
+const STALE: &[u8] = b"# a start\ninit 80001000 00000007\n0 w 80001000 1 2a\n1 r 80001000 1 07\n";
+
+const UNRESERVED: &[u8] =
+    b"1 lr 80001000 4 00000000\n0 w 80001008 1 ff\n1 sc 80001000 4 00000001\n";
+
+fn access_rows() -> [Row; 5] {
+    [
+        Row {
+            words: "safetynet judge a.accesses",
+            files: &[("a.accesses", STALE)],
+            status: Status::Refused(2),
+            line: "# why: access 2 (line 4): core 1 read 00000007, and memory has 0000002a, which access 1 wrote last\n",
+        },
+        Row {
+            words: "safetynet judge a.accesses",
+            files: &[("a.accesses", b"2 r 80001000 4 00000001\n")],
+            status: Status::Refused(1),
+            line: "# why: access 1 (line 1): core 2 read 00000001, and memory has 00000000 from the start\n",
+        },
+        Row {
+            words: "safetynet judge a.accesses",
+            files: &[("a.accesses", UNRESERVED)],
+            status: Status::Refused(3),
+            line: "# why: access 3 (line 3): core 1 has no reservation since access 2\n",
+        },
+        Row {
+            words: "safetynet judge a.accesses",
+            files: &[("a.accesses", b"1 sc 80001000 4 00000001\n")],
+            status: Status::Refused(1),
+            line: "# why: access 1 (line 1): core 1 has no reservation\n",
+        },
+        Row {
+            words: "safetynet judge a.accesses",
+            files: &[("a.accesses", b"0 r 80001000 4 00000000\n")],
+            status: Status::Refused(1),
+            line: "",
         },
     ]
 }
@@ -205,6 +252,9 @@ fn each_refusal_shows_its_place(rt: HostRuntime) -> Result<(), Fail> {
         says(&rt, rt.alloc(), row)?;
     }
     for row in &trace_rows() {
+        says(&rt, rt.alloc(), row)?;
+    }
+    for row in &access_rows() {
         says(&rt, rt.alloc(), row)?;
     }
     for row in &other_rows() {
@@ -264,6 +314,7 @@ const FETCHED: &[Fetched] = &[
         Some("b.trace"),
         None,
     ),
+    ("safetynet judge a.accesses", Some("a.accesses"), None, None),
     ("safetynet demo 5", None, None, None),
     ("safetynet asm a.s", Some("a.s"), None, None),
     ("safetynet dis a.hex", Some("a.hex"), None, None),

@@ -33,13 +33,16 @@ run_options =
     ∷ codes "interval" ∷ codes "wait" ∷ codes "lose-every" ∷ codes "kill" ∷ codes "budget" ∷ codes "seed" ∷ []
 
 abbrev pub run_app : App
-run_app = command_app (codes "run") (codes "program" ∷ []) run_options (codes "trace" ∷ codes "journal" ∷ [])
+run_app = command_app (codes "run") (codes "program" ∷ []) (codes "order" ∷ run_options) (codes "trace" ∷ codes "journal" ∷ [])
 
 abbrev pub monitor_app : App
 monitor_app = command_app (codes "monitor") (codes "program" ∷ []) run_options []
 
 abbrev pub check_app : App
 check_app = command_app (codes "check") (codes "program" ∷ codes "trace" ∷ []) (codes "nodes" ∷ []) []
+
+abbrev pub judge_app : App
+judge_app = command_app (codes "judge") (codes "accesses" ∷ []) [] []
 
 abbrev pub demo_app : App
 demo_app = command_app (codes "demo") (codes "size" ∷ []) [] []
@@ -61,4 +64,5 @@ with_command app command = with_subcommand app command.top
 
 abbrev pub the_app : App
 the_app =
-    fold with_command named_app (replay_app ∷ roll_app ∷ run_app ∷ monitor_app ∷ check_app ∷ demo_app ∷ asm_app ∷ dis_app ∷ [])
+    fold with_command named_app
+    (replay_app ∷ roll_app ∷ run_app ∷ monitor_app ∷ check_app ∷ judge_app ∷ demo_app ∷ asm_app ∷ dis_app ∷ [])

@@ -15,19 +15,22 @@ use Rattle.command_words.specs.declared.request.Run as code_run
 use Rattle.command_words.specs.declared.request.Monitor as code_monitor
 use Rattle.sn_base.specs.declared.report.RunReport.{RunReport}
 use Rattle.sn_base.specs.declared.report.RunReport.TheVariants as shown
+use Rattle.command_words.specs.declared.request.RunOrder.{RunOrder}
+use Rattle.command_words.specs.declared.request.RunOrder.TheVariants as order
 use Rattle.command_words.specs.declared.request.Check as code_check
 use Rattle.command_words.specs.declared.request.Request as code_request
 use Rattle.command_words.specs.declared.request.Request.TheVariants as asked
 use Rattle.sn_base.specs.declared.limits.TheConstants.{EVENTS}
 
--- the sizes, the rules of a run, whether the trace is to be shown or what else of a run is, which word is to be watched, and the
--- names of files: of the program and of the script, the control or the trace, or of the text
+-- the sizes, the rules of a run, whether the trace is to be shown or what else of a run is, who has its turns, which word is to be watched, and the
+-- names of files: of the program and of the script, the control or the trace, or of the accesses or the text
 pub data Request : Type 0 where
   Replay : Config → Bool → Option ℕ → Text → Text → Request
   Roll : Config → Option ℕ → Text → Text → Text → Request
-  Run : Config → RunRules → RunReport → Option ℕ → Text → Request
+  Run : Config → RunRules → RunReport → RunOrder → Option ℕ → Text → Request
   Monitor : Config → RunRules → Option ℕ → Text → Request
   Check : ℕ → Text → Text → Request
+  Judge : Text → Request
   Demo : ℕ → Request
   Assemble : Text → Request
   Disassemble : Text → Request
@@ -69,12 +72,23 @@ run_report_by false false = Some shown.Summary
 abbrev pub run_report_of : List Row → Option RunReport
 run_report_of entries = run_report_by (flag_of (codes "trace") entries) (flag_of (codes "journal") entries)
 
+-- who has the next turn of a run: the threads decide it where no option says another
+abbrev pub run_order_by : Option Text → Option RunOrder
+run_order_by None = Some order.Threads
+run_order_by (Some text) =
+    if bytes_eq text (codes "threads") then Some order.Threads else
+    if bytes_eq text (codes "round") then Some order.Round else
+    if bytes_eq text (codes "drawn") then Some order.Drawn else None
+
+abbrev pub run_order_of : List Row → Option RunOrder
+run_order_of entries = run_order_by (first_of (codes "order") entries)
+
 abbrev pub run_of : List Row → Option Request
 run_of entries =
-    option_and_then (λ config. option_and_then (λ rules. option_and_then (λ report. option_and_then (λ watch. option_map (λ program.
-    Run config rules report watch program)
-    (first_of (codes "program") entries)) (watch_by (first_of (codes "watch") entries))) (run_report_of entries)) (run_rules_of config.nodes entries))
-    (config_of entries)
+    option_and_then (λ config. option_and_then (λ rules. option_and_then (λ report. option_and_then (λ order. option_and_then (λ watch.
+    option_map (λ program. Run config rules report order watch program)
+    (first_of (codes "program") entries)) (watch_by (first_of (codes "watch") entries))) (run_order_of entries)) (run_report_of entries))
+    (run_rules_of config.nodes entries)) (config_of entries)
 
 abbrev pub monitor_of : List Row → Option Request
 monitor_of entries =
@@ -99,6 +113,7 @@ request_of command entries =
     if bytes_eq command (codes "run") then run_of entries else
     if bytes_eq command (codes "monitor") then monitor_of entries else
     if bytes_eq command (codes "check") then check_of entries else
+    if bytes_eq command (codes "judge") then option_map (λ accesses. Judge accesses) (first_of (codes "accesses") entries) else
     if bytes_eq command (codes "demo") then option_map (λ size. Demo size) (demo_of entries) else
     if bytes_eq command (codes "asm") then option_map (λ text. Assemble text) (first_of (codes "text") entries) else
     if bytes_eq command (codes "dis") then option_map (λ program. Disassemble program) (first_of (codes "program") entries) else None
@@ -116,7 +131,7 @@ abbrev pub as_roll : code_roll.Roll → Request
 as_roll r = Roll r.config r.watch (string_bytes r.program) (string_bytes r.script) (string_bytes r.control)
 
 abbrev pub as_run : code_run.Run → Request
-as_run r = Run r.config r.rules r.report r.watch (string_bytes r.program)
+as_run r = Run r.config r.rules r.report r.order r.watch (string_bytes r.program)
 
 abbrev pub as_monitor : code_monitor.Monitor → Request
 as_monitor m = Monitor m.config m.rules m.watch (string_bytes m.program)
@@ -130,6 +145,7 @@ as_request (asked.Roll r) = as_roll r
 as_request (asked.Run r) = as_run r
 as_request (asked.Monitor m) = as_monitor m
 as_request (asked.Check c) = as_check c
+as_request (asked.Judge accesses) = Judge (string_bytes accesses)
 as_request (asked.Demo size) = Demo size
 as_request (asked.Assemble text) = Assemble (string_bytes text)
 as_request (asked.Disassemble program) = Disassemble (string_bytes program)
@@ -142,7 +158,7 @@ watch_fits watch = option_map_or is_word_address watch true
 abbrev pub request_fits : Request → Bool
 request_fits (Replay config trace watch program script) = config_fits config && watch_fits watch
 request_fits (Roll config watch program script control) = config_fits config && watch_fits watch
-request_fits (Run config rules report watch program) = config_fits config && (run_rules_fit config.nodes rules && watch_fits watch)
+request_fits (Run config rules report order watch program) = config_fits config && (run_rules_fit config.nodes rules && watch_fits watch)
 request_fits (Monitor config rules watch program) = config_fits config && (run_rules_fit config.nodes rules && watch_fits watch)
 request_fits (Check nodes program trace) = lies_in 1 16 nodes
 request_fits (Demo size) = lies_in 1 EVENTS size

@@ -1,9 +1,9 @@
 //! The table of commands, as clap wants it: a function a command, and a line for it in `command`.
-ghost use Rattle.std.specs.Prelude.{◌≡◌, ◌↔◌, IfOk, IfErr, false, true, [], ◌∷◌, map, string_bytes, codes};
+ghost use Rattle.std.specs.Prelude.{◌≡◌, ◌↔◌, IfOk, IfErr, false, true, map, string_bytes};
 ghost use Rattle.clap.specs.Words.{app_of, rule_of, with_rule, takes, kind_of, subcommand_of, subcommand_rows_of};
 ghost use Rattle.clap.specs.declared.builder.command.Command.TheViews.{out-Command as fields_of};
-ghost use Rattle.command_words.specs.Command.{rule_by, with_args, command_app, replay_app, roll_app, run_options, run_app, monitor_app};
-ghost use Rattle.command_words.specs.Command.{check_app, demo_app, asm_app, dis_app, named_app, with_command, the_app};
+ghost use Rattle.command_words.specs.Command.{rule_by, with_args, command_app, replay_app, roll_app, run_app, monitor_app};
+ghost use Rattle.command_words.specs.Command.{check_app, judge_app, demo_app, asm_app, dis_app, named_app, with_command, the_app};
 
 use crate::request::WordsFault;
 use clap::error::ErrorKind;
@@ -101,10 +101,29 @@ fn roll<'a>(alloc: Global) -> Result<Command<'a>, AllocError>
     )
 }
 
-// A command whose machine picks its own events.
-fn picking<'a>(alloc: Global, name: &'a str, flags: &[&'a str]) -> Result<Command<'a>, AllocError>
-    ensures app { IfOk result
-        (λ c. app_of c ≡ command_app name.entry.now (codes "program" ∷ []) run_options (map (λ name. name.now) flags.now)) }
+fn run<'a>(alloc: Global) -> Result<Command<'a>, AllocError>
+    ensures app { IfOk result (λ c. app_of c ≡ run_app) }
+    ensures alone { IfOk result (λ c. (fields_of c).has_globals ≡ false) }
+{
+    let options = [
+        "order",
+        "nodes",
+        "sets",
+        "ways",
+        "log",
+        "watch",
+        "interval",
+        "wait",
+        "lose-every",
+        "kill",
+        "budget",
+        "seed",
+    ];
+    command_by(alloc, "run", &["program"], &options, &["trace", "journal"])
+}
+
+fn monitor<'a>(alloc: Global) -> Result<Command<'a>, AllocError>
+    ensures app { IfOk result (λ c. app_of c ≡ monitor_app) }
     ensures alone { IfOk result (λ c. (fields_of c).has_globals ≡ false) }
 {
     let options = [
@@ -120,21 +139,7 @@ fn picking<'a>(alloc: Global, name: &'a str, flags: &[&'a str]) -> Result<Comman
         "budget",
         "seed",
     ];
-    command_by(alloc, name, &["program"], &options, flags)
-}
-
-fn run<'a>(alloc: Global) -> Result<Command<'a>, AllocError>
-    ensures app { IfOk result (λ c. app_of c ≡ run_app) }
-    ensures alone { IfOk result (λ c. (fields_of c).has_globals ≡ false) }
-{
-    picking(alloc, "run", &["trace", "journal"])
-}
-
-fn monitor<'a>(alloc: Global) -> Result<Command<'a>, AllocError>
-    ensures app { IfOk result (λ c. app_of c ≡ monitor_app) }
-    ensures alone { IfOk result (λ c. (fields_of c).has_globals ≡ false) }
-{
-    picking(alloc, "monitor", &[])
+    command_by(alloc, "monitor", &["program"], &options, &[])
 }
 
 fn check<'a>(alloc: Global) -> Result<Command<'a>, AllocError>
@@ -142,6 +147,13 @@ fn check<'a>(alloc: Global) -> Result<Command<'a>, AllocError>
     ensures alone { IfOk result (λ c. (fields_of c).has_globals ≡ false) }
 {
     command_by(alloc, "check", &["program", "trace"], &["nodes"], &[])
+}
+
+fn judge<'a>(alloc: Global) -> Result<Command<'a>, AllocError>
+    ensures app { IfOk result (λ c. app_of c ≡ judge_app) }
+    ensures alone { IfOk result (λ c. (fields_of c).has_globals ≡ false) }
+{
+    command_by(alloc, "judge", &["accesses"], &[], &[])
 }
 
 fn demo<'a>(alloc: Global) -> Result<Command<'a>, AllocError>
@@ -190,6 +202,7 @@ fn command<'a>(alloc: Global) -> Result<Command<'a>, AllocError>
     let command = with_command(command, run(alloc)?)?;
     let command = with_command(command, monitor(alloc)?)?;
     let command = with_command(command, check(alloc)?)?;
+    let command = with_command(command, judge(alloc)?)?;
     let command = with_command(command, demo(alloc)?)?;
     let command = with_command(command, asm(alloc)?)?;
     with_command(command, dis(alloc)?)

@@ -4,13 +4,14 @@ ghost use Rattle.sn_base.specs.Config.{lies_in, config_fits};
 ghost use Rattle.option_values.specs.Runs.{run_rules_fit};
 ghost use Rattle.clap.specs.Words.{found_of, rows_of, first_of};
 ghost use Rattle.command_words.specs.Request.{ask_of, as_request, request_of, config_of, replay_of, roll_of, run_rules_of, run_report_of};
+ghost use Rattle.command_words.specs.Request.{run_order_of};
 ghost use Rattle.command_words.specs.Request.{run_of, monitor_of, check_of, demo_of, as_replay, as_roll, as_run, as_monitor, as_check};
 ghost use Rattle.command_words.specs.Request.{watch_fits, request_fits};
 ghost use Rattle.sn_base.specs.declared.limits.TheConstants.{EVENTS};
 
 use crate::command::entries_of;
 use crate::entries::{command_of, has_flag, text_of};
-use crate::request::{Check, Monitor, Replay, Request, Roll, Run, WordsFault};
+use crate::request::{Check, Monitor, Replay, Request, Roll, Run, RunOrder, WordsFault};
 use clap::ArgMatches;
 use option_values::{RunRules, RunWords, SizeWords, read_demo_size, read_nodes, read_watch};
 use sn_base::{Config, RunReport};
@@ -103,6 +104,21 @@ fn run_report(entries: &ArgMatches<'_>) -> Result<RunReport, WordsFault>
     }
 }
 
+fn run_order(entries: &ArgMatches<'_>) -> Result<RunOrder, WordsFault>
+    ensures ok { IfOk result (λ order. run_order_of (rows_of (found_of entries.now)) ≡ Some order) }
+    ensures usage { IfErr result (λ fault. (fault ≡ WordsFault.Usage) × (run_order_of (rows_of (found_of entries.now)) ≡ None)) }
+{
+    let Some(text) = text_of(entries, "order") else {
+        return Ok(RunOrder::Threads);
+    };
+    match text {
+        "threads" => Ok(RunOrder::Threads),
+        "round" => Ok(RunOrder::Round),
+        "drawn" => Ok(RunOrder::Drawn),
+        _ => Err(WordsFault::Usage),
+    }
+}
+
 fn run(alloc: Global, entries: &ArgMatches<'_>) -> Result<Run, WordsFault>
     ensures ok { IfOk result (λ run. run_of (rows_of (found_of entries.now)) ≡ Some (as_run run)) }
     ensures usage { result ≡ Err WordsFault.Usage → run_of (rows_of (found_of entries.now)) ≡ None }
@@ -115,6 +131,7 @@ fn run(alloc: Global, entries: &ArgMatches<'_>) -> Result<Run, WordsFault>
         config,
         rules: rules(entries, config.nodes)?,
         report: run_report(entries)?,
+        order: run_order(entries)?,
         watch: read_watch(text_of(entries, "watch")).ok_or(WordsFault::Usage)?,
         program: name(alloc, entries, "program")?,
     })
@@ -168,6 +185,7 @@ fn request(alloc: Global, command: &str, entries: &ArgMatches<'_>) -> Result<Req
         "run" => Ok(Request::Run(run(alloc, entries)?)),
         "monitor" => Ok(Request::Monitor(monitor(alloc, entries)?)),
         "check" => Ok(Request::Check(check(alloc, entries)?)),
+        "judge" => Ok(Request::Judge(name(alloc, entries, "accesses")?)),
         "demo" => Ok(Request::Demo(demo(entries)?)),
         "asm" => Ok(Request::Assemble(name(alloc, entries, "text")?)),
         "dis" => Ok(Request::Disassemble(name(alloc, entries, "program")?)),

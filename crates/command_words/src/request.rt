@@ -29,12 +29,24 @@ pub struct Roll {
     pub control: String,
 }
 
+/// Who has the next turn of a run.
+#[derive(Clone, Copy, PartialEq, Eq, Debug)]
+pub enum RunOrder {
+    /// Each worker has a thread of its own, and the threads decide.
+    Threads,
+    /// The workers in rounds.
+    Round,
+    /// A worker that is drawn.
+    Drawn,
+}
+
 /// The sizes, what the run goes by, what is shown, and the name of the program's file.
 #[derive(Drop)]
 pub struct Run {
     pub config: Config,
     pub rules: RunRules,
     pub report: RunReport,
+    pub order: RunOrder,
     /// The address of the word that is shown in the summary.
     pub watch: Option<u32>,
     pub program: String,
@@ -66,6 +78,8 @@ pub enum Request {
     Run(Run),
     Monitor(Monitor),
     Check(Check),
+    /// The name of a list of accesses.
+    Judge(String),
     /// How many events the demonstration has.
     Demo(u32),
     /// The name of a text in assembler.

@@ -56,8 +56,8 @@ fn shown(alloc: Global, request: &Request) -> Result<String, AllocError> {
         }
         Request::Run(r) => {
             let rules = rules_shown(alloc, &r.config, &r.rules, r.watch)?;
-            let report = r.report;
-            format!(in alloc; "run {} {rules} {report:?}", r.program)
+            let (report, order) = (r.report, r.order);
+            format!(in alloc; "run {} {rules} {report:?} {order:?}", r.program)
         }
         Request::Monitor(r) => {
             let rules = rules_shown(alloc, &r.config, &r.rules, r.watch)?;
@@ -67,6 +67,7 @@ fn shown(alloc: Global, request: &Request) -> Result<String, AllocError> {
             "check {} {} ({} nodes)",
             c.program, c.trace, c.nodes
         ),
+        Request::Judge(accesses) => format!(in alloc; "judge {accesses}"),
         Request::Demo(size) => format!(in alloc; "demo {size}"),
         Request::Assemble(text) => format!(in alloc; "asm {text}"),
         Request::Disassemble(program) => format!(in alloc; "dis {program}"),
@@ -162,31 +163,43 @@ const REQUESTS: &[(&str, &str)] = &[
     ),
     (
         "run p",
-        "run p (4 nodes, 16 sets, 4 ways, log 256) interval 100 wait 20000 lose 0 kill None budget 1000000 seed 1 None Summary",
+        "run p (4 nodes, 16 sets, 4 ways, log 256) interval 100 wait 20000 lose 0 kill None budget 1000000 seed 1 None Summary Threads",
     ),
     (
         "run --trace p",
-        "run p (4 nodes, 16 sets, 4 ways, log 256) interval 100 wait 20000 lose 0 kill None budget 1000000 seed 1 None Trace",
+        "run p (4 nodes, 16 sets, 4 ways, log 256) interval 100 wait 20000 lose 0 kill None budget 1000000 seed 1 None Trace Threads",
     ),
     (
         "run p --journal",
-        "run p (4 nodes, 16 sets, 4 ways, log 256) interval 100 wait 20000 lose 0 kill None budget 1000000 seed 1 None Journal",
+        "run p (4 nodes, 16 sets, 4 ways, log 256) interval 100 wait 20000 lose 0 kill None budget 1000000 seed 1 None Journal Threads",
     ),
     (
         "run --nodes 2 --sets 3 --ways 5 --log 7 --watch 80000004 --interval 8 --wait 9 --lose-every 10 --kill b1@11 --budget 12 --seed 13 --journal p",
-        "run p (2 nodes, 3 sets, 5 ways, log 7) interval 8 wait 9 lose 10 kill Some((3, 11)) budget 12 seed 13 Some(2147483652) Journal",
+        "run p (2 nodes, 3 sets, 5 ways, log 7) interval 8 wait 9 lose 10 kill Some((3, 11)) budget 12 seed 13 Some(2147483652) Journal Threads",
     ),
     (
         "run --kill=a15@1000000 --nodes=16 --seed=18446744073709551615 p",
-        "run p (16 nodes, 16 sets, 4 ways, log 256) interval 100 wait 20000 lose 0 kill Some((30, 1000000)) budget 1000000 seed 18446744073709551615 None Summary",
+        "run p (16 nodes, 16 sets, 4 ways, log 256) interval 100 wait 20000 lose 0 kill Some((30, 1000000)) budget 1000000 seed 18446744073709551615 None Summary Threads",
     ),
     (
         "run --kill a0@00 --seed 00 --lose-every 00 p",
-        "run p (4 nodes, 16 sets, 4 ways, log 256) interval 100 wait 20000 lose 0 kill Some((0, 0)) budget 1000000 seed 0 None Summary",
+        "run p (4 nodes, 16 sets, 4 ways, log 256) interval 100 wait 20000 lose 0 kill Some((0, 0)) budget 1000000 seed 0 None Summary Threads",
+    ),
+    (
+        "run --order round p",
+        "run p (4 nodes, 16 sets, 4 ways, log 256) interval 100 wait 20000 lose 0 kill None budget 1000000 seed 1 None Summary Round",
+    ),
+    (
+        "run p --order=drawn",
+        "run p (4 nodes, 16 sets, 4 ways, log 256) interval 100 wait 20000 lose 0 kill None budget 1000000 seed 1 None Summary Drawn",
+    ),
+    (
+        "run p --order threads",
+        "run p (4 nodes, 16 sets, 4 ways, log 256) interval 100 wait 20000 lose 0 kill None budget 1000000 seed 1 None Summary Threads",
     ),
     (
         "run run",
-        "run run (4 nodes, 16 sets, 4 ways, log 256) interval 100 wait 20000 lose 0 kill None budget 1000000 seed 1 None Summary",
+        "run run (4 nodes, 16 sets, 4 ways, log 256) interval 100 wait 20000 lose 0 kill None budget 1000000 seed 1 None Summary Threads",
     ),
     (
         "monitor p",
@@ -202,6 +215,7 @@ const REQUESTS: &[(&str, &str)] = &[
         "check --nodes=00000000000000000001 p t",
         "check p t (1 nodes)",
     ),
+    ("judge a", "judge a"),
     ("demo 1", "demo 1"),
     ("demo 001000000", "demo 1000000"),
     ("asm p.s", "asm p.s"),
@@ -292,6 +306,13 @@ const USAGE: &[&str] = &[
     "run p --lose_every 4",
     "run p --watch 80400000",
     "run p --nodes 17",
+    "run p --order",
+    "run p --order=",
+    "run p --order slow",
+    "run p --order Round",
+    "run p --order round --order round",
+    "monitor p --order round",
+    "replay p s --order round",
     "monitor",
     "monitor p s",
     "monitor p --trace",
@@ -303,6 +324,9 @@ const USAGE: &[&str] = &[
     "check p t --kill a0@0",
     "check p t --sets 4",
     "check p t --nodes 17",
+    "judge",
+    "judge a b",
+    "judge a --nodes 2",
     "demo 0",
     "demo 1000001",
     "asm",

@@ -3,7 +3,7 @@ use Rattle.std.proofs.Common.{◌≡◌, ℕ, ◌+◌, List, [], ◌∷◌, ◌+
 use Rattle.sn_base.specs.declared.event.Answer.TheVariants.{Retired, Edged, Reported, Hopped, Delivered, Validated}
 use Rattle.sn_base.specs.declared.event.Event.TheVariants.{Step, Edge, Hop, Deliver, Report, Validate}
 use Rattle.sn_msg.specs.declared.Body.TheVariants.{Ready, Advance}
-use Rattle.rv_decode.specs.Decoded.{decoded}
+use Rattle.rv_decode.specs.Decoded.{instruction_at}
 use Rattle.rv_core.specs.Step.{want_of, next_of}
 use Rattle.route_plan.specs.Grid.{row_count, column_count, along, partner, is_linked}
 use Rattle.route_plan.specs.Distances.{least_below, some_below, is_living, comes, distance}
@@ -103,11 +103,11 @@ unfolding step_of
 edges_1 = record { answers = refl; state = refl; trace = refl }
 
 retires_1 : Leads storing small edged (Step 1) Retired retired
-unfolding step_of want_of next_of decoded
+unfolding step_of want_of next_of instruction_at
 retires_1 = record { answers = refl; state = refl; trace = refl }
 
 retires_0 : Leads storing small retired (Step 0) Retired both_retired
-unfolding step_of want_of next_of decoded
+unfolding step_of want_of next_of instruction_at
 retires_0 = record { answers = refl; state = refl; trace = refl }
 
 edges_0 : Leads storing small both_retired (Edge 0) (Edged 1) level

@@ -146,7 +146,7 @@ module _ (half : FabricHalf) (image : ImageData) (config : Config) (s : State) (
       (λ m block lm a b. unreserved_by n m block lm a b))
       (λ block access low leaves. ordinary_step (machine_step_of s (step_of_access config s.fabric n block access))
       (ordinary_carried s (step_of_access config s.fabric n block access) leaves.0) leaves (λ m b lm x y. kept m b (processor_at s m) refl x y))
-      (λ a leaves. ordinary_step (step.refused s a)
+      (λ a leaves. ordinary_step (step.machine_step_refused s a)
       (record { no_point = leaves.0; committed = refl; released = refl; given = λ m. begins_same (processor_at s m).given }) leaves
       (λ m b lm x y. kept m b (processor_at s m) refl x y))
     where
@@ -207,9 +207,9 @@ module _ (half : FabricHalf) (image : ImageData) (config : Config) (s : State) (
       (if full then step_refused s.fabric answer.CheckpointsFull
       else step_with_answer (with_node s.fabric n (after_edge (node_at s.fabric n))) (answer.Edged ((node_at s.fabric n).now + 1))))
   edging n true =
-      ordinary (event.Edge n) (step.refused s answer.CheckpointsFull)
+      ordinary (event.Edge n) (step.machine_step_refused s answer.CheckpointsFull)
       (record { no_point = refl; committed = refl; released = refl; given = λ m. begins_same (processor_at s m).given })
-      (λ m same is. absurd (let x = same in cc)) (kept_all (event.Edge n) (step.refused s answer.CheckpointsFull) (λ m. refl))
+      (λ m same is. absurd (let x = same in cc)) (kept_all (event.Edge n) (step.machine_step_refused s answer.CheckpointsFull) (λ m. refl))
   edging n false =
       ordinary (event.Edge n) after
       (record {
@@ -259,11 +259,11 @@ module _ (half : FabricHalf) (image : ImageData) (config : Config) (s : State) (
 
   -- a validation
 
-  refusal_says : (e : Event) (a : Answer) → ((n : ℕ) → e ≡ event.Step n → ⊥) → is_point_answer a ≡ false → Says e (step.refused s a)
+  refusal_says : (e : Event) (a : Answer) → ((n : ℕ) → e ≡ event.Step n → ⊥) → is_point_answer a ≡ false → Says e (step.machine_step_refused s a)
   refusal_says e a other calm =
-      ordinary e (step.refused s a)
+      ordinary e (step.machine_step_refused s a)
       (record { no_point = calm; committed = refl; released = refl; given = λ m. begins_same (processor_at s m).given })
-      (λ n same is. absurd (other n same)) (kept_all e (step.refused s a) (λ n. refl))
+      (λ n same is. absurd (other n same)) (kept_all e (step.machine_step_refused s a) (λ n. refl))
 
   abbrev committed : MachineStep
   committed =

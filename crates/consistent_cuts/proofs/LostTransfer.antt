@@ -8,7 +8,7 @@ use Rattle.sn_base.specs.declared.event.Event.TheVariants.{Step, Edge, Hop, Deli
 use Rattle.sn_base.specs.declared.log.LogEntry.{LogEntry}
 use Rattle.sn_base.specs.declared.log.Old.TheVariants.{WasHome, NotOwned, Owned}
 use Rattle.sn_msg.specs.declared.Body.TheVariants.{GetM, DataM, Unblock, FwdGetM, Ready, Advance}
-use Rattle.rv_decode.specs.Decoded.{decoded}
+use Rattle.rv_decode.specs.Decoded.{instruction_at}
 use Rattle.rv_core.specs.Step.{want_of, next_of}
 use Rattle.rv_core.specs.declared.state.CoreState.{CoreState}
 use Rattle.rv_core.specs.declared.step.Record.{Record}
@@ -26,7 +26,7 @@ use Rattle.sn_model.specs.Machine.{State, Processor, Retirement}
 use Rattle.sn_model.specs.MachineEvents.{restored_rest}
 use Rattle.sn_model.specs.Net.{flight_of}
 use Rattle.sn_model.specs.NodeEvents.{ready_of}
-use Rattle.sn_model.specs.PointEvents.{restored}
+use Rattle.sn_model.specs.PointEvents.{fabric_restored_to}
 use Rattle.sn_model.specs.Step.{step_of}
 use Rattle.sn_model.specs.Trace.{TraceEntry}
 use Rattle.mosi_cache.proofs.Counts.{none-taken}
@@ -191,15 +191,15 @@ got_with line = record got.state {
 }
 
 first : Leads storing small start (Step 0) Retired one_done
-unfolding step_of want_of next_of decoded
+unfolding step_of want_of next_of instruction_at
 first = record { answers = refl; state = refl; trace = refl }
 
 second : Leads storing small one_done (Step 0) Retired two_done
-unfolding step_of want_of next_of decoded
+unfolding step_of want_of next_of instruction_at
 second = record { answers = refl; state = refl; trace = refl }
 
 asks : Leads storing small two_done (Step 0) Missed asked
-unfolding step_of want_of next_of decoded enter_of distance comes is_living some_below least_below is_linked along partner row_count column_count
+unfolding step_of want_of next_of instruction_at enter_of distance comes is_living some_below least_below is_linked along partner row_count column_count
 asks = record {
   answers = rw (empty-at 64, none-taken 16 64) refl;
   state = rw (empty-at 64, none-taken 16 64) refl;
@@ -227,7 +227,7 @@ unfolding step_of enter_of distance comes is_living some_below least_below is_li
 unblocks = record { answers = rw at_taken refl; state = rw at_taken refl; trace = refl }
 
 third : Leads storing small unblocked (Step 0) Retired three_done
-unfolding step_of want_of next_of decoded
+unfolding step_of want_of next_of instruction_at
 third = record {
   answers = rw (found arrived (modified zeros) whole_arrived) refl;
   state = rw (found arrived (modified zeros) whole_arrived, found complete (modified zeros) whole_complete) refl;
@@ -289,7 +289,7 @@ both_heard = reporting [] 6 (1 ∷ 1 ∷ [])
 -- their events
 
 fourth : Leads storing small three_done (Step 1) Retired four_done
-unfolding step_of want_of next_of decoded
+unfolding step_of want_of next_of instruction_at
 fourth = record { answers = refl; state = refl; trace = refl }
 
 ticks_0 : Leads storing small four_done (Edge 0) (Edged 1) ticked
@@ -373,7 +373,7 @@ lost = at_second (node 1 given_up None moved_log) wanting moved told 11
 
 abbrev recovered : Moment
 recovered =
-    moment (restored lost.state.fabric 1) (processor (stored 0) (stored 0 ∷ []) ∷ processor (added 1) (added 1 ∷ []) ∷ [])
+    moment (fabric_restored_to lost.state.fabric 1) (processor (stored 0) (stored 0 ∷ []) ∷ processor (added 1) (added 1 ∷ []) ∷ [])
     (1 ∷ 1 ∷ []) [] four_plain four_entries
 
 -- their events
@@ -383,11 +383,11 @@ unfolding step_of enter_of distance comes is_living some_below least_below is_li
 validates = record { answers = refl; state = refl; trace = refl }
 
 fifth : Leads storing small validated (Step 1) Retired five_done
-unfolding step_of want_of next_of decoded
+unfolding step_of want_of next_of instruction_at
 fifth = record { answers = refl; state = refl; trace = refl }
 
 asks_again : Leads storing small five_done (Step 1) Missed asked_again
-unfolding step_of want_of next_of decoded enter_of distance comes is_living some_below least_below is_linked along partner row_count column_count
+unfolding step_of want_of next_of instruction_at enter_of distance comes is_living some_below least_below is_linked along partner row_count column_count
 asks_again = record {
   answers = rw (empty-at 64, none-taken 16 64) refl;
   state = rw (empty-at 64, none-taken 16 64) refl;
@@ -461,11 +461,11 @@ whole_given_up : IsWhole given_up
 whole_given_up = whole_set written no_line whole_written
 
 given_back : line_of (node_at recovered.state.fabric 0).cache 64 ≡ modified stored_block
-unfolding restored IsWhole
+unfolding fabric_restored_to IsWhole
 given_back = let e = whole_given_up in line_restored moved_log 1 0 given_up 64 (omega (arith, e))
 
 pub recovering_ends : IsLostAndRecovered
-unfolding restored
+unfolding fabric_restored_to
 recovering_ends = record {
   transfer = ap (λ (s : State). flight_of s.fabric.net.flights 10) at_move.state;
   lost = ap (λ (s : State). flight_of s.fabric.net.flights 10) at_loss.state;

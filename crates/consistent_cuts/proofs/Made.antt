@@ -11,7 +11,7 @@ use Rattle.sn_consistency.specs.Words.{puts}
 use Rattle.sn_consistency.specs.Entries.{Entry}
 use Rattle.sn_consistency.specs.Shows.{records, outs}
 use Rattle.sn_consistency.specs.Sorted.{retire, entries_below_cut, below as below_cut}
-use Rattle.sn_consistency.specs.Committed.{records_committed, released}
+use Rattle.sn_consistency.specs.Committed.{records_committed, bytes_released}
 use Rattle.sn_consistency.proofs.CommittedPart.{records-append, outs-append, in_of-append}
 use Rattle.sn_model.specs.Machine.{Retirement}
 use Rattle.sn_model.specs.Instructions.{records_of}
@@ -80,7 +80,7 @@ module _ (image : ImageData) (list : ℕ → List Entry) (trace : List TraceEntr
       ∙ ap (λ rs. committed_trace trace k ++ rs) (made.did k)
       ∙ sym (map-append (λ (y : TraceEntry). y.did) (below trace k) (of_interval trace k))
 
-  pub released_sorted : (k : ℕ) → released image list k ≡ committed_output trace k
+  pub released_sorted : (k : ℕ) → bytes_released image list k ≡ committed_output trace k
   unfolding below_cut
   released_sorted zero = refl
   released_sorted (suc k) =

@@ -15,7 +15,7 @@ use Rattle.sn_model.specs.Fabric.{Fabric, first_node, node_at}
 use Rattle.sn_model.specs.Machine.{State, Processor, Retirement, first_processor, processor_at}
 use Rattle.sn_model.specs.Instructions.{taken_by, records_of}
 use Rattle.sn_model.specs.MachineEvents.{committed_next, restored_rest, restored_processor, restored_processors, checkpoint_of}
-use Rattle.sn_model.specs.PointEvents.{restored, restored_node, restored_homes, restored_net}
+use Rattle.sn_model.specs.PointEvents.{fabric_restored_to, restored_node, restored_homes, restored_net}
 use Rattle.sn_model.specs.Trace.{TraceEntry}
 use Rattle.sn_coherence.specs.Records.{Records, rolls_back}
 use Rattle.sn_consistency.specs.Entries.{Entry}
@@ -145,8 +145,8 @@ restored_state s = record s {
   held = [];
 }
 
-pub restored_is : (s : State) → record (restored_rest s) { fabric = restored s.fabric s.fabric.point } ≡ restored_state s
-unfolding restored restored_rest
+pub restored_is : (s : State) → record (restored_rest s) { fabric = fabric_restored_to s.fabric s.fabric.point } ≡ restored_state s
+unfolding fabric_restored_to restored_rest
 restored_is s = refl
 
 module _ (image : ImageData) (s : State) (r : ℕ → Records) (list : ℕ → List Entry) (trace : List TraceEntry) (j : RunInvariant image s r list trace) where

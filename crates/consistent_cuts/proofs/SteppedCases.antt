@@ -22,7 +22,7 @@ use Rattle.sn_model.specs.Fabric.{Fabric, node_at, line_of_node}
 use Rattle.sn_model.specs.Fabric as fabric
 use Rattle.sn_model.specs.Net.{is_full}
 use Rattle.sn_model.specs.Machine.{State, processor_at}
-use Rattle.sn_model.specs.Instructions.{MachineStep, found_by, refused, machine_step_of, step_of_retirement, step_of_instruction, step_wanting, accessing, is_retired}
+use Rattle.sn_model.specs.Instructions.{MachineStep, found_by, machine_step_refused, machine_step_of, step_of_retirement, step_of_instruction, step_wanting, accessing, is_retired}
 use Rattle.sn_model.specs.Instructions.{takes_input, next_byte, taken_by}
 use Rattle.sn_model.specs.Trace.{TraceEntry, trace_after_event}
 use Rattle.consistent_cuts.specs.Accesses.{CanServe, CanServeWant, CanRetire}
@@ -97,7 +97,7 @@ module _ (image : ImageData) (config : Config) (s : State) (n : ℕ) (l : n < le
     (retires : CanRetire image config s n → P (step_of_retirement image s n))
     (goes_on : (block : ℕ) (access : Need) → block < block_count → LeavesTrace image s n (step_of_access config s.fabric n block access).answer →
     P (machine_step_of s (step_of_access config s.fabric n block access)))
-    (stays : (answer : Answer) → LeavesTrace image s n answer → P (refused s answer)) where
+    (stays : (answer : Answer) → LeavesTrace image s n answer → P (machine_step_refused s answer)) where
   block_low : (address : ℕ) → IsAddress address → block_of address < block_count
   block_low address inside = omega (arith, inside.0, inside.1)
 
@@ -147,7 +147,7 @@ module _ (image : ImageData) (config : Config) (s : State) (n : ℕ) (l : n < le
 
   pub stepped_cases : P (step_of_instruction image config s n)
   stepped_cases =
-      by_test P (not (is_running (processor_at s n).core.end)) (refused s Ended) _ (λ q. stays Ended (refl, λ trace. refl))
-      (λ q. by_test P (has_miss (node_at s.fabric n).cache.miss) (refused s Waits)
+      by_test P (not (is_running (processor_at s n).core.end)) (machine_step_refused s Ended) _ (λ q. stays Ended (refl, λ trace. refl))
+      (λ q. by_test P (has_miss (node_at s.fabric n).cache.miss) (machine_step_refused s Waits)
       (step_wanting image config s n (want_of image (processor_at s n).core)) (λ m. stays Waits (refl, λ trace. refl))
       (λ m. wanting_cases (grind arith) m (want_of image (processor_at s n).core) refl (want_inside image (processor_at s n).core)))

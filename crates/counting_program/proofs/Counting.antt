@@ -15,14 +15,14 @@ use Rattle.rv_decode.specs.declared.instr.Instr.{Instr}
 use Rattle.rv_decode.specs.declared.instr.Instr.TheVariants.{Lui, Jal, OpImm, Ecall, Amo}
 use Rattle.rv_decode.specs.declared.operations.ImmOp.TheVariants.{Addi, Andi}
 use Rattle.rv_decode.specs.declared.operations.AmoOp.TheVariants.{Amoadd}
-use Rattle.rv_decode.specs.Decoded.{decoded}
+use Rattle.rv_decode.specs.Decoded.{instruction_at}
 use Rattle.rv_core.specs.declared.state.CoreState.{CoreState}
 use Rattle.rv_core.specs.declared.state.End.TheVariants.{Exited}
 use Rattle.rv_core.specs.declared.state.Cause.TheVariants.{UnknownCall}
 use Rattle.rv_core.specs.declared.step.Record.{Record}
 use Rattle.rv_core.specs.Access.{fault_of}
 use Rattle.rv_core.specs.Arithmetic.{sum, as_word, amo_result}
-use Rattle.rv_core.specs.Core.{start_of, register, trapped, is_running, is_reserved, block_of, bare}
+use Rattle.rv_core.specs.Core.{start_of, register, core_with_trap, is_running, is_reserved, block_of, bare}
 use Rattle.rv_core.specs.Execution.{state_after, end_of}
 use Rattle.rv_core.specs.Flat.{FlatState, flat_start, first_cores, core_at, after_write, flat_step, next_by}
 use Rattle.rv_core.specs.Step.{Next, becomes, writing, gets, jumps, put_out, took_in, unless_fault, instruction_of, does, does_next}
@@ -58,35 +58,35 @@ abbrev IsAt : ℕ → Instr → Type 0
 IsAt pc i = instruction_of (word_fetched counting_image.segments pc) ≡ Ok i
 
 is_start : IsAt 0x80000000 (Lui 5 0x80001000)
-unfolding decoded
+unfolding instruction_at
 is_start = refl
 
 is_one : IsAt 0x80000004 (OpImm Addi 6 0 (pos 1))
-unfolding decoded
+unfolding instruction_at
 is_one = refl
 
 is_add : IsAt 0x80000008 (Amo Amoadd 7 5 6)
-unfolding decoded
+unfolding instruction_at
 is_add = refl
 
 is_mask : IsAt 0x8000000c (OpImm Andi 10 7 (pos 63))
-unfolding decoded
+unfolding instruction_at
 is_mask = refl
 
 is_digit : IsAt 0x80000010 (OpImm Addi 10 10 (pos 48))
-unfolding decoded
+unfolding instruction_at
 is_digit = refl
 
 is_number : IsAt 0x80000014 (OpImm Addi 17 0 (pos 1))
-unfolding decoded
+unfolding instruction_at
 is_number = refl
 
 is_call : IsAt 0x80000018 Ecall
-unfolding decoded
+unfolding instruction_at
 is_call = refl
 
 is_jump : IsAt 0x8000001c (Jal 0 (negsuc 19))
-unfolding decoded
+unfolding instruction_at
 is_jump = refl
 
 next-is : (core : CoreState) (seen : ℕ) (done : Bool) (read : Option ℕ) (pc : ℕ) (i : Instr) → core.pc ≡ pc → IsAt pc i →
@@ -135,7 +135,7 @@ module _ (core : CoreState) (seen : ℕ) (done : Bool) (read : Option ℕ) (runs
       (omega (arith, at)) (omega arith))
   step (AtCall at word call) = from _ _ _ at is_call
       (ap (λ a. if nat_eq a 1 then put_out core else if nat_eq a 2 then becomes (took_in core read)
-      else if nat_eq a 93 then becomes (record core { end = Exited (register core 10) }) else becomes (trapped core UnknownCall)) call)
+      else if nat_eq a 93 then becomes (record core { end = Exited (register core 10) }) else becomes (core_with_trap core UnknownCall)) call)
       (record { runs = runs; room = room; stands = AtJump (ap (λ p. (p + 4) % 2 ^ 32) at) word })
   step (AtJump at word) = from _ _ _ at is_jump (ap (λ p. becomes (jumps core 0 (sum p (as_word (negsuc 19))))) at)
       (record { runs = runs; room = room; stands = AtAdd refl word })

@@ -7,7 +7,7 @@ use Rattle.std.specs.Prelude.{slice_index_or, slice_set}
 use Rattle.route_plan.specs.Distances.{Switches}
 use Rattle.sn_model.specs.declared.cache.Out.{Out}
 use Rattle.sn_model.specs.Fabric.{Flight, Net}
-use Rattle.sn_model.specs.Net.{post, net_after_sends, sent_by, is_lost, message_of, entry_of, flight_of}
+use Rattle.sn_model.specs.Net.{net_after_send, net_after_sends, sent_by, is_lost, message_of, entry_of, flight_of}
 
 -- a read after a write
 pub read_set : {A : Type 0} (xs : List A) (i j : ℕ) (v d : A) → i < length xs →
@@ -46,14 +46,14 @@ pub flights-posted : (outs : List Out) (routes : Switches) (net : Net) (from tag
     length (net_after_sends routes net from tag block outs).flights ≤ length net.flights + length outs
 flights-posted [] routes net from tag block = omega arith
 flights-posted (out ∷ outs) routes net from tag block =
-    let h : length (net_after_sends routes (post routes net (message_of net from tag block out)) from tag block outs).flights ≤ length
-    (post routes net (message_of net from tag block out)).flights + length outs
-    = flights-posted outs routes (post routes net (message_of net from tag block out)) from tag block in
-    let g : length (post routes net (message_of net from tag block out)).flights ≤ length net.flights + 1
+    let h : length (net_after_sends routes (net_after_send routes net (message_of net from tag block out)) from tag block outs).flights ≤ length
+    (net_after_send routes net (message_of net from tag block out)).flights + length outs
+    = flights-posted outs routes (net_after_send routes net (message_of net from tag block out)) from tag block in
+    let g : length (net_after_send routes net (message_of net from tag block out)).flights ≤ length net.flights + 1
     = pushed (is_lost routes net (message_of net from tag block out)) net.flights
     (record { message = message_of net from tag block out; place = entry_of routes (message_of net from tag block out) }) in
-    more_step (length (net_after_sends routes (post routes net (message_of net from tag block out)) from tag block outs).flights)
-    (length (post routes net (message_of net from tag block out)).flights) (length net.flights) (length outs) h g
+    more_step (length (net_after_sends routes (net_after_send routes net (message_of net from tag block out)) from tag block outs).flights)
+    (length (net_after_send routes net (message_of net from tag block out)).flights) (length net.flights) (length outs) h g
   where
     more_step : (a b c d : ℕ) → a ≤ b + d → b ≤ c + 1 → a ≤ c + suc d
     more_step a b c d h g = omega arith
@@ -62,7 +62,7 @@ pub next-posted : (outs : List Out) (routes : Switches) (net : Net) (from tag bl
     (net_after_sends routes net from tag block outs).next_id ≡ net.next_id + length outs
 next-posted [] routes net from tag block = omega arith
 next-posted (out ∷ outs) routes net from tag block =
-    next-posted outs routes (post routes net (message_of net from tag block out)) from tag block ∙ one_more net.next_id (length outs)
+    next-posted outs routes (net_after_send routes net (message_of net from tag block out)) from tag block ∙ one_more net.next_id (length outs)
   where
     one_more : (a b : ℕ) → a + 1 + b ≡ a + suc b
     one_more a b = omega arith
@@ -71,4 +71,4 @@ pub length-sent : (outs : List Out) (routes : Switches) (net : Net) (from tag bl
     length (sent_by routes net from tag block outs) ≡ length outs
 length-sent [] routes net from tag block = refl
 length-sent (out ∷ outs) routes net from tag block =
-    ap suc (length-sent outs routes (post routes net (message_of net from tag block out)) from tag block)
+    ap suc (length-sent outs routes (net_after_send routes net (message_of net from tag block out)) from tag block)

@@ -10,7 +10,7 @@ use Rattle.sn_model.specs.Access.{node_to_write}
 use Rattle.sn_model.specs.Fabric.{Fabric, Node, FabricStep, node_at, first_node, first_fabric}
 use Rattle.sn_model.specs.FabricEvents.{FabricEvent, Access, Write, Evict, Edge, Hop, Deliver, Lose, Kill, Report, Advance, Recover}
 use Rattle.sn_model.specs.FabricEvents.{moved_by}
-use Rattle.sn_model.specs.PointEvents.{step_of_recovery, recovers, restored, living_switches}
+use Rattle.sn_model.specs.PointEvents.{step_of_recovery, recovers, fabric_restored_to, living_switches}
 use Rattle.route_plan.specs.Routes.{first_cut_off}
 use Rattle.fabric_coherence.specs.View.{GhostState}
 use Rattle.fabric_coherence.specs.Coherent.{FabricInvariant, Keeps}
@@ -53,16 +53,16 @@ write_rises config s t n w kept may = rises (roomy config s n w) s (moved_by con
 none_more : (k : ℕ) → k ≡ k + 0
 none_more k = omega arith
 
-restored_now : (s : Fabric) (n : ℕ) → n < length s.nodes → (node_at (restored s s.point) n).now ≡ s.point
-unfolding restored
+restored_now : (s : Fabric) (n : ℕ) → n < length s.nodes → (node_at (fabric_restored_to s s.point) n).now ≡ s.point
+unfolding fabric_restored_to
 restored_now s n l = each_node (λ m x y. m < length s.nodes → y.now ≡ s.point) s (λ m k h. refl) (λ m k h. absurd (omega arith)) n l
 
-restored_point : (s : Fabric) (k : ℕ) → (restored s k).point ≡ s.point
-unfolding restored
+restored_point : (s : Fabric) (k : ℕ) → (fabric_restored_to s k).point ≡ s.point
+unfolding fabric_restored_to
 restored_point s k = refl
 
-restored_next : (s : Fabric) (k : ℕ) → (restored s k).net.next_id ≡ s.net.next_id
-unfolding restored
+restored_next : (s : Fabric) (k : ℕ) → (fabric_restored_to s k).net.next_id ≡ s.net.next_id
+unfolding fabric_restored_to
 restored_next s k = refl
 
 recovers_rises : (s : Fabric) (cut : Option (ℕ × ℕ)) → Rises s (recovers s s.point cut)

@@ -9,7 +9,7 @@ use Rattle.sn_model.specs.Caches.{empty_cache}
 use Rattle.sn_model.specs.Fabric.{Fabric, Node, FabricStep, node_at, first_node, first_fabric}
 use Rattle.sn_model.specs.FabricEvents.{FabricEvent, Access, Write, Evict, Edge, Hop, Deliver, Lose, Kill, Report, Advance, Recover}
 use Rattle.sn_model.specs.FabricEvents.{moved_by}
-use Rattle.sn_model.specs.PointEvents.{step_of_recovery, recovers, restored, restored_node, living_switches}
+use Rattle.sn_model.specs.PointEvents.{step_of_recovery, recovers, fabric_restored_to, restored_node, living_switches}
 use Rattle.route_plan.specs.Routes.{first_cut_off}
 use Rattle.mosi_cache.proofs.Fits.{fits-none}
 use Rattle.fabric_coherence.specs.View.{GhostState, block_seen}
@@ -70,9 +70,9 @@ stepped config s t u x count step frames bounded = record {
 
 -- a recovery
 
-restored_bounded : (config : Config) (s : Fabric) (t u : GhostState) → length (restored s s.point).nodes ≡ length s.nodes → FabricInvariant s t →
-    KeepsFrames s t u → IsBounded config s t → IsBounded config (restored s s.point) u
-unfolding restored
+restored_bounded : (config : Config) (s : Fabric) (t u : GhostState) → length (fabric_restored_to s s.point).nodes ≡ length s.nodes → FabricInvariant s t →
+    KeepsFrames s t u → IsBounded config s t → IsBounded config (fabric_restored_to s s.point) u
+unfolding fabric_restored_to
 restored_bounded config s t u count kept frames bounded = record {
   logs =
       λ n l. each_node (λ m x y. m < length s.nodes → length y.log ≤ config.log) s (λ m k h. omega arith) (λ m k h. omega arith) n

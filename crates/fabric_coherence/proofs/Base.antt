@@ -7,7 +7,7 @@ use Rattle.std.specs.Prelude.{slice_index_or, slice_set}
 use Rattle.sn_msg.specs.declared.Message.{Message as Sent}
 use Rattle.route_plan.specs.Distances.{Switches}
 use Rattle.sn_model.specs.Fabric.{Flight, Net}
-use Rattle.sn_model.specs.Net.{post, net_after_sends, is_lost, message_of, without_flight}
+use Rattle.sn_model.specs.Net.{net_after_send, net_after_sends, is_lost, message_of, without_flight}
 use Rattle.sn_model.specs.declared.cache.Out.{Out}
 use Rattle.sn_coherence.specs.Block.{no_message}
 use Rattle.fabric_coherence.specs.View.{net_seen, is_seen, message_seen}
@@ -60,7 +60,7 @@ below-without [] id n l = tt
 below-without (f ∷ fs) id n l = below_step f fs id n l.0 (below-without fs id n l.1)
 
 pub seen-post : (routes : Switches) (net : Net) (m : Sent) (b i : ℕ) → m.id ≡ net.next_id → Below net.flights net.next_id →
-    net_seen b (post routes net m).flights i
+    net_seen b (net_after_send routes net m).flights i
     ≡ cond ((i == net.next_id) && (is_seen b m && not (is_lost routes net m))) (message_seen m m.body) (net_seen b net.flights i)
 seen-post routes net m b i e l = grind (arith, nat_tests, seen-push)
 

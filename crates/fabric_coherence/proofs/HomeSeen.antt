@@ -10,7 +10,7 @@ use Rattle.sn_model.specs.declared.cache.Out.{Out}
 use Rattle.sn_model.specs.Caches.{block_count, line_of, is_owned}
 use Rattle.sn_model.specs.HomeRows.{HomeReply}
 use Rattle.sn_model.specs.Fabric.{Fabric, Net, Flight, node_at, first_node, home_of, home_node, no_entry, with_net}
-use Rattle.sn_model.specs.Net.{post, net_after_sends, sent_by, is_lost, message_of, entry_of, without_flight, routes_of}
+use Rattle.sn_model.specs.Net.{net_after_send, net_after_sends, sent_by, is_lost, message_of, entry_of, without_flight, routes_of}
 use Rattle.sn_model.specs.NetEvents.{home_after}
 use Rattle.sn_coherence.specs.Block as block
 use Rattle.sn_coherence.specs.Same.{IsSame}
@@ -65,7 +65,7 @@ pub posted-elsewhere : (outs : List Out) (routes : Switches) (net : Net) (from t
     net_seen o (net_after_sends routes net from tag b outs).flights i ≡ net_seen o net.flights i
 posted-elsewhere [] routes net from tag b o i n h = refl
 posted-elsewhere (out ∷ outs) routes net from tag b o i n h =
-    posted-elsewhere outs routes (post routes net (message_of net from tag b out)) from tag b o i n h.1
+    posted-elsewhere outs routes (net_after_send routes net (message_of net from tag b out)) from tag b o i n h.1
     ∙ post_unseen (is_lost routes net (message_of net from tag b out)) net.flights
     (record { message = message_of net from tag b out; place = entry_of routes (message_of net from tag b out) }) o i
     (unseen (is_for_all out.body) b o n h.0)
@@ -74,7 +74,7 @@ pub posted-next : (outs : List Out) (routes : Switches) (net : Net) (from tag b 
     (net_after_sends routes net from tag b outs).next_id ≡ net.next_id + length outs
 posted-next [] routes net from tag b = omega arith
 posted-next (out ∷ outs) routes net from tag b =
-    posted-next outs routes (post routes net (message_of net from tag b out)) from tag b ∙ omega arith
+    posted-next outs routes (net_after_send routes net (message_of net from tag b out)) from tag b ∙ omega arith
 
 -- no number from the next one on is seen
 fresh_step : (f : Flight) (fs : List Flight) (n b i : ℕ) → f.message.id < n → n ≤ i → net_seen b fs i ≡ block.no_message →

@@ -13,7 +13,7 @@ use Rattle.sn_model.specs.Homes.{HomeEntry}
 use Rattle.sn_model.specs.FabricEvents as event
 use Rattle.sn_model.specs.Fabric.{Fabric, node_at, with_node, home_of, FabricStep, step_refused, step_with_answer}
 use Rattle.sn_model.specs.NodeEvents.{step_of_edge, after_edge, checkpoint_limit}
-use Rattle.sn_model.specs.PointEvents.{step_of_recovery, recovers, restored, restored_node, restored_lines, restored_homes, living_switches}
+use Rattle.sn_model.specs.PointEvents.{step_of_recovery, recovers, fabric_restored_to, restored_node, restored_lines, restored_homes, living_switches}
 use Rattle.sn_coherence.specs.OtherEvents.{edge, recover}
 use Rattle.sn_coherence.specs.Events.{Edge, Recover, Allows}
 use Rattle.sn_coherence.specs.Records.{unreserves, rolls_back}
@@ -90,31 +90,31 @@ length-restored_homes s k block [] = refl
 length-restored_homes s k block (entry ∷ homes) = ap suc (length-restored_homes s k (block + 1) homes)
 
 module _ (s : Fabric) (shape : IsShaped s) where
-  pub length-restored_nodes : length (restored s s.point).nodes ≡ length s.nodes
-  unfolding restored
+  pub length-restored_nodes : length (fabric_restored_to s s.point).nodes ≡ length s.nodes
+  unfolding fabric_restored_to
   length-restored_nodes = length-map s.nodes (restored_node s.point)
 
-  lines_restored : (m : ℕ) → m < length s.nodes → length (node_at (restored s s.point) m).cache.lines ≡ block_count
-  unfolding restored
+  lines_restored : (m : ℕ) → m < length s.nodes → length (node_at (fabric_restored_to s s.point) m).cache.lines ≡ block_count
+  unfolding fabric_restored_to
   lines_restored m l = each_node (λ m x y. m < length s.nodes → length y.cache.lines ≡ block_count) s
       (λ m q r. length-restored_lines (node_at s m).log s.point 0 (node_at s m).cache.lines ∙ shape.lines m r)
       (λ m q r. absurd (omega arith)) m l
 
-  homes_restored : length (restored s s.point).homes ≡ block_count
-  unfolding restored
+  homes_restored : length (fabric_restored_to s s.point).homes ≡ block_count
+  unfolding fabric_restored_to
   homes_restored = length-restored_homes s s.point 0 s.homes ∙ shape.homes
 
-  sharers_restored : (b : ℕ) → b < block_count → length (home_of (restored s s.point) b).sharers ≡ 16
-  unfolding restored
+  sharers_restored : (b : ℕ) → b < block_count → length (home_of (fabric_restored_to s s.point) b).sharers ≡ 16
+  unfolding fabric_restored_to
   sharers_restored b l =
       ap (λ (e : HomeEntry). length e.sharers) (restored_home_at s s.point b (subst (λ k. b < k) (sym shape.homes) l))
       ∙ length-replicate 16 false
 
-  net_restored : IsNetShaped (restored s s.point).net (length (restored s s.point).nodes)
-  unfolding restored
+  net_restored : IsNetShaped (fabric_restored_to s s.point).net (length (fabric_restored_to s s.point).nodes)
+  unfolding fabric_restored_to
   net_restored = restored-shaped s.net (length (map (restored_node s.point) s.nodes))
 
-  pub recovery-shaped : IsShaped (restored s s.point)
+  pub recovery-shaped : IsShaped (fabric_restored_to s s.point)
   recovery-shaped = record {
     some = subst (λ k. 1 ≤ k) (sym length-restored_nodes) shape.some;
     few = subst (λ k. k ≤ 16) (sym length-restored_nodes) shape.few;
@@ -127,9 +127,9 @@ module _ (s : Fabric) (shape : IsShaped s) where
   }
 
 module _ (s : Fabric) (t : GhostState) (kept : FabricInvariant s t) where
-  restored_goes : Goes s t (λ b r. rolls_back r (length s.nodes) s.point) (restored s s.point) (ghost_after_recovery t)
+  restored_goes : Goes s t (λ b r. rolls_back r (length s.nodes) s.point) (fabric_restored_to s s.point) (ghost_after_recovery t)
   restored_goes =
-      goes_each s t (λ b r. rolls_back r (length s.nodes) s.point) (restored s s.point) (ghost_after_recovery t)
+      goes_each s t (λ b r. rolls_back r (length s.nodes) s.point) (fabric_restored_to s s.point) (ghost_after_recovery t)
       (length-restored_nodes s kept.shape) (frames_stay s t) (recovery-shaped s kept.shape)
       (λ b. recover (length s.nodes) (block_seen s t b)) (λ b w. recovery-seen s t b kept.shape w)
       (λ b w. event_leads (length s.nodes) (block_seen s t b) Recover tt (λ r. tt))

@@ -8,7 +8,7 @@ use Rattle.std.proofs.lemmas.List.Sums.{sum_by-cons}
 use Rattle.sn_msg.specs.declared.Message.{Message as Sent}
 use Rattle.route_plan.specs.Distances.{Switches}
 use Rattle.sn_model.specs.Fabric.{Flight, Net}
-use Rattle.sn_model.specs.Net.{post, net_after_sends, sent_by, is_lost, entry_of, message_of, without_flight}
+use Rattle.sn_model.specs.Net.{net_after_send, net_after_sends, sent_by, is_lost, entry_of, message_of, without_flight}
 use Rattle.sn_model.specs.declared.cache.Out.{Out}
 use Rattle.sn_model.specs.HomeRows.{invalidations}
 use Rattle.sn_coherence.specs.Block.{Inv as SeenInv}
@@ -20,7 +20,7 @@ use Rattle.sn_coherence.specs.Same.{IsSame}
 use Rattle.sn_coherence.proofs.Counts.{no_count}
 use Rattle.fabric_coherence.specs.View.{net_seen, is_seen, message_seen}
 use Rattle.fabric_coherence.specs.Steps.{Below, lost_at_once, losing}
-use Rattle.fabric_coherence.specs.Sends.{numbered, sent_at, is_among, targets, NoneForAll}
+use Rattle.fabric_coherence.specs.Sends.{message_with_number, sent_at, is_among, targets, NoneForAll}
 use Rattle.fabric_coherence.proofs.Base.{seen-without, seen-post, below-without}
 
 -- a number from the next one on is of no message
@@ -60,7 +60,7 @@ below_either fs gs n true l m = l
 below_either fs gs n false l m = m
 
 pub below-post : (routes : Switches) (net : Net) (m : Sent) → m.id ≡ net.next_id → Below net.flights net.next_id →
-    Below (post routes net m).flights (net.next_id + 1)
+    Below (net_after_send routes net m).flights (net.next_id + 1)
 below-post routes net m e l =
     below_either net.flights (net.flights ++ record { message = m; place = entry_of routes m } ∷ []) (net.next_id + 1)
     (is_lost routes net m)
@@ -101,7 +101,7 @@ seen-posted routes net from tag block (out ∷ outs) b i l =
     m = message_of net from tag block out
 
     next_net : Net
-    next_net = post routes net m
+    next_net = net_after_send routes net m
 
     later : List ℕ
     later = lost_at_once (sent_by routes next_net from tag block outs)
@@ -271,8 +271,8 @@ pub next-posted : (routes : Switches) (net : Net) (from tag block : ℕ) (outs :
     (net_after_sends routes net from tag block outs).next_id ≡ net.next_id + length outs
 next-posted routes net from tag block [] = omega arith
 next-posted routes net from tag block (out ∷ outs) =
-    next_step net.next_id (length outs) (net_after_sends routes (post routes net (message_of net from tag block out)) from tag block outs).next_id
-    (next-posted routes (post routes net (message_of net from tag block out)) from tag block outs)
+    next_step net.next_id (length outs) (net_after_sends routes (net_after_send routes net (message_of net from tag block out)) from tag block outs).next_id
+    (next-posted routes (net_after_send routes net (message_of net from tag block out)) from tag block outs)
 
 pub length-invalidations : (at : ℕ) (marks : List Bool) (r : ℕ) → length (invalidations at marks r) ≡ length (targets at marks)
 length-invalidations at [] r = refl
@@ -303,16 +303,16 @@ seen_own all block = grind (arith, nat_tests)
 pub sent_at-invalidates : (net : Net) (id from tag block : ℕ) (first : Out) (marks : List Bool) (r i : ℕ) → Below net.flights net.next_id →
     sent_at block from tag block net.next_id (first ∷ invalidations 0 marks r) i (cond (i == id) no_message (net_seen block net.flights i))
     ≡ cond (nat_lt i net.next_id) (cond (i == id) no_message (net_seen block net.flights i))
-    (cond (i == net.next_id) (message_seen (numbered net.next_id from tag block first) first.body)
+    (cond (i == net.next_id) (message_seen (message_with_number net.next_id from tag block first) first.body)
     (cond (nat_le i (net.next_id + count_by (λ mark. mark) marks))
     (forward SeenInv from (slice_index_or (targets 0 marks) (i - (net.next_id + 1)) 0) tag r 0) no_message))
 sent_at-invalidates net id from tag block first marks r i l =
-    ap (cond ((i == net.next_id) && is_seen block (numbered net.next_id from tag block first))
-    (message_seen (numbered net.next_id from tag block first) first.body))
+    ap (cond ((i == net.next_id) && is_seen block (message_with_number net.next_id from tag block first))
+    (message_seen (message_with_number net.next_id from tag block first) first.body))
     (sent_at-invalidations from tag block (net.next_id + 1) 0 marks r i (cond (i == id) no_message (net_seen block net.flights i)))
-    ∙ invalidates_step (is_seen block (numbered net.next_id from tag block first)) i id net.next_id (length (targets 0 marks))
+    ∙ invalidates_step (is_seen block (message_with_number net.next_id from tag block first)) i id net.next_id (length (targets 0 marks))
     (count_by (λ mark. mark) marks) (net_seen block net.flights i)
-    (message_seen (numbered net.next_id from tag block first) first.body)
+    (message_seen (message_with_number net.next_id from tag block first) first.body)
     (forward SeenInv from (slice_index_or (targets 0 marks) (i - (net.next_id + 1)) 0) tag r 0)
     (seen_own _ block) (length-targets 0 marks) (λ q. seen-fresh net.flights net.next_id block i l q)
 
@@ -320,7 +320,7 @@ sent_at-invalidates net id from tag block first marks r i l =
 pub seen-invalidates : (routes : Switches) (net : Net) (id from tag block : ℕ) (first : Out) (marks : List Bool) (r i : ℕ) (b row : Block)
     (msg : Message) → Below net.flights net.next_id →
     b.next ≡ net.next_id → b.home ≡ from → b.now b.home ≡ tag → (b.net id).from ≡ r → ((j : ℕ) → b.net j ≡ net_seen block net.flights j) →
-    message_seen (numbered net.next_id from tag block first) first.body ≡ msg →
+    message_seen (message_with_number net.next_id from tag block first) first.body ≡ msg →
     row.net i ≡ invalidates b id msg (λ k. slice_index_or (targets 0 marks) k 0) (count_by (λ mark. mark) marks) i →
     net_seen block (net_after_sends routes (without_flight net id) from tag block (first ∷ invalidations 0 marks r)).flights i
     ≡ (losing row (lost_at_once (sent_by routes (without_flight net id) from tag block (first ∷ invalidations 0 marks r)))).net i
@@ -333,7 +333,7 @@ seen-invalidates routes net id from tag block first marks r i b row msg l next h
     ids = lost_at_once (sent_by routes (without_flight net id) from tag block (first ∷ invalidations 0 marks r))
 
     same : cond (nat_lt i net.next_id) (cond (i == id) no_message (net_seen block net.flights i))
-        (cond (i == net.next_id) (message_seen (numbered net.next_id from tag block first) first.body)
+        (cond (i == net.next_id) (message_seen (message_with_number net.next_id from tag block first) first.body)
         (cond (nat_le i (net.next_id + count_by (λ mark. mark) marks))
         (forward SeenInv from (slice_index_or (targets 0 marks) (i - (net.next_id + 1)) 0) tag r 0) no_message))
         ≡ invalidates b id msg (λ k. slice_index_or (targets 0 marks) k 0) (count_by (λ mark. mark) marks) i

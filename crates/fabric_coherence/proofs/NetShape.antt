@@ -6,7 +6,7 @@ use Rattle.sn_msg.specs.declared.Message.{Message as Sent}
 use Rattle.route_plan.specs.Distances.{Switches}
 use Rattle.sn_model.specs.Caches.{block_count}
 use Rattle.sn_model.specs.Fabric.{Fabric, Node, Flight, Net, node_at, with_node, first_node, home_of, with_home, no_entry, with_net}
-use Rattle.sn_model.specs.Net.{post, net_after_sends, is_lost, entry_of, message_of, without_flight, flight_in_switch, net_with_flight_in, routes_of, sending}
+use Rattle.sn_model.specs.Net.{net_after_send, net_after_sends, is_lost, entry_of, message_of, without_flight, flight_in_switch, net_with_flight_in, routes_of, sending}
 use Rattle.sn_model.specs.NetEvents.{node_after_news, node_after, home_after}
 use Rattle.sn_model.specs.PointEvents.{advances, restored_net}
 use Rattle.sn_model.specs.declared.cache.Out.{Out}
@@ -62,7 +62,7 @@ within_either true fs gs n l m = l
 within_either false fs gs n l m = m
 
 pub within-post : (routes : Switches) (net : Net) (m : Sent) (n : ℕ) → Within net.flights n → IsOf m n →
-    Within (post routes net m).flights n
+    Within (net_after_send routes net m).flights n
 within-post routes net m n l e =
     within_either (is_lost routes net m) net.flights (net.flights ++ record { message = m; place = entry_of routes m } ∷ []) n l
     (within-push net.flights (record { message = m; place = entry_of routes m }) n l e)
@@ -95,7 +95,7 @@ pub restored-shaped : (net : Net) (nodes : ℕ) → IsNetShaped (restored_net ne
 restored-shaped net nodes = record { below = tt; within = tt; rising = tt }
 
 pub post-shaped : (routes : Switches) (net : Net) (m : Sent) (nodes : ℕ) → m.id ≡ net.next_id → IsOf m nodes → IsNetShaped net nodes →
-    IsNetShaped (post routes net m) nodes
+    IsNetShaped (net_after_send routes net m) nodes
 post-shaped routes net m nodes e l h =
     record {
       below = below-post routes net m e h.below;
@@ -108,7 +108,7 @@ pub posted-shaped : (routes : Switches) (net : Net) (from tag block : ℕ) (outs
     IsNetShaped (net_after_sends routes net from tag block outs) nodes
 posted-shaped routes net from tag block [] nodes l m o h = h
 posted-shaped routes net from tag block (out ∷ outs) nodes l m o h =
-    posted-shaped routes (post routes net (message_of net from tag block out)) from tag block outs nodes l m o.1
+    posted-shaped routes (net_after_send routes net (message_of net from tag block out)) from tag block outs nodes l m o.1
     (post-shaped routes net (message_of net from tag block out) nodes refl (l, o.0.0, m, o.0.1) h)
 
 -- what is sent goes to nodes that are there

@@ -7,7 +7,7 @@ use Rattle.log_buffer.specs.Log.{logged_to}
 use Rattle.sn_model.specs.declared.cache.Out.{Out}
 use Rattle.sn_model.specs.Caches.{line_of, is_owned}
 use Rattle.sn_model.specs.Fabric.{Fabric, Node, Net, Flight, node_at, with_node, home_node, first_node}
-use Rattle.sn_model.specs.Net.{post, net_after_sends, sent_by, is_lost, message_of, routes_of, sending}
+use Rattle.sn_model.specs.Net.{net_after_send, net_after_sends, sent_by, is_lost, message_of, routes_of, sending}
 use Rattle.sn_msg.specs.declared.Message.{Message as Sent}
 use Rattle.sn_base.specs.declared.event.Answer.{Answer}
 use Rattle.sn_coherence.specs.Block.{Block, Message, no_message, set}
@@ -156,7 +156,7 @@ lost_same a block false id h = h
 
 pub own_post : (routes : Switches) (net : Net) (m : Sent) (b i : ℕ) → m.id ≡ net.next_id → Below net.flights net.next_id →
     is_seen b m ≡ true →
-    net_seen b (post routes net m).flights i
+    net_seen b (net_after_send routes net m).flights i
     ≡ cond (is_lost routes net m && (i == net.next_id)) no_message (set (net_seen b net.flights) net.next_id (message_seen m m.body) i)
 own_post routes net m b i e l s =
     seen-post routes net m b i e l
@@ -165,7 +165,7 @@ own_post routes net m b i e l s =
 
 pub other_post : (routes : Switches) (net : Net) (m : Sent) (b i : ℕ) → m.id ≡ net.next_id → Below net.flights net.next_id →
     is_seen b m ≡ false →
-    net_seen b (post routes net m).flights i ≡ cond (is_lost routes net m && (i == net.next_id)) no_message (net_seen b net.flights i)
+    net_seen b (net_after_send routes net m).flights i ≡ cond (is_lost routes net m && (i == net.next_id)) no_message (net_seen b net.flights i)
 other_post routes net m b i e l s =
     seen-post routes net m b i e l
     ∙ other_net (net_seen b net.flights) (message_seen m m.body) net.next_id i (is_seen b m) (is_lost routes net m) s
@@ -185,7 +185,7 @@ routes_with s n v = routes_of (with_node s n v)
 
 module _ (s : Fabric) (t : GhostState) (n b about : ℕ) (v : Node) (out : Out) (answer : Answer) (l : n < length s.nodes) (home : IsSameAtHome b v (node_at s n)) (now : v.now ≡ (node_at s n).now) where
   pub sent_same : (c : Block) →
-      IsSame (carried_by (block_with_node (block_seen s t b) b n v) b (post (routes_with s n v) s.net (sends s n about out)))
+      IsSame (carried_by (block_with_node (block_seen s t b) b n v) b (net_after_send (routes_with s n v) s.net (sends s n about out)))
       (without_lost c (is_lost (routes_with s n v) s.net (sends s n about out)) s.net.next_id) →
       IsSame (block_seen (sending (with_node s n v) n about (out ∷ []) answer).fabric t b)
       (losing c (lost_at_once (sending (with_node s n v) n about (out ∷ []) answer).sent))
@@ -194,8 +194,8 @@ module _ (s : Fabric) (t : GhostState) (n b about : ℕ) (v : Node) (out : Out) 
       (losing c (lost_at_once (sent_by (routes_with s n v) s.net n tag about (out ∷ [])))))
       (sym (tag_is s n v l now))
       (lost_same _ c (is_lost (routes_with s n v) s.net (sends s n about out)) s.net.next_id
-      (same_then _ (carried_by (block_with_node (block_seen s t b) b n v) b (post (routes_with s n v) s.net (sends s n about out))) _
-      (node_changed s t n b v (post (routes_with s n v) s.net (sends s n about out)) l home) h))
+      (same_then _ (carried_by (block_with_node (block_seen s t b) b n v) b (net_after_send (routes_with s n v) s.net (sends s n about out))) _
+      (node_changed s t n b v (net_after_send (routes_with s n v) s.net (sends s n about out)) l home) h))
 
 pub own_block : (b : ℕ) → nat_eq b b ≡ true
 own_block b = grind (arith, nat_tests)

@@ -19,7 +19,7 @@ use Rattle.sn_model.specs.FabricEvents.{Recover, moved_by}
 use Rattle.sn_model.specs.Net.{net_limit, routes_of, flight_of, is_there, is_full, next_switch}
 use Rattle.sn_model.specs.NodeEvents.{evicts, begins_put, has_put, checkpoint_limit}
 use Rattle.sn_model.specs.NetEvents.{AtCache, AtHome, node_after_news, outcome_of, node_after, delivers, delivers_flight, hops, hops_to, loses}
-use Rattle.sn_model.specs.PointEvents.{recovers, restored, restored_node, living_switches}
+use Rattle.sn_model.specs.PointEvents.{recovers, fabric_restored_to, restored_node, living_switches}
 use Rattle.route_plan.specs.Distances.{is_dead}
 use Rattle.route_plan.specs.Routes.{first_cut_off}
 use Rattle.fabric_coherence.proofs.EachOutcome.{each_outcome}
@@ -87,8 +87,8 @@ stays_flight config s (Some f) = by_test s (not (is_there f)) (step_refused s No
     (delivers config s f.message (outcome_of s f.message f.message.body)) refl
     (stays_delivers config s f.message))
 
-length_restored : (s : Fabric) (k : ℕ) → length (restored s k).nodes ≡ length s.nodes
-unfolding restored
+length_restored : (s : Fabric) (k : ℕ) → length (fabric_restored_to s k).nodes ≡ length s.nodes
+unfolding fabric_restored_to
 length_restored s k = length-map s.nodes (restored_node k)
 
 stays_recovers : (s : Fabric) (k : ℕ) (cut : Option (ℕ × ℕ)) → Stays s (recovers s k cut)

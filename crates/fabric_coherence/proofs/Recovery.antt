@@ -12,7 +12,7 @@ use Rattle.sn_model.specs.declared.cache.LineState.TheVariants as state
 use Rattle.sn_model.specs.Caches.{Line, line_of, is_owned, no_line, empty_lines, block_count}
 use Rattle.sn_model.specs.Homes.{Holder, HomeEntry, no_sharers}
 use Rattle.sn_model.specs.Fabric.{Fabric, Node, node_at, home_of, first_node, no_entry}
-use Rattle.sn_model.specs.PointEvents.{restored, restored_node, restored_line, restored_lines, restored_homes, log_of_home}
+use Rattle.sn_model.specs.PointEvents.{fabric_restored_to, restored_node, restored_line, restored_lines, restored_homes, log_of_home}
 use Rattle.sn_model.specs.Cuts.{held_by, owned_content, named_by}
 use Rattle.sn_coherence.specs.Block as block
 use Rattle.sn_coherence.specs.OtherEvents.{recover}
@@ -296,8 +296,8 @@ module _ (s : Fabric) (t : GhostState) (b : ℕ) (shape : IsShaped s) (within : 
   place = b % length (map (restored_node s.point) s.nodes)
 
   -- a recovery is that of each block
-  pub recovery-seen : IsSame (block_seen (restored s s.point) (ghost_after_recovery t) b) (recover (length s.nodes) (block_seen s t b))
-  unfolding restored
+  pub recovery-seen : IsSame (block_seen (fabric_restored_to s s.point) (ghost_after_recovery t) b) (recover (length s.nodes) (block_seen s t b))
+  unfolding fabric_restored_to
   recovery-seen = record {
     point = refl;
     home = ap (λ k. b % k) (length-map s.nodes (restored_node s.point));

@@ -4,7 +4,7 @@ use Rattle.std.proofs.lemmas.Bool.Decides.{nat_tests}
 use Rattle.sn_msg.specs.declared.Message.{Message as Sent}
 use Rattle.route_plan.specs.Distances.{Switches}
 use Rattle.sn_model.specs.Fabric.{Flight, Net}
-use Rattle.sn_model.specs.Net.{post, is_lost, entry_of, flight_in_switch}
+use Rattle.sn_model.specs.Net.{net_after_send, is_lost, entry_of, flight_in_switch}
 use Rattle.fabric_coherence.specs.Flights.{From, Rising}
 use Rattle.fabric_coherence.specs.Steps.{Below}
 
@@ -51,7 +51,7 @@ rising_either true fs gs r q = r
 rising_either false fs gs r q = q
 
 pub rising-post : (routes : Switches) (net : Net) (m : Sent) → m.id ≡ net.next_id → Below net.flights net.next_id → Rising net.flights →
-    Rising (post routes net m).flights
+    Rising (net_after_send routes net m).flights
 rising-post routes net m e l r =
     rising_either (is_lost routes net m) net.flights (net.flights ++ record { message = m; place = entry_of routes m } ∷ []) r
     (rising-push net.flights (record { message = m; place = entry_of routes m }) r (rw e l))

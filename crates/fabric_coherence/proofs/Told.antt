@@ -10,7 +10,7 @@ use Rattle.sn_model.specs.Caches.{Line, line_of, is_present, is_writable_state, 
 use Rattle.sn_model.specs.Cuts.{holds_at, names_at, transaction_before}
 use Rattle.sn_model.specs.Homes.{Holder, Itself, OfCache, HomeEntry}
 use Rattle.sn_model.specs.Fabric.{Fabric, Node, node_at, home_of, home_node, first_node}
-use Rattle.sn_model.specs.PointEvents.{restored, restored_node, restored_line}
+use Rattle.sn_model.specs.PointEvents.{fabric_restored_to, restored_node, restored_line}
 use Rattle.sn_model.specs.RecoveryPoint.{HasOneHolderWith, IsOwned}
 use Rattle.sn_coherence.specs.Block as block
 use Rattle.sn_coherence.specs.Consequences.{HasContent, IsLegal}
@@ -97,27 +97,27 @@ module _ (s : Fabric) (t : GhostState) (kept : FabricInvariant s t) (b : ℕ) (l
 
   -- a recovery to it
   restored_line_is : (n : ℕ) → n < length s.nodes →
-      line_of (node_at (restored s s.point) n).cache b ≡ restored_line (holds_at s n b s.point)
-  unfolding restored
+      line_of (node_at (fabric_restored_to s s.point) n).cache b ≡ restored_line (holds_at s n b s.point)
+  unfolding fabric_restored_to
   restored_line_is n l =
       ap (λ (x : Node). line_of x.cache b) (get_or-map (restored_node s.point) s.nodes n first_node first_node l)
       ∙ restored_line_at s.point b (node_at s n) (subst (λ c. b < c) (sym (kept.shape.lines n l)) low)
 
-  restored_name_is : (home_of (restored s s.point) b).holder ≡ names_at s b s.point
-  unfolding restored
+  restored_name_is : (home_of (fabric_restored_to s s.point) b).holder ≡ names_at s b s.point
+  unfolding fabric_restored_to
   restored_name_is = ap (λ (e : HomeEntry). e.holder) (restored_home_at s s.point b (subst (λ c. b < c) (sym kept.shape.homes) low))
 
-  abbrev many : length (restored s s.point).nodes ≡ length s.nodes
+  abbrev many : length (fabric_restored_to s s.point).nodes ≡ length s.nodes
   many = length-restored_nodes s kept.shape
 
-  absent : (n : ℕ) → n < length (restored s s.point).nodes → (n < length s.nodes → holds_at s n b s.point ≡ None) →
-      (line_of (node_at (restored s s.point) n).cache b).state ≡ state.Absent
+  absent : (n : ℕ) → n < length (fabric_restored_to s s.point).nodes → (n < length s.nodes → holds_at s n b s.point ≡ None) →
+      (line_of (node_at (fabric_restored_to s s.point) n).cache b).state ≡ state.Absent
   absent n l h = ap (λ (x : Line). x.state) (restored_line_is n inside) ∙ ap (λ c. (restored_line c).state) (h inside)
     where
       inside : n < length s.nodes
       inside = subst (λ c. n < c) many l
 
-  owned_by : (x : Holder) → HasOneHolderWith s b s.point (r.below s.point) x → IsOwned (restored s s.point) b (r.below s.point) x
+  owned_by : (x : Holder) → HasOneHolderWith s b s.point (r.below s.point) x → IsOwned (fabric_restored_to s s.point) b (r.below s.point) x
   owned_by (Itself named) h = (h.0, λ n l. absent n l (h.1 n))
   owned_by (OfCache owner) h = (
     subst (λ c. owner < c) (sym many) h.0,
@@ -125,8 +125,8 @@ module _ (s : Fabric) (t : GhostState) (kept : FabricInvariant s t) (b : ℕ) (l
     λ n l other. absent n l (λ q. h.2 n q other),
   )
 
-  restored_to : IsOwned (restored s s.point) b (r.below s.point) (home_of (restored s s.point) b).holder
-  restored_to = subst (IsOwned (restored s s.point) b (r.below s.point)) (sym restored_name_is) (owned_by (names_at s b s.point) point)
+  restored_to : IsOwned (fabric_restored_to s s.point) b (r.below s.point) (home_of (fabric_restored_to s s.point) b).holder
+  restored_to = subst (IsOwned (fabric_restored_to s s.point) b (r.below s.point)) (sym restored_name_is) (owned_by (names_at s b s.point) point)
 
   -- who may write is alone, so nobody else has a reservation
   alone : (n x : ℕ) → is_writable_state (line_of (node_at s n).cache b).state ≡ true → misses_on (node_at s n).cache.miss b ≡ false →

@@ -9,14 +9,14 @@ use Rattle.fabric_coherence.specs.Steps.{Below, Within, node_in_body}
 use Rattle.fabric_coherence.specs.Flights.{Rising}
 
 -- the message under the next number
-abbrev pub numbered : ℕ → ℕ → ℕ → ℕ → Out → Message
-numbered next from tag block out = record { id = next; from = from; to = out.to; tag = tag; block = block; body = out.body }
+abbrev pub message_with_number : ℕ → ℕ → ℕ → ℕ → Out → Message
+message_with_number next from tag block out = record { id = next; from = from; to = out.to; tag = tag; block = block; body = out.body }
 
 -- what block b sees under number i after these messages from a node about a block, where it saw `before`
 abbrev pub sent_at : ℕ → ℕ → ℕ → ℕ → ℕ → List Out → ℕ → block.Message → block.Message
 sent_at b from tag block next [] i before = before
 sent_at b from tag block next (out ∷ outs) i before =
-    cond ((i == next) && is_seen b (numbered next from tag block out)) (message_seen (numbered next from tag block out) out.body)
+    cond ((i == next) && is_seen b (message_with_number next from tag block out)) (message_seen (message_with_number next from tag block out) out.body)
     (sent_at b from tag block (next + 1) outs i before)
 
 -- whether a number is in a list

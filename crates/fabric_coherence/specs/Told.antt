@@ -1,7 +1,7 @@
 -- What the records of a block tell of the fabric at every moment.
 use Rattle.std.specs.Prelude.{◌≡◌, ◌≢◌, ℕ, ◌+◌, ◌<◌, ◌≤◌, true, false, length}
 use Rattle.sn_model.specs.Fabric.{Fabric, node_at, home_of, line_of_node}
-use Rattle.sn_model.specs.PointEvents.{restored}
+use Rattle.sn_model.specs.PointEvents.{fabric_restored_to}
 use Rattle.sn_model.specs.Caches.{is_present, is_writable_state, misses_on}
 use Rattle.sn_model.specs.Cuts.{names_at, transaction_before}
 use Rattle.sn_model.specs.RecoveryPoint.{HasOneHolderWith, IsOwned}
@@ -27,4 +27,4 @@ pub record Tells (s : Fabric) (b : ℕ) (r : Records) : Type 0 where
       HasOneHolderWith s b k (r.below k) (names_at s b k)
   pub point : HasOneHolderWith s b s.point (r.below s.point) (names_at s b s.point)
   -- so that is what a recovery to the point leaves at the one owner
-  pub restored_to : IsOwned (restored s s.point) b (r.below s.point) (home_of (restored s s.point) b).holder
+  pub restored_to : IsOwned (fabric_restored_to s s.point) b (r.below s.point) (home_of (fabric_restored_to s s.point) b).holder

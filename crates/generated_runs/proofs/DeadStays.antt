@@ -16,10 +16,10 @@ use Rattle.sn_model.specs.CacheRows.{CacheReply, send}
 use Rattle.sn_model.specs.HomeRows.{HomeReply}
 use Rattle.sn_model.specs.Access.{missing, request_for, step_of_miss, misses, has_miss, serves, lacks_room, accesses, step_of_access}
 use Rattle.sn_model.specs.Fabric.{Fabric, Net, Flight, FabricStep, node_at, with_node, home_node, step_refused, step_with_answer}
-use Rattle.sn_model.specs.Net.{net_limit, routes_of, flight_of, is_there, is_full, next_switch, message_of, post, net_after_sends, sending}
+use Rattle.sn_model.specs.Net.{net_limit, routes_of, flight_of, is_there, is_full, next_switch, message_of, net_after_send, net_after_sends, sending}
 use Rattle.sn_model.specs.NodeEvents.{evicts, begins_put, has_put, with_put, ready_of, checkpoint_limit}
 use Rattle.sn_model.specs.NetEvents.{AtCache, AtHome, outcome_of, delivers, delivers_flight, hops, hops_to, loses}
-use Rattle.sn_model.specs.PointEvents.{advances, recovers, restored, living_switches}
+use Rattle.sn_model.specs.PointEvents.{advances, recovers, fabric_restored_to, living_switches}
 use Rattle.route_plan.specs.Distances.{is_dead}
 use Rattle.route_plan.specs.Routes.{first_cut_off}
 use Rattle.sn_base.specs.Image.{ImageData}
@@ -56,7 +56,7 @@ stays_posted : (routes : Switches) (net : Net) (from tag block : ℕ) (outs : Li
     (net_after_sends routes net from tag block outs).dead ≡ net.dead
 stays_posted routes net from tag block [] = refl
 stays_posted routes net from tag block (out ∷ outs) =
-    stays_posted routes (post routes net (message_of net from tag block out)) from tag block outs
+    stays_posted routes (net_after_send routes net (message_of net from tag block out)) from tag block outs
 
 -- what an event sends is said of the network alone
 stays_sending : (before s : Fabric) (from block : ℕ) (outs : List Out) (answer : Answer) → s.net.dead ≡ before.net.dead →
@@ -132,7 +132,7 @@ stays_flight config s (Some f) = by_test s (not (is_there f)) (step_refused s No
     (stays_delivers config s f.message))
 
 stays_recovers : (s : Fabric) (k : ℕ) (cut : Option (ℕ × ℕ)) → cut ≡ None → Stays s (recovers s k cut)
-unfolding restored
+unfolding fabric_restored_to
 stays_recovers s k (Some pair) e = absurd cc
 stays_recovers s k None e = (refl, refl)
 

@@ -3,7 +3,7 @@ use Rattle.help_pages.specs.Pages.{Text}
 use Rattle.help_pages.specs.declared.page.Page.{Page}
 use Rattle.help_pages.specs.declared.page.Page.TheVariants as page
 use Rattle.help_pages.specs.declared.texts.overview.TheConstants.{OVERVIEW}
-use Rattle.help_pages.specs.declared.texts.commands.TheConstants.{CHECK, DEMO, ASM, DIS}
+use Rattle.help_pages.specs.declared.texts.commands.TheConstants.{CHECK, JUDGE, DEMO, ASM, DIS}
 use Rattle.help_pages.specs.declared.texts.schedules.TheConstants.{REPLAY, ROLL}
 use Rattle.help_pages.specs.declared.texts.runs.TheConstants.{RUN, MONITOR}
 use Rattle.help_pages.specs.declared.texts.topics.TheConstants.{EVENTS, FORMATS, STATUSES}
@@ -16,6 +16,7 @@ text_on page.Roll = ROLL.now
 text_on page.Run = RUN.now
 text_on page.Monitor = MONITOR.now
 text_on page.Check = CHECK.now
+text_on page.Judge = JUDGE.now
 text_on page.Demo = DEMO.now
 text_on page.Asm = ASM.now
 text_on page.Dis = DIS.now

@@ -24,7 +24,7 @@ const ROLL: &str = "roll --help;roll -h;roll help;help roll";
 const TOPIC: &str = "help statuses";
 
 const VERSION: &str = "--version;replay --version;roll --version;run --version;monitor --version;\
-check --version;demo --version;asm --version;dis --version";
+check --version;judge --version;demo --version;asm --version;dis --version";
 
 const NEITHER: &str = "\
 '';--;-;-V;--Help;HELP;--helper;hel;--help=1;version;replay;run;monitor;check;demo;asm;dis;fly;fly --help;fly --version;--help fly;\

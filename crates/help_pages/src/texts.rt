@@ -10,7 +10,7 @@ mod schedules;
 mod topics;
 
 use crate::page::Page;
-use commands::{ASM, CHECK, DEMO, DIS};
+use commands::{ASM, CHECK, DEMO, DIS, JUDGE};
 use overview::{OVERVIEW, VERSION};
 use runs::{MONITOR, RUN};
 use schedules::{REPLAY, ROLL};
@@ -27,6 +27,7 @@ fn text_of(page: Page) -> &'static str
         Page::Run => RUN,
         Page::Monitor => MONITOR,
         Page::Check => CHECK,
+        Page::Judge => JUDGE,
         Page::Demo => DEMO,
         Page::Asm => ASM,
         Page::Dis => DIS,

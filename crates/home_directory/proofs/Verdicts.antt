@@ -21,7 +21,7 @@ use Rattle.sn_model.specs.NetEvents.{Outcome, Busy, AtCache, AtHome, Noted, get_
 use Rattle.home_directory.specs.declared.step.HomeStep.{HomeStep}
 use Rattle.sn_model.specs.declared.look.Look.{Look}
 use Rattle.sn_model.specs.declared.look.Look.TheVariants.{Sends}
-use Rattle.home_directory.specs.Receipt.{Verdict, Does, IsBusy, LacksRoom, kept, HasRow, noted_by_read, noted_by_write, noted_by_unblock}
+use Rattle.home_directory.specs.Receipt.{Verdict, Does, IsBusy, LacksRoom, entry_as_it_is, HasRow, noted_by_read, noted_by_write, noted_by_unblock}
 use Rattle.home_directory.specs.Receipt.{unless_open, noting, outcome_at, verdict_on, within, look_of, left_by, Tells}
 use Rattle.home_directory.specs.Serving.{HasLogRoom, lacks_room, waits, count_sends, IsRowDone, DidOutcome}
 
@@ -48,7 +48,7 @@ shared_step true log block now x y h p q = p
 shared_step false log block now x y h p q = q
 
 shared_size : (log : LogData) (entry : HomeEntry) (block now r : ℕ) (holder : Holder) → length log.entries ≤ log.limit →
-    nat_lt log.limit (length (get_shared (kept entry log.entries) block now r holder).after.log)
+    nat_lt log.limit (length (get_shared (entry_as_it_is entry log.entries) block now r holder).after.log)
     ≡ lacks_room log (noted_by_read holder (count_others entry.sharers r) now) block
 shared_size log entry block now r (Itself content) h =
     shared_step (nat_eq (count_others entry.sharers r) 0) log block now _ _ h
@@ -62,21 +62,21 @@ modified_step true limit x y p q = p
 modified_step false limit x y p q = q
 
 modified_size : (log : LogData) (entry : HomeEntry) (block now r : ℕ) (holder : Holder) → length log.entries ≤ log.limit →
-    nat_lt log.limit (length (get_modified (kept entry log.entries) block now r holder).after.log)
+    nat_lt log.limit (length (get_modified (entry_as_it_is entry log.entries) block now r holder).after.log)
     ≡ lacks_room log (noted_by_write holder now) block
 modified_size log entry block now r (Itself content) h = grew (has_entry log.entries now true block) log.entries _ log.limit h
 modified_size log entry block now r (OfCache owner) h =
     modified_step (nat_eq owner r) log.limit _ _ (stays (length log.entries) log.limit h) (stays (length log.entries) log.limit h)
 
 put_size : (log : LogData) (entry : HomeEntry) (now r : ℕ) → length log.entries ≤ log.limit →
-    nat_lt log.limit (length (put_request (kept entry log.entries) now r).after.log) ≡ false
+    nat_lt log.limit (length (put_request (entry_as_it_is entry log.entries) now r).after.log) ≡ false
 put_size log entry now r h =
     modified_step (is_owner entry.holder r) log.limit _ _ (stays (length log.entries) log.limit h) (stays (length log.entries) log.limit h)
 
 end_size : (log : LogData) (entry : HomeEntry) (block fixed : ℕ) (holder : Holder) (t : Transaction) (kind : Kind) → entry.holder ≡ holder →
     t.kind ≡ kind → length log.entries ≤ log.limit →
     nat_lt log.limit (length
-    (unblock (kept (record entry { holder = holder }) log.entries) block fixed (Some (record t { kind = kind }))).after.log)
+    (unblock (entry_as_it_is (record entry { holder = holder }) log.entries) block fixed (Some (record t { kind = kind }))).after.log)
     ≡ lacks_room log (noted_by_unblock (Some (record t { kind = kind })) holder fixed) block
 end_size log entry block fixed (Itself content) t Move p q h = stays (length log.entries) log.limit h
 end_size log entry block fixed (OfCache owner) t Move p q h = grew (has_entry log.entries fixed true block) log.entries _ log.limit h
@@ -86,7 +86,7 @@ end_size log entry block fixed holder t Upgrade p q h = stays (length log.entrie
 end_size log entry block fixed holder t Put p q h = stays (length log.entries) log.limit h
 
 unblock_size : (log : LogData) (entry : HomeEntry) (block fixed : ℕ) (t : Option Transaction) → length log.entries ≤ log.limit →
-    nat_lt log.limit (length (unblock (kept entry log.entries) block fixed t).after.log)
+    nat_lt log.limit (length (unblock (entry_as_it_is entry log.entries) block fixed t).after.log)
     ≡ lacks_room log (noted_by_unblock t entry.holder fixed) block
 unblock_size log entry block fixed None h = stays (length log.entries) log.limit h
 unblock_size log entry block fixed (Some t) h = end_size log entry block fixed entry.holder t t.kind refl refl h
@@ -111,8 +111,8 @@ put_is log block (Some t) reply w h = cc
 -- the verdict: a request waits; a row whose note has no room isn't done; else the row is done
 pub judged_is : (log : LogData) (entry : HomeEntry) (now : ℕ) (m : Message) (body : Body) → HasRow entry m.from body →
     length log.entries ≤ log.limit → waits entry body ≡ false →
-    verdict_on log.limit (outcome_at (kept entry log.entries) now m body)
-    ≡ (if lacks_room log (noting entry now m body) m.block then LacksRoom else does (outcome_at (kept entry log.entries) now m body))
+    verdict_on log.limit (outcome_at (entry_as_it_is entry log.entries) now m body)
+    ≡ (if lacks_room log (noting entry now m body) m.block then LacksRoom else does (outcome_at (entry_as_it_is entry log.entries) now m body))
 judged_is log entry now m (Unblock fixed) r h w = within_is log.limit _ _ (unblock_size log entry m.block fixed entry.transaction h)
 judged_is log entry now m (PutData content) r h w =
     within_is log.limit _ _ (grew (has_entry log.entries m.tag true m.block) log.entries _ log.limit h)

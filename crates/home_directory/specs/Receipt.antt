@@ -18,8 +18,8 @@ use Rattle.home_directory.specs.Home.{HomeData, entry_of, with_entry}
 use Rattle.home_directory.specs.declared.step.HomeStep.{HomeStep}
 use Rattle.home_directory.specs.declared.step.HomeStep.TheVariants.{Took, HomeBusy, LogFull}
 
-abbrev pub kept : HomeEntry → List LogEntry → LoggedEntry
-kept entry log = record { entry = entry; log = log }
+abbrev pub entry_as_it_is : HomeEntry → List LogEntry → LoggedEntry
+entry_as_it_is entry log = record { entry = entry; log = log }
 
 -- which messages have a row
 
@@ -144,10 +144,10 @@ abbrev pub NotesInOrder : HomeData → LogData → ℕ → Message → Type 0
 NotesInOrder home log now m = IsNoteInOrder log.entries (noting (entry_of home m.block) now m m.body) m.block
 
 abbrev pub verdict_at : HomeData → LogData → ℕ → Message → Verdict
-verdict_at home log now m = verdict_of log.limit (kept (entry_of home m.block) log.entries) now m
+verdict_at home log now m = verdict_of log.limit (entry_as_it_is (entry_of home m.block) log.entries) now m
 
 abbrev pub left_at : HomeData → LogData → ℕ → Message → LoggedEntry
-left_at home log now m = left_by (kept (entry_of home m.block) log.entries) (verdict_at home log now m)
+left_at home log now m = left_by (entry_as_it_is (entry_of home m.block) log.entries) (verdict_at home log now m)
 
 -- what the message comes to: the verdict, and the home and the log that it leaves
 pub record Receipt : Type 0 where

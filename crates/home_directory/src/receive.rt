@@ -4,7 +4,7 @@ ghost use Rattle.sn_base.specs.declared.log.LogEntry.{LogEntry};
 ghost use Rattle.log_buffer.specs.Log.{IsLog};
 ghost use Rattle.sn_model.specs.HomeRows.{count_others};
 ghost use Rattle.sn_model.specs.NetEvents.{get_shared, get_modified, put_request};
-ghost use Rattle.home_directory.specs.Receipt.{kept, HasRow, IsNoteInOrder, noted_by_read, noted_by_write, noted_by_unblock, unless_open};
+ghost use Rattle.home_directory.specs.Receipt.{entry_as_it_is, HasRow, IsNoteInOrder, noted_by_read, noted_by_write, noted_by_unblock, unless_open};
 ghost use Rattle.home_directory.specs.Receipt.{noting, outcome_at, verdict_of, left_by, Tells, look_of};
 ghost use Rattle.home_directory.specs.Serving.{IsRowDone, DidOutcome, HasLogRoom, lacks_room, waits, count_sends};
 
@@ -92,7 +92,7 @@ fn count_sends(entry: &DirectoryEntry, message: &Message) -> u8
 /// What `receive` would do.
 pub fn look(entry: &DirectoryEntry, message: &Message, now: Interval, log: &LogBuffer) -> Look
     requires { HasRow entry.now message.now.from message.now.body }
-    ensures { result ≡ look_of (verdict_of log.now.limit (kept entry.now log.now.entries) now message.now) }
+    ensures { result ≡ look_of (verdict_of log.now.limit (entry_as_it_is entry.now log.now.entries) now message.now) }
 {
     if waits(entry, &message.body) {
         return Look::HomeBusy;
@@ -113,8 +113,8 @@ fn get_shared(
         (λ i. HasLogRoom log.old i message.now.block) }
     requires latest { IsNoteInOrder log.old.entries
         (noted_by_read entry.old.holder (count_others entry.old.sharers message.now.from) now) message.now.block }
-    ensures did { IsRowDone (kept entry.new log.new.entries) result
-        (get_shared (kept entry.old log.old.entries) message.now.block now message.now.from entry.old.holder) }
+    ensures did { IsRowDone (entry_as_it_is entry.new log.new.entries) result
+        (get_shared (entry_as_it_is entry.old log.old.entries) message.now.block now message.now.from entry.old.holder) }
     ensures limit { log.new.limit ≡ log.old.limit }
 {
     let (r, content) = (message.from, entry.memory);
@@ -136,8 +136,8 @@ fn get_modified(
 ) -> HomeStep
     requires room { IfSome (noted_by_write entry.old.holder now) (λ i. HasLogRoom log.old i message.now.block) }
     requires latest { IsNoteInOrder log.old.entries (noted_by_write entry.old.holder now) message.now.block }
-    ensures did { IsRowDone (kept entry.new log.new.entries) result
-        (get_modified (kept entry.old log.old.entries) message.now.block now message.now.from entry.old.holder) }
+    ensures did { IsRowDone (entry_as_it_is entry.new log.new.entries) result
+        (get_modified (entry_as_it_is entry.old log.old.entries) message.now.block now message.now.from entry.old.holder) }
     ensures limit { log.new.limit ≡ log.old.limit }
 {
     let (r, content) = (message.from, entry.memory);
@@ -154,7 +154,7 @@ fn get_modified(
 }
 
 fn put_request(entry: &mut DirectoryEntry, now: Interval, r: NodeId) -> HomeStep
-    ensures { (log : List LogEntry) → IsRowDone (kept entry.new log) result (put_request (kept entry.old log) now r) }
+    ensures { (log : List LogEntry) → IsRowDone (entry_as_it_is entry.new log) result (put_request (entry_as_it_is entry.old log) now r) }
 {
     if entry.is_owner(r) {
         rows::put_begins(entry, now, r)
@@ -174,8 +174,8 @@ fn serve(
     requires idle { waits entry.old message.now.body ≡ false }
     requires room { IfSome (noting entry.old now message.now message.now.body) (λ i. HasLogRoom log.old i message.now.block) }
     requires latest { IsNoteInOrder log.old.entries (noting entry.old now message.now message.now.body) message.now.block }
-    ensures did { DidOutcome (kept entry.new log.new.entries) result
-        (outcome_at (kept entry.old log.old.entries) now message.now message.now.body) }
+    ensures did { DidOutcome (entry_as_it_is entry.new log.new.entries) result
+        (outcome_at (entry_as_it_is entry.old log.old.entries) now message.now message.now.body) }
     ensures limit { log.new.limit ≡ log.old.limit }
 {
     let (block, r) = (message.block, message.from);
@@ -198,9 +198,9 @@ pub fn receive(
 ) -> HomeStep
     requires row { HasRow entry.old message.now.from message.now.body }
     requires latest { IsNoteInOrder log.old.entries (noting entry.old now message.now message.now.body) message.now.block }
-    ensures left { kept entry.new log.new.entries
-        ≡ left_by (kept entry.old log.old.entries) (verdict_of log.old.limit (kept entry.old log.old.entries) now message.now) }
-    ensures tells { Tells result (verdict_of log.old.limit (kept entry.old log.old.entries) now message.now) }
+    ensures left { entry_as_it_is entry.new log.new.entries
+        ≡ left_by (entry_as_it_is entry.old log.old.entries) (verdict_of log.old.limit (entry_as_it_is entry.old log.old.entries) now message.now) }
+    ensures tells { Tells result (verdict_of log.old.limit (entry_as_it_is entry.old log.old.entries) now message.now) }
     ensures limit { log.new.limit ≡ log.old.limit }
 {
     if waits(entry, &message.body) {

@@ -5,7 +5,7 @@ ghost use Rattle.log_buffer.specs.Log.{logged_to};
 ghost use Rattle.sn_model.specs.Homes.{HomeEntry, OfCache};
 ghost use Rattle.sn_model.specs.HomeRows.{taken_from_home, noted_owner, read_at_home, read_at_owner, take, move_ownership, upgrade};
 ghost use Rattle.sn_model.specs.HomeRows.{unblock, put_begins, put_is_stale, put_data, grant_exclusive};
-ghost use Rattle.home_directory.specs.Receipt.{kept, noted_by_end, noted_by_unblock, IsNoteInOrder};
+ghost use Rattle.home_directory.specs.Receipt.{entry_as_it_is, noted_by_end, noted_by_unblock, IsNoteInOrder};
 ghost use Rattle.home_directory.specs.Serving.{IsRowDone, HasLogRoom};
 
 use crate::entry::{DirectoryEntry, Transaction};
@@ -43,7 +43,7 @@ fn give_to(
 )
     requires room { HasLogRoom log.old now block }
     requires latest { logged_to log.old.entries true block ≤ now + 1 }
-    ensures gone { kept entry.new log.new.entries ≡ taken_from_home (kept entry.old log.old.entries) block now r content }
+    ensures gone { entry_as_it_is entry.new log.new.entries ≡ taken_from_home (entry_as_it_is entry.old log.old.entries) block now r content }
     ensures limit { log.new.limit ≡ log.old.limit }
 {
     log.note(now, block, Old::WasHome(content));
@@ -59,7 +59,7 @@ pub fn read_at_home(
     r: NodeId,
     content: Block,
 ) -> HomeStep
-    ensures { (log : List LogEntry) → IsRowDone (kept entry.new log) result (read_at_home (kept entry.old log) now r content) }
+    ensures { (log : List LogEntry) → IsRowDone (entry_as_it_is entry.new log) result (read_at_home (entry_as_it_is entry.old log) now r content) }
 {
     entry.sharers = entry.sharers.with(r);
     entry.transaction = begun(Kind::Read, r, now);
@@ -73,7 +73,7 @@ pub fn read_at_owner(
     r: NodeId,
     owner: NodeId,
 ) -> HomeStep
-    ensures { (log : List LogEntry) → IsRowDone (kept entry.new log) result (read_at_owner (kept entry.old log) now r owner) }
+    ensures { (log : List LogEntry) → IsRowDone (entry_as_it_is entry.new log) result (read_at_owner (entry_as_it_is entry.old log) now r owner) }
 {
     entry.sharers = entry.sharers.with(r);
     entry.transaction = begun(Kind::Read, r, now);
@@ -91,7 +91,7 @@ pub fn take(
 ) -> HomeStep
     requires room { HasLogRoom log.old now block }
     requires latest { logged_to log.old.entries true block ≤ now + 1 }
-    ensures did { IsRowDone (kept entry.new log.new.entries) result (take (kept entry.old log.old.entries) block now r content) }
+    ensures did { IsRowDone (entry_as_it_is entry.new log.new.entries) result (take (entry_as_it_is entry.old log.old.entries) block now r content) }
     ensures limit { log.new.limit ≡ log.old.limit }
 {
     let others = entry.sharers.without(r);
@@ -107,7 +107,7 @@ pub fn move_ownership(
     r: NodeId,
     owner: NodeId,
 ) -> HomeStep
-    ensures { (log : List LogEntry) → IsRowDone (kept entry.new log) result (move_ownership (kept entry.old log) now r owner) }
+    ensures { (log : List LogEntry) → IsRowDone (entry_as_it_is entry.new log) result (move_ownership (entry_as_it_is entry.old log) now r owner) }
 {
     let others = entry.sharers.without(r);
     entry.sharers = NodeSet::empty();
@@ -117,7 +117,7 @@ pub fn move_ownership(
 
 /// GetM, and r owns the block: it may write once the other sharers, which get an `Inv`, have acknowledged.
 pub fn upgrade(entry: &mut DirectoryEntry, now: Interval, r: NodeId) -> HomeStep
-    ensures { (log : List LogEntry) → IsRowDone (kept entry.new log) result (upgrade (kept entry.old log) now r) }
+    ensures { (log : List LogEntry) → IsRowDone (entry_as_it_is entry.new log) result (upgrade (entry_as_it_is entry.old log) now r) }
 {
     let others = entry.sharers.without(r);
     entry.sharers = NodeSet::empty();
@@ -135,7 +135,7 @@ fn end_move(
 )
     requires room { IfSome (noted_by_end Kind.Move entry.old.holder fixed) (λ i. HasLogRoom log.old i block) }
     requires latest { IsNoteInOrder log.old.entries (noted_by_end Kind.Move entry.old.holder fixed) block }
-    ensures gone { kept entry.new log.new.entries
+    ensures gone { entry_as_it_is entry.new log.new.entries
         ≡ record {
           entry = record entry.old { holder = OfCache requester };
           log = noted_owner log.old.entries fixed block entry.old.holder;
@@ -160,8 +160,8 @@ pub fn unblock(
 ) -> HomeStep
     requires room { IfSome (noted_by_unblock entry.old.transaction entry.old.holder fixed) (λ i. HasLogRoom log.old i block) }
     requires latest { IsNoteInOrder log.old.entries (noted_by_unblock entry.old.transaction entry.old.holder fixed) block }
-    ensures did { IsRowDone (kept entry.new log.new.entries) result
-        (unblock (kept entry.old log.old.entries) block fixed entry.old.transaction) }
+    ensures did { IsRowDone (entry_as_it_is entry.new log.new.entries) result
+        (unblock (entry_as_it_is entry.old log.old.entries) block fixed entry.old.transaction) }
     ensures limit { log.new.limit ≡ log.old.limit }
 {
     let transaction = entry.transaction;
@@ -177,7 +177,7 @@ pub fn unblock(
 
 /// PutReq of the owner: it may give the block back.
 pub fn put_begins(entry: &mut DirectoryEntry, now: Interval, r: NodeId) -> HomeStep
-    ensures { (log : List LogEntry) → IsRowDone (kept entry.new log) result (put_begins (kept entry.old log) now r) }
+    ensures { (log : List LogEntry) → IsRowDone (entry_as_it_is entry.new log) result (put_begins (entry_as_it_is entry.old log) now r) }
 {
     entry.transaction = begun(Kind::Put, r, now);
     took(r, Body::PutGo, NodeSet::empty(), r)
@@ -185,7 +185,7 @@ pub fn put_begins(entry: &mut DirectoryEntry, now: Interval, r: NodeId) -> HomeS
 
 /// PutReq of a node that doesn't own the block any more: there is nothing to give back.
 pub fn put_is_stale(r: NodeId) -> HomeStep
-    ensures { (entry : HomeEntry) (log : List LogEntry) → IsRowDone (kept entry log) result (put_is_stale (kept entry log) r) }
+    ensures { (entry : HomeEntry) (log : List LogEntry) → IsRowDone (entry_as_it_is entry log) result (put_is_stale (entry_as_it_is entry log) r) }
 {
     took(r, Body::PutDone, NodeSet::empty(), r)
 }
@@ -201,7 +201,7 @@ pub fn put_data(
 ) -> HomeStep
     requires room { HasLogRoom log.old tag block }
     requires latest { logged_to log.old.entries true block ≤ tag + 1 }
-    ensures did { IsRowDone (kept entry.new log.new.entries) result (put_data (kept entry.old log.old.entries) block tag r content) }
+    ensures did { IsRowDone (entry_as_it_is entry.new log.new.entries) result (put_data (entry_as_it_is entry.old log.old.entries) block tag r content) }
     ensures limit { log.new.limit ≡ log.old.limit }
 {
     log.note(tag, block, Old::WasCache(r));
@@ -222,7 +222,7 @@ pub fn grant_exclusive(
 ) -> HomeStep
     requires room { HasLogRoom log.old now block }
     requires latest { logged_to log.old.entries true block ≤ now + 1 }
-    ensures did { IsRowDone (kept entry.new log.new.entries) result (grant_exclusive (kept entry.old log.old.entries) block now r content) }
+    ensures did { IsRowDone (entry_as_it_is entry.new log.new.entries) result (grant_exclusive (entry_as_it_is entry.old log.old.entries) block now r content) }
     ensures limit { log.new.limit ≡ log.old.limit }
 {
     give_to(entry, log, block, now, r, content);

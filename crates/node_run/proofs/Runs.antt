@@ -39,7 +39,7 @@ use Rattle.node_run.specs.Endings.{ending_by, flat_after, ending_of}
 use Rattle.node_run.specs.Pieces.{begins, tallies_by, entry_lines, journal_text, journal_pieces, summary_by, report_by}
 use Rattle.node_run.specs.Reported.{report_by_kind, report_now, HaveNumbers, ended_now, IsReported, IsUnreported}
 use Rattle.node_run.specs.Shown.{MayBegin, IsJournal, IsTrace, IsScript, written_trace}
-use Rattle.node_run.specs.Shown.{IsDone, IsBrokenOff, KnowAll, output_by}
+use Rattle.node_run.specs.Shown.{IsDoneWith, IsBrokenOffWith, KnowAll, output_by}
 use Rattle.node_run.proofs.ReadBack.{journal-read}
 use Rattle.node_run.proofs.Replays.{told-replayed, replayed-so}
 
@@ -183,13 +183,12 @@ module _ (r : Run) (began : Began) (m : MachineData) (journal : List JournalEntr
 
     run-done : (r.showing.report ≡ Journal → HaveNumbers journal) → (r.showing.report ≡ Trace → All HasValues m.state.committed) →
         ((c : Option (List ℕ)) → ends c shown ≡ after (ends c report) (report_now m journal r.showing (tallies_of told))) →
-        IsDone r probes ending (ends console report) (ends written shown) told
+        IsDoneWith r journal probes ending (ends console report) (ends written shown) told
     run-done numbers values put =
         let whole : ends written shown ≡ after (ends written report) (report_by r.showing.report r probes journal) = put written
         ∙ ap (after (ends written report)) (report-is probes told are) in
         let text : shown ≡ followed_by report (report_text (report_by r.showing.report r probes journal)) = report-after
         (ends written report) (ends written shown) (report_by r.showing.report r probes journal) whole in (
-          journal,
           record {
             journal_is = its-journal;
             ended = its-ending;
@@ -208,11 +207,10 @@ module _ (r : Run) (began : Began) (m : MachineData) (journal : List JournalEntr
         )
 
     run-cut_short : ((c : Option (List ℕ)) → Breaks (report_now m journal r.showing (tallies_of told)) (ends c report) (ends c shown)) →
-        IsBrokenOff r probes was is (ends console report) (ends written shown) told
+        IsBrokenOffWith r journal probes was is (ends console report) (ends written shown) told
     run-cut_short put =
         let part : Breaks (report_by r.showing.report r probes journal) (ends written report) (ends written shown) =
         subst (λ (t : List Piece). Breaks t (ends written report) (ends written shown)) (report-is probes told are) (put written) in (
-          journal,
           knows-all probes told are,
           inr (
             ending,
@@ -241,10 +239,9 @@ module _ (r : Run) (began : Began) (m : MachineData) (journal : List JournalEntr
     stopped none =
         subst (λ (f : Finish). EndsSo began journal f m.state.released console written was is) (stopped-by m.config.nodes m found none) so
 
-    run-stopped : ended_now m found ≡ None → shown ≡ report → IsBrokenOff r probes was is (ends console report) (ends written shown) told
+    run-stopped : ended_now m found ≡ None → shown ≡ report → IsBrokenOffWith r journal probes was is (ends console report) (ends written shown) told
     run-stopped none same =
         let failed = stopped none in (
-          journal,
           knows-all probes told are,
           inl (
             failed.1,
@@ -264,10 +261,10 @@ module _ (r : Run) (began : Began) (m : MachineData) (journal : List JournalEntr
         )
 
     pub run-reported : (ending : Ending) → IsReported m journal found r.showing (tallies_of told) ending report shown →
-        IsDone r probes ending (ends console report) (ends written shown) told
+        IsDoneWith r journal probes ending (ends console report) (ends written shown) told
     run-reported ending h = run-done found ending was is console written report shown probes told h.ended so are h.numbers h.values h.put
 
     pub run-unreported : IsUnreported m journal found r.showing (tallies_of told) report shown →
-        IsBrokenOff r probes was is (ends console report) (ends written shown) told
+        IsBrokenOffWith r journal probes was is (ends console report) (ends written shown) told
     run-unreported (inl none) = run-stopped none.0 none.1
     run-unreported (inr h) = run-cut_short found h.ending was is console written report shown probes told h.ended so are h.broken

@@ -109,12 +109,19 @@ pub record IsCutShort (r : Run) (probes : List Meter) (ending : Ending) (journal
 abbrev pub KnowAll : Run → List JournalEntry → List Meter → List Meter → Type 0
 KnowAll r journal probes told = told ≡ told_all (replay_of r journal) probes
 
--- what a run comes to that puts all, and one that a sink broke
-abbrev pub IsDone : Run → List Meter → Ending → Ends → Ends → List Meter → Type 0
-IsDone r probes ending before behind told =
-    (journal : List JournalEntry) × IsRunToEnd r probes ending journal before behind × KnowAll r journal probes told
+-- what a run with this journal comes to that puts all, and one that a sink broke, which is stopped only where the console's count of faults
+-- rose
+abbrev pub IsDoneWith : Run → List JournalEntry → List Meter → Ending → Ends → Ends → List Meter → Type 0
+IsDoneWith r journal probes ending before behind told = IsRunToEnd r probes ending journal before behind × KnowAll r journal probes told
 
--- it is stopped only where the console's count of faults rose
-abbrev pub IsBrokenOff : Run → List Meter → ℕ → ℕ → Ends → Ends → List Meter → Type 0
-IsBrokenOff r probes was is before behind told = (journal : List JournalEntry) × KnowAll r journal probes told × (
+abbrev pub IsBrokenOffWith : Run → List JournalEntry → List Meter → ℕ → ℕ → Ends → Ends → List Meter → Type 0
+IsBrokenOffWith r journal probes was is before behind told = KnowAll r journal probes told × (
     (Rose was is × IsStopped r journal before behind) ⊎ ((ending : Ending) × IsCutShort r probes ending journal before behind))
+
+-- the same with some journal
+abbrev pub IsDone : Run → List Meter → Ending → Ends → Ends → List Meter → Type 0
+IsDone r probes ending before behind told = (journal : List JournalEntry) × IsDoneWith r journal probes ending before behind told
+
+abbrev pub IsBrokenOff : Run → List Meter → ℕ → ℕ → Ends → Ends → List Meter → Type 0
+IsBrokenOff r probes was is before behind told =
+    (journal : List JournalEntry) × IsBrokenOffWith r journal probes was is before behind told

@@ -14,5 +14,6 @@ mod running;
 
 pub use ending::Ending;
 pub use job::{Run, RunShowing};
+pub use reporting::put_ended;
 pub use running::{RunFault, run};
 pub use sn_base::Rules;

@@ -111,7 +111,7 @@ fn put_run<R: Sink>(
 
 /// Tells how a run ended that left this, and puts its report. None where the run was stopped, and then the report has nothing,
 /// or where the report broke.
-pub(crate) fn put_ended<R: Sink>(
+pub fn put_ended<R: Sink>(
     line: &mut Line,
     finished: &Finished,
     showing: &RunShowing,

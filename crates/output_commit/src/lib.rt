@@ -11,7 +11,7 @@ ghost use Rattle.std.specs.Prelude.{◌≡◌, ◌-◌, ◌<◌, max, [], ◌∷
 ghost use Rattle.interval_list.specs.WaitingList.{entries_below, waiting_from, waiting_below};
 ghost use Rattle.output_commit.specs.Output.{Output};
 
-use interval_list::IntervalList;
+use interval_list::{IntervalList, Waiting};
 use sn_base::{Interval, Memory};
 use std::alloc::Global;
 use std::marker::Model;
@@ -76,6 +76,13 @@ impl OutBuffer {
         self.bytes.drop_from(k);
     }
 
+    /// The bytes that are held, in the order in which they were put, each with its interval.
+    pub fn held(&self) -> &[Waiting<u8>]
+        ensures { result.now ≡ self.now.held }
+    {
+        self.bytes.waiting()
+    }
+
     pub fn released(&self) -> &[u8]
         ensures { result.now ≡ self.now.released }
     {
@@ -98,6 +105,7 @@ mod tests {
         output.put(0, b'b');
         output.put(2, b'e');
         assert!(rt; output.released().is_empty());
+        assert_eq!(rt; output.held().len(), 5);
         output.release_below(2);
         assert_eq!(rt; output.released(), b"abcd".as_slice());
         output.drop_from(2);

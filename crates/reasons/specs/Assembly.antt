@@ -5,7 +5,7 @@ use Rattle.std.specs.List.{position}
 use Rattle.rv_asm.specs.declared.fault.AsmCause.{AsmCause}
 use Rattle.rv_asm.specs.declared.fault.AsmCause.TheVariants.{TooLong, BadLine, OutOfRange, LabelTwice, TooManyWords, NoLabel}
 use Rattle.reasons.specs.declared.assembly.TheConstants.{PSEUDOS}
-use Rattle.reasons.specs.Reason.{escaped_text, place, seen, too_long}
+use Rattle.reasons.specs.Reason.{escaped_text, place, colon_and, too_long}
 use Rattle.reasons.specs.Places.{line_at}
 use Rattle.reasons.specs.Hints.{front_to, back_from}
 
@@ -56,7 +56,7 @@ pseudo text line template = text ++ escaped_text (word_in line) ++ codes " is a 
     ++ flat_map (operand_or_byte (behind_word line)) template
 
 abbrev pub formless_by : List ℕ → List ℕ → Option (List ℕ) → List ℕ
-formless_by text line None = text ++ codes "this line is no instruction" ++ seen (Some line)
+formless_by text line None = text ++ codes "this line is no instruction" ++ colon_and (Some line)
 formless_by text line (Some template) = pseudo text line template
 
 abbrev pub formless_text : List ℕ → Option (List ℕ) → List ℕ
@@ -76,10 +76,10 @@ line_of (NoLabel number) = Some number
 abbrev pub what_of : List ℕ → List ℕ → AsmCause → List ℕ
 what_of text bytes TooLong = too_long text 16777216
 what_of text bytes (BadLine number) = formless_text text (line_at bytes number)
-what_of text bytes (OutOfRange number) = text ++ codes "a number or an offset doesn't fit" ++ seen (line_at bytes number)
-what_of text bytes (LabelTwice number) = text ++ codes "this label stands on an earlier line too" ++ seen (line_at bytes number)
+what_of text bytes (OutOfRange number) = text ++ codes "a number or an offset doesn't fit" ++ colon_and (line_at bytes number)
+what_of text bytes (LabelTwice number) = text ++ codes "this label stands on an earlier line too" ++ colon_and (line_at bytes number)
 what_of text bytes (TooManyWords number) = text ++ codes "more than 1048576 words don't fit memory"
-what_of text bytes (NoLabel number) = text ++ codes "no line has the label that this one names" ++ seen (line_at bytes number)
+what_of text bytes (NoLabel number) = text ++ codes "no line has the label that this one names" ++ colon_and (line_at bytes number)
 
 -- a text, and then why the assembly text is refused
 unfoldable pub asm_reason : List ℕ → List ℕ → List ℕ → AsmCause → List ℕ

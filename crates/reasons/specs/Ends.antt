@@ -24,16 +24,16 @@ unread_text Directory = codes "it is a directory"
 unread_text Other = codes "it couldn't be read"
 
 -- a text, and then what the system didn't give
-unfoldable pub lacked : List ℕ → Lack → List ℕ
-lacked text missing = text ++ lack_text missing
+unfoldable pub lack_reason : List ℕ → Lack → List ℕ
+lack_reason text missing = text ++ lack_text missing
 
 -- a text, and then which file couldn't be read, and why
 unfoldable pub unread : List ℕ → List ℕ → Unread → List ℕ
 unread text name fault = text ++ of_file name ++ unread_text fault
 
 -- a text, and then that a run has as many events as it may have
-unfoldable pub spent : List ℕ → ℕ → List ℕ
-spent text budget = text ++ codes "the run has " ++ decimal budget ++ codes " events, which is its budget, and its cores haven't all ended"
+unfoldable pub spent_reason : List ℕ → ℕ → List ℕ
+spent_reason text budget = text ++ codes "the run has " ++ decimal budget ++ codes " events, which is its budget, and its cores haven't all ended"
 
 -- a text, and then which nodes are cut off
 unfoldable pub cut_off : List ℕ → ℕ → ℕ → List ℕ
@@ -50,5 +50,5 @@ trap_text UnknownCall = codes "the number in a7 names no call"
 trap_text Break = codes "it met ebreak"
 
 -- a text, and then which core trapped, and why
-unfoldable pub trapped : List ℕ → ℕ → Cause → List ℕ
-trapped text node cause = text ++ codes "core " ++ decimal node ++ codes " trapped: " ++ trap_text cause
+unfoldable pub trap_reason : List ℕ → ℕ → Cause → List ℕ
+trap_reason text node cause = text ++ codes "core " ++ decimal node ++ codes " trapped: " ++ trap_text cause

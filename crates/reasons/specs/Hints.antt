@@ -4,15 +4,17 @@ use Rattle.std.specs.Prelude.{take, drop, codes, slice_index, Option, Some, None
 use Rattle.std.specs.List.{position}
 use Rattle.reasons.specs.Near.{nearest}
 use Rattle.reasons.specs.declared.hints.TextKind.{TextKind}
-use Rattle.reasons.specs.declared.hints.TextKind.TheVariants.{Script, Control, Trace}
+use Rattle.reasons.specs.declared.hints.TextKind.TheVariants.{Script, Control, Trace, Accesses}
 
--- the words by which lines begin
+-- the words by which lines begin, and of accesses those that say what each did
 abbrev pub words_of : TextKind → List (List ℕ)
 words_of Script =
     codes "step" ∷ codes "edge" ∷ codes "report" ∷ codes "hop" ∷ codes "deliver" ∷ codes "lose" ∷ codes "kill" ∷ codes "evict"
     ∷ codes "input" ∷ codes "validate" ∷ codes "recover" ∷ []
 words_of Control = codes "order" ∷ codes "repeat" ∷ codes "lose" ∷ codes "deliver" ∷ codes "finish" ∷ []
 words_of Trace = []
+words_of Accesses =
+    codes "r" ∷ codes "w" ∷ codes "lr" ∷ codes "sc" ∷ codes "scfail" ∷ codes "amo" ∷ codes "init" ∷ []
 
 abbrev pub begins : List ℕ → List ℕ → Bool
 begins text line = bytes_eq (take (length text) line) text
@@ -65,21 +67,32 @@ abbrev pub has_leading_zero : TextKind → List ℕ → Bool
 has_leading_zero Script line = is_padded (operand line)
 has_leading_zero Control line = is_padded (operand line)
 has_leading_zero Trace line = is_padded line
+has_leading_zero Accesses line = is_padded line
 
 abbrev pub begins_by_digit : List ℕ → Bool
 begins_by_digit [] = false
 begins_by_digit (byte ∷ line) = is_digit byte
 
--- whether the line is one of a script where a trace is wanted, or the other way round
+-- the word that says what a line is: of an access the second, behind its core, and of any other line the first
+abbrev pub key_word : TextKind → List ℕ → List ℕ
+key_word Accesses line = if begins_by_digit line then first_word (operand line) else first_word line
+key_word _ line = first_word line
+
+abbrev pub is_scripts : List ℕ → Bool
+is_scripts line = begins (codes "step ") line || begins (codes "edge ") line || begins (codes "deliver ") line
+
+-- whether the line is one of a script where a trace or accesses are wanted, or one of these where a script is
 abbrev pub is_of_other : TextKind → List ℕ → Bool
 is_of_other Script line = begins_by_digit line
 is_of_other Control line = begins_by_digit line
-is_of_other Trace line = begins (codes "step ") line || begins (codes "edge ") line || begins (codes "deliver ") line
+is_of_other Trace line = is_scripts line
+is_of_other Accesses line = is_scripts line
 
 abbrev pub other_text : TextKind → List ℕ
 other_text Script = codes "it is a trace's, which check takes"
 other_text Control = codes "it is a trace's, which check takes"
 other_text Trace = codes "it is a script's, which replay takes"
+other_text Accesses = codes "it is a script's, which replay takes"
 
 -- what is wrong with a line that means well, by the first row that fits
 unfoldable pub slip : TextKind → List ℕ → Option (List ℕ)
@@ -104,6 +117,6 @@ abbrev pub hint_by : List ℕ → Option (List ℕ) → Option (List ℕ) → Li
 hint_by text (Some slip) near = text ++ codes "; " ++ slip
 hint_by text None near = meant text near
 
--- a text, and then what the line is near to: the slip, or else the word that its first one is near to; or nothing
+-- a text, and then what the line is near to: the slip, or else the word that its key word is near to; or nothing
 unfoldable pub hint : List ℕ → TextKind → List ℕ → List ℕ
-hint text kind line = hint_by text (slip kind line) (nearest (words_of kind) (first_word line))
+hint text kind line = hint_by text (slip kind line) (nearest (words_of kind) (key_word kind line))

@@ -10,7 +10,7 @@ use Rattle.elf_load.specs.declared.fault.LoadCause.{LoadCause}
 use Rattle.elf_load.specs.declared.fault.LoadCause.TheVariants.{Empty, BadHexLine, TooManyWords, Truncated, WrongField, Compressed, TooManySegments}
 use Rattle.elf_load.specs.declared.fault.LoadCause.TheVariants.{FileLargerThanMemory, Outside, Overlap, WritableCode, BadEntry}
 use Rattle.reasons.specs.declared.header.Header.{Header}
-use Rattle.reasons.specs.Reason.{place, quoted}
+use Rattle.reasons.specs.Reason.{place, quotation_of}
 use Rattle.reasons.specs.Places.{line_at}
 use Rattle.reasons.specs.Headers.{header_of}
 
@@ -39,8 +39,8 @@ unfoldable pub field_reason : List ℕ → Field → ℕ → List ℕ
 field_reason text field value = text ++ codes "the " ++ field_name field ++ codes " is " ++ hex_word value
     ++ codes ", and a program for this machine has " ++ hex_word (field_value field)
 
-unfoldable pub headed : List ℕ → ℕ → List ℕ
-headed text number = text ++ codes "program header " ++ decimal number ++ codes ": "
+unfoldable pub header_reason : List ℕ → ℕ → List ℕ
+header_reason text number = text ++ codes "program header " ++ decimal number ++ codes ": "
 
 unfoldable pub larger : List ℕ → Option Header → List ℕ
 larger text None = text ++ codes "it has more bytes in the file than in memory"
@@ -72,7 +72,7 @@ unfoldable pub word_line : List ℕ → Option (List ℕ) → List ℕ
 word_line text None = text ++ codes "this line isn't eight hexadecimal digits"
 word_line text (Some line) =
     if is_assembly line then text ++ codes "this is assembler; safetynet asm turns it into words"
-    else text ++ quoted line ++ codes " isn't eight hexadecimal digits"
+    else text ++ quotation_of line ++ codes " isn't eight hexadecimal digits"
 
 -- whether the file is a text of hexadecimal words, and no ELF file
 abbrev pub is_text : List ℕ → Bool
@@ -88,8 +88,8 @@ unfoldable pub overlapping : List ℕ → ℕ → ℕ → List ℕ
 overlapping text earlier later =
     text ++ codes "program headers " ++ decimal earlier ++ codes " and " ++ decimal later ++ codes " share a byte of memory"
 
-unfoldable pub truncated : List ℕ → ℕ → ℕ → List ℕ
-truncated text needed found =
+unfoldable pub truncation_reason : List ℕ → ℕ → ℕ → List ℕ
+truncation_reason text needed found =
     text ++ codes "the file ends after " ++ decimal found ++ codes " bytes, and " ++ decimal needed ++ codes " are needed"
 
 -- what is wrong
@@ -97,14 +97,14 @@ abbrev pub what_of : List ℕ → List ℕ → LoadCause → List ℕ
 what_of text bytes Empty = text ++ codes "the file is empty"
 what_of text bytes (BadHexLine number) = word_line text (line_at bytes number)
 what_of text bytes TooManyWords = text ++ codes "more than 1048576 words don't fit memory"
-what_of text bytes (Truncated needed found) = truncated text needed found
+what_of text bytes (Truncated needed found) = truncation_reason text needed found
 what_of text bytes (WrongField field value) = field_reason text field value
 what_of text bytes Compressed = text ++ codes "it has compressed instructions, which this machine leaves out"
 what_of text bytes (TooManySegments count) = text ++ decimal count ++ codes " program headers are more than 64"
-what_of text bytes (FileLargerThanMemory number) = larger (headed text number) (header_of bytes number)
-what_of text bytes (Outside number) = outside (headed text number) (header_of bytes number)
+what_of text bytes (FileLargerThanMemory number) = larger (header_reason text number) (header_of bytes number)
+what_of text bytes (Outside number) = outside (header_reason text number) (header_of bytes number)
 what_of text bytes (Overlap earlier later) = overlapping text earlier later
-what_of text bytes (WritableCode number) = headed text number ++ codes "what is executed must not be writable"
+what_of text bytes (WritableCode number) = header_reason text number ++ codes "what is executed must not be writable"
 what_of text bytes (BadEntry entry) = entry_reason text bytes entry
 
 -- the line that is blamed

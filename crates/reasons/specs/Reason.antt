@@ -17,8 +17,8 @@ abbrev pub escaped_text : List ℕ → List ℕ
 escaped_text found = flat_map escape_of found
 
 -- the first 60 bytes that were found, between quotation marks; two dots stand behind them where there are more
-unfoldable pub quoted : List ℕ → List ℕ
-quoted found =
+unfoldable pub quotation_of : List ℕ → List ℕ
+quotation_of found =
     if nat_lt 60 (length found) then codes "\"" ++ escaped_text (take 60 found) ++ codes "\".."
     else codes "\"" ++ escaped_text found ++ codes "\""
 
@@ -36,9 +36,9 @@ place text name None = text ++ of_file name
 place text name (Some number) = text ++ at_line name number
 
 -- what was found, behind a colon
-unfoldable pub seen : Option (List ℕ) → List ℕ
-seen None = []
-seen (Some found) = codes ": " ++ quoted found
+unfoldable pub colon_and : Option (List ℕ) → List ℕ
+colon_and None = []
+colon_and (Some found) = codes ": " ++ quotation_of found
 
 -- a text, and then that the file has more bytes than may be
 unfoldable pub too_long : List ℕ → ℕ → List ℕ
@@ -48,5 +48,5 @@ too_long text limit = text ++ codes "more than " ++ decimal limit ++ codes " byt
 unfoldable pub begun : List ℕ → List ℕ
 begun text = text ++ codes "# why: "
 
-unfoldable pub ended : List ℕ → List ℕ
-ended text = text ++ codes "\n"
+unfoldable pub line_of_reason : List ℕ → List ℕ
+line_of_reason text = text ++ codes "\n"

@@ -1,7 +1,7 @@
 //! Why an assembly text is refused.
 ghost use Rattle.std.specs.Prelude.{◌≡◌, ◌++◌, nat_eq, map, flat_map, option_map, OnOk};
 ghost use Rattle.std.specs.List.{position};
-ghost use Rattle.reasons.specs.Reason.{seen, begun, ended};
+ghost use Rattle.reasons.specs.Reason.{colon_and, begun, line_of_reason};
 ghost use Rattle.reasons.specs.Assembly.{is_mark, ends_word, behind_blanks, word_in, behind_word, behind_comma, operand_or_byte, instead_of};
 ghost use Rattle.reasons.specs.Assembly.{pseudo, formless_by, formless_text, line_of, what_of, asm_reason};
 
@@ -143,7 +143,7 @@ fn write_pseudo(reason: &mut Reason, line: &[u8], template: &str) -> Result<(), 
 
 /// A text that says what is wrong, and the line.
 fn write_at(reason: &mut Reason, text: &str, line: Option<&[u8]>) -> Result<(), Memory>
-    ensures { OnOk result (reason.new ≡ reason.old ++ text.now ++ seen (option_map (λ line. line.now) line.entry)) }
+    ensures { OnOk result (reason.new ≡ reason.old ++ text.now ++ colon_and (option_map (λ line. line.now) line.entry)) }
 {
     reason.text(text)?;
     reason.seen(line)
@@ -217,7 +217,7 @@ pub fn write_assembly(
     bytes: &[u8],
     cause: AsmCause,
 ) -> Result<(), Memory>
-    ensures { OnOk result (reason.new ≡ ended (asm_reason (begun reason.old) name.now bytes.now cause)) }
+    ensures { OnOk result (reason.new ≡ line_of_reason (asm_reason (begun reason.old) name.now bytes.now cause)) }
 {
     reason.begin()?;
     reason.place(name, line_of(cause))?;

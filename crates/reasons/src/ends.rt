@@ -1,7 +1,7 @@
 //! Why a call ended that was not refused, or that wanted what the system didn't give.
 ghost use Rattle.std.specs.Prelude.{◌≡◌, ◌++◌, OnOk};
-ghost use Rattle.reasons.specs.Reason.{of_file, too_long, begun, ended};
-ghost use Rattle.reasons.specs.Ends.{lack_text, lacked, unread_text, unread, spent, cut_off, trap_text, trapped};
+ghost use Rattle.reasons.specs.Reason.{of_file, too_long, begun, line_of_reason};
+ghost use Rattle.reasons.specs.Ends.{lack_text, lack_reason, unread_text, unread, spent_reason, cut_off, trap_text, trap_reason};
 
 use crate::reason::Reason;
 use rv_core::Cause;
@@ -40,9 +40,9 @@ fn lack_text(lack: Lack) -> &'static str
 }
 
 /// The line that says what the system didn't give.
-#[tactic(auto, unfolding(crate::specs::Ends::lacked))]
+#[tactic(auto, unfolding(crate::specs::Ends::lack_reason))]
 pub fn write_lack(reason: &mut Reason, lack: Lack) -> Result<(), Memory>
-    ensures { OnOk result (reason.new ≡ ended (lacked (begun reason.old) lack)) }
+    ensures { OnOk result (reason.new ≡ line_of_reason (lack_reason (begun reason.old) lack)) }
 {
     reason.begin()?;
     reason.text(lack_text(lack))?;
@@ -63,7 +63,7 @@ fn unread_text(fault: Unread) -> &'static str
 /// The line that says why a file couldn't be read.
 #[tactic(auto, unfolding(crate::specs::Ends::unread))]
 pub fn write_unread(reason: &mut Reason, name: &str, fault: Unread) -> Result<(), Memory>
-    ensures { OnOk result (reason.new ≡ ended (unread (begun reason.old) name.now fault)) }
+    ensures { OnOk result (reason.new ≡ line_of_reason (unread (begun reason.old) name.now fault)) }
 {
     reason.begin()?;
     reason.of_file(name)?;
@@ -73,7 +73,7 @@ pub fn write_unread(reason: &mut Reason, name: &str, fault: Unread) -> Result<()
 
 /// The line that says that a file has more bytes than may be.
 pub fn write_longer(reason: &mut Reason, name: &str, limit: u64) -> Result<(), Memory>
-    ensures { OnOk result (reason.new ≡ ended (too_long (begun reason.old ++ of_file name.now) limit)) }
+    ensures { OnOk result (reason.new ≡ line_of_reason (too_long (begun reason.old ++ of_file name.now) limit)) }
 {
     reason.begin()?;
     reason.of_file(name)?;
@@ -82,9 +82,9 @@ pub fn write_longer(reason: &mut Reason, name: &str, limit: u64) -> Result<(), M
 }
 
 /// The line that says that a run has as many events as it may have.
-#[tactic(auto, unfolding(crate::specs::Ends::spent))]
+#[tactic(auto, unfolding(crate::specs::Ends::spent_reason))]
 pub fn write_spent(reason: &mut Reason, budget: u32) -> Result<(), Memory>
-    ensures { OnOk result (reason.new ≡ ended (spent (begun reason.old) budget)) }
+    ensures { OnOk result (reason.new ≡ line_of_reason (spent_reason (begun reason.old) budget)) }
 {
     reason.begin()?;
     reason.text("the run has ")?;
@@ -96,7 +96,7 @@ pub fn write_spent(reason: &mut Reason, budget: u32) -> Result<(), Memory>
 /// The line that says which nodes are cut off.
 #[tactic(auto, unfolding(crate::specs::Ends::cut_off))]
 pub fn write_cut_off(reason: &mut Reason, a: NodeId, b: NodeId) -> Result<(), Memory>
-    ensures { OnOk result (reason.new ≡ ended (cut_off (begun reason.old) a b)) }
+    ensures { OnOk result (reason.new ≡ line_of_reason (cut_off (begun reason.old) a b)) }
 {
     reason.begin()?;
     reason.text("nodes ")?;
@@ -122,9 +122,9 @@ fn trap_text(cause: Cause) -> &'static str
 }
 
 /// The line that says why a core trapped.
-#[tactic(auto, unfolding(crate::specs::Ends::trapped))]
+#[tactic(auto, unfolding(crate::specs::Ends::trap_reason))]
 pub fn write_trapped(reason: &mut Reason, node: NodeId, cause: Cause) -> Result<(), Memory>
-    ensures { OnOk result (reason.new ≡ ended (trapped (begun reason.old) node cause)) }
+    ensures { OnOk result (reason.new ≡ line_of_reason (trap_reason (begun reason.old) node cause)) }
 {
     reason.begin()?;
     reason.text("core ")?;

@@ -1,7 +1,7 @@
 //! What a line that is refused is near to.
 ghost use Rattle.std.specs.Prelude.{◌≡◌, nat_eq, map, option_map, OnOk};
 ghost use Rattle.std.specs.List.{position};
-ghost use Rattle.reasons.specs.Hints.{words_of, begins, has, has_capital, ends_blank, first_word, operand, has_two_blanks};
+ghost use Rattle.reasons.specs.Hints.{words_of, key_word, begins_by_digit, begins, has, has_capital, ends_blank, first_word, operand, has_two_blanks};
 ghost use Rattle.reasons.specs.Hints.{is_digit, is_capital, is_padded, has_leading_zero, is_of_other, other_text, slip, meant, hint};
 
 use crate::near::nearest;
@@ -14,6 +14,7 @@ pub enum TextKind {
     Script,
     Control,
     Trace,
+    Accesses,
 }
 
 /// The words by which the lines of a script begin.
@@ -25,6 +26,9 @@ const EVENTS: &[&str] = &[
 /// The words by which the lines of a control file begin.
 const CONTROLS: &[&str] = &["order", "repeat", "lose", "deliver", "finish"];
 
+/// The words that say what an access did, and the one by which a line of memory's start begins.
+const OPERATIONS: &[&str] = &["r", "w", "lr", "sc", "scfail", "amo", "init"];
+
 fn words_of(kind: TextKind) -> &'static [&'static str]
     ensures { map (λ word. word.now) result.now ≡ words_of kind }
 {
@@ -32,6 +36,7 @@ fn words_of(kind: TextKind) -> &'static [&'static str]
         TextKind::Script => EVENTS,
         TextKind::Control => CONTROLS,
         TextKind::Trace => &[],
+        TextKind::Accesses => OPERATIONS,
     }
 }
 
@@ -116,23 +121,39 @@ fn has_leading_zero(kind: TextKind, line: &[u8]) -> bool
     ensures { result ≡ has_leading_zero kind line.now }
 {
     match kind {
-        TextKind::Trace => is_padded(line),
+        TextKind::Trace | TextKind::Accesses => is_padded(line),
         TextKind::Script | TextKind::Control => is_padded(operand(line)),
     }
 }
 
-/// Whether the line is one of a script where a trace is wanted, or the other way round.
+fn begins_by_digit(line: &[u8]) -> bool
+    ensures { result ≡ begins_by_digit line.now }
+{
+    match line {
+        [first, ..] => is_digit(*first),
+        [] => false,
+    }
+}
+
+/// The word that says what a line is: of an access the second, behind its core, and of any other line the first.
+fn key_word(kind: TextKind, line: &[u8]) -> &[u8]
+    ensures { result.now ≡ key_word kind line.entry.now }
+{
+    match kind {
+        TextKind::Accesses if begins_by_digit(line) => first_word(operand(line)),
+        _ => first_word(line),
+    }
+}
+
+/// Whether the line is one of a script where a trace or accesses are wanted, or one of these where a script is.
 fn is_of_other(kind: TextKind, line: &[u8]) -> bool
     ensures { result ≡ is_of_other kind line.now }
 {
     match kind {
-        TextKind::Trace => begins(b"step ", line)
+        TextKind::Trace | TextKind::Accesses => begins(b"step ", line)
             || begins(b"edge ", line)
             || begins(b"deliver ", line),
-        TextKind::Script | TextKind::Control => match line {
-            [first, ..] => is_digit(*first),
-            [] => false,
-        },
+        TextKind::Script | TextKind::Control => begins_by_digit(line),
     }
 }
 
@@ -168,7 +189,7 @@ fn other_text(kind: TextKind) -> &'static str
     ensures { result.now ≡ other_text kind }
 {
     match kind {
-        TextKind::Trace => "it is a script's, which replay takes",
+        TextKind::Trace | TextKind::Accesses => "it is a script's, which replay takes",
         TextKind::Script | TextKind::Control => "it is a trace's, which check takes",
     }
 }
@@ -184,7 +205,7 @@ fn write_meant(reason: &mut Reason, word: Option<&str>) -> Result<(), Memory>
     reason.text("?")
 }
 
-/// What the line is near to, behind a semicolon: the slip, or else the word that its first one is near to; or nothing.
+/// What the line is near to, behind a semicolon: the slip, or else the word that its key word is near to; or nothing.
 #[tactic(auto, unfolding(crate::specs::Hints::hint))]
 pub(crate) fn write_hint(reason: &mut Reason, kind: TextKind, line: &[u8]) -> Result<(), Memory>
     ensures { OnOk result (reason.new ≡ hint reason.old kind line.now) }
@@ -194,6 +215,6 @@ pub(crate) fn write_hint(reason: &mut Reason, kind: TextKind, line: &[u8]) -> Re
             reason.text("; ")?;
             reason.text(text)
         }
-        None => write_meant(reason, nearest(words_of(kind), first_word(line))),
+        None => write_meant(reason, nearest(words_of(kind), key_word(kind, line))),
     }
 }

@@ -23,7 +23,8 @@ pub use ends::{
 };
 pub use hints::TextKind;
 pub use near::{is_near, nearest};
+pub use place::record_line;
 pub use program::write_program;
 pub use reason::Reason;
-pub use script::write_script;
+pub use script::{limit_of, write_script};
 pub use verdict::write_refused;

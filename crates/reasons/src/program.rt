@@ -1,8 +1,8 @@
 //! Why a program's file is refused.
 ghost use Rattle.std.specs.Prelude.{◌≡◌, option_map, OnOk};
-ghost use Rattle.reasons.specs.Reason.{begun, ended};
-ghost use Rattle.reasons.specs.Programs.{field_name, field_value, field_reason, headed, larger, bound_text, outside, is_assembly};
-ghost use Rattle.reasons.specs.Programs.{word_line, is_text, entry_reason, overlapping, truncated, line_of, what_of, program_reason};
+ghost use Rattle.reasons.specs.Reason.{begun, line_of_reason};
+ghost use Rattle.reasons.specs.Programs.{field_name, field_value, field_reason, header_reason, larger, bound_text, outside, is_assembly};
+ghost use Rattle.reasons.specs.Programs.{word_line, is_text, entry_reason, overlapping, truncation_reason, line_of, what_of, program_reason};
 
 use crate::header::{Header, header_of};
 use crate::place::line_at;
@@ -52,9 +52,9 @@ fn write_field(reason: &mut Reason, field: Field, value: u32) -> Result<(), Memo
     reason.word(field_value(field))
 }
 
-#[tactic(auto, unfolding(crate::specs::Programs::headed))]
+#[tactic(auto, unfolding(crate::specs::Programs::header_reason))]
 fn write_header(reason: &mut Reason, number: u16) -> Result<(), Memory>
-    ensures { OnOk result (reason.new ≡ headed reason.old number) }
+    ensures { OnOk result (reason.new ≡ header_reason reason.old number) }
 {
     reason.text("program header ")?;
     reason.number(u64::from(number))?;
@@ -157,9 +157,9 @@ fn write_overlap(reason: &mut Reason, earlier: u16, later: u16) -> Result<(), Me
     reason.text(" share a byte of memory")
 }
 
-#[tactic(auto, unfolding(crate::specs::Programs::truncated))]
+#[tactic(auto, unfolding(crate::specs::Programs::truncation_reason))]
 fn write_truncated(reason: &mut Reason, needed: u64, found: u64) -> Result<(), Memory>
-    ensures { OnOk result (reason.new ≡ truncated reason.old needed found) }
+    ensures { OnOk result (reason.new ≡ truncation_reason reason.old needed found) }
 {
     reason.text("the file ends after ")?;
     reason.number(found)?;
@@ -218,7 +218,7 @@ pub fn write_program(
     bytes: &[u8],
     cause: LoadCause,
 ) -> Result<(), Memory>
-    ensures { OnOk result (reason.new ≡ ended (program_reason (begun reason.old) name.now bytes.now cause)) }
+    ensures { OnOk result (reason.new ≡ line_of_reason (program_reason (begun reason.old) name.now bytes.now cause)) }
 {
     reason.begin()?;
     reason.place(name, line_of(cause))?;

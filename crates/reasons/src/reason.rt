@@ -1,7 +1,7 @@
 //! The buffer that a reason is written into, and its smallest parts.
 ghost use Rattle.std.specs.Prelude.{◌≡◌, [], ◌∷◌, ◌++◌, decimal, codes, option_map, OnOk};
 ghost use Rattle.text_lines.specs.Hex.{hex_word};
-ghost use Rattle.reasons.specs.Reason.{escape_of, escaped_text, quoted, of_file, at_line, place, seen, too_long, begun, ended};
+ghost use Rattle.reasons.specs.Reason.{escape_of, escaped_text, quotation_of, of_file, at_line, place, colon_and, too_long, begun, line_of_reason};
 
 use itoa::Buffer;
 use sn_base::Memory;
@@ -108,9 +108,9 @@ impl Reason {
     }
 
     /// The first 60 bytes that were found, between quotation marks; two dots stand behind them where there are more.
-    #[tactic(auto, unfolding(crate::specs::Reason::quoted))]
+    #[tactic(auto, unfolding(crate::specs::Reason::quotation_of))]
     pub fn quoted(&mut self, found: &[u8]) -> Result<(), Memory>
-        ensures { OnOk result (self.new ≡ self.old ++ quoted found.now) }
+        ensures { OnOk result (self.new ≡ self.old ++ quotation_of found.now) }
     {
         if found.len() > MOST_SHOWN {
             self.between(&found[..MOST_SHOWN], "\"..")
@@ -150,9 +150,9 @@ impl Reason {
     }
 
     /// What was found, behind a colon.
-    #[tactic(auto, unfolding(crate::specs::Reason::seen))]
+    #[tactic(auto, unfolding(crate::specs::Reason::colon_and))]
     pub fn seen(&mut self, found: Option<&[u8]>) -> Result<(), Memory>
-        ensures { OnOk result (self.new ≡ self.old ++ seen (option_map (λ found. found.now) found.entry)) }
+        ensures { OnOk result (self.new ≡ self.old ++ colon_and (option_map (λ found. found.now) found.entry)) }
     {
         let Some(found) = found else {
             return Ok(());
@@ -179,9 +179,9 @@ impl Reason {
         self.text("# why: ")
     }
 
-    #[tactic(auto, unfolding(crate::specs::Reason::ended))]
+    #[tactic(auto, unfolding(crate::specs::Reason::line_of_reason))]
     pub fn end(&mut self) -> Result<(), Memory>
-        ensures { OnOk result (self.new ≡ ended self.old) }
+        ensures { OnOk result (self.new ≡ line_of_reason self.old) }
     {
         self.text("\n")
     }

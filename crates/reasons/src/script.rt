@@ -1,8 +1,8 @@
-//! Why a script, a control file or a trace is refused.
+//! Why a script, a control file, a trace or a list of accesses is refused.
 ghost use Rattle.std.specs.Prelude.{◌≡◌, option_map, OnOk};
-ghost use Rattle.reasons.specs.Reason.{begun, ended};
+ghost use Rattle.reasons.specs.Reason.{begun, line_of_reason};
 ghost use Rattle.reasons.specs.Scripts.{script_reason};
-ghost use Rattle.reasons.specs.Scripts.{item_name, lacking, hint_at, bad_line, out_of_range, too_many, line_of, what_of};
+ghost use Rattle.reasons.specs.Scripts.{item_name, items_name, limit_of, lacking, hint_at, bad_line, out_of_range, too_many, line_of, what_of};
 
 use crate::hints::{TextKind, write_hint};
 use crate::place::line_at;
@@ -11,7 +11,14 @@ use sn_base::Memory;
 use sn_text::ScriptCause;
 
 /// The most bytes of such a file.
-const LIMIT: u64 = 33_554_432;
+pub fn limit_of(kind: TextKind) -> usize
+    ensures { result ≡ limit_of kind }
+{
+    match kind {
+        TextKind::Script | TextKind::Control | TextKind::Trace => 33_554_432,
+        TextKind::Accesses => 67_108_864,
+    }
+}
 
 /// What a line says.
 fn item_name(kind: TextKind) -> &'static str
@@ -21,6 +28,19 @@ fn item_name(kind: TextKind) -> &'static str
         TextKind::Script => "event",
         TextKind::Control => "control",
         TextKind::Trace => "record",
+        TextKind::Accesses => "access",
+    }
+}
+
+/// What its lines say.
+fn items_name(kind: TextKind) -> &'static str
+    ensures { result.now ≡ items_name kind }
+{
+    match kind {
+        TextKind::Script => "events",
+        TextKind::Control => "controls",
+        TextKind::Trace => "records",
+        TextKind::Accesses => "accesses",
     }
 }
 
@@ -32,6 +52,7 @@ fn lacking(kind: TextKind) -> &'static str
         TextKind::Script => "no such node, block or switch",
         TextKind::Control => "no such node",
         TextKind::Trace => "no such core",
+        TextKind::Accesses => "no such core or address",
     }
 }
 
@@ -75,8 +96,7 @@ fn write_too_many(reason: &mut Reason, kind: TextKind) -> Result<(), Memory>
     ensures { OnOk result (reason.new ≡ too_many reason.old kind) }
 {
     reason.text("more than 1000000 ")?;
-    reason.text(item_name(kind))?;
-    reason.text("s")
+    reason.text(items_name(kind))
 }
 
 fn line_of(cause: ScriptCause) -> Option<u64>
@@ -98,7 +118,7 @@ fn write_what(
     ensures { OnOk result (reason.new ≡ what_of reason.old kind nodes bytes.now cause) }
 {
     match cause {
-        ScriptCause::TooLong => reason.too_long(LIMIT),
+        ScriptCause::TooLong => reason.too_long(limit_of(kind) as u64),
         ScriptCause::BadLine(number) => write_bad_line(reason, kind, line_at(bytes, number)),
         ScriptCause::OutOfRange(number) => {
             write_out_of_range(reason, kind, nodes, line_at(bytes, number))
@@ -107,7 +127,7 @@ fn write_what(
     }
 }
 
-/// The line that says why a script, a control file or a trace for so many nodes is refused. Without the file's bytes it
+/// The line that says why a script, a control file, a trace or a list of accesses for so many nodes is refused. Without the file's bytes it
 /// says less.
 #[tactic(auto, unfolding(crate::specs::Scripts::script_reason))]
 pub fn write_script(
@@ -118,7 +138,7 @@ pub fn write_script(
     bytes: &[u8],
     cause: ScriptCause,
 ) -> Result<(), Memory>
-    ensures { OnOk result (reason.new ≡ ended (script_reason (begun reason.old) kind nodes name.now bytes.now cause)) }
+    ensures { OnOk result (reason.new ≡ line_of_reason (script_reason (begun reason.old) kind nodes name.now bytes.now cause)) }
 {
     reason.begin()?;
     reason.place(name, line_of(cause))?;

@@ -1,17 +1,17 @@
 //! Why a trace is no execution.
 ghost use Rattle.std.specs.Prelude.{◌≡◌, ◌<◌, ◌^◌, length, option_map, OnOk};
-ghost use Rattle.reasons.specs.Reason.{begun, ended};
+ghost use Rattle.reasons.specs.Reason.{begun, line_of_reason};
 ghost use Rattle.reasons.specs.Places.{record_line};
-ghost use Rattle.reasons.specs.Verdicts.{numbered, saw, judged};
+ghost use Rattle.reasons.specs.Verdicts.{record_place, saw, verdict_reason};
 
 use crate::place::record_line;
 use crate::reason::Reason;
 use rv_core::Record;
 use sn_base::Memory;
 
-#[tactic(auto, unfolding(crate::specs::Verdicts::numbered))]
+#[tactic(auto, unfolding(crate::specs::Verdicts::record_place))]
 fn write_numbered(reason: &mut Reason, place: u64, line: Option<u64>) -> Result<(), Memory>
-    ensures { OnOk result (reason.new ≡ numbered reason.old place line) }
+    ensures { OnOk result (reason.new ≡ record_place reason.old place line) }
 {
     reason.text("record ")?;
     reason.number(place)?;
@@ -33,13 +33,13 @@ fn write_saw(reason: &mut Reason, taken: &Record) -> Result<(), Memory>
     reason.word(taken.seen)
 }
 
-#[tactic(auto, unfolding(crate::specs::Verdicts::judged))]
+#[tactic(auto, unfolding(crate::specs::Verdicts::verdict_reason))]
 fn write_judged(
     reason: &mut Reason,
     taken: Option<&Record>,
     memory: Option<u32>,
 ) -> Result<(), Memory>
-    ensures { OnOk result (reason.new ≡ judged reason.old (option_map (λ t. t.now) taken.entry) memory) }
+    ensures { OnOk result (reason.new ≡ verdict_reason reason.old (option_map (λ t. t.now) taken.entry) memory) }
 {
     let Some(taken) = taken else {
         return reason.text("the flat machine has no such step");
@@ -62,7 +62,7 @@ pub fn write_refused(
     memory: Option<u32>,
 ) -> Result<(), Memory>
     requires { length bytes.now < 2 ^ 62 }
-    ensures { OnOk result (reason.new ≡ ended (judged (numbered (begun reason.old) place (record_line bytes.now place))
+    ensures { OnOk result (reason.new ≡ line_of_reason (verdict_reason (record_place (begun reason.old) place (record_line bytes.now place))
         (option_map (λ t. t.now) taken.entry) memory)) }
 {
     reason.begin()?;

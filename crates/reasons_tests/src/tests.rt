@@ -245,6 +245,30 @@ const SCRIPTS: &[Script] = &[
         "# why: a.script: more than 1000000 records\n",
     ),
     (
+        TextKind::Accesses,
+        b"0 scfial 80001000 4 00000000",
+        ScriptCause::BadLine(1),
+        "# why: a.script:1: this line is no access: \"0 scfial 80001000 4 00000000\"; did you mean scfail?\n",
+    ),
+    (
+        TextKind::Accesses,
+        b"int 80001000 00000000",
+        ScriptCause::BadLine(1),
+        "# why: a.script:1: this line is no access: \"int 80001000 00000000\"; did you mean init?\n",
+    ),
+    (
+        TextKind::Accesses,
+        b"",
+        ScriptCause::TooMany,
+        "# why: a.script: more than 1000000 accesses\n",
+    ),
+    (
+        TextKind::Accesses,
+        b"",
+        ScriptCause::TooLong,
+        "# why: a.script: more than 67108864 bytes\n",
+    ),
+    (
         TextKind::Script,
         b"",
         ScriptCause::TooLong,

@@ -21,7 +21,7 @@ use Rattle.sn_model.specs.Homes.{Holder, Itself, OfCache}
 use Rattle.sn_model.specs.Instructions.{MachineStep}
 use Rattle.sn_model.specs.Machine.{State, processor_at}
 use Rattle.sn_model.specs.MachineEvents.{restores}
-use Rattle.sn_model.specs.PointEvents.{recovers, restored, restored_node, living_switches}
+use Rattle.sn_model.specs.PointEvents.{recovers, fabric_restored_to, restored_node, living_switches}
 use Rattle.sn_model.specs.RecoveryPoint.{IsCut, IsOwned, IsRestored, block_in}
 use Rattle.sn_model.specs.Step.{step_of}
 use Rattle.fabric_coherence.proofs.Recovery.{restored_home_at}
@@ -39,7 +39,7 @@ use Rattle.rolling_recovery.proofs.Parted.{all-noted, keeper-there, with-keeper}
 pub record Goes (s : State) (next : MachineStep) : Type 0 where
   pub undo : Undo
   pub answer : next.answer ≡ Recovered undo
-  pub fabric : next.state.fabric ≡ restored s.fabric s.fabric.point
+  pub fabric : next.state.fabric ≡ fabric_restored_to s.fabric s.fabric.point
 
 goes_by : (s : State) (o : Option (ℕ × ℕ)) → cut_off_by (restores s (recovers s.fabric s.fabric.point o)).answer ≡ None →
     Goes s (restores s (recovers s.fabric s.fabric.point o))
@@ -83,12 +83,12 @@ owned_as s after n block content (OfCache owner) count l h = by_test (nat_eq own
         ap (λ o. option_or o None) (owned_line (line_of (node_at after n).cache block) Absent (h.2 n l (λ i. eqb-false owner n e (sym i))))
 
 -- the homes name whom they named at the cut
-pub holder-stays : (s : Fabric) (k block : ℕ) → block < length s.homes → (home_of (restored s k) block).holder ≡ names_at s block k
-unfolding restored
+pub holder-stays : (s : Fabric) (k block : ℕ) → block < length s.homes → (home_of (fabric_restored_to s k) block).holder ≡ names_at s block k
+unfolding fabric_restored_to
 holder-stays s k block l = ap (λ entry. entry.holder) (restored_home_at s k block l)
 
-pub count-stays : (s : Fabric) (k : ℕ) → length (restored s k).nodes ≡ length s.nodes
-unfolding restored
+pub count-stays : (s : Fabric) (k : ℕ) → length (fabric_restored_to s k).nodes ≡ length s.nodes
+unfolding fabric_restored_to
 count-stays s k = length-map s.nodes (restored_node k)
 
 module _ (r : RollingData) (count : length r.machine.state.fabric.nodes ≡ r.machine.config.nodes) (some : 1 ≤ r.machine.config.nodes) (few : r.machine.config.nodes ≤ 16)

@@ -65,8 +65,8 @@ abbrev pub rolling_after_loss : RollingData → ℕ → RollingData
 rolling_after_loss r id = lost_by r id (message_of r id)
 
 -- order n
-abbrev pub ordered : RollingData → ℕ → RollingData
-ordered r n = if is_full r.messages then r else sending r (Order n)
+abbrev pub rolling_after_order : RollingData → ℕ → RollingData
+rolling_after_order r n = if is_full r.messages then r else sending r (Order n)
 
 -- repeat id: a copy is sent under the next number
 abbrev pub repeat_answer : RollingData → Option ControlMessage → Result ℕ RepeatFault
@@ -117,7 +117,7 @@ finish_fault r = fault_by (first_not_noted r) (next_of r.machine Recover).answer
 
 -- the recovery after a call, and after some of them; one that a fault keeps from its finish is as it was
 abbrev pub after_control : RollingData → Control → RollingData
-after_control r (control.Order n) = ordered r n
+after_control r (control.Order n) = rolling_after_order r n
 after_control r (control.Repeat id) = rolling_after_repeat r id
 after_control r (control.Lose id) = rolling_after_loss r id
 after_control r (control.Deliver id) = rolling_after_delivery r id

@@ -3,7 +3,7 @@ ghost use Rattle.std.specs.Prelude.{◌≡◌, ℕ, ◌<◌, ◌≤◌, ◌^◌,
 ghost use Rattle.sn_machine.specs.Machine.{IsApplied};
 ghost use Rattle.rolling_recovery.specs.declared.controls.Control.{Control as Call};
 ghost use Rattle.rolling_recovery.specs.Messages.{is_full};
-ghost use Rattle.rolling_recovery.specs.Rolling.{rolling_start, ordered, rolling_after_repeat, repeat_answer, rolling_after_loss, rolling_after_delivery, deliver_answer, message_of};
+ghost use Rattle.rolling_recovery.specs.Rolling.{rolling_start, rolling_after_order, rolling_after_repeat, repeat_answer, rolling_after_loss, rolling_after_delivery, deliver_answer, message_of};
 ghost use Rattle.rolling_recovery.specs.Rolling.{has_part, core_in_part, block_in_part, first_not_noted, finish_fault};
 ghost use Rattle.rolling_recovery.specs.Invariant.{HasCalls};
 ghost use Rattle.rolling_recovery.specs.Recovered.{IsLedTo, IsMadeOfParts};
@@ -98,7 +98,7 @@ impl Rolling {
         requires numbers { self.old.messages.next ≤ 2 ^ 63 }
         ensures full { IsErr result ↔ (is_full self.old.messages ≡ true) }
         ensures number { IfOk result (λ id. id ≡ self.old.messages.next) }
-        ensures after { self.new ≡ ordered self.old node }
+        ensures after { self.new ≡ rolling_after_order self.old node }
     {
         if self.messages.is_full() {
             return Err(Full);

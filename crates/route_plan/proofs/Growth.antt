@@ -4,17 +4,17 @@ use Rattle.std.proofs.Common.{get_or, set, refl, sym, ◌∙◌, arith}
 use Rattle.std.proofs.lemmas.Bool.{cases_eq, ne_eqb, eq-eqb, lt-ltb, and_right}
 use Rattle.std.proofs.lemmas.Grind.{common_steps}
 use Rattle.route_plan.specs.Distances.{Switches, is_dead, is_living}
-use Rattle.route_plan.specs.Tables.{grown, is_next}
+use Rattle.route_plan.specs.Tables.{level_after, is_next}
 
 -- the table after a switch was looked at
 pub record Grown (m : Switches) (links i : ℕ) (before table : List ℕ) (grew : Bool) : Type 0 where
-  pub done : (s : ℕ) → s < i → get_or table s 0 ≡ grown m links before s
+  pub done : (s : ℕ) → s < i → get_or table s 0 ≡ level_after m links before s
   pub left : (s : ℕ) → i ≤ s → get_or table s 0 ≡ get_or before s 0
   pub still : grew ≡ false → (s : ℕ) → s < i → get_or table s 0 ≡ get_or before s 0
 
 pub joined : (m : Switches) (links i : ℕ) (before table : List ℕ) (grew : Bool) → i < length table → Grown m links i before table grew →
     is_next m links before i ≡ true → Grown m links (i + 1) before (set table i (links + 1)) true
-unfolding grown
+unfolding level_after
 joined m links i before table grew l k e = record {
   done = λ s n. grind (arith, common_steps, k.done s);
   left = λ s n. grind (arith, common_steps, k.left s);
@@ -23,7 +23,7 @@ joined m links i before table grew l k e = record {
 
 pub passed : (m : Switches) (links i : ℕ) (before table : List ℕ) (grew : Bool) → Grown m links i before table grew →
     is_next m links before i ≡ false → Grown m links (i + 1) before table grew
-unfolding grown
+unfolding level_after
 passed m links i before table grew k e = record {
   done = λ s n. grind (arith, common_steps, k.done s, k.left s);
   left = λ s n. grind (arith, common_steps, k.left s);

@@ -5,7 +5,7 @@ use Rattle.std.proofs.lemmas.Bool.Decides.{nat_tests}
 use Rattle.std.proofs.lemmas.Bool.{false≢true, cases_eq, and_parts, and_from, or_cases, eqb-true, ne_eqb, le-leb, lt-leb}
 use Rattle.route_plan.specs.Grid.{is_linked, along, after, before, partner}
 use Rattle.route_plan.specs.Distances.{Switches, is_living, some_below, comes, distance}
-use Rattle.route_plan.specs.Tables.{IsSized, level, IsLevel, is_near, is_next, grown}
+use Rattle.route_plan.specs.Tables.{IsSized, level, IsLevel, is_near, is_next, level_after}
 use Rattle.route_plan.proofs.Grids.{after-there, before-there, partner-there}
 use Rattle.route_plan.proofs.Least.{least_below-at, least_below-is, least_below-passes, some_below-true, some_below-none, some_below-same}
 
@@ -183,12 +183,12 @@ next_apart : (m : Switches) (k s : ℕ) (table : List ℕ) → get_or table s 0 
 unfolding is_next
 next_apart m k s table l = rw (ne_eqb (get_or table s 0) 32 (omega arith)) refl
 
-grown_no : (m : Switches) (k s : ℕ) (table : List ℕ) → is_next m k table s ≡ false → grown m k table s ≡ get_or table s 0
-unfolding grown
+grown_no : (m : Switches) (k s : ℕ) (table : List ℕ) → is_next m k table s ≡ false → level_after m k table s ≡ get_or table s 0
+unfolding level_after
 grown_no m k s table e = rw e refl
 
-grown_yes : (m : Switches) (k s : ℕ) (table : List ℕ) → is_next m k table s ≡ true → grown m k table s ≡ k + 1
-unfolding grown
+grown_yes : (m : Switches) (k s : ℕ) (table : List ℕ) → is_next m k table s ≡ true → level_after m k table s ≡ k + 1
+unfolding level_after
 grown_yes m k s table e = rw e refl
 
 next_far : (m : Switches) (to k s : ℕ) (table : List ℕ) → IsSized m → IsLevel m to k table → k < 31 → s < 2 * m.nodes →
@@ -201,7 +201,7 @@ next_far m to k s table z h l n e =
 
 grown_far : (m : Switches) (to k s : ℕ) (table : List ℕ) → IsSized m → IsLevel m to k table → k < 31 → s < 2 * m.nodes →
     comes m to k s ≡ false →
-    (b : Bool) → comes m to (suc k) s ≡ b → grown m k table s ≡ level m to (suc k) s
+    (b : Bool) → comes m to (suc k) s ≡ b → level_after m k table s ≡ level m to (suc k) s
 grown_far m to k s table z h l n e true f =
     grown_yes m k s table (next_far m to k s table z h l n e ∙ f) ∙
     (add-one k ∙ sym (level-in m to (suc k) s f ∙ distance-first m to s k e f (omega arith)))
@@ -209,7 +209,7 @@ grown_far m to k s table z h l n e false f =
     grown_no m k s table (next_far m to k s table z h l n e ∙ f) ∙ (h s n ∙ (level-out m to k s e ∙ sym (level-out m to (suc k) s f)))
 
 grown_by : (m : Switches) (to k s : ℕ) (table : List ℕ) → IsSized m → IsLevel m to k table → k < 31 → s < 2 * m.nodes →
-    (b : Bool) → comes m to k s ≡ b → grown m k table s ≡ level m to (suc k) s
+    (b : Bool) → comes m to k s ≡ b → level_after m k table s ≡ level m to (suc k) s
 grown_by m to k s table z h l n true e =
     let at : get_or table s 0 ≡ distance m to s = h s n ∙ level-in m to k s e in
     let near : distance m to s ≤ k = distance-le m to s k e in
@@ -218,7 +218,7 @@ grown_by m to k s table z h l n false e = grown_far m to k s table z h l n e (co
 
 -- a level's table grows into the next one's
 pub level-grows : (m : Switches) (to k s : ℕ) (table : List ℕ) → IsSized m → IsLevel m to k table → k < 31 → s < 2 * m.nodes →
-    grown m k table s ≡ level m to (k + 1) s
+    level_after m k table s ≡ level m to (k + 1) s
 level-grows m to k s table z h l n = rw (add-one k) (grown_by m to k s table z h l n (comes m to k s) refl)
 
 -- nothing is farther than 31 links
@@ -265,7 +265,7 @@ level-still m to k s z w i l = still_last m to k s z w i l (comes m to k s) refl
 
 -- a table that didn't grow is that of a level that is still
 pub still-table : (m : Switches) (to k : ℕ) (old new : List ℕ) → IsSized m → IsLevel m to k old → k < 31 →
-    ((s : ℕ) → s < 2 * m.nodes → get_or new s 0 ≡ grown m k old s) → ((s : ℕ) → s < 2 * m.nodes → get_or new s 0 ≡ get_or old s 0) →
+    ((s : ℕ) → s < 2 * m.nodes → get_or new s 0 ≡ level_after m k old s) → ((s : ℕ) → s < 2 * m.nodes → get_or new s 0 ≡ get_or old s 0) →
     IsStill m to k
 still-table m to k old new z h l g e s n =
     let same : level m to (suc k) s ≡ level m to k s = sym (grown_by m to k s old z h l n (comes m to k s) refl)

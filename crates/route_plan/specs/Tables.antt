@@ -21,8 +21,8 @@ is_near nodes links table s =
 unfoldable pub is_next : Switches → ℕ → List ℕ → ℕ → Bool
 is_next m links table s = nat_eq (slice_index table s) 32 && is_living m s && is_near m.nodes links table s
 
-unfoldable pub grown : Switches → ℕ → List ℕ → ℕ → ℕ
-grown m links table s = if is_next m links table s then links + 1 else slice_index table s
+unfoldable pub level_after : Switches → ℕ → List ℕ → ℕ → ℕ
+level_after m links table s = if is_next m links table s then links + 1 else slice_index table s
 
 abbrev pub IsTable : Switches → ℕ → List ℕ → Type 0
 IsTable m to table = (s : ℕ) → s < 2 * m.nodes → slice_index table s ≡ distance m to s

@@ -3,7 +3,7 @@
 ghost use Rattle.std.specs.Prelude.{◌≡◌, ℕ, ◌+◌, ◌*◌, ◌<◌, ◌≤◌, Bool, false, if◌then◌else◌, nat_eq, IsNone, IfSome, slice_index};
 ghost use Rattle.route_plan.specs.Distances.{Switches, is_dead, distance};
 ghost use Rattle.route_plan.specs.Routes.{is_cut_off, cut_off_from, first_cut_off, next_of};
-ghost use Rattle.route_plan.specs.Tables.{IsLevel, IsTable, AreTables, IsSized, is_near, is_next, grown};
+ghost use Rattle.route_plan.specs.Tables.{IsLevel, IsTable, AreTables, IsSized, is_near, is_next, level_after};
 
 use crate::dead::Dead;
 use crate::grid::Grid;
@@ -52,7 +52,7 @@ fn grow(grid: &Grid, dead: Dead, table: &mut [u8; 32], links: u8) -> bool
     requires few { grid.now ≤ 16 }
     requires links { links < 31 }
     ensures grown { (s : ℕ) → s < 2 * grid.now →
-        slice_index table.new s ≡ grown (record { nodes = grid.now; dead = dead }) links table.old s }
+        slice_index table.new s ≡ level_after (record { nodes = grid.now; dead = dead }) links table.old s }
     ensures still { result ≡ false → (s : ℕ) → s < 2 * grid.now → slice_index table.new s ≡ slice_index table.old s }
 {
     let before = *table;

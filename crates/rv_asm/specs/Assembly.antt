@@ -9,7 +9,7 @@ use Rattle.rv_asm.specs.declared.fault.AsmFault.{AsmFault}
 use Rattle.rv_asm.specs.declared.fault.AsmFault.TheVariants.{Refused, Memory}
 use Rattle.text_lines.specs.Lines.{lines_of}
 use Rattle.rv_statement.specs.Lines.{bare}
-use Rattle.rv_statement.specs.Reading.{Read, fixed, aimed, Statement, nothing, label, said, formless, coded, with_offset, statement_of}
+use Rattle.rv_statement.specs.Reading.{Read, fixed, aimed, Statement, nothing, label, said, formless, word_of_instruction, with_offset, statement_of}
 
 -- a word of the output: it is known, or it is an instruction of that line that leads to a label
 pub data Item : Type 0 where
@@ -64,7 +64,7 @@ in_range line (Some word) = Ok word
 -- the word of an instruction that leads from a place to a label's
 abbrev pub led_word : ℕ → Instr → ℕ → Option ℕ → Result ℕ AsmCause
 led_word line instr here None = Err (NoLabel line)
-led_word line instr here (Some place) = in_range line (coded (with_offset instr (pos place -ℤ pos here)))
+led_word line instr here (Some place) = in_range line (word_of_instruction (with_offset instr (pos place -ℤ pos here)))
 
 abbrev pub item_word : (List ℕ → Option ℕ) → ℕ → Item → Result ℕ AsmCause
 item_word places here (known word) = Ok word

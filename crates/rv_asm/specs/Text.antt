@@ -6,7 +6,7 @@ use Rattle.rv_decode.specs.declared.instr.Instr.{Instr}
 use Rattle.rv_decode.specs.declared.instr.Instr.TheVariants.{Lui, Auipc, Jal, Jalr, Branch, Load, Store, OpImm, Op, Fence, Ecall, Ebreak}
 use Rattle.rv_decode.specs.declared.instr.Instr.TheVariants.{Lr, Sc, Amo}
 use Rattle.rv_decode.specs.Table.{word_of}
-use Rattle.rv_decode.specs.Decoded.{decoded}
+use Rattle.rv_decode.specs.Decoded.{instruction_at}
 use Rattle.rv_statement.specs.Names.{mnemonic}
 
 -- xN
@@ -53,8 +53,8 @@ if_written word None = None
 if_written word (Some instr) = if nat_eq (word_of instr) word then Some instr else None
 
 -- the instruction that is written as this word, where there is one
-unfoldable pub written : ℕ → Option Instr
-written word = if_written word (decoded word)
+unfoldable pub instruction_of_word : ℕ → Option Instr
+instruction_of_word word = if_written word (instruction_at word)
 
 abbrev pub line_of : ℕ → Option Instr → List ℕ
 line_of word None = codes ".word 0x" ++ hex_word word
@@ -62,7 +62,7 @@ line_of word (Some instr) = instr_text instr
 
 -- a word's line, without its end
 unfoldable pub word_text : ℕ → List ℕ
-word_text word = line_of word (written word)
+word_text word = line_of word (instruction_of_word word)
 
 -- one line a word, each ended by LF
 unfoldable pub dis_of : List ℕ → List ℕ

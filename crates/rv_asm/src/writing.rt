@@ -3,7 +3,7 @@ ghost use Rattle.std.specs.Prelude.{◌≡◌, ◌+◌, ◌<◌, ◌/◌, ◌++�
 ghost use Rattle.std.specs.Fmt.{signed_decimal};
 ghost use Rattle.text_lines.specs.Hex.{hex_word};
 ghost use Rattle.rv_asm.specs.Text.{register_text, with_comma, address_text, place_text, operands_text, instr_text};
-ghost use Rattle.rv_asm.specs.Text.{word_text, written, dis_of};
+ghost use Rattle.rv_asm.specs.Text.{word_text, instruction_of_word, dis_of};
 
 use itoa::Buffer;
 use rv_decode::{Instr, decode, encode};
@@ -35,7 +35,7 @@ pub fn add_line(text: &mut Vec<u8>, word: u32) -> Result<(), Memory>
 fn add_word(text: &mut Vec<u8>, word: u32) -> Result<(), Memory>
     ensures { OnOk result (text.new.items ≡ text.old.items ++ word_text word) }
 {
-    match written(word) {
+    match instruction_of_word(word) {
         Some(instr) => add_instr(text, &instr),
         None => {
             add(text, ".word 0x")?;
@@ -45,9 +45,9 @@ fn add_word(text: &mut Vec<u8>, word: u32) -> Result<(), Memory>
 }
 
 /// The instruction that is written as this word.
-#[tactic(auto, unfolding(crate::specs::Text::written))]
-fn written(word: u32) -> Option<Instr>
-    ensures { result ≡ written word }
+#[tactic(auto, unfolding(crate::specs::Text::instruction_of_word))]
+fn instruction_of_word(word: u32) -> Option<Instr>
+    ensures { result ≡ instruction_of_word word }
 {
     match decode(word) {
         Ok(instr) if encode(&instr) == word => Some(instr),

@@ -18,7 +18,7 @@ use Rattle.rv_core.specs.declared.state.End.TheVariants.{Exited}
 use Rattle.rv_core.specs.declared.step.Want.{Want}
 use Rattle.rv_core.specs.declared.step.Want.TheVariants.{Nothing, Load as LoadAt, Store as StoreAt, Amo as AmoAt, Lr as LrAt, Sc as ScAt}
 use Rattle.rv_core.specs.declared.step.Want.TheVariants.{Input}
-use Rattle.rv_core.specs.Core.{bare, register, trapped}
+use Rattle.rv_core.specs.Core.{bare, register, core_with_trap}
 use Rattle.rv_core.specs.Arithmetic.{as_word}
 use Rattle.rv_core.specs.Access.{width_of, fault_of, is_in_memory}
 use Rattle.rv_core.specs.Step.{want_of, next_of, wants, wants_next, wants_unless, does, does_next, instruction_of, address_in}
@@ -147,7 +147,7 @@ conditionally-lawful false c rd address value a = record { inside = a.inside; re
 called-lawful : (one two three : Bool) (c : CoreState) (done : Bool) (read : Option ℕ)
     → IsLawful (if two then Input else Nothing) c done
     (if one then put_out c else if two then becomes (took_in c read) else if three then becomes (record c { end = Exited (register c 10) })
-    else becomes (trapped c UnknownCall))
+    else becomes (core_with_trap c UnknownCall))
 called-lawful true true three c done read = record { inside = tt; reservation = refl; write = refl }
 called-lawful true false three c done read = record { inside = tt; reservation = refl; write = refl }
 called-lawful false true three c done read = record { inside = tt; reservation = refl; write = refl }

@@ -26,8 +26,8 @@ abbrev pub bare : CoreState → CoreState
 bare core = record core { reservation = None }
 
 -- a trap ends the core and changes nothing else
-abbrev pub trapped : CoreState → Cause → CoreState
-trapped core cause = record core { end = Trapped cause }
+abbrev pub core_with_trap : CoreState → Cause → CoreState
+core_with_trap core cause = record core { end = Trapped cause }
 
 -- the block that has an address of memory
 abbrev pub block_of : ℕ → ℕ

@@ -8,7 +8,7 @@ use Rattle.sn_base.specs.declared.block.Width.TheVariants.{Word}
 use Rattle.rv_decode.specs.declared.instr.Instr.{Instr}
 use Rattle.rv_decode.specs.declared.instr.Instr.TheVariants.{Lui, Auipc, Jal, Jalr, Branch, Load, Store, OpImm, Op, Fence, Ecall, Ebreak}
 use Rattle.rv_decode.specs.declared.instr.Instr.TheVariants.{Lr, Sc, Amo}
-use Rattle.rv_decode.specs.Decoded.{decoded}
+use Rattle.rv_decode.specs.Decoded.{instruction_at}
 use Rattle.rv_core.specs.declared.state.CoreState.{CoreState}
 use Rattle.rv_core.specs.declared.state.End.TheVariants.{Exited}
 use Rattle.rv_core.specs.declared.state.Cause.{Cause}
@@ -17,7 +17,7 @@ use Rattle.rv_core.specs.declared.step.Want.{Want}
 use Rattle.rv_core.specs.declared.step.Want.TheVariants.{Nothing, Load as LoadAt, Store as StoreAt, Amo as AmoAt, Lr as LrAt, Sc as ScAt}
 use Rattle.rv_core.specs.declared.step.Want.TheVariants.{Input}
 use Rattle.rv_core.specs.declared.step.Effect.{Effect}
-use Rattle.rv_core.specs.Core.{register, with_register, trapped, block_of}
+use Rattle.rv_core.specs.Core.{register, with_register, core_with_trap, block_of}
 use Rattle.rv_core.specs.Arithmetic.{sum, as_word, is_taken, imm_result, reg_result, amo_result, load_result}
 use Rattle.rv_core.specs.Access.{width_of, fault_of}
 
@@ -51,11 +51,11 @@ gets core rd value = record core { pc = after core; x = with_register core rd va
 
 -- a taken branch, and a jump with its link; the target is a multiple of 4
 abbrev pub branches : CoreState → ℕ → CoreState
-branches core target = if nat_eq (target % 4) 0 then record core { pc = target } else trapped core MisalignedTarget
+branches core target = if nat_eq (target % 4) 0 then record core { pc = target } else core_with_trap core MisalignedTarget
 
 abbrev pub jumps : CoreState → ℕ → ℕ → CoreState
 jumps core rd target =
-    if nat_eq (target % 4) 0 then record core { pc = target; x = with_register core rd (after core) } else trapped core MisalignedTarget
+    if nat_eq (target % 4) 0 then record core { pc = target; x = with_register core rd (after core) } else core_with_trap core MisalignedTarget
 
 -- the address of an access, and a jump's target without its lowest bit
 abbrev pub address_in : CoreState → ℕ → ℕ → ℕ
@@ -90,12 +90,12 @@ next_of_call core read =
     if nat_eq (register core 17) 1 then put_out core
     else if nat_eq (register core 17) 2 then becomes (took_in core read)
     else if nat_eq (register core 17) 93 then becomes (record core { end = Exited (register core 10) })
-    else becomes (trapped core UnknownCall)
+    else becomes (core_with_trap core UnknownCall)
 
 -- an access, where it doesn't trap
 abbrev pub unless_fault : Option Cause → CoreState → Next → Next
 unless_fault None core next = next
-unless_fault (Some cause) core next = becomes (trapped core cause)
+unless_fault (Some cause) core next = becomes (core_with_trap core cause)
 
 -- each instruction, with the word seen, whether a store-conditional is done, and the byte read
 abbrev pub does : ImageData → Instr → CoreState → ℕ → Bool → Option ℕ → Next
@@ -115,7 +115,7 @@ does image (OpImm op rd rs1 imm) core seen sc_done read = becomes (gets core rd 
 does image (Op op rd rs1 rs2) core seen sc_done read = becomes (gets core rd (reg_result op (register core rs1) (register core rs2)))
 does image Fence core seen sc_done read = becomes (core_in_order core)
 does image Ecall core seen sc_done read = next_of_call core read
-does image Ebreak core seen sc_done read = becomes (trapped core Break)
+does image Ebreak core seen sc_done read = becomes (core_with_trap core Break)
 does image (Lr rd rs1) core seen sc_done read =
     unless_fault (fault_of image Word false (register core rs1)) core (becomes (reserves core rd (register core rs1) seen))
 does image (Sc rd rs1 rs2) core seen sc_done read =
@@ -127,11 +127,11 @@ does image (Amo op rd rs1 rs2) core seen sc_done read =
 -- the instruction of the word at the program counter, or why there is none
 abbrev pub instruction_of : Option ℕ → Result Instr Cause
 instruction_of None = Err FetchFault
-instruction_of (Some word) = ok_or (decoded word) Illegal
+instruction_of (Some word) = ok_or (instruction_at word) Illegal
 
 abbrev pub does_next : ImageData → Result Instr Cause → CoreState → ℕ → Bool → Option ℕ → Next
 does_next image (Ok instr) core seen sc_done read = does image instr core seen sc_done read
-does_next image (Err cause) core seen sc_done read = becomes (trapped core cause)
+does_next image (Err cause) core seen sc_done read = becomes (core_with_trap core cause)
 
 -- the next core, with the word seen, whether a store-conditional is done, and the byte read
 unfoldable pub next_of : ImageData → CoreState → ℕ → Bool → Option ℕ → Next

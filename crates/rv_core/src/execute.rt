@@ -1,7 +1,7 @@
 //! What each instruction does to its core and outside.
 ghost use Rattle.std.specs.Prelude.{◌≡◌, ◌<◌, true, false, Option, Some};
 ghost use Rattle.rv_decode.specs.Table.{instr_fits};
-ghost use Rattle.rv_core.specs.Core.{register, with_register, trapped};
+ghost use Rattle.rv_core.specs.Core.{register, with_register, core_with_trap};
 ghost use Rattle.rv_core.specs.Arithmetic.{as_word, load_result, amo_result};
 ghost use Rattle.rv_core.specs.Access.{fault_of, width_of};
 ghost use Rattle.rv_core.specs.Step.{does, becomes, writing, core_in_order, gets, branches, jumps, address_in, reserves, conditionally};
@@ -124,7 +124,7 @@ impl CoreState {
 
     /// A trap ends the core and changes nothing else.
     pub(crate) fn trap(&mut self, cause: Cause) -> Effect
-        ensures core { self.new ≡ trapped self.old cause }
+        ensures core { self.new ≡ core_with_trap self.old cause }
         ensures effect { result ≡ (becomes self.old).effect }
     {
         self.end = End::Trapped(cause);

@@ -15,59 +15,59 @@ use Rattle.rv_decode.specs.Parts.{part, opcode, rd_of, funct3, rs1_of, rs2_of, f
 use Rattle.rv_decode.specs.Codes.{lui, auipc, jal, jalr, branch, load, store, op_imm, op, misc_mem, system, amo, load_code, imm_code}
 use Rattle.rv_decode.specs.Codes.{is_shift, shift_top, reg_code, reg_top, amo_code, branch_op, load_op, store_op, imm_op, reg_op, amo_op}
 use Rattle.rv_decode.specs.Table.{IsWordOf, Reads, layout, is_signed, is_target, is_operand, is_register, is_upper, r_form, i_form}
-use Rattle.rv_decode.specs.Decoded.{decoded, jalr_of, branch_of, load_of, store_of, op_imm_of, op_of, fence_of, system_of, atomic_of, sc_of}
+use Rattle.rv_decode.specs.Decoded.{instruction_at, jalr_of, branch_of, load_of, store_of, op_imm_of, op_of, fence_of, system_of, atomic_of, sc_of}
 use Rattle.rv_decode.specs.Decoded.{amo_of}
 use Rattle.rv_decode.proofs.Numbers.{i-is, s-is, b-is, j-is, u-is}
 use Rattle.rv_decode.proofs.Found.{branch-found, load-found, store-found, shift-found, imm-found, reg-found, amo-found, amo-codes}
 
 -- ---- by its opcode
 
-at_lui : (word : ℕ) → opcode word ≡ lui → decoded word ≡ Some (Lui (rd_of word) (u_imm word))
-unfolding decoded
+at_lui : (word : ℕ) → opcode word ≡ lui → instruction_at word ≡ Some (Lui (rd_of word) (u_imm word))
+unfolding instruction_at
 at_lui word e = rw e refl
 
-at_auipc : (word : ℕ) → opcode word ≡ auipc → decoded word ≡ Some (Auipc (rd_of word) (u_imm word))
-unfolding decoded
+at_auipc : (word : ℕ) → opcode word ≡ auipc → instruction_at word ≡ Some (Auipc (rd_of word) (u_imm word))
+unfolding instruction_at
 at_auipc word e = rw e refl
 
-at_jal : (word : ℕ) → opcode word ≡ jal → decoded word ≡ Some (Jal (rd_of word) (j_imm word))
-unfolding decoded
+at_jal : (word : ℕ) → opcode word ≡ jal → instruction_at word ≡ Some (Jal (rd_of word) (j_imm word))
+unfolding instruction_at
 at_jal word e = rw e refl
 
-at_jalr : (word : ℕ) → opcode word ≡ jalr → decoded word ≡ jalr_of word
-unfolding decoded
+at_jalr : (word : ℕ) → opcode word ≡ jalr → instruction_at word ≡ jalr_of word
+unfolding instruction_at
 at_jalr word e = rw e refl
 
-at_branch : (word : ℕ) → opcode word ≡ branch → decoded word ≡ branch_of word
-unfolding decoded
+at_branch : (word : ℕ) → opcode word ≡ branch → instruction_at word ≡ branch_of word
+unfolding instruction_at
 at_branch word e = rw e refl
 
-at_load : (word : ℕ) → opcode word ≡ load → decoded word ≡ load_of word
-unfolding decoded
+at_load : (word : ℕ) → opcode word ≡ load → instruction_at word ≡ load_of word
+unfolding instruction_at
 at_load word e = rw e refl
 
-at_store : (word : ℕ) → opcode word ≡ store → decoded word ≡ store_of word
-unfolding decoded
+at_store : (word : ℕ) → opcode word ≡ store → instruction_at word ≡ store_of word
+unfolding instruction_at
 at_store word e = rw e refl
 
-at_op_imm : (word : ℕ) → opcode word ≡ op_imm → decoded word ≡ op_imm_of word
-unfolding decoded
+at_op_imm : (word : ℕ) → opcode word ≡ op_imm → instruction_at word ≡ op_imm_of word
+unfolding instruction_at
 at_op_imm word e = rw e refl
 
-at_op : (word : ℕ) → opcode word ≡ op → decoded word ≡ op_of word
-unfolding decoded
+at_op : (word : ℕ) → opcode word ≡ op → instruction_at word ≡ op_of word
+unfolding instruction_at
 at_op word e = rw e refl
 
-at_misc_mem : (word : ℕ) → opcode word ≡ misc_mem → decoded word ≡ fence_of word
-unfolding decoded
+at_misc_mem : (word : ℕ) → opcode word ≡ misc_mem → instruction_at word ≡ fence_of word
+unfolding instruction_at
 at_misc_mem word e = rw e refl
 
-at_system : (word : ℕ) → opcode word ≡ system → decoded word ≡ system_of word
-unfolding decoded
+at_system : (word : ℕ) → opcode word ≡ system → instruction_at word ≡ system_of word
+unfolding instruction_at
 at_system word e = rw e refl
 
-at_amo : (word : ℕ) → opcode word ≡ amo → decoded word ≡ atomic_of word
-unfolding decoded
+at_amo : (word : ℕ) → opcode word ≡ amo → instruction_at word ≡ atomic_of word
+unfolding instruction_at
 at_amo word e = rw e refl
 
 -- ---- by its operation
@@ -78,19 +78,19 @@ upper-is word rd imm f e =
     u-is word imm small whole e
 
 -- the instruction of each opcode
-lui-complete : (word rd imm : ℕ) → IsWordOf (Lui rd imm) word → decoded word ≡ Some (Lui rd imm)
+lui-complete : (word rd imm : ℕ) → IsWordOf (Lui rd imm) word → instruction_at word ≡ Some (Lui rd imm)
 lui-complete word rd imm h =
     let i : u_imm word ≡ imm = upper-is word rd imm h.fits h.reads.0 in
     let d : rd_of word ≡ rd = h.reads.1.0 in
     at_lui word h.reads.1.1.0 ∙ (cc)
 
-auipc-complete : (word rd imm : ℕ) → IsWordOf (Auipc rd imm) word → decoded word ≡ Some (Auipc rd imm)
+auipc-complete : (word rd imm : ℕ) → IsWordOf (Auipc rd imm) word → instruction_at word ≡ Some (Auipc rd imm)
 auipc-complete word rd imm h =
     let i : u_imm word ≡ imm = upper-is word rd imm h.fits h.reads.0 in
     let d : rd_of word ≡ rd = h.reads.1.0 in
     at_auipc word h.reads.1.1.0 ∙ (cc)
 
-jal-complete : (word rd : ℕ) (offset : ℤ) → IsWordOf (Jal rd offset) word → decoded word ≡ Some (Jal rd offset)
+jal-complete : (word rd : ℕ) (offset : ℤ) → IsWordOf (Jal rd offset) word → instruction_at word ≡ Some (Jal rd offset)
 jal-complete word rd offset h =
     let t : is_target 1048576 offset ≡ true = grind (arith, nat_tests, h.fits) in
     let r : Reads (layout (Jal rd offset)) word = h.reads in
@@ -118,13 +118,13 @@ i-signed rd rs1 imm f = grind (arith, nat_tests)
 jalr-at : (word : ℕ) → funct3 word ≡ 0b000 → jalr_of word ≡ Some (Jalr (rd_of word) (rs1_of word) (i_imm word))
 jalr-at word e = rw e refl
 
-jalr-complete : (word rd rs1 : ℕ) (imm : ℤ) → IsWordOf (Jalr rd rs1 imm) word → decoded word ≡ Some (Jalr rd rs1 imm)
+jalr-complete : (word rd rs1 : ℕ) (imm : ℤ) → IsWordOf (Jalr rd rs1 imm) word → instruction_at word ≡ Some (Jalr rd rs1 imm)
 jalr-complete word rd rs1 imm h =
     let p : IParts rd rs1 imm 0b000 jalr word = i-parts rd rs1 imm 0b000 jalr word (i-signed rd rs1 imm h.fits) h.reads in
     at_jalr word p.top_is ∙ jalr-at word p.code_is ∙ (cc)
 
 branch-complete : (word : ℕ) (o : BranchOp) (rs1 rs2 : ℕ) (offset : ℤ) → IsWordOf (Branch o rs1 rs2 offset) word →
-    decoded word ≡ Some (Branch o rs1 rs2 offset)
+    instruction_at word ≡ Some (Branch o rs1 rs2 offset)
 branch-complete word o rs1 rs2 offset h =
     let t : is_target 4096 offset ≡ true = grind (arith, nat_tests, h.fits) in
     let r : Reads (layout (Branch o rs1 rs2 offset)) word = h.reads in
@@ -135,14 +135,14 @@ branch-complete word o rs1 rs2 offset h =
     let f : branch_op (funct3 word) ≡ Some o = ap branch_op r.1.1.1.1.0 ∙ branch-found o in
     at_branch word r.1.1.1.1.1.1.1.0 ∙ ap (option_map (λ o. Branch o (rs1_of word) (rs2_of word) (b_imm word))) f ∙ (cc)
 
-load-complete : (word : ℕ) (o : LoadOp) (rd rs1 : ℕ) (imm : ℤ) → IsWordOf (Load o rd rs1 imm) word → decoded word ≡ Some (Load o rd rs1 imm)
+load-complete : (word : ℕ) (o : LoadOp) (rd rs1 : ℕ) (imm : ℤ) → IsWordOf (Load o rd rs1 imm) word → instruction_at word ≡ Some (Load o rd rs1 imm)
 load-complete word o rd rs1 imm h =
     let p : IParts rd rs1 imm (load_code o) load word = i-parts rd rs1 imm (load_code o) load word (i-signed rd rs1 imm h.fits) h.reads in
     let f : load_op (funct3 word) ≡ Some o = ap load_op p.code_is ∙ load-found o in
     at_load word p.top_is ∙ ap (option_map (λ o. Load o (rd_of word) (rs1_of word) (i_imm word))) f ∙ (cc)
 
 store-complete : (word : ℕ) (o : Width) (rs1 rs2 : ℕ) (imm : ℤ) → IsWordOf (Store o rs1 rs2 imm) word →
-    decoded word ≡ Some (Store o rs1 rs2 imm)
+    instruction_at word ≡ Some (Store o rs1 rs2 imm)
 store-complete word o rs1 rs2 imm h =
     let r : Reads (layout (Store o rs1 rs2 imm)) word = h.reads in
     let i : s_imm word ≡ imm = s-is word imm (i-signed rs1 rs2 imm h.fits) r.0 r.1.1.1.1.0 in
@@ -171,7 +171,7 @@ amount-is (negsuc m) n h e = grind (arith, nat_tests)
 
 op_imm-of : (shift : Bool) (o : ImmOp) (rd rs1 : ℕ) (imm : ℤ) (word : ℕ) → is_shift o ≡ shift → is_operand shift imm ≡ true
     → Reads (if shift then r_form (shift_top o) (twos imm) rs1 (imm_code o) rd op_imm else i_form imm rs1 (imm_code o) rd op_imm) word
-    → decoded word ≡ Some (OpImm o rd rs1 imm)
+    → instruction_at word ≡ Some (OpImm o rd rs1 imm)
 op_imm-of true o rd rs1 imm word e s h =
     let p : RParts (shift_top o) (twos imm) rs1 (imm_code o) rd op_imm word = r-parts (shift_top o) (twos imm) rs1
     (imm_code o) rd op_imm word h in
@@ -193,17 +193,17 @@ op_imm-operand : (o : ImmOp) (rd rs1 : ℕ) (imm : ℤ) → (is_register rd && i
 op_imm-operand o rd rs1 imm f = grind (arith, nat_tests)
 
 op_imm-complete : (word : ℕ) (o : ImmOp) (rd rs1 : ℕ) (imm : ℤ) → IsWordOf (OpImm o rd rs1 imm) word →
-    decoded word ≡ Some (OpImm o rd rs1 imm)
+    instruction_at word ≡ Some (OpImm o rd rs1 imm)
 op_imm-complete word o rd rs1 imm h = op_imm-of (is_shift o) o rd rs1 imm word refl (op_imm-operand o rd rs1 imm h.fits) h.reads
 
-op-complete : (word : ℕ) (o : RegOp) (rd rs1 rs2 : ℕ) → IsWordOf (Op o rd rs1 rs2) word → decoded word ≡ Some (Op o rd rs1 rs2)
+op-complete : (word : ℕ) (o : RegOp) (rd rs1 rs2 : ℕ) → IsWordOf (Op o rd rs1 rs2) word → instruction_at word ≡ Some (Op o rd rs1 rs2)
 op-complete word o rd rs1 rs2 h =
     let p : RParts (reg_top o) rs2 rs1 (reg_code o) rd op word = r-parts (reg_top o) rs2 rs1 (reg_code o) rd op word h.reads in
     let f : reg_op (funct3 word) (funct7 word) ≡ Some o = ap (λ c. reg_op c (funct7 word)) p.code_is ∙ ap (reg_op (reg_code o)) p.top2_is
     ∙ reg-found o in
     at_op word p.top_is ∙ ap (option_map (λ o. Op o (rd_of word) (rs1_of word) (rs2_of word))) f ∙ (cc)
 
-fence-complete : (word : ℕ) → IsWordOf Fence word → decoded word ≡ Some Fence
+fence-complete : (word : ℕ) → IsWordOf Fence word → instruction_at word ≡ Some Fence
 fence-complete word h = let f : fence_of word ≡ Some Fence = rw h.reads.0 refl in at_misc_mem word h.reads.1.0 ∙ f
 
 -- the parts of a word make it
@@ -211,14 +211,14 @@ whole : (word : ℕ) → word < 2 ^ 32 →
     word ≡ part 20 12 word * 1048576 + part 15 5 word * 32768 + part 12 3 word * 4096 + part 7 5 word * 128 + part 0 7 word
 whole word h = omega arith
 
-ecall-complete : (word : ℕ) → word < 2 ^ 32 → IsWordOf Ecall word → decoded word ≡ Some Ecall
+ecall-complete : (word : ℕ) → word < 2 ^ 32 → IsWordOf Ecall word → instruction_at word ≡ Some Ecall
 ecall-complete word l h =
     let r : Reads (layout Ecall) word = h.reads in
     let e : word ≡ 0x00000073 = omega (arith, whole word l, r.0, r.1.0, r.1.1.0, r.1.1.1.0, r.1.1.1.1.0) in
     let f : system_of word ≡ Some Ecall = rw e refl in
     at_system word r.1.1.1.1.0 ∙ f
 
-ebreak-complete : (word : ℕ) → word < 2 ^ 32 → IsWordOf Ebreak word → decoded word ≡ Some Ebreak
+ebreak-complete : (word : ℕ) → word < 2 ^ 32 → IsWordOf Ebreak word → instruction_at word ≡ Some Ebreak
 ebreak-complete word l h =
     let r : Reads (layout Ebreak) word = h.reads in
     let e : word ≡ 0x00100073 = omega (arith, whole word l, r.0, r.1.0, r.1.1.0, r.1.1.1.0, r.1.1.1.1.0) in
@@ -228,7 +228,7 @@ ebreak-complete word l h =
 lr-at : (word : ℕ) → funct3 word ≡ 0b010 → funct5 word ≡ 0b00010 → rs2_of word ≡ 0 → atomic_of word ≡ Some (Lr (rd_of word) (rs1_of word))
 lr-at word e f g = rw (e, f, g) refl
 
-lr-complete : (word rd rs1 : ℕ) → IsWordOf (Lr rd rs1) word → decoded word ≡ Some (Lr rd rs1)
+lr-complete : (word rd rs1 : ℕ) → IsWordOf (Lr rd rs1) word → instruction_at word ≡ Some (Lr rd rs1)
 lr-complete word rd rs1 h =
     let r : Reads (layout (Lr rd rs1)) word = h.reads in
     let s1 : rs1_of word ≡ rs1 = r.1.1.0 in
@@ -238,7 +238,7 @@ lr-complete word rd rs1 h =
 sc-at : (word : ℕ) → funct3 word ≡ 0b010 → funct5 word ≡ 0b00011 → atomic_of word ≡ Some (sc_of word)
 sc-at word e f = rw (e, f) refl
 
-sc-complete : (word rd rs1 rs2 : ℕ) → IsWordOf (Sc rd rs1 rs2) word → decoded word ≡ Some (Sc rd rs1 rs2)
+sc-complete : (word rd rs1 rs2 : ℕ) → IsWordOf (Sc rd rs1 rs2) word → instruction_at word ≡ Some (Sc rd rs1 rs2)
 sc-complete word rd rs1 rs2 h =
     let r : Reads (layout (Sc rd rs1 rs2)) word = h.reads in
     let s2 : rs2_of word ≡ rs2 = r.1.0 in
@@ -252,7 +252,7 @@ amo-at word code e c f g =
     let f2 : nat_eq (funct5 word) 0b00010 ≡ false = ap (λ n. nat_eq n 0b00010) c ∙ f in
     let g2 : nat_eq (funct5 word) 0b00011 ≡ false = ap (λ n. nat_eq n 0b00011) c ∙ g in rw (e, f2, g2) refl
 
-amo-complete : (word : ℕ) (o : AmoOp) (rd rs1 rs2 : ℕ) → IsWordOf (Amo o rd rs1 rs2) word → decoded word ≡ Some (Amo o rd rs1 rs2)
+amo-complete : (word : ℕ) (o : AmoOp) (rd rs1 rs2 : ℕ) → IsWordOf (Amo o rd rs1 rs2) word → instruction_at word ≡ Some (Amo o rd rs1 rs2)
 amo-complete word o rd rs1 rs2 h =
     let r : Reads (layout (Amo o rd rs1 rs2)) word = h.reads in
     let s2 : rs2_of word ≡ rs2 = r.1.0 in
@@ -263,7 +263,7 @@ amo-complete word o rd rs1 rs2 h =
     ∙ ap (option_map (λ o. Amo o (rd_of word) (rs1_of word) (rs2_of word))) f ∙ (cc)
 
 -- the word of an instruction is decoded as it
-pub decoded-complete : (instr : Instr) (word : ℕ) → word < 2 ^ 32 → IsWordOf instr word → decoded word ≡ Some instr
+pub decoded-complete : (instr : Instr) (word : ℕ) → word < 2 ^ 32 → IsWordOf instr word → instruction_at word ≡ Some instr
 decoded-complete (Lui rd imm) word l h = lui-complete word rd imm h
 decoded-complete (Auipc rd imm) word l h = auipc-complete word rd imm h
 decoded-complete (Jal rd offset) word l h = jal-complete word rd offset h

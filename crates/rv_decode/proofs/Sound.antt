@@ -11,7 +11,7 @@ use Rattle.rv_decode.specs.Codes.{lui, auipc, jal, jalr, branch, load, store, op
 use Rattle.rv_decode.specs.Codes.{store_code, imm_code, is_shift, shift_top, reg_code, reg_top, amo_code, branch_ops, load_ops, store_ops}
 use Rattle.rv_decode.specs.Codes.{imm_ops, reg_ops, amo_ops}
 use Rattle.rv_decode.specs.Table.{IsWordOf, Reads, is_signed, is_operand, is_register, r_form, i_form}
-use Rattle.rv_decode.specs.Decoded.{decoded, operand_of, jalr_of, branch_of, load_of, store_of, op_imm_of, op_of, fence_of, system_of}
+use Rattle.rv_decode.specs.Decoded.{instruction_at, operand_of, jalr_of, branch_of, load_of, store_of, op_imm_of, op_of, fence_of, system_of}
 use Rattle.rv_decode.specs.Decoded.{atomic_of, lr_of, amo_of}
 use Rattle.rv_decode.proofs.Cells.{part-lt}
 use Rattle.rv_decode.proofs.Numbers.{i-reads, s-reads, b-reads, j-reads, u-reads, i-fits, s-fits, b-fits, j-fits, u-fits}
@@ -171,8 +171,8 @@ atomic-right word e = when word (funct3 word) 0b010 _ _ (λ c.
     (amo-right word e c))) tt
 
 -- what a word is decoded as has that word
-pub decoded-sound : (word : ℕ) → IfSome (decoded word) (λ instr. IsWordOf instr word)
-unfolding decoded
+pub decoded-sound : (word : ℕ) → IfSome (instruction_at word) (λ instr. IsWordOf instr word)
+unfolding instruction_at
 decoded-sound word =
     when word (opcode word) lui _ _ (lui-right word) (
     when word (opcode word) auipc _ _ (auipc-right word) (

@@ -11,7 +11,7 @@ use Rattle.rv_decode.specs.Parts.{twos}
 use Rattle.rv_decode.specs.Codes.{jalr, load, op_imm, op, load_code, imm_code, is_shift, shift_top, reg_code, reg_top, amo_code}
 use Rattle.rv_decode.specs.Table.{IsWordOf, layout, width, word_of_cells, word_of, instr_fits, is_signed, is_target, is_operand, is_register}
 use Rattle.rv_decode.specs.Table.{is_upper, r_form, i_form, amo_form}
-use Rattle.rv_decode.specs.Decoded.{decoded}
+use Rattle.rv_decode.specs.Decoded.{instruction_at}
 use Rattle.rv_decode.proofs.Cells.{HasRoom, part-lt, placed-lt, Reads-placed}
 use Rattle.rv_decode.proofs.Found.{branch_code-lt, load_code-lt, store_code-lt, imm_code-lt, shift_top-lt, reg_code-lt, reg_top-lt}
 use Rattle.rv_decode.proofs.Found.{amo_code-lt}
@@ -116,7 +116,7 @@ unfolding word_of
 word_of-right instr h = record { fits = h; reads = Reads-placed (layout instr) (has-room instr h) }
 
 -- and is decoded as it
-pub decoded-word_of : (instr : Instr) → instr_fits instr ≡ true → decoded (word_of instr) ≡ Some instr
+pub decoded-word_of : (instr : Instr) → instr_fits instr ≡ true → instruction_at (word_of instr) ≡ Some instr
 decoded-word_of instr h = decoded-complete instr (word_of instr) (word_of-lt instr h) (word_of-right instr h)
 
 right-of : (word : ℕ) (found : Option Instr) (illegal : Illegal) (instr : Instr) → IfSome found (λ i. IsWordOf i word) →
@@ -126,9 +126,9 @@ right-of word (Some i) illegal instr h e = let f : i ≡ instr = cc in subst (λ
 
 -- decoding gives an instruction exactly where the word is one of its words
 pub decode-exact : (word : ℕ) → word < 2 ^ 32 → (illegal : Illegal) (instr : Instr) →
-    (ok_or (decoded word) illegal ≡ Ok instr) ↔ IsWordOf instr word
+    (ok_or (instruction_at word) illegal ≡ Ok instr) ↔ IsWordOf instr word
 decode-exact word l illegal instr = (
-  right-of word (decoded word) illegal instr (decoded-sound word),
+  right-of word (instruction_at word) illegal instr (decoded-sound word),
   λ h. ap (λ found. ok_or found illegal) (decoded-complete instr word l h),
 )
 
@@ -139,17 +139,17 @@ none-of word (Some i) illegal h f = absurd (f i h)
 
 -- and none exactly where the word is no instruction's
 pub decode-illegal : (word : ℕ) → word < 2 ^ 32 → (illegal : Illegal) →
-    IsErr (ok_or (decoded word) illegal) ↔ ((instr : Instr) → IsWordOf instr word → ⊥)
+    IsErr (ok_or (instruction_at word) illegal) ↔ ((instr : Instr) → IsWordOf instr word → ⊥)
 decode-illegal word l illegal = (
   λ e instr h. let p : IsErr (ok_or (Some instr) illegal) =
       subst (λ found. IsErr (ok_or found illegal)) (decoded-complete instr word l h) e in cc,
-  none-of word (decoded word) illegal (decoded-sound word),
+  none-of word (instruction_at word) illegal (decoded-sound word),
 )
 
 -- no word is two instructions'
 pub one-instruction : (word : ℕ) → word < 2 ^ 32 → (i j : Instr) → IsWordOf i word → IsWordOf j word → i ≡ j
 one-instruction word l i j h k =
-    let e : decoded word ≡ Some i = decoded-complete i word l h in let f : decoded word ≡ Some j = decoded-complete j word l k in cc
+    let e : instruction_at word ≡ Some i = decoded-complete i word l h in let f : instruction_at word ≡ Some j = decoded-complete j word l k in cc
 
 -- an answer tells what was decoded, and that it fits
 decode-tells-of : (found : Option Instr) (illegal : Illegal) →
@@ -158,13 +158,13 @@ decode-tells-of None illegal = refl
 decode-tells-of (Some instr) illegal = refl
 
 pub decode-tells : (word : ℕ) (illegal : Illegal) →
-    MatchResult (ok_or (decoded word) illegal) (λ instr. decoded word ≡ Some instr) (λ _. decoded word ≡ None)
-decode-tells word illegal = decode-tells-of (decoded word) illegal
+    MatchResult (ok_or (instruction_at word) illegal) (λ instr. instruction_at word ≡ Some instr) (λ _. instruction_at word ≡ None)
+decode-tells word illegal = decode-tells-of (instruction_at word) illegal
 
 decode-fits-of : (word : ℕ) (found : Option Instr) (illegal : Illegal) → IfSome found (λ instr. IsWordOf instr word) →
     IfOk (ok_or found illegal) (λ instr. instr_fits instr ≡ true)
 decode-fits-of word None illegal h = tt
 decode-fits-of word (Some instr) illegal h = h.fits
 
-pub decode-fits : (word : ℕ) (illegal : Illegal) → IfOk (ok_or (decoded word) illegal) (λ instr. instr_fits instr ≡ true)
-decode-fits word illegal = decode-fits-of word (decoded word) illegal (decoded-sound word)
+pub decode-fits : (word : ℕ) (illegal : Illegal) → IfOk (ok_or (instruction_at word) illegal) (λ instr. instr_fits instr ≡ true)
+decode-fits word illegal = decode-fits-of word (instruction_at word) illegal (decoded-sound word)

@@ -55,8 +55,8 @@ atomic_of word =
     else None
 
 -- the instruction that has the word, where there is one
-unfoldable pub decoded : ℕ → Option Instr
-decoded word =
+unfoldable pub instruction_at : ℕ → Option Instr
+instruction_at word =
     if nat_eq (opcode word) lui then Some (Lui (rd_of word) (u_imm word))
     else if nat_eq (opcode word) auipc then Some (Auipc (rd_of word) (u_imm word))
     else if nat_eq (opcode word) jal then Some (Jal (rd_of word) (j_imm word))

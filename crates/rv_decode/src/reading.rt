@@ -2,7 +2,7 @@
 ghost use Rattle.std.specs.Prelude.{◌≡◌, ◌↔◌, true, MatchResult, IfOk, IsErr};
 ghost use Rattle.rv_decode.specs.declared.instr.Instr.{Instr};
 ghost use Rattle.rv_decode.specs.Table.{IsWordOf, instr_fits};
-ghost use Rattle.rv_decode.specs.Decoded.{decoded, system_of, atomic_of, jalr_of, branch_of, load_of, store_of, op_imm_of, op_of, fence_of};
+ghost use Rattle.rv_decode.specs.Decoded.{instruction_at, system_of, atomic_of, jalr_of, branch_of, load_of, store_of, op_imm_of, op_of, fence_of};
 
 use crate::fields;
 use crate::fields::{funct3, funct5, funct7, opcode, rd, rs1, rs2};
@@ -14,7 +14,7 @@ use crate::operations::{amo_at, branch_at, imm_at, load_at, reg_at, store_at};
 
 /// The instruction of a word ("RV32/64G Instruction Set Listings"). Illegal where the word is no instruction's.
 pub fn decode(word: u32) -> Result<Instr, Illegal>
-    ensures value { MatchResult result (λ instr. decoded word ≡ Some instr) (λ _. decoded word ≡ None) }
+    ensures value { MatchResult result (λ instr. instruction_at word ≡ Some instr) (λ _. instruction_at word ≡ None) }
     ensures fits { IfOk result (λ instr. instr_fits instr ≡ true) }
     ensures exact { (instr : Instr) → (result ≡ Ok instr) ↔ IsWordOf instr word }
     ensures illegal { IsErr result ↔ ((instr : Instr) → IsWordOf instr word → ⊥) }
@@ -23,9 +23,9 @@ pub fn decode(word: u32) -> Result<Instr, Illegal>
     instruction(word).ok_or(Illegal)
 }
 
-#[tactic(auto, unfolding(crate::specs::Decoded::decoded))]
+#[tactic(auto, unfolding(crate::specs::Decoded::instruction_at))]
 fn instruction(word: u32) -> Option<Instr>
-    ensures { result ≡ decoded word }
+    ensures { result ≡ instruction_at word }
 {
     match opcode(word) {
         LUI => Some(Instr::Lui {

@@ -2,7 +2,7 @@
 ghost use Rattle.std.specs.Prelude.{◌≡◌, ◌<◌, ◌^◌, ◌+◌, ◌*◌, true};
 ghost use Rattle.rv_decode.specs.Table.{IsWordOf, word_of, instr_fits, word_of_cells, r_form, i_form, s_form, b_form, u_form, j_form, amo_form};
 ghost use Rattle.rv_decode.specs.Table.{is_upper};
-ghost use Rattle.rv_decode.specs.Decoded.{decoded};
+ghost use Rattle.rv_decode.specs.Decoded.{instruction_at};
 
 use crate::instr::Instr;
 use crate::opcodes::{AMO, AUIPC, BRANCH, JAL, JALR, LOAD, LUI, OP, OP_IMM, STORE};
@@ -14,7 +14,7 @@ pub fn encode(instr: &Instr) -> u32
     requires { instr_fits instr.now ≡ true }
     ensures value { result ≡ word_of instr.now }
     ensures word { IsWordOf instr.now result }
-    ensures back { decoded result ≡ Some instr.now }
+    ensures back { instruction_at result ≡ Some instr.now }
 {
     written(instr)
 }

@@ -1,6 +1,6 @@
 -- The forms of operands: what stands between and around registers and numbers.
 use Rattle.std.specs.Prelude.{ℕ, nat_eq, if◌then◌else◌, ℤ, List, length, Option, Some, None, option_map}
-use Rattle.rv_statement.specs.Lines.{trimmed, cut}
+use Rattle.rv_statement.specs.Lines.{without_outer_blanks, cut}
 use Rattle.rv_statement.specs.Operands.{register_of, number_of}
 
 -- what follows from something, where it is there
@@ -11,7 +11,7 @@ and_then (Some a) next = next a
 -- a register before a comma, and what follows the comma
 unfoldable pub register_then : List ℕ → Option (ℕ × List ℕ)
 register_then text =
-    and_then (cut (λ byte. nat_eq byte 44) text) (λ parts. option_map (λ number. (number, trimmed parts.1)) (register_of (trimmed parts.0)))
+    and_then (cut (λ byte. nat_eq byte 44) text) (λ parts. option_map (λ number. (number, without_outer_blanks parts.1)) (register_of (without_outer_blanks parts.0)))
 
 -- REGISTER, REGISTER, REGISTER
 unfoldable pub registers_of : List ℕ → Option (ℕ × ℕ × ℕ)
@@ -28,11 +28,11 @@ upper_of text = and_then (register_then text) (λ a. option_map (λ n. (a.0, n))
 -- REGISTER)
 unfoldable pub closed_of : List ℕ → Option ℕ
 closed_of text =
-    and_then (cut (λ byte. nat_eq byte 41) text) (λ parts. if nat_eq (length parts.1) 0 then register_of (trimmed parts.0) else None)
+    and_then (cut (λ byte. nat_eq byte 41) text) (λ parts. if nat_eq (length parts.1) 0 then register_of (without_outer_blanks parts.0) else None)
 
 -- NUMBER(REGISTER), where the number may be of another kind
 unfoldable pub based_of : List ℕ → Option (List ℕ × ℕ)
-based_of text = and_then (cut (λ byte. nat_eq byte 40) text) (λ parts. option_map (λ base. (trimmed parts.0, base)) (closed_of parts.1))
+based_of text = and_then (cut (λ byte. nat_eq byte 40) text) (λ parts. option_map (λ base. (without_outer_blanks parts.0, base)) (closed_of parts.1))
 
 -- (REGISTER)
 unfoldable pub address_of : List ℕ → Option ℕ

@@ -12,8 +12,8 @@ without_blanks [] = []
 without_blanks (byte ∷ text) = if is_blank byte then without_blanks text else byte ∷ text
 
 -- without the blanks at both ends
-unfoldable pub trimmed : List ℕ → List ℕ
-trimmed text = reverse (without_blanks (reverse (without_blanks text)))
+unfoldable pub without_outer_blanks : List ℕ → List ℕ
+without_outer_blanks text = reverse (without_blanks (reverse (without_blanks text)))
 
 -- what stands before a place, and what stands after it
 abbrev pub cut_at : List ℕ → Option ℕ → Option (List ℕ × List ℕ)
@@ -29,4 +29,4 @@ front_or text (Some parts) = parts.0
 
 -- a line without its comment and the blanks at its ends
 unfoldable pub bare : List ℕ → List ℕ
-bare line = trimmed (front_or line (cut (λ byte. nat_eq byte 35) line))
+bare line = without_outer_blanks (front_or line (cut (λ byte. nat_eq byte 35) line))

@@ -13,7 +13,7 @@ use Rattle.rv_decode.specs.declared.instr.Instr.TheVariants.{Lui, Auipc, Jal, Ja
 use Rattle.rv_decode.specs.declared.instr.Instr.TheVariants.{Lr, Sc, Amo}
 use Rattle.rv_decode.specs.Table.{word_of, instr_fits}
 use Rattle.rv_statement.specs.Names.{mnemonic}
-use Rattle.rv_statement.specs.Lines.{is_blank, trimmed, cut}
+use Rattle.rv_statement.specs.Lines.{is_blank, without_outer_blanks, cut}
 use Rattle.rv_statement.specs.Operands.{number_of, is_name}
 use Rattle.rv_statement.specs.Forms.{and_then, register_then, registers_of, numbered_of, upper_of, placed_of, reserved_of, atomic_of}
 use Rattle.rv_statement.specs.Forms.{compared_of}
@@ -43,8 +43,8 @@ unfoldable pub row_of : List ℕ → Option Instr
 row_of text = find (is_row text) rows
 
 -- the word of an instruction, and None where a number of it is out of its range
-unfoldable pub coded : Instr → Option ℕ
-coded instr = if instr_fits instr then Some (word_of instr) else None
+unfoldable pub word_of_instruction : Instr → Option ℕ
+word_of_instruction instr = if instr_fits instr then Some (word_of instr) else None
 
 -- an instruction that leads to an offset, with another one
 abbrev pub with_offset : Instr → ℤ → Instr
@@ -107,7 +107,7 @@ pub data Read : Type 0 where
 
 -- the word of what is named
 abbrev pub read_of : Named → Read
-read_of (whole instr) = fixed (coded instr)
+read_of (whole instr) = fixed (word_of_instruction instr)
 read_of outside = fixed None
 read_of (leads instr name) = aimed instr name
 
@@ -124,7 +124,7 @@ operation_of name operands =
 -- what is said of a mnemonic and its operands, where these are told apart
 abbrev pub on_parts : {A : Type 0} → (List ℕ → List ℕ → Option A) → List ℕ → Option (List ℕ × List ℕ) → Option A
 on_parts say text None = say text []
-on_parts say text (Some parts) = say parts.0 (trimmed parts.1)
+on_parts say text (Some parts) = say parts.0 (without_outer_blanks parts.1)
 
 -- the instruction that a text names: its mnemonic, and its operands after the first blank
 unfoldable pub named_in : List ℕ → Option Named

@@ -2,15 +2,15 @@
 ghost use Rattle.std.specs.Prelude.{◌≡◌, ◌*◌, ◌&&◌, ◌^◌, int_le, int_lt, pos, unsigned_abs, true, if◌then◌else◌, Some, None};
 ghost use Rattle.rv_decode.specs.declared.instr.Instr.{Instr};
 ghost use Rattle.rv_decode.specs.Table.{is_signed, is_target};
-ghost use Rattle.rv_statement.specs.Reading.{coded, fixed, read_of, upper, word_in, with_offset};
+ghost use Rattle.rv_statement.specs.Reading.{word_of_instruction, fixed, read_of, upper, word_in, with_offset};
 
 use rv_decode::{BranchOp, ImmOp, Instr, LoadOp, encode};
 use sn_base::Width;
 
 /// The word of an instruction, where it fits.
-#[tactic(auto, unfolding(crate::specs::Reading::coded))]
+#[tactic(auto, unfolding(crate::specs::Reading::word_of_instruction))]
 pub(crate) fn coded(instr: &Instr) -> Option<u32>
-    ensures { result ≡ coded instr.now }
+    ensures { result ≡ word_of_instruction instr.now }
 {
     if instr.fits() {
         Some(encode(instr))
@@ -55,9 +55,9 @@ fn immediate(number: i64) -> Option<i32>
     }
 }
 
-#[tactic(auto, unfolding(crate::specs::Reading::coded))]
+#[tactic(auto, unfolding(crate::specs::Reading::word_of_instruction))]
 pub(crate) fn jalr(rd: u8, rs1: u8, number: i64) -> Option<u32>
-    ensures { result ≡ coded (Instr.Jalr rd rs1 number) }
+    ensures { result ≡ word_of_instruction (Instr.Jalr rd rs1 number) }
 {
     match immediate(number) {
         Some(imm) => coded(&Instr::Jalr { rd, rs1, imm }),
@@ -65,9 +65,9 @@ pub(crate) fn jalr(rd: u8, rs1: u8, number: i64) -> Option<u32>
     }
 }
 
-#[tactic(auto, unfolding(crate::specs::Reading::coded))]
+#[tactic(auto, unfolding(crate::specs::Reading::word_of_instruction))]
 pub(crate) fn load(op: LoadOp, rd: u8, rs1: u8, number: i64) -> Option<u32>
-    ensures { result ≡ coded (Instr.Load op rd rs1 number) }
+    ensures { result ≡ word_of_instruction (Instr.Load op rd rs1 number) }
 {
     match immediate(number) {
         Some(imm) => coded(&Instr::Load { op, rd, rs1, imm }),
@@ -75,9 +75,9 @@ pub(crate) fn load(op: LoadOp, rd: u8, rs1: u8, number: i64) -> Option<u32>
     }
 }
 
-#[tactic(auto, unfolding(crate::specs::Reading::coded))]
+#[tactic(auto, unfolding(crate::specs::Reading::word_of_instruction))]
 pub(crate) fn store(op: Width, rs1: u8, rs2: u8, number: i64) -> Option<u32>
-    ensures { result ≡ coded (Instr.Store op rs1 rs2 number) }
+    ensures { result ≡ word_of_instruction (Instr.Store op rs1 rs2 number) }
 {
     match immediate(number) {
         Some(imm) => coded(&Instr::Store { op, rs1, rs2, imm }),
@@ -85,9 +85,9 @@ pub(crate) fn store(op: Width, rs1: u8, rs2: u8, number: i64) -> Option<u32>
     }
 }
 
-#[tactic(auto, unfolding(crate::specs::Reading::coded))]
+#[tactic(auto, unfolding(crate::specs::Reading::word_of_instruction))]
 pub(crate) fn with_immediate(op: ImmOp, rd: u8, rs1: u8, number: i64) -> Option<u32>
-    ensures { result ≡ coded (Instr.OpImm op rd rs1 number) }
+    ensures { result ≡ word_of_instruction (Instr.OpImm op rd rs1 number) }
 {
     match immediate(number) {
         Some(imm) => coded(&Instr::OpImm { op, rd, rs1, imm }),
@@ -106,9 +106,9 @@ fn branch_offset(number: i128) -> Option<i32>
     }
 }
 
-#[tactic(auto, unfolding(crate::specs::Reading::coded))]
+#[tactic(auto, unfolding(crate::specs::Reading::word_of_instruction))]
 pub(crate) fn branch(op: BranchOp, rs1: u8, rs2: u8, number: i128) -> Option<u32>
-    ensures { result ≡ coded (Instr.Branch op rs1 rs2 number) }
+    ensures { result ≡ word_of_instruction (Instr.Branch op rs1 rs2 number) }
 {
     match branch_offset(number) {
         Some(offset) => coded(&Instr::Branch {
@@ -132,9 +132,9 @@ fn jump_offset(number: i128) -> Option<i32>
     }
 }
 
-#[tactic(auto, unfolding(crate::specs::Reading::coded))]
+#[tactic(auto, unfolding(crate::specs::Reading::word_of_instruction))]
 pub(crate) fn jal(rd: u8, number: i128) -> Option<u32>
-    ensures { result ≡ coded (Instr.Jal rd number) }
+    ensures { result ≡ word_of_instruction (Instr.Jal rd number) }
 {
     match jump_offset(number) {
         Some(offset) => coded(&Instr::Jal { rd, offset }),
@@ -152,7 +152,7 @@ pub(crate) fn word_in(number: i64) -> Option<u32>
 /// The word of an instruction that leads to a label, where the label lies at this offset from it; None where the offset is
 /// out of its range.
 pub fn aimed_word(instr: &Instr, offset: i128) -> Option<u32>
-    ensures { result ≡ coded (with_offset instr.now offset) }
+    ensures { result ≡ word_of_instruction (with_offset instr.now offset) }
 {
     match *instr {
         Instr::Jal { rd, .. } => jal(rd, offset),

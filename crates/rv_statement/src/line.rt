@@ -1,7 +1,7 @@
 //! The parts of a line.
 ghost use Rattle.std.specs.Prelude.{◌≡◌, ℕ, ◌+◌, ◌<◌, nat_eq, length, take, drop, reverse, option_map, IfSome};
 ghost use Rattle.std.specs.List.{position};
-ghost use Rattle.rv_statement.specs.Lines.{is_blank, without_blanks, trimmed, cut, bare};
+ghost use Rattle.rv_statement.specs.Lines.{is_blank, without_blanks, without_outer_blanks, cut, bare};
 
 fn is_blank(byte: u8) -> bool
     ensures { result ≡ is_blank byte }
@@ -31,9 +31,9 @@ fn trimmed_end(text: &[u8]) -> &[u8]
 }
 
 /// Without the blanks at both ends.
-#[tactic(auto, unfolding(crate::specs::Lines::trimmed))]
+#[tactic(auto, unfolding(crate::specs::Lines::without_outer_blanks))]
 pub(crate) fn trimmed(text: &[u8]) -> &[u8]
-    ensures { result.now ≡ trimmed text.entry.now }
+    ensures { result.now ≡ without_outer_blanks text.entry.now }
 {
     trimmed_end(skipped(text))
 }

@@ -1,28 +1,36 @@
 -- What follows of a call from how its files were found.
-use Rattle.std.proofs.Common.{◌≡◌, ℕ, List, [], ◌∷◌, refl, ap, sym, subst, ◌∙◌, inl, inr}
+use Rattle.std.proofs.Common.{◌≡◌, ℕ, List, [], ◌∷◌, ◌++◌, length, refl, ap, sym, subst, ◌∙◌, inl, inr, append-nil}
 use Rattle.std.specs.Prelude.{Option, Some, None, IfSome, IfOk, Result, Ok, Err, ◌⊎◌, Vec}
 use Rattle.std.specs.declared.alloc.Global.{Global}
 use Rattle.std.specs.declared.dyn_box.DynBox.{DynBox}
 use Rattle.sn_base.specs.declared.event.Event.{Event}
 use Rattle.sn_base.specs.declared.event.Answer.{Answer}
-use Rattle.sn_io.specs.Outside.{Found, Rose}
+use Rattle.sn_io.specs.Outside.{Found, Rose, followed_by}
 use Rattle.command_words.specs.Request.{Request}
 use Rattle.sn_probe.specs.Probes.{Meter, meters_in}
-use Rattle.sink_pieces.specs.Pieces.{Ends, Report, after, Breaks}
-use Rattle.run_journals.specs.declared.entry.JournalEntry.{JournalEntry}
+use Rattle.sink_pieces.specs.Pieces.{Ends, Report, ends, after, Breaks}
+use Rattle.sink_pieces.proofs.PieceLaws.{followed_by-nil}
+use Rattle.access_check.specs.declared.verdict.Verdict.{Verdict as AccessVerdict}
+use Rattle.access_check.specs.declared.verdict.Verdict.TheVariants as access_verdict
+use Rattle.access_texts.specs.Lists.{Said}
+use Rattle.access_texts.specs.Verdicts.{verdict_text, IsPut, IsBrokenOff as IsAccessBroken}
 use Rattle.node_run.specs.declared.ending.Ending.{Ending}
 use Rattle.node_run.specs.declared.ending.Ending.TheVariants as ending
 use Rattle.node_run.specs.declared.job.Run.{Run}
 use Rattle.node_run.specs.Shown.{IsDone as IsRunDone, IsBrokenOff as IsRunBroken}
+use Rattle.node_run.specs.Pieces.{begins}
+use Rattle.turn_orders.specs.declared.order.Order.{Order}
+use Rattle.ordered_run.specs.Ordered.{ordered_journal}
+use Rattle.ordered_run.specs.Shown.{IsDone as IsOrderDone, IsBrokenOff as IsOrderBroken}
 use Rattle.monitor_run.specs.declared.job.Monitor.{Monitor}
 use Rattle.monitor_run.specs.Shown.{IsDone as IsWatchDone, IsBrokenOff as IsWatchBroken}
 use Rattle.safetynet_main.specs.LoadPlan.{Loads}
-use Rattle.safetynet_main.specs.Call.{Fetches, AsksNothing, plan_of, due_of, EndsIn, ComesTo, Follows, Comes}
-use Rattle.safetynet_main.specs.Outcome.{Outcome, Finished, Judged, Ran, Watched, IsVerdict, verdict_line, verdict_status, ending_status}
-use Rattle.safetynet_main.specs.Outcome.{status_of}
+use Rattle.safetynet_main.specs.Call.{Fetches, AsksNothing, plan_of, due_of, EndsIn, Follows, Comes}
+use Rattle.safetynet_main.specs.Outcome.{Outcome, Finished, Judged, JudgedAccesses, Ran, Watched, IsVerdict, verdict_line, verdict_status}
+use Rattle.safetynet_main.specs.Outcome.{access_status, ending_status, status_of}
 use Rattle.safetynet_main.specs.declared.job.Check.{Check}
 use Rattle.safetynet_main.specs.declared.job.Job.{Job}
-use Rattle.safetynet_main.specs.declared.job.Job.TheVariants.{Run as RunJob, Monitor as MonitorJob, Check as CheckJob}
+use Rattle.safetynet_main.specs.declared.job.Job.TheVariants.{Run as RunJob, OrderedRun as OrderedJob, Monitor as MonitorJob, Check as CheckJob, Judge as JudgeJob}
 use Rattle.safetynet_main.specs.declared.job.Verdict.{Verdict}
 use Rattle.safetynet_main.specs.declared.job.Verdict.TheVariants as verdict
 use Rattle.safetynet_main.specs.declared.status.Status.{Status}
@@ -49,6 +57,10 @@ not_refused (Judged verdict.Legal) refusal (inl w) e = cc
 not_refused (Judged verdict.Legal) refusal (inr w) e = cc
 not_refused (Judged (verdict.Refused place)) refusal (inl w) e = cc
 not_refused (Judged (verdict.Refused place)) refusal (inr w) e = cc
+not_refused (JudgedAccesses access_verdict.Legal) refusal (inl w) e = cc
+not_refused (JudgedAccesses access_verdict.Legal) refusal (inr w) e = cc
+not_refused (JudgedAccesses (access_verdict.Refused fault)) refusal (inl w) e = cc
+not_refused (JudgedAccesses (access_verdict.Refused fault)) refusal (inr w) e = cc
 not_refused (Ran journal ending) refusal which e = ending-not_refused ending refusal which e
 not_refused (Watched journal seen ending) refusal which e = ending-not_refused ending refusal which e
 
@@ -179,6 +191,12 @@ pub follows-check : (probes : List Meter) (job : Job) (c : Check) (status : Stat
     ((given : List Meter) → Follows given (Ok (CheckJob c)) status was is before behind) → Follows probes (Ok job) status was is before behind
 follows-check probes job c status was is before behind e h = subst (λ (j : Job). Follows probes (Ok j) status was is before behind) (sym e) (h probes)
 
+-- nor does one that judges accesses
+pub follows-judge : (probes : List Meter) (job : Job) (said : Said) (status : Status) (was is : ℕ) (before behind : Ends) → job ≡ JudgeJob said →
+    ((given : List Meter) → Follows given (Ok (JudgeJob said)) status was is before behind) → Follows probes (Ok job) status was is before behind
+follows-judge probes job said status was is before behind e h =
+    subst (λ (j : Job). Follows probes (Ok j) status was is before behind) (sym e) (h probes)
+
 -- how each job comes to its outcome
 
 pub follows-verdict_done : (probes : List Meter) (c : Check) (verdict : Verdict) (status : Status) (was is : ℕ) (before behind : Ends) →
@@ -191,23 +209,67 @@ pub follows-verdict_broken : (probes : List Meter) (c : Check) (verdict : Verdic
     Follows probes (Ok (CheckJob c)) status was is before behind
 follows-verdict_broken probes c verdict status was is before behind right s broken = inl (Judged verdict, (right, inr (s, broken, tt)))
 
+-- a text that the report got is its piece
+put_alone : (c old new : Option (List ℕ)) (text : List ℕ) → new ≡ followed_by old text → ends c new ≡ after (ends c old) (Report text ∷ [])
+unfolding after
+put_alone c old new text h =
+    ap (λ t. ends c t) (h ∙ ap (λ t. followed_by old t) (sym (append-nil text)))
+    ∙ ap (λ t. ends t (followed_by old (text ++ []))) (sym (followed_by-nil c))
+
+pub follows-accesses_done : (probes : List Meter) (said : Said) (verdict : AccessVerdict) (status : Status) (was is : ℕ)
+    (c old new : Option (List ℕ)) → status ≡ access_status verdict → IsPut said old new verdict →
+    Follows probes (Ok (JudgeJob said)) status was is (ends c old) (ends c new)
+follows-accesses_done probes said verdict status was is c old new s h =
+    inl (JudgedAccesses verdict, (h.right, inl (s, put_alone c old new (verdict_text (length said.accesses) verdict) h.written, tt)))
+
+pub follows-accesses_broken : (probes : List Meter) (said : Said) (verdict : AccessVerdict) (status : Status) (was is : ℕ)
+    (c old new : Option (List ℕ)) → status ≡ SinkFault → IsAccessBroken said old new verdict →
+    Follows probes (Ok (JudgeJob said)) status was is (ends c old) (ends c new)
+follows-accesses_broken probes said verdict status was is c old new s h =
+    inl (JudgedAccesses verdict, (h.right, inr (s, h.breaks c, tt)))
+
 pub follows-run_done : (probes told : List Meter) (job : Job) (r : Run) (ending : Ending) (status : Status) (was is : ℕ) (before behind : Ends) →
     job ≡ RunJob r → status ≡ ending_status ending → IsRunDone r probes ending before behind told →
     Follows probes (Ok job) status was is before behind
-follows-run_done probes told job r ending status was is before behind e s (journal, h, knows) =
+follows-run_done probes told job r ending status was is before behind e s (journal, (h, knows)) =
     subst (λ (j : Job). Follows probes (Ok j) status was is before behind) (sym e)
     (inl (Ran journal ending, ((h.journal_is, h.ended), inl (s, h.put, h.shown))))
 
 broken-run : (probes told : List Meter) (r : Run) (status : Status) (was is : ℕ) (before behind : Ends) → status ≡ SinkFault →
     IsRunBroken r probes was is before behind told → Follows probes (Ok (RunJob r)) status was is before behind
-broken-run probes told r status was is before behind s (journal, knows, inl (rose, h)) = inr (s, (rose, (journal, h)))
-broken-run probes told r status was is before behind s (journal, knows, inr (ending, h)) =
+broken-run probes told r status was is before behind s (journal, (knows, inl (rose, h))) = inr (s, (rose, (journal, h)))
+broken-run probes told r status was is before behind s (journal, (knows, inr (ending, h))) =
     inl (Ran journal ending, ((h.journal_is, h.ended), inr (s, h.broken, h.shown)))
 
 pub follows-run_broken : (probes told : List Meter) (job : Job) (r : Run) (status : Status) (was is : ℕ) (before behind : Ends) →
     job ≡ RunJob r → status ≡ SinkFault → IsRunBroken r probes was is before behind told → Follows probes (Ok job) status was is before behind
 follows-run_broken probes told job r status was is before behind e s h =
     subst (λ (j : Job). Follows probes (Ok j) status was is before behind) (sym e) (broken-run probes told r status was is before behind s h)
+
+pub follows-order_done : (probes told : List Meter) (job : Job) (r : Run) (order : Order) (ending : Ending) (status : Status) (was is : ℕ)
+    (before behind : Ends) → job ≡ OrderedJob r order → status ≡ ending_status ending → IsOrderDone order r probes ending before behind told →
+    Follows probes (Ok job) status was is before behind
+follows-order_done probes told job r order ending status was is before behind e s (h, knows) =
+    subst (λ (j : Job). Follows probes (Ok j) status was is before behind) (sym e)
+    (inl (Ran (ordered_journal order (begins r)) ending, ((refl, h.journal_is, h.ended), inl (s, h.put, h.shown))))
+
+broken-order : (probes told : List Meter) (r : Run) (order : Order) (status : Status) (was is : ℕ) (before behind : Ends) →
+    status ≡ SinkFault → IsOrderBroken order r probes was is before behind told → Follows probes (Ok (OrderedJob r order)) status was is before behind
+broken-order probes told r order status was is before behind s (inl (turn, h)) = inr (s, (h.rose, (turn, h.stopped)))
+broken-order probes told r order status was is before behind s (inr (ending, h)) =
+    inl (
+      Ran (ordered_journal order (begins r)) ending,
+      (
+        (refl, h.cut_short.journal_is, h.cut_short.ended),
+        inr (s, h.cut_short.broken, h.cut_short.shown),
+      ),
+    )
+
+pub follows-order_broken : (probes told : List Meter) (job : Job) (r : Run) (order : Order) (status : Status) (was is : ℕ)
+    (before behind : Ends) → job ≡ OrderedJob r order → status ≡ SinkFault → IsOrderBroken order r probes was is before behind told →
+    Follows probes (Ok job) status was is before behind
+follows-order_broken probes told job r order status was is before behind e s h =
+    subst (λ (j : Job). Follows probes (Ok j) status was is before behind) (sym e) (broken-order probes told r order status was is before behind s h)
 
 pub follows-watch_done : (probes told : List Meter) (job : Job) (r : Monitor) (ending : Ending) (status : Status) (was is : ℕ)
     (before behind : Ends) → job ≡ MonitorJob r → status ≡ ending_status ending → IsWatchDone r probes ending before behind told →

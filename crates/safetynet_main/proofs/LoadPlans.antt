@@ -1,4 +1,4 @@
--- What follows of an plan from how its files were found.
+-- What follows of a plan from how its files were found.
 use Rattle.std.proofs.Common.{◌≡◌, ℕ, ◌≤◌, List, length, refl, ap, sym, subst, ◌∙◌, inl, inr, arith}
 use Rattle.std.specs.Prelude.{Option, Some, None, IfSome, Result, Ok, Err, Bool, true, false, nat_lt, if◌then◌else◌, ◌⊎◌}
 use Rattle.sn_base.specs.Image.{ImageData}
@@ -8,6 +8,7 @@ use Rattle.rv_core.specs.declared.step.Record.{Record}
 use Rattle.sn_io.specs.Outside.{Found, File, TooLong, Missing, Rose, found_in}
 use Rattle.elf_load.specs.declared.fault.LoadCause.{LoadCause}
 use Rattle.elf_load.specs.Loading.{image_of}
+use Rattle.access_texts.specs.Lists.{Said, said_by}
 use Rattle.rv_asm.specs.Assembly.{asm_of}
 use Rattle.rv_asm.specs.declared.fault.AsmCause.{AsmCause}
 use Rattle.rv_asm.specs.declared.fault.AsmCause.TheVariants.{TooLong as AsmTooLong}
@@ -17,17 +18,18 @@ use Rattle.sn_text.specs.declared.cause.ScriptCause.{ScriptCause}
 use Rattle.sn_text.specs.declared.cause.ScriptCause.TheVariants.{TooLong as ScriptTooLong}
 use Rattle.rolling_recovery.specs.Controls.{controls_of}
 use Rattle.rolling_recovery.specs.declared.controls.Control.{Control}
-use Rattle.command_words.specs.Request.{Request, Replay, Roll, Run, Monitor, Check, Demo, Assemble, Disassemble}
+use Rattle.command_words.specs.Request.{Request, Replay, Roll, Run, Monitor, Check, Judge, Demo, Assemble, Disassemble}
 use Rattle.sn_base.specs.declared.report.RunReport.{RunReport}
 use Rattle.option_values.specs.declared.run.RunRules.{RunRules}
+use Rattle.command_words.specs.declared.request.RunOrder.{RunOrder}
 use Rattle.script_replay.specs.declared.job.Showing.{Showing}
 use Rattle.asm_texts.specs.Texts.{words_text}
 use Rattle.counting_program.specs.Program.{counting_words}
-use Rattle.safetynet_main.specs.Files.{program_limit, script_limit, if_loaded, program_of, if_read, events_of, steps_of, records_of, if_assembled}
-use Rattle.safetynet_main.specs.Files.{assembly_of, listing_of}
+use Rattle.safetynet_main.specs.Files.{program_limit, script_limit, accesses_limit, if_loaded, program_of, if_read, events_of, steps_of, records_of}
+use Rattle.safetynet_main.specs.Files.{if_said, accesses_of, if_assembled, assembly_of, listing_of}
 use Rattle.safetynet_main.specs.LoadPlan.{LoadPlan, Due, Fetch, due_by, Loads}
-use Rattle.safetynet_main.specs.Call.{Fetches, report_of, job_with, roll_with, run_with, monitor_with, check_with, text_job, script_plan}
-use Rattle.safetynet_main.specs.Call.{control_plan, rolled_plan, trace_plan}
+use Rattle.safetynet_main.specs.Call.{Fetches, report_of, job_with, roll_with, run_with, monitor_with, check_with, judge_with, text_job}
+use Rattle.safetynet_main.specs.Call.{script_plan, control_plan, rolled_plan, trace_plan}
 use Rattle.safetynet_main.specs.Call.{generated_job, plan_of}
 use Rattle.safetynet_main.specs.declared.job.Job.{Job}
 use Rattle.safetynet_main.specs.declared.status.ProgramCause.TheVariants.{TooLong as ProgramTooLong}
@@ -38,7 +40,7 @@ use Rattle.safetynet_main.specs.declared.status.Status.TheVariants.{Usage, Store
 abbrev pub IsOfBytes : {A : Type 0} → Result A Status → Type 0
 IsOfBytes due = (due ≡ Err StoreFault → ⊥) × (due ≡ Err Usage → ⊥)
 
--- an plan in which a file that isn't there is the store's fault, and nothing else is
+-- a plan in which a file that isn't there is the store's fault, and nothing else is
 abbrev pub IsPlain : LoadPlan → Type 0
 IsPlain (Due job) = IsOfBytes job
 IsPlain (Fetch name limit next) =
@@ -68,6 +70,11 @@ read r true = (λ e. cc, λ e. cc)
 read (Ok items) false = (λ e. cc, λ e. cc)
 read (Err cause) false = (λ e. cc, λ e. cc)
 
+said : (r : Result Said ScriptCause) (long : Bool) → IsOfBytes (if long then Err (BadScript ScriptTooLong) else if_said r)
+said r true = (λ e. cc, λ e. cc)
+said (Ok items) false = (λ e. cc, λ e. cc)
+said (Err cause) false = (λ e. cc, λ e. cc)
+
 assembled : (r : Result (List ℕ) AsmCause) (long : Bool) → IsOfBytes (if long then Err (BadAsm AsmTooLong) else if_assembled r)
 assembled r true = (λ e. cc, λ e. cc)
 assembled (Ok words) false = (λ e. cc, λ e. cc)
@@ -88,15 +95,19 @@ plain-check : (nodes : ℕ) (image : ImageData) (records : Result (List Record) 
 plain-check nodes image (Ok records) h = (λ e. cc, λ e. cc)
 plain-check nodes image (Err status) h = (λ e. h.0 cc, λ e. h.1 cc)
 
-plain-run : (config : Config) (rules : RunRules) (report : RunReport) (watch : Option ℕ) (program : Result ImageData Status) →
-    IsOfBytes program → IsOfBytes (run_with config rules report watch program)
-plain-run config rules report watch (Ok image) h = (λ e. cc, λ e. cc)
-plain-run config rules report watch (Err status) h = (λ e. h.0 cc, λ e. h.1 cc)
+plain-run : (config : Config) (rules : RunRules) (report : RunReport) (order : RunOrder) (watch : Option ℕ)
+    (program : Result ImageData Status) → IsOfBytes program → IsOfBytes (run_with config rules report order watch program)
+plain-run config rules report order watch (Ok image) h = (λ e. cc, λ e. cc)
+plain-run config rules report order watch (Err status) h = (λ e. h.0 cc, λ e. h.1 cc)
 
 plain-monitor : (config : Config) (rules : RunRules) (watch : Option ℕ) (program : Result ImageData Status) → IsOfBytes program →
     IsOfBytes (monitor_with config rules watch program)
 plain-monitor config rules watch (Ok image) h = (λ e. cc, λ e. cc)
 plain-monitor config rules watch (Err status) h = (λ e. h.0 cc, λ e. h.1 cc)
+
+plain-judge : (accesses : Result Said Status) → IsOfBytes accesses → IsOfBytes (judge_with accesses)
+plain-judge (Ok list) h = (λ e. cc, λ e. cc)
+plain-judge (Err status) h = (λ e. h.0 cc, λ e. h.1 cc)
 
 plain-text : (text : Result (List ℕ) Status) → IsOfBytes text → IsOfBytes (text_job text)
 plain-text (Ok text) h = (λ e. cc, λ e. cc)
@@ -172,15 +183,20 @@ plan-of_words (Some (Roll config watch program script control)) = (
   plain-rolled config watch script control (Err (BadProgram ProgramTooLong)) (λ e. cc, λ e. cc),
   λ bytes. plain-rolled config watch script control (program_of bytes) (program-of_bytes bytes),
 )
-plan-of_words (Some (Run config rules report watch program)) = (
+plan-of_words (Some (Run config rules report order watch program)) = (
   refl,
-  plain-run config rules report watch (Err (BadProgram ProgramTooLong)) (λ e. cc, λ e. cc),
-  λ bytes. plain-run config rules report watch (program_of bytes) (program-of_bytes bytes),
+  plain-run config rules report order watch (Err (BadProgram ProgramTooLong)) (λ e. cc, λ e. cc),
+  λ bytes. plain-run config rules report order watch (program_of bytes) (program-of_bytes bytes),
 )
 plan-of_words (Some (Monitor config rules watch program)) = (
   refl,
   plain-monitor config rules watch (Err (BadProgram ProgramTooLong)) (λ e. cc, λ e. cc),
   λ bytes. plain-monitor config rules watch (program_of bytes) (program-of_bytes bytes),
+)
+plan-of_words (Some (Judge accesses)) = (
+  refl,
+  plain-judge (Err (BadScript ScriptTooLong)) (λ e. cc, λ e. cc),
+  λ bytes. plain-judge (accesses_of bytes) (said (said_by bytes) (nat_lt accesses_limit (length bytes))),
 )
 plan-of_words (Some (Assemble text)) = (
   refl,
@@ -324,7 +340,8 @@ refused-at_once (Some (Demo size)) e =
     absurd ((plain-generated size (program_of (words_text counting_words)) (program-of_bytes (words_text counting_words))).1 cc)
 refused-at_once (Some (Replay config trace watch program script)) e = absurd cc
 refused-at_once (Some (Roll config watch program script control)) e = absurd cc
-refused-at_once (Some (Run config rules report watch program)) e = absurd cc
+refused-at_once (Some (Run config rules report order watch program)) e = absurd cc
 refused-at_once (Some (Monitor config rules watch program)) e = absurd cc
+refused-at_once (Some (Judge accesses)) e = absurd cc
 refused-at_once (Some (Assemble text)) e = absurd cc
 refused-at_once (Some (Disassemble program)) e = absurd cc

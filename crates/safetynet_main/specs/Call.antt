@@ -1,6 +1,6 @@
 -- What a call comes to: by the words, by what was found of the files, and by the sinks.
 use Rattle.std.specs.Prelude.{◌≡◌, ℕ, ◌≤◌, ◌⊎◌, ⊤, Bool, true, false, List, [], ◌∷◌, Vec}
-use Rattle.std.specs.Prelude.{Option, Some, None, IfSome, Result, Ok, Err}
+use Rattle.std.specs.Prelude.{Option, Some, None, IfSome, Result, Ok, Err, All, length}
 use Rattle.std.specs.declared.alloc.Global.{Global}
 use Rattle.sn_base.specs.Image.{ImageData}
 use Rattle.sn_base.specs.declared.config.Config.{Config}
@@ -8,8 +8,10 @@ use Rattle.sn_base.specs.declared.event.Event.{Event}
 use Rattle.rv_core.specs.declared.step.Record.{Record}
 use Rattle.sn_io.specs.Outside.{Found, File, TooLong, Missing, Rose, found_in}
 use Rattle.option_values.specs.declared.run.RunRules.{RunRules}
+use Rattle.command_words.specs.declared.request.RunOrder.{RunOrder}
+use Rattle.command_words.specs.declared.request.RunOrder.TheVariants as order
 use Rattle.command_words.specs.Request.{Request, Replay, Roll as RollRequest, Run as RunRequest, Monitor as MonitorRequest, Check, Demo}
-use Rattle.command_words.specs.Request.{Assemble, Disassemble}
+use Rattle.command_words.specs.Request.{Judge as JudgeRequest, Assemble, Disassemble}
 use Rattle.sn_probe.specs.Probes.{Meter}
 use Rattle.sink_pieces.specs.Pieces.{Piece, Report, Ends, after, Breaks, console_piece}
 use Rattle.script_replay.specs.declared.job.Showing.{Showing}
@@ -19,7 +21,6 @@ use Rattle.script_replay.specs.Played.{MayBegin}
 use Rattle.script_replay.specs.Probed.{tallies_due}
 use Rattle.script_replay.specs.Shown.{pieces_due, IsShown, IsShownInPart}
 use Rattle.rolling_recovery.specs.declared.controls.Control.{Control}
-use Rattle.rolled_replay.specs.declared.job.Roll.{Roll}
 use Rattle.rolled_replay.specs.Rolled.{MayRoll, IsRolled, IsBrokenOff as IsRollBrokenOff, pieces_due as rolled_pieces}
 use Rattle.run_journals.specs.declared.entry.JournalEntry.{JournalEntry}
 use Rattle.node_run.specs.declared.job.Run.{Run}
@@ -27,20 +28,28 @@ use Rattle.sn_base.specs.declared.report.RunReport.{RunReport}
 use Rattle.node_run.specs.Endings.{ending_of}
 use Rattle.node_run.specs.Pieces.{begins, run_pieces}
 use Rattle.node_run.specs.Shown.{MayBegin as MayRun, IsJournal, IsShown as IsRunShown, IsShownInPart as IsRunShownInPart, IsStopped}
+use Rattle.turn_orders.specs.declared.order.Order.{Order}
+use Rattle.turn_orders.specs.declared.order.Order.TheVariants as turns
+use Rattle.ordered_run.specs.Ordered.{journal_after, ordered_journal}
 use Rattle.monitor_run.specs.declared.job.Monitor.{Monitor}
 use Rattle.monitor_run.specs.Shown.{MayBegin as MayMonitor, run_of as watched_as, monitor_pieces, IsWatched, IsShown as IsMonitorShown}
 use Rattle.monitor_run.specs.Shown.{IsCutShort as IsMonitorCutShort}
+use Rattle.access_check.specs.Accesses.{IsFittingAccess, IsFittingWord}
+use Rattle.access_check.specs.Legal.{start_of}
+use Rattle.access_check.specs.Verdicts.{IsVerdict as IsAccessVerdict}
+use Rattle.access_texts.specs.Lists.{Said}
+use Rattle.access_texts.specs.Verdicts.{verdict_text}
 use Rattle.asm_texts.specs.Texts.{words_text}
 use Rattle.counting_program.specs.Program.{counting_words}
 use Rattle.generated_runs.specs.Generated.{generated_config, generated_events}
-use Rattle.safetynet_main.specs.Files.{program_limit, script_limit, program_of, program_in, script_in, control_in, trace_in, assembly_in}
-use Rattle.safetynet_main.specs.Files.{listing_of}
+use Rattle.safetynet_main.specs.Files.{program_limit, script_limit, accesses_limit, program_of, program_in, script_in, control_in}
+use Rattle.safetynet_main.specs.Files.{trace_in, accesses_in, assembly_in, listing_of}
 use Rattle.safetynet_main.specs.LoadPlan.{LoadPlan, Due, Fetch, due_by, Loads}
-use Rattle.safetynet_main.specs.Outcome.{Outcome, Finished, Judged, Ran, Watched, IsVerdict, verdict_line, status_of}
+use Rattle.safetynet_main.specs.Outcome.{Outcome, Finished, Judged, JudgedAccesses, Ran, Watched, IsVerdict, verdict_line, status_of}
 use Rattle.safetynet_main.specs.declared.job.Check.{Check as Judging}
 use Rattle.safetynet_main.specs.declared.job.Job.{Job}
 use Rattle.safetynet_main.specs.declared.job.Job.TheVariants.{Replay as ReplayJob, Roll as RollJob, Run as RunJob, Monitor as MonitorJob}
-use Rattle.safetynet_main.specs.declared.job.Job.TheVariants.{Check as CheckJob, Text}
+use Rattle.safetynet_main.specs.declared.job.Job.TheVariants.{OrderedRun as OrderedJob, Check as CheckJob, Judge as JudgeJob, Text}
 use Rattle.safetynet_main.specs.declared.files.Unread.{Unread}
 use Rattle.safetynet_main.specs.declared.files.Unread.TheVariants.{Missing as UnreadMissing, TooLong as UnreadTooLong}
 use Rattle.safetynet_main.specs.declared.files.Unread.TheVariants.{Memory as UnreadMemory}
@@ -80,6 +89,11 @@ abbrev pub check_with : ℕ → ImageData → Result (List Record) Status → Re
 check_with nodes image (Ok records) = Ok (CheckJob (record { program = image; nodes = nodes; trace = records }))
 check_with nodes image (Err status) = Err status
 
+-- the job of accesses
+abbrev pub judge_with : Result Said Status → Result Job Status
+judge_with (Ok said) = Ok (JudgeJob said)
+judge_with (Err status) = Err status
+
 -- the job of a text for the console
 abbrev pub text_job : Result (List ℕ) Status → Result Job Status
 text_job (Ok text) = Ok (Text text)
@@ -96,9 +110,15 @@ run_of config rules report watch image = record {
   showing = record { report = report; watch = watch };
 }
 
-abbrev pub run_with : Config → RunRules → RunReport → Option ℕ → Result ImageData Status → Result Job Status
-run_with config rules report watch (Ok image) = Ok (RunJob (run_of config rules report watch image))
-run_with config rules report watch (Err status) = Err status
+-- the same by who has the next turn
+abbrev pub run_job : RunOrder → Run → Job
+run_job order.Threads r = RunJob r
+run_job order.Round r = OrderedJob r turns.Round
+run_job order.Drawn r = OrderedJob r turns.Drawn
+
+abbrev pub run_with : Config → RunRules → RunReport → RunOrder → Option ℕ → Result ImageData Status → Result Job Status
+run_with config rules report order watch (Ok image) = Ok (run_job order (run_of config rules report watch image))
+run_with config rules report order watch (Err status) = Err status
 
 -- the job of a run that is watched
 abbrev pub monitor_of : Config → RunRules → Option ℕ → ImageData → Monitor
@@ -149,15 +169,18 @@ abbrev pub roll_plan : Config → Option ℕ → List ℕ → List ℕ → List 
 roll_plan config watch program script control =
     Fetch program program_limit (λ found. rolled_plan config watch script control (program_in found))
 
-abbrev pub run_plan : Config → RunRules → RunReport → Option ℕ → List ℕ → LoadPlan
-run_plan config rules report watch program =
-    Fetch program program_limit (λ found. Due (run_with config rules report watch (program_in found)))
+abbrev pub run_plan : Config → RunRules → RunReport → RunOrder → Option ℕ → List ℕ → LoadPlan
+run_plan config rules report order watch program =
+    Fetch program program_limit (λ found. Due (run_with config rules report order watch (program_in found)))
 
 abbrev pub monitor_plan : Config → RunRules → Option ℕ → List ℕ → LoadPlan
 monitor_plan config rules watch program = Fetch program program_limit (λ found. Due (monitor_with config rules watch (program_in found)))
 
 abbrev pub check_plan : ℕ → List ℕ → List ℕ → LoadPlan
 check_plan nodes program trace = Fetch program program_limit (λ found. trace_plan nodes trace (program_in found))
+
+abbrev pub judge_plan : List ℕ → LoadPlan
+judge_plan accesses = Fetch accesses accesses_limit (λ found. Due (judge_with (accesses_in found)))
 
 abbrev pub assembly_plan : List ℕ → LoadPlan
 assembly_plan text = Fetch text program_limit (λ found. Due (text_job (assembly_in found)))
@@ -179,9 +202,10 @@ abbrev pub plan_of : Option Request → LoadPlan
 plan_of (Some (Replay config trace watch program script)) =
     replay_plan config (record { report = report_of trace; watch = watch }) program script
 plan_of (Some (RollRequest config watch program script control)) = roll_plan config watch program script control
-plan_of (Some (RunRequest config rules report watch program)) = run_plan config rules report watch program
+plan_of (Some (RunRequest config rules report order watch program)) = run_plan config rules report order watch program
 plan_of (Some (MonitorRequest config rules watch program)) = monitor_plan config rules watch program
 plan_of (Some (Check nodes program trace)) = check_plan nodes program trace
+plan_of (Some (JudgeRequest accesses)) = judge_plan accesses
 plan_of (Some (Demo size)) = demo_plan size
 plan_of (Some (Assemble text)) = assembly_plan text
 plan_of (Some (Disassemble program)) = listing_plan program
@@ -200,6 +224,12 @@ abbrev pub RunsTo : Run → Outcome → Type 0
 RunsTo r (Ran journal ending) = IsJournal r journal × (ending_of (begins r) journal ≡ Some ending)
 RunsTo r _ = ⊥
 
+-- the journal that the order makes of a run, and its end
+abbrev pub RunsInOrderTo : Run → Order → Outcome → Type 0
+RunsInOrderTo r order (Ran journal ending) =
+    (journal ≡ ordered_journal order (begins r)) × IsJournal r journal × (ending_of (begins r) journal ≡ Some ending)
+RunsInOrderTo r order _ = ⊥
+
 -- the same of a run that was watched, in rounds of its workers, with what was seen of what it published
 abbrev pub RunsWatchedTo : Monitor → Outcome → Type 0
 RunsWatchedTo r (Watched journal seen ending) = IsWatched r journal seen × (ending_of (begins (watched_as r)) journal ≡ Some ending)
@@ -209,16 +239,23 @@ abbrev pub IsJudged : Judging → Outcome → Type 0
 IsJudged c (Judged verdict) = IsVerdict c verdict
 IsJudged c _ = ⊥
 
--- what a job comes to: events and a text come to their end, workers to one of a due journal, and a trace to its verdict
+-- the same of accesses to a memory that begins with words
+abbrev pub AreJudged : Said → Outcome → Type 0
+AreJudged said (JudgedAccesses verdict) = IsAccessVerdict (start_of said.words) said.accesses verdict
+AreJudged said _ = ⊥
+
+-- what a job comes to: events and a text come to their end, workers to one of a due journal, and a trace and accesses to their verdict
 abbrev pub IsOutcome : Job → Outcome → Type 0
 IsOutcome (ReplayJob r) outcome = outcome ≡ Finished
 IsOutcome (RollJob r) outcome = outcome ≡ Finished
 IsOutcome (RunJob r) outcome = RunsTo r outcome
+IsOutcome (OrderedJob r order) outcome = RunsInOrderTo r order outcome
 IsOutcome (MonitorJob r) outcome = RunsWatchedTo r outcome
 IsOutcome (CheckJob c) outcome = IsJudged c outcome
+IsOutcome (JudgeJob said) outcome = AreJudged said outcome
 IsOutcome (Text text) outcome = outcome ≡ Finished
 
--- the pieces of a run that had this journal, of one of which this was seen besides, and of a trace of which this was found
+-- the pieces of a run that had this journal, of one of which this was seen besides, and of a trace or of accesses of which this was found
 abbrev pub journal_pieces : List Meter → Run → Outcome → List Piece
 journal_pieces probes r (Ran journal ending) = run_pieces r probes journal
 journal_pieces probes r _ = []
@@ -231,13 +268,19 @@ abbrev pub verdict_pieces : Judging → Outcome → List Piece
 verdict_pieces c (Judged verdict) = Report (verdict_line c verdict) ∷ []
 verdict_pieces c _ = []
 
+abbrev pub access_pieces : Said → Outcome → List Piece
+access_pieces said (JudgedAccesses verdict) = Report (verdict_text (length said.accesses) verdict) ∷ []
+access_pieces said _ = []
+
 -- all that a job puts that comes to this, where these probes are told its events
 abbrev pub pieces_of_job : List Meter → Job → Outcome → List Piece
 pieces_of_job probes (ReplayJob r) outcome = pieces_due r probes
 pieces_of_job probes (RollJob r) outcome = rolled_pieces r probes
 pieces_of_job probes (RunJob r) outcome = journal_pieces probes r outcome
+pieces_of_job probes (OrderedJob r order) outcome = journal_pieces probes r outcome
 pieces_of_job probes (MonitorJob r) outcome = watched_pieces probes r outcome
 pieces_of_job probes (CheckJob c) outcome = verdict_pieces c outcome
+pieces_of_job probes (JudgeJob said) outcome = access_pieces said outcome
 pieces_of_job probes (Text text) outcome = console_piece text
 
 -- a status in which a job ends where no sink breaks
@@ -267,22 +310,27 @@ abbrev pub Shows : List Meter → Job → Outcome → Ends → Ends → Type 0
 Shows probes (ReplayJob r) outcome old new = IsShown r.program r.config r.showing (tallies_due r probes) r.script old new
 Shows probes (RollJob r) outcome old new = IsRolled r probes old new
 Shows probes (RunJob r) outcome old new = ShowsRun probes r outcome old new
+Shows probes (OrderedJob r order) outcome old new = ShowsRun probes r outcome old new
 Shows probes (MonitorJob r) outcome old new = ShowsWatched probes r outcome old new
 Shows probes (CheckJob c) outcome old new = ⊤
+Shows probes (JudgeJob said) outcome old new = ⊤
 Shows probes (Text text) outcome old new = ⊤
 
 abbrev pub ShowsInPart : List Meter → Job → Outcome → Ends → Ends → Type 0
 ShowsInPart probes (ReplayJob r) outcome old new = IsShownInPart r.program r.config r.showing (tallies_due r probes) r.script old new
 ShowsInPart probes (RollJob r) outcome old new = IsRollBrokenOff r probes old new
 ShowsInPart probes (RunJob r) outcome old new = ShowsRunInPart probes r outcome old new
+ShowsInPart probes (OrderedJob r order) outcome old new = ShowsRunInPart probes r outcome old new
 ShowsInPart probes (MonitorJob r) outcome old new = ShowsWatchedInPart probes r outcome old new
 ShowsInPart probes (CheckJob c) outcome old new = ⊤
+ShowsInPart probes (JudgeJob said) outcome old new = ⊤
 ShowsInPart probes (Text text) outcome old new = ⊤
 
 -- a job that came to no outcome: a run of which the console failed, whose count of faults rose from one number to another; of a due
--- journal's output the console has the beginning
+-- journal's output the console has the beginning; of a run in an order that of its journal after so many turns
 abbrev pub BrokeOff : Job → ℕ → ℕ → Ends → Ends → Type 0
 BrokeOff (RunJob r) was is old new = Rose was is × ((journal : List JournalEntry) × IsStopped r journal old new)
+BrokeOff (OrderedJob r order) was is old new = Rose was is × ((turn : ℕ) × IsStopped r (journal_after order (begins r) turn) old new)
 BrokeOff _ was is old new = ⊥
 
 -- the job came to this, and all pieces are put, or a sink broke
@@ -309,6 +357,8 @@ abbrev pub IsRead : Job → Type 0
 IsRead (ReplayJob r) = MayBegin r
 IsRead (RollJob r) = MayRoll r
 IsRead (RunJob r) = MayRun r
+IsRead (OrderedJob r order) = MayRun r
 IsRead (MonitorJob r) = MayMonitor r
 IsRead (CheckJob c) = (1 ≤ c.nodes) × (c.nodes ≤ 16)
+IsRead (JudgeJob said) = All IsFittingWord said.words × All IsFittingAccess said.accesses
 IsRead (Text text) = ⊤

@@ -11,6 +11,7 @@ use Rattle.rolling_recovery.specs.declared.controls.Control.{Control}
 use Rattle.rv_asm.specs.Assembly.{asm_of}
 use Rattle.rv_asm.specs.declared.fault.AsmCause.{AsmCause}
 use Rattle.rv_asm.specs.declared.fault.AsmCause.TheVariants.{TooLong as AsmTooLong}
+use Rattle.access_texts.specs.Lists.{Said, said_by}
 use Rattle.asm_texts.specs.Texts.{words_text, listing}
 use Rattle.sn_text.specs.Script.{script_of}
 use Rattle.sn_text.specs.Trace.{trace_of}
@@ -27,6 +28,10 @@ program_limit = 16777216
 -- 32 MiB, of a script, of a control file and of a trace
 abbrev pub script_limit : ℕ
 script_limit = 33554432
+
+-- 64 MiB, of a list of accesses
+abbrev pub accesses_limit : ℕ
+accesses_limit = 67108864
 
 -- what the loader says of the bytes
 abbrev pub if_loaded : Result ImageData LoadCause → Result ImageData Status
@@ -52,6 +57,15 @@ steps_of nodes bytes = if nat_lt script_limit (length bytes) then Err (BadScript
 -- the records of a trace of so many nodes
 abbrev pub records_of : ℕ → List ℕ → Result (List Record) Status
 records_of nodes bytes = if nat_lt script_limit (length bytes) then Err (BadScript ScriptTooLong) else if_read (trace_of nodes bytes)
+
+-- a list of accesses that is refused is the status
+abbrev pub if_said : Result Said ScriptCause → Result Said Status
+if_said (Ok said) = Ok said
+if_said (Err cause) = Err (BadScript cause)
+
+-- the accesses, and the words that memory begins with
+abbrev pub accesses_of : List ℕ → Result Said Status
+accesses_of bytes = if nat_lt accesses_limit (length bytes) then Err (BadScript ScriptTooLong) else if_said (said_by bytes)
 
 -- the words of a text, one a line
 abbrev pub if_assembled : Result (List ℕ) AsmCause → Result (List ℕ) Status
@@ -86,6 +100,11 @@ abbrev pub trace_in : ℕ → Found → Result (List Record) Status
 trace_in nodes Missing = Err StoreFault
 trace_in nodes TooLong = Err (BadScript ScriptTooLong)
 trace_in nodes (File bytes) = records_of nodes bytes
+
+abbrev pub accesses_in : Found → Result Said Status
+accesses_in Missing = Err StoreFault
+accesses_in TooLong = Err (BadScript ScriptTooLong)
+accesses_in (File bytes) = accesses_of bytes
 
 abbrev pub assembly_in : Found → Result (List ℕ) Status
 assembly_in Missing = Err StoreFault

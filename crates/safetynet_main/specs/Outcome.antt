@@ -1,5 +1,7 @@
 -- What a job comes to, and what is said of it.
 use Rattle.std.specs.Prelude.{◌≡◌, ℕ, ◌+◌, List, [], codes, length}
+use Rattle.access_check.specs.declared.verdict.Verdict.{Verdict as AccessVerdict}
+use Rattle.access_check.specs.declared.verdict.Verdict.TheVariants.{Legal as AllLegal, Refused as OneRefused}
 use Rattle.rv_core.specs.Flat.{flat_start}
 use Rattle.rv_core.specs.Execution.{IsExecution}
 use Rattle.sn_consistency.specs.Projections.{FirstWithoutStep}
@@ -20,6 +22,8 @@ pub data Outcome : Type 0 where
   Finished : Outcome
   -- a trace was judged
   Judged : (verdict : Verdict) → Outcome
+  -- accesses were judged
+  JudgedAccesses : (verdict : AccessVerdict) → Outcome
   -- workers ran up to this end of their run, and this is its journal
   Ran : (journal : List JournalEntry) → (ending : Ending) → Outcome
   -- the same, and these snapshots were seen of it
@@ -41,6 +45,10 @@ abbrev pub verdict_status : Verdict → Status
 verdict_status Legal = Done
 verdict_status (Refused place) = RefusedStatus place
 
+abbrev pub access_status : AccessVerdict → Status
+access_status AllLegal = Done
+access_status (OneRefused refusal) = RefusedStatus refusal.place
+
 abbrev pub ending_status : Ending → Status
 ending_status Exited = Done
 ending_status (Trapped node cause) = TrappedStatus node cause
@@ -50,5 +58,6 @@ ending_status Spent = Budget
 abbrev pub status_of : Outcome → Status
 status_of Finished = Done
 status_of (Judged verdict) = verdict_status verdict
+status_of (JudgedAccesses verdict) = access_status verdict
 status_of (Ran journal ending) = ending_status ending
 status_of (Watched journal seen ending) = ending_status ending

@@ -11,10 +11,12 @@ use crate::checking::check;
 use crate::demo::demo;
 use crate::files::load;
 use crate::job::Job;
+use crate::judging::judge;
 use crate::status::{Status, ended_as};
 use command_words::{Request, WordsFault, read_words};
 use monitor_run::monitor;
 use node_run::{RunFault, run};
+use ordered_run::run as run_in_order;
 use rolled_replay::{RollFault, roll};
 use script_replay::{ReplayFault, replay};
 use sink_pieces::put_console;
@@ -63,7 +65,15 @@ fn perform<T: Threads + Wait + Sync, C: Sink + Send, R: Sink, G: Gate + Sync>(
             Err(RunFault::Sink) => Status::SinkFault,
             Err(RunFault::Memory) => Status::Memory,
         },
+        Job::OrderedRun(job, order) => {
+            match run_in_order(alloc, job, order, probes, console, report) {
+                Ok(ending) => ended_as(ending),
+                Err(RunFault::Sink) => Status::SinkFault,
+                Err(RunFault::Memory) => Status::Memory,
+            }
+        }
         Job::Check(job) => check(rt, alloc, &job, report, gate),
+        Job::Judge(list) => judge(alloc, &list, report),
         Job::Text(text) => match put_console(console, text.bytes()) {
             Ok(()) => Status::Done,
             Err(_) => Status::SinkFault,
@@ -111,7 +121,8 @@ fn answer<T: Threads + Wait + Sync, S: Store, C: Sink + Send, R: Sink, G: Gate +
 /// command writes to the console and the report. The first word is the program's name. In a replay and in a run each probe is
 /// told each event that is applied, and each is dropped once, however the call ends. A trace is judged in threads, one for each
 /// core, and each passes the gate once. A run has a thread for each node, which passes the gate before each turn, and one that
-/// writes to the console beside them. A run that is watched has its turns on the caller's thread, and one thread for the watcher.
+/// writes to the console beside them. A run in an order has all its turns on the caller's thread, and so has one that is watched,
+/// with one thread for the watcher.
 pub fn safetynet<T: Threads + Wait + Sync, S: Store, C: Sink + Send, R: Sink, G: Gate + Sync>(
     rt: &T,
     alloc: Global,

@@ -2,23 +2,25 @@
 ghost use Rattle.std.specs.Prelude.{◌≡◌, ◌≢◌, ◌≤◌, ℕ, true, All, length, Some, Ok, Err, IfOk, string_bytes};
 ghost use Rattle.sn_base.specs.Config.{lies_in, config_fits};
 ghost use Rattle.sn_io.specs.Outside.{Found};
+ghost use Rattle.access_check.specs.Accesses.{IsFittingAccess, IsFittingWord};
 ghost use Rattle.consistent_cuts.specs.Runs.{AllFit};
 ghost use Rattle.rolling_recovery.specs.Controls.{control_fits};
 ghost use Rattle.command_words.specs.Request.{as_request, watch_fits, request_fits};
 ghost use Rattle.option_values.specs.Runs.{run_rules_fit};
-ghost use Rattle.safetynet_main.specs.Files.{program_in, script_in, control_in, trace_in, assembly_in};
+ghost use Rattle.safetynet_main.specs.Files.{program_in, script_in, control_in, trace_in, accesses_in, assembly_in};
 ghost use Rattle.safetynet_main.specs.LoadPlan.{Loads};
 ghost use Rattle.safetynet_main.specs.Call.{Fetches, found_by, report_of, plan_of, replay_plan, roll_plan};
-ghost use Rattle.safetynet_main.specs.Call.{run_plan, monitor_plan, check_plan, assembly_plan, listing_plan, IsRead};
+ghost use Rattle.safetynet_main.specs.Call.{run_plan, monitor_plan, check_plan, judge_plan, assembly_plan, listing_plan, IsRead};
 ghost use Rattle.sn_base.specs.declared.limits.TheConstants.{EVENTS};
 
 use crate::job::{Check, Job, Text, Trace};
 use crate::reading::{
-    PROGRAM_LIMIT, SCRIPT_LIMIT, list_program, read_assembly, read_control, read_program,
-    read_script, read_trace,
+    ACCESSES_LIMIT, PROGRAM_LIMIT, SCRIPT_LIMIT, list_program, read_accesses, read_assembly,
+    read_control, read_program, read_script, read_trace,
 };
 use crate::status::{ProgramCause, Status};
-use command_words::Request;
+use access_texts::AccessList;
+use command_words::{Request, RunOrder};
 use monitor_run::Monitor;
 use node_run::{Run, RunShowing};
 use rolled_replay::{Controls, Roll};
@@ -28,6 +30,7 @@ use sn_base::Image;
 use sn_io::{Fetched, Store, StoreFault};
 use sn_text::ScriptCause;
 use std::alloc::Global;
+use turn_orders::Order;
 
 /// Why there are no bytes of a file.
 enum Unread {
@@ -132,6 +135,23 @@ fn fetch_trace<S: Store>(
 {
     match fetch_file(alloc, store, name, SCRIPT_LIMIT) {
         Ok(bytes) => read_trace(alloc, bytes.as_slice(), nodes),
+        Err(Unread::Missing) => Err(Status::StoreFault),
+        Err(Unread::TooLong) => Err(Status::BadScript(ScriptCause::TooLong)),
+        Err(Unread::Memory) => Err(Status::Memory),
+    }
+}
+
+fn fetch_accesses<S: Store>(alloc: Global, store: &mut S, name: &str) -> Result<AccessList, Status>
+    ensures found { result ≢ Err Status.Memory → (found : Found)
+        × Fetches S.files S.sure S.faults S.gave store.old name.now 67108864 found store.new
+        × (result ≡ accesses_in found) }
+    ensures words { IfOk result (λ list. All IsFittingWord list.words) }
+    ensures accesses { IfOk result (λ list. All IsFittingAccess list.accesses) }
+    ensures files { S.files store.new ≡ S.files store.old }
+    ensures stays_sure { S.sure store.old → S.sure store.new }
+{
+    match fetch_file(alloc, store, name, ACCESSES_LIMIT) {
+        Ok(bytes) => read_accesses(alloc, bytes.as_slice()),
         Err(Unread::Missing) => Err(Status::StoreFault),
         Err(Unread::TooLong) => Err(Status::BadScript(ScriptCause::TooLong)),
         Err(Unread::Memory) => Err(Status::Memory),
@@ -250,7 +270,7 @@ fn load_run<S: Store>(
     requires ruled { run_rules_fit asked.now.config.nodes asked.now.rules ≡ true }
     requires watched { watch_fits asked.now.watch ≡ true }
     ensures loads { result ≢ Err Status.Memory → Loads (Fetches S.files S.sure S.faults S.gave)
-        (run_plan asked.now.config asked.now.rules asked.now.report asked.now.watch (string_bytes asked.now.program))
+        (run_plan asked.now.config asked.now.rules asked.now.report asked.now.order asked.now.watch (string_bytes asked.now.program))
         result store.old store.new }
     ensures read { IfOk result IsRead }
     ensures files { S.files store.new ≡ S.files store.old }
@@ -269,14 +289,20 @@ fn load_run<S: Store>(
         report: asked_report,
         watch: asked.watch,
     };
-    Ok(Job::Run(Run {
+    let run = Run {
         program,
         config,
         rules,
         seed,
         budget,
         showing,
-    }))
+    };
+    let order = asked.order;
+    match order {
+        RunOrder::Threads => Ok(Job::Run(run)),
+        RunOrder::Round => Ok(Job::OrderedRun(run, Order::Round)),
+        RunOrder::Drawn => Ok(Job::OrderedRun(run, Order::Drawn)),
+    }
 }
 
 // The program of a run that is watched.
@@ -338,6 +364,19 @@ fn load_check<S: Store>(
     }
 }
 
+fn load_judge<S: Store>(alloc: Global, store: &mut S, accesses: &str) -> Result<Job, Status>
+    ensures loads { result ≢ Err Status.Memory →
+        Loads (Fetches S.files S.sure S.faults S.gave) (judge_plan accesses.now) result store.old store.new }
+    ensures read { IfOk result IsRead }
+    ensures files { S.files store.new ≡ S.files store.old }
+    ensures stays_sure { S.sure store.old → S.sure store.new }
+{
+    match fetch_accesses(alloc, store, accesses) {
+        Ok(list) => Ok(Job::Judge(list)),
+        Err(status) => Err(status),
+    }
+}
+
 fn load_assembly<S: Store>(alloc: Global, store: &mut S, text: &str) -> Result<Job, Status>
     ensures loads { result ≢ Err Status.Memory →
         Loads (Fetches S.files S.sure S.faults S.gave) (assembly_plan text.now) result store.old store.new }
@@ -385,6 +424,7 @@ pub fn load<S: Store>(alloc: Global, store: &mut S, request: &Request) -> Result
         Request::Run(asked) => load_run(alloc, store, asked),
         Request::Monitor(asked) => load_monitor(alloc, store, asked),
         Request::Check(asked) => load_check(alloc, store, asked),
+        Request::Judge(accesses) => load_judge(alloc, store, accesses.as_str()),
         Request::Assemble(text) => load_assembly(alloc, store, text.as_str()),
         Request::Disassemble(program) => load_listing(alloc, store, program.as_str()),
         Request::Demo(_) => unreachable!(),

@@ -3,6 +3,7 @@ ghost use Rattle.std.specs.Prelude.{◌≡◌};
 ghost use Rattle.safetynet_main.specs.Outcome.{verdict_status};
 
 use crate::status::Status;
+use access_texts::AccessList;
 use monitor_run::Monitor;
 use node_run::Run;
 use rolled_replay::Roll;
@@ -10,6 +11,7 @@ use rv_core::Record;
 use script_replay::Replay;
 use sn_base::Image;
 use std::marker::Model;
+use turn_orders::Order;
 
 /// A text for the console. Contracts see its bytes.
 #[derive(Drop)]
@@ -85,10 +87,14 @@ pub enum Job {
     Roll(Roll),
     /// Workers run a machine, each in a thread of its own.
     Run(Run),
+    /// Workers have their turns of a run in an order, all on one thread.
+    OrderedRun(Run, Order),
     /// Workers run a machine in turn, and a watcher looks at it beside them.
     Monitor(Monitor),
     /// A trace is judged, and the verdict is put to the report.
     Check(Check),
+    /// Accesses are judged by themselves, and the verdict is put to the report.
+    Judge(AccessList),
     /// A text is put to the console, and nothing to the report.
     Text(Text),
 }

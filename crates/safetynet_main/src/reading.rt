@@ -1,13 +1,15 @@
 //! What the bytes of files are.
 ghost use Rattle.std.specs.Prelude.{◌≡◌, ◌≢◌, ◌≤◌, true, All, length, Ok, Err, IfOk};
+ghost use Rattle.access_check.specs.Accesses.{IsFittingAccess, IsFittingWord};
 ghost use Rattle.consistent_cuts.specs.Runs.{AllFit};
 ghost use Rattle.asm_texts.specs.Texts.{words_text};
 ghost use Rattle.rolling_recovery.specs.Controls.{control_fits};
-ghost use Rattle.safetynet_main.specs.Files.{program_of, events_of, steps_of, records_of, assembly_of, listing_of};
+ghost use Rattle.safetynet_main.specs.Files.{program_of, events_of, steps_of, records_of, accesses_of, assembly_of, listing_of};
 ghost use Rattle.sn_base.specs.declared.limits.TheConstants.{EVENTS};
 
 use crate::job::{Text, Trace};
 use crate::status::{ProgramCause, Status};
+use access_texts::AccessList;
 use asm_texts::words_text;
 use elf_load::{LoadFault, load};
 use rolled_replay::Controls;
@@ -22,6 +24,9 @@ pub const PROGRAM_LIMIT: usize = 16_777_216;
 
 /// The most bytes of a script's file, of a control file and of a trace's.
 pub const SCRIPT_LIMIT: usize = 33_554_432;
+
+/// The most bytes of a list of accesses.
+pub const ACCESSES_LIMIT: usize = 67_108_864;
 
 /// The program that the bytes of a file are: an ELF file or a hexadecimal image, as the loader reads them.
 pub fn read_program(alloc: Global, bytes: &[u8]) -> Result<Image, Status>
@@ -81,6 +86,22 @@ pub fn read_trace(alloc: Global, bytes: &[u8], nodes: u8) -> Result<Trace, Statu
     }
     match sn_text::read_trace(alloc, bytes, nodes) {
         Ok(records) => Ok(Trace::new(records)),
+        Err(ScriptFault::Refused(cause)) => Err(Status::BadScript(cause)),
+        Err(ScriptFault::Memory) => Err(Status::Memory),
+    }
+}
+
+/// The accesses that the bytes of a file are, with the words that memory begins with.
+pub fn read_accesses(alloc: Global, bytes: &[u8]) -> Result<AccessList, Status>
+    ensures read { result ≢ Err Status.Memory → result ≡ accesses_of bytes.now }
+    ensures words { IfOk result (λ list. All IsFittingWord list.words) }
+    ensures accesses { IfOk result (λ list. All IsFittingAccess list.accesses) }
+{
+    if bytes.len() > ACCESSES_LIMIT {
+        return Err(Status::BadScript(ScriptCause::TooLong));
+    }
+    match access_texts::read_accesses(alloc, bytes) {
+        Ok(list) => Ok(list),
         Err(ScriptFault::Refused(cause)) => Err(Status::BadScript(cause)),
         Err(ScriptFault::Memory) => Err(Status::Memory),
     }

@@ -2,6 +2,7 @@
 mod checks;
 mod failing;
 mod generated;
+mod judged;
 mod monitors;
 mod probes;
 mod replays;

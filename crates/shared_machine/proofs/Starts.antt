@@ -6,11 +6,11 @@ use Rattle.due_events.specs.Numbers.{Numbers}
 use Rattle.run_journals.specs.declared.entry.JournalEntry.{JournalEntry}
 use Rattle.run_journals.specs.Journal.{IsDue, state_of, answers_of, numbers_of, draws_of}
 use Rattle.shared_machine.specs.declared.picker.Picker.{Picker}
-use Rattle.shared_machine.specs.Shared.{SharedData, LockedData, locked}
+use Rattle.shared_machine.specs.Shared.{SharedData, LockedData, first_locked}
 use Rattle.shared_machine.specs.Invariant.{FollowsJournal, HasRoomForRest, CanBegin}
 
 module _ (s : SharedData) (pickers : List Picker) (free : ℕ) (ready : CanBegin s pickers) where
-  pub kept-first : FollowsJournal (locked free s)
+  pub kept-first : FollowsJournal (first_locked free s)
   unfolding IsDue state_of answers_of numbers_of draws_of
   kept-first = record {
     state = ready.state;
@@ -24,7 +24,7 @@ module _ (s : SharedData) (pickers : List Picker) (free : ℕ) (ready : CanBegin
     passed = record { rest = s.machine.state.released; whole = refl };
   }
 
-  pub room-first : HasRoomForRest (locked free s)
+  pub room-first : HasRoomForRest (first_locked free s)
   room-first =
       let done : s.driver.numbers.done ≡ 0 = ap (λ (x : Numbers). x.done) ready.numbers in
       record { nodes = ready.nodes; budget = ready.budget; spare = omega (arith, ready.spare); done = omega (arith, done) }
@@ -32,7 +32,7 @@ module _ (s : SharedData) (pickers : List Picker) (free : ℕ) (ready : CanBegin
   -- the same, where the lists are known to be empty
   module _ (journal : List JournalEntry) (answers : List Answer) (passes : List ℕ) where
     abbrev begun : LockedData
-    begun = record (locked free s) { journal = journal; answers = answers; passed = passes }
+    begun = record (first_locked free s) { journal = journal; answers = answers; passed = passes }
 
     pub kept-start : journal ≡ [] → answers ≡ [] → passes ≡ [] → FollowsJournal begun
     kept-start no_entry no_answer no_byte = rw (no_entry, no_answer, no_byte) kept-first

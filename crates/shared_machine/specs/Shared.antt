@@ -41,8 +41,8 @@ abbrev pub began_with : LockedData → Began
 began_with s = record { image = s.machine.image; config = s.machine.config; rules = s.driver.rules; seed = s.seed; budget = s.budget }
 
 -- the run's start, with a ring that is known to have so much room
-abbrev pub locked : ℕ → SharedData → LockedData
-locked free s =
+abbrev pub first_locked : ℕ → SharedData → LockedData
+first_locked free s =
     record {
       machine = s.machine;
       driver = s.driver;

@@ -4,7 +4,7 @@ ghost use Rattle.sn_model.specs.Machine.{start_of};
 ghost use Rattle.due_events.specs.Numbers.{first_numbers};
 ghost use Rattle.sn_console.specs.Ends.{bytes_passed, free_places};
 ghost use Rattle.shared_machine.specs.Pickers.{AreDrawn};
-ghost use Rattle.shared_machine.specs.Shared.{begins_with, locked};
+ghost use Rattle.shared_machine.specs.Shared.{begins_with, first_locked};
 ghost use Rattle.sn_base.specs.declared.limits.TheConstants.{EVENTS};
 
 use crate::locked::Locked;
@@ -141,7 +141,7 @@ impl SharedMachine {
         requires total { book.total ≡ 0 }
         requires ring { L.of_ring outbox }
         requires passed { bytes_passed outbox ≡ [] }
-        ensures { result ≡ locked (free_places outbox) self }
+        ensures { result ≡ first_locked (free_places outbox) self }
     {
         let SharedMachine {
             machine,

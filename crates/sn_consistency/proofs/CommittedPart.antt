@@ -15,7 +15,7 @@ use Rattle.sn_consistency.specs.Words.{puts}
 use Rattle.sn_consistency.specs.Entries.{Entry, Places, Good, run, step}
 use Rattle.sn_consistency.specs.Sorted.{below, at_cut, GoodList, retire, entries_below_cut}
 use Rattle.sn_consistency.specs.Shows.{Shows, records, outs}
-use Rattle.sn_consistency.specs.Committed.{records_committed, released, Begins, Retirement, by_interval, kept}
+use Rattle.sn_consistency.specs.Committed.{records_committed, bytes_released, Begins, Retirement, by_interval, retirements_below}
 use Rattle.sn_consistency.proofs.StepLaws.{puts_bare}
 use Rattle.sn_consistency.proofs.Sorted.{run-below, below_good, below_same, cut_off_good}
 use Rattle.sn_consistency.proofs.Execution.{good_execution, good_end, shows_step}
@@ -48,7 +48,7 @@ good_out image N s F t (e ∷ es) g =
     cc
 
 pub committed_out : (image : ImageData) (N : ℕ) (s : FlatState) (F : Places) → Shows N s F → (f : ℕ → List Entry) →
-    GoodList image N F f → (k : ℕ) → put_out_by image s (records_committed f k) ≡ released image f k
+    GoodList image N F f → (k : ℕ) → put_out_by image s (records_committed f k) ≡ bytes_released image f k
 committed_out image N s F start f g k = good_out image N s F start (below f k) (below_good image F f N g k)
 
 -- the bytes read
@@ -97,7 +97,7 @@ unfolding below
 committed_next f k = records-append (below f k) (f k)
 
 pub released_next : (image : ImageData) (f : ℕ → List Entry) (k : ℕ) →
-    released image f (suc k) ≡ released image f k ++ outs image (f k)
+    bytes_released image f (suc k) ≡ bytes_released image f k ++ outs image (f k)
 unfolding below
 released_next image f k = outs-append image (below f k) (f k)
 
@@ -172,12 +172,12 @@ module _ {A : Type 0} where
   by_interval-push (r ∷ rs) q x = by_step r q x (by_interval (rs ++ q ∷ []) x) (by_interval rs x) (by_interval-push rs q x)
 
   pub by_interval-kept : (rs : List (Retirement A)) (k x : ℕ) →
-      by_interval (kept rs k) x ≡ cond (nat_lt x k) (by_interval rs x) []
+      by_interval (retirements_below rs k) x ≡ cond (nat_lt x k) (by_interval rs x) []
   by_interval-kept [] k x = grind arith
   by_interval-kept (r ∷ rs) k x = go (nat_lt r.interval k) refl (by_interval-kept rs k x)
     where
-      go : (q : Bool) → nat_lt r.interval k ≡ q → by_interval (kept rs k) x ≡ cond (nat_lt x k) (by_interval rs x) [] →
-          by_interval (cond q (r ∷ kept rs k) (kept rs k)) x
+      go : (q : Bool) → nat_lt r.interval k ≡ q → by_interval (retirements_below rs k) x ≡ cond (nat_lt x k) (by_interval rs x) [] →
+          by_interval (cond q (r ∷ retirements_below rs k) (retirements_below rs k)) x
           ≡ cond (nat_lt x k) (cond (x == r.interval) (r.item ∷ by_interval rs x) (by_interval rs x)) []
-      go true q h = kept_in r x k (by_interval (kept rs k) x) (by_interval rs x) q h
-      go false q h = kept_out r x k (by_interval (kept rs k) x) (by_interval rs x) q h
+      go true q h = kept_in r x k (by_interval (retirements_below rs k) x) (by_interval rs x) q h
+      go false q h = kept_out r x k (by_interval (retirements_below rs k) x) (by_interval rs x) q h

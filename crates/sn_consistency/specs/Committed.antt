@@ -11,8 +11,8 @@ abbrev pub records_committed : (ℕ → List Entry) → ℕ → List Record
 records_committed f point = records (below f point)
 
 -- its bytes put out
-abbrev pub released : ImageData → (ℕ → List Entry) → ℕ → List ℕ
-released image f point = outs image (below f point)
+abbrev pub bytes_released : ImageData → (ℕ → List Entry) → ℕ → List ℕ
+bytes_released image f point = outs image (below f point)
 
 -- ys begins with xs
 pub record Begins {A : Type 0} (xs ys : List A) : Type 0 where
@@ -30,6 +30,6 @@ by_interval [] x = []
 by_interval (r ∷ rs) x = if x == r.interval then r.item ∷ by_interval rs x else by_interval rs x
 
 -- what a recovery to k leaves of it
-abbrev pub kept : {A : Type 0} → List (Retirement A) → ℕ → List (Retirement A)
-kept [] k = []
-kept (r ∷ rs) k = if nat_lt r.interval k then r ∷ kept rs k else kept rs k
+abbrev pub retirements_below : {A : Type 0} → List (Retirement A) → ℕ → List (Retirement A)
+retirements_below [] k = []
+retirements_below (r ∷ rs) k = if nat_lt r.interval k then r ∷ retirements_below rs k else retirements_below rs k

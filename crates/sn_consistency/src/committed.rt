@@ -6,7 +6,7 @@ ghost use Rattle.rv_core.specs.Execution.{Executes, state_after, put_out_by, in_
 ghost use Rattle.sn_consistency.specs.Entries.{Entry, Places};
 ghost use Rattle.sn_consistency.specs.Sorted.{below, at_cut, GoodList, retire, entries_below_cut};
 ghost use Rattle.sn_consistency.specs.Shows.{Shows, places_of, records, outs};
-ghost use Rattle.sn_consistency.specs.Committed.{records_committed, released, Begins, Retirement, by_interval, kept};
+ghost use Rattle.sn_consistency.specs.Committed.{records_committed, bytes_released, Begins, Retirement, by_interval, retirements_below};
 
 /// The committed part is an execution, and its last state is that of the cut: each block, each core but for its
 /// reservation, and which reservations stand. So it is from any flat state, and so from a program's start.
@@ -28,8 +28,8 @@ pub fn committed_part_is_execution()
 pub fn committed_part_grows()
     ensures next { (f : ℕ → List Entry) (point : ℕ) → records_committed f (suc point) ≡
         records_committed f point ++ records (f point) }
-    ensures released { (image : ImageData) (f : ℕ → List Entry) (point : ℕ) → released image f (suc point) ≡
-        released image f point ++ outs image (f point) }
+    ensures released { (image : ImageData) (f : ℕ → List Entry) (point : ℕ) → bytes_released image f (suc point) ≡
+        bytes_released image f point ++ outs image (f point) }
     ensures later { (f : ℕ → List Entry) (point k : ℕ) → point ≤ k → Begins (records_committed f point) (records_committed f k) }
     ensures by_interval { (f : ℕ → List Entry) (point : ℕ) → records_committed f point ≡ below (λ j. records (f j)) point }
 {}
@@ -39,10 +39,10 @@ pub fn committed_part_stays()
     ensures retired { (f : ℕ → List Entry) (x point : ℕ) (e : Entry) → point ≤ x →
         records_committed (retire f x e) point ≡ records_committed f point }
     ensures retired_output { (image : ImageData) (f : ℕ → List Entry) (x point : ℕ) (e : Entry) → point ≤ x →
-        released image (retire f x e) point ≡ released image f point }
+        bytes_released image (retire f x e) point ≡ bytes_released image f point }
     ensures recovered { (f : ℕ → List Entry) (point : ℕ) → records_committed (entries_below_cut f point) point ≡ records_committed f point }
     ensures recovered_output { (image : ImageData) (f : ℕ → List Entry) (point : ℕ) →
-        released image (entries_below_cut f point) point ≡ released image f point }
+        bytes_released image (entries_below_cut f point) point ≡ bytes_released image f point }
 {}
 
 /// A recovery drops the intervals at and above the point. What it leaves is good, the cuts up to the point are as they
@@ -65,10 +65,10 @@ pub fn recovery_leaves_execution()
 pub fn output_is_released()
     ensures output { (image : ImageData) (nodes : ℕ) (s : FlatState) (F : Places) → Shows nodes s F →
         (f : ℕ → List Entry) → GoodList image nodes F f → (point : ℕ) → put_out_by image s (records_committed f point) ≡
-        released image f point }
+        bytes_released image f point }
     ensures from_start { (image : ImageData) (nodes : ℕ) (f : ℕ → List Entry) →
         GoodList image nodes (places_of (flat_start image nodes)) f → (point : ℕ) →
-        out_of image nodes (records_committed f point) ≡ released image f point }
+        out_of image nodes (records_committed f point) ≡ bytes_released image f point }
 {}
 
 /// The bytes that a node has taken at a cut are those that the records below it read, and those below a lower cut are
@@ -85,6 +85,6 @@ pub fn reads_are_taken()
 pub fn retirements_by_interval()
     ensures push { (rs : List (Retirement Entry)) (q : Retirement Entry) (x : ℕ) → by_interval (rs ++ q ∷ []) x ≡
         retire (by_interval rs) q.interval q.item x }
-    ensures kept { (rs : List (Retirement Entry)) (k x : ℕ) → by_interval (kept rs k) x ≡
+    ensures kept { (rs : List (Retirement Entry)) (k x : ℕ) → by_interval (retirements_below rs k) x ≡
         entries_below_cut (by_interval rs) k x }
 {}

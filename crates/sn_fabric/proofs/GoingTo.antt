@@ -11,7 +11,7 @@ use Rattle.sn_model.specs.HomeRows.{HomeReply}
 use Rattle.sn_base.specs.declared.event.Answer.TheVariants.{Delivered}
 use Rattle.sn_model.specs.Fabric.{Fabric, Flight, Net, FabricStep, node_at, with_node, with_net}
 use Rattle.sn_model.specs.FabricEvents.{Deliver}
-use Rattle.sn_model.specs.Net.{post, net_after_sends, message_of, is_lost, entry_of, routes_of, without_flight, sending}
+use Rattle.sn_model.specs.Net.{net_after_send, net_after_sends, message_of, is_lost, entry_of, routes_of, without_flight, sending}
 use Rattle.sn_model.specs.NetEvents.{step_of_delivery, node_after, home_after}
 use Rattle.fabric_coherence.specs.Coherent.{Keeps}
 use Rattle.fabric_coherence.specs.Steps.{IsShaped, Within, after_cache, after_home}
@@ -53,7 +53,7 @@ within_posted : (routes : Switches) (net : Net) (from tag block : ℕ) (outs : L
     Within net.flights nodes × GoTo outs nodes
 within_posted routes net from tag block [] nodes d w = (w, tt)
 within_posted routes net from tag block (out ∷ outs) nodes d w =
-    let h = within_posted routes (post routes net (message_of net from tag block out)) from tag block outs nodes d w in
+    let h = within_posted routes (net_after_send routes net (message_of net from tag block out)) from tag block outs nodes d w in
     let l : is_lost routes net (message_of net from tag block out)
     ≡ false = ap (λ (dead : List Bool). slice_index_or dead (entry_of routes (message_of net from tag block out)) false) d in
     let g : Within (net.flights

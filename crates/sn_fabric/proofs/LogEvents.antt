@@ -31,7 +31,7 @@ use Rattle.sn_model.specs.NodeEvents.{without_copy, has_put, with_put, begins_pu
 use Rattle.sn_model.specs.NodeEvents.{step_of_report}
 use Rattle.sn_model.specs.NetEvents.{AtCache, AtHome, logged_at, kept_at, unless_busy, outcome_of, node_after, node_after_news, delivers}
 use Rattle.sn_model.specs.NetEvents.{delivers_flight, hops, hops_to, loses, step_of_kill}
-use Rattle.sn_model.specs.PointEvents.{step_of_advance, restored, recovers, living_switches}
+use Rattle.sn_model.specs.PointEvents.{step_of_advance, fabric_restored_to, recovers, living_switches}
 use Rattle.fabric_coherence.specs.Coherent.{FabricInvariant}
 use Rattle.fabric_coherence.specs.Events.{MayBe}
 use Rattle.fabric_coherence.specs.Met.{comes_to_home}
@@ -143,7 +143,7 @@ module _ (s : Fabric) where
       by_test s (is_full s (length s.nodes)) (step_refused s NetFull) _ (record { nodes = λ m k own. own }) (record { nodes = λ m k own. own })
 
   recovers-keep : (cut : Option (ℕ × ℕ)) → KeepsLogs s (recovers s s.point cut)
-  unfolding restored
+  unfolding fabric_restored_to
   recovers-keep (Some pair) = record { nodes = λ m k own. own }
   recovers-keep None =
       record {

@@ -15,7 +15,7 @@ use Rattle.sn_model.specs.CacheRows.{Logged, send, reply_or_wait, reply_or_wait_
 use Rattle.sn_model.specs.CacheRows.{miss_with_ack, taken_over}
 use Rattle.sn_model.specs.HomeRows.{invalidations}
 use Rattle.sn_model.specs.Fabric.{Net}
-use Rattle.sn_model.specs.Net.{post, net_after_sends, sent_by, message_of, is_lost}
+use Rattle.sn_model.specs.Net.{net_after_send, net_after_sends, sent_by, message_of, is_lost}
 use Rattle.home_directory.specs.declared.step.HomeStep.{HomeStep}
 use Rattle.home_directory.specs.declared.step.HomeStep.TheVariants as home
 use Rattle.home_directory.specs.Receipt as receipt
@@ -29,7 +29,7 @@ pub posted-append : (routes : Switches) (net : Net) (from tag block : ℕ) (outs
     net_after_sends routes net from tag block (outs ++ others) ≡ net_after_sends routes (net_after_sends routes net from tag block outs) from tag block others
 posted-append routes net from tag block [] others = refl
 posted-append routes net from tag block (out ∷ outs) others =
-    posted-append routes (post routes net (message_of net from tag block out)) from tag block outs others
+    posted-append routes (net_after_send routes net (message_of net from tag block out)) from tag block outs others
 
 pub sent-append : (routes : Switches) (net : Net) (from tag block : ℕ) (outs others : List Out) →
     sent_by routes net from tag block (outs ++ others) ≡ sent_by routes net from tag block outs
@@ -38,7 +38,7 @@ sent-append routes net from tag block [] others = refl
 sent-append routes net from tag block (out ∷ outs) others =
     ap (λ (xs : List Sent).
     record { message = message_of net from tag block out; lost = is_lost routes net (message_of net from tag block out) } ∷ xs)
-    (sent-append routes (post routes net (message_of net from tag block out)) from tag block outs others)
+    (sent-append routes (net_after_send routes net (message_of net from tag block out)) from tag block outs others)
 
 -- what is sent first and then, over networks with the same routes
 pub then-net : (routes others : Switches) (before net after : Net) (from tag block : ℕ) (outs more : List Out) → others ≡ routes →

@@ -7,7 +7,7 @@ use Rattle.sn_model.specs.declared.cache.Out.{Out}
 use Rattle.sn_model.specs.declared.net.Sent.{Sent}
 use Rattle.sn_model.specs.CacheRows.{send}
 use Rattle.sn_model.specs.Fabric.{Net, Node}
-use Rattle.sn_model.specs.Net.{post, net_after_sends, sent_by, message_of, is_lost}
+use Rattle.sn_model.specs.Net.{net_after_send, net_after_sends, sent_by, message_of, is_lost}
 use Rattle.sn_model.specs.PointEvents.{advances}
 use Rattle.sn_fabric.specs.Points.{tellings}
 
@@ -15,7 +15,7 @@ pub posted-last : (routes : Switches) (net : Net) (from tag block : ℕ) (outs :
     net_after_sends routes net from tag block (outs ++ out ∷ []) ≡ net_after_sends routes (net_after_sends routes net from tag block outs) from tag block (out ∷ [])
 posted-last routes net from tag block [] out = refl
 posted-last routes net from tag block (o ∷ outs) out =
-    posted-last routes (post routes net (message_of net from tag block o)) from tag block outs out
+    posted-last routes (net_after_send routes net (message_of net from tag block o)) from tag block outs out
 
 pub sent-last : (routes : Switches) (net : Net) (from tag block : ℕ) (outs : List Out) (out : Out) →
     sent_by routes net from tag block (outs ++ out ∷ []) ≡ sent_by routes net from tag block outs
@@ -24,7 +24,7 @@ sent-last routes net from tag block [] out = refl
 sent-last routes net from tag block (o ∷ outs) out =
     ap (λ (xs : List Sent).
     record { message = message_of net from tag block o; lost = is_lost routes net (message_of net from tag block o) } ∷ xs)
-    (sent-last routes (post routes net (message_of net from tag block o)) from tag block outs out)
+    (sent-last routes (net_after_send routes net (message_of net from tag block o)) from tag block outs out)
 
 -- what is told to the nodes from one on
 told_from : ℕ → ℕ → ℕ → List Out

@@ -23,7 +23,7 @@ use Rattle.sn_model.specs.Homes.{HomeEntry}
 use Rattle.sn_model.specs.Fabric as model
 use Rattle.sn_model.specs.Fabric.{Fabric, Node, node_at, home_of, no_entry, step_with_answer}
 use Rattle.sn_model.specs.FabricEvents.{moved_by, Recover}
-use Rattle.sn_model.specs.PointEvents.{restored_node, log_of_home, restored_homes, restored, undone_count, living_switches, recovers, step_of_recovery}
+use Rattle.sn_model.specs.PointEvents.{restored_node, log_of_home, restored_homes, fabric_restored_to, undone_count, living_switches, recovers, step_of_recovery}
 use Rattle.mosi_cache.specs.Controller.{FitsSets}
 use Rattle.home_directory.specs.Home.{HomeData, entry_of, places_of}
 use Rattle.home_directory.specs.Restored.{begun_restore, had, is_here, Stays}
@@ -165,8 +165,8 @@ recover_is_moved config s k = refl
 
 fabric-restored : (config : Config) (p : Parts) (k : ℕ) (after : List HomeData) (net : NetData) → AreParts config p →
     length after ≡ length p.homes → AreRestoredHomes p.units k p.homes after →
-    net ≡ record p.net { routes = living_now p.net; flights = [] } → restored (fabric_as p) k ≡ fabric_as (restored_parts p k after net)
-unfolding restored
+    net ≡ record p.net { routes = living_now p.net; flights = [] } → fabric_restored_to (fabric_as p) k ≡ fabric_as (restored_parts p k after net)
+unfolding fabric_restored_to
 fabric-restored config p k after net a count are e =
     sym (
     ap (λ (nodes : List Node). record { nodes = nodes; homes = homes_as after; net = net_as net; point = p.point })

@@ -9,7 +9,7 @@ use Rattle.sn_msg.specs.declared.Message.{Message}
 use Rattle.switch_net.specs.Net.{NetData}
 use Rattle.home_directory.specs.declared.step.HomeStep.{HomeStep}
 use Rattle.home_directory.specs.Home.{HomeData, entry_of, with_entry}
-use Rattle.home_directory.specs.Receipt.{kept, HasRowAt, IsNoteInOrder, NotesInOrder, noting, HasRow, Verdict, Does, LacksRoom, verdict_on, left_by}
+use Rattle.home_directory.specs.Receipt.{entry_as_it_is, HasRowAt, IsNoteInOrder, NotesInOrder, noting, HasRow, Verdict, Does, LacksRoom, verdict_on, left_by}
 use Rattle.home_directory.specs.Receipt.{look_of, outcome_at, receipt_of, Tells}
 use Rattle.home_directory.proofs.Agrees.{outcome_agrees}
 use Rattle.sn_model.specs.declared.look.Look.{Look}
@@ -96,15 +96,15 @@ module _ (config : Config) (p : Parts) (a : AreParts config p) (m : Message) (h 
 
   -- what it makes of it is the machine's
   abbrev at : LoggedEntry
-  at = kept (entry_of home m.block) x.log.entries
+  at = entry_as_it_is (entry_of home m.block) x.log.entries
 
   abbrev outcome : Outcome
   outcome = outcome_at at now m m.body
 
   outcome_as : outcome_at (kept_at s m.to m.block) (node_at s m.to).now m m.body ≡ outcome
   outcome_as =
-      ap (λ (y : Node). outcome_at (kept (home_of s m.block) y.log) y.now m m.body) read
-      ∙ ap (λ (e : HomeEntry). outcome_at (kept e x.log.entries) x.clock.interval m m.body) entry_is
+      ap (λ (y : Node). outcome_at (entry_as_it_is (home_of s m.block) y.log) y.now m m.body) read
+      ∙ ap (λ (e : HomeEntry). outcome_at (entry_as_it_is e x.log.entries) x.clock.interval m m.body) entry_is
       ∙ ap (λ (i : ℕ). outcome_at at i m m.body) (sym en)
 
   comes_as : outcome_of s m m.body ≡ outcome

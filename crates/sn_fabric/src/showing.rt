@@ -3,14 +3,23 @@ ghost use Rattle.std.specs.Prelude.{◌≡◌, ◌<◌, ◌%◌, true, length, I
 ghost use Rattle.home_directory.specs.Home.{entry_of, owner_of};
 ghost use Rattle.sn_model.specs.Caches.{no_line, line_of, is_present};
 ghost use Rattle.sn_model.specs.Fabric.{node_at, home_of};
+ghost use Rattle.sn_model.specs.Homes.{Itself};
 
 use crate::{Fabric, Owner};
 use home_directory::{Home, Transaction};
 use log_buffer::LogBuffer;
 use mosi_cache::{Line, OpenMiss, OpenPut};
-use sn_base::{BlockNo, NodeId, NodeSet};
+use sn_base::{Block, BlockNo, Interval, NodeId, NodeSet};
 
 impl Fabric {
+    /// The recovery point that a node knows.
+    pub fn known(&self, node: NodeId) -> Interval
+        requires { node < length self.now.fabric.nodes }
+        ensures { result ≡ (node_at self.now.fabric node).known }
+    {
+        self.units[usize::from(node.number())].clock.known()
+    }
+
     /// The line of a block in a node's cache. None where it has none.
     pub fn line(&self, node: NodeId, block: BlockNo) -> Option<Line>
         requires { node < length self.now.fabric.nodes }
@@ -60,6 +69,14 @@ impl Fabric {
         ensures { result ≡ owner_of (home_of self.now.fabric block).holder }
     {
         self.home(block).owner(block)
+    }
+
+    /// The content that the home of a block has, which it owns itself.
+    pub fn home_content(&self, block: BlockNo) -> &Block
+        requires { owner_of (home_of self.now.fabric block).holder ≡ Owner.Home }
+        ensures { (home_of self.now.fabric block).holder ≡ Itself result.now }
+    {
+        self.home(block).content(block)
     }
 
     /// Which nodes the home of a block has as its sharers.

@@ -15,7 +15,7 @@ use Rattle.fabric_coherence.proofs.Recovery.{each_node}
 use Rattle.sn_model.specs.Fabric.{Fabric, node_at, step_refused}
 use Rattle.sn_model.specs.Machine.{Processor}
 use Rattle.sn_model.specs.MachineEvents.{restored_processors, restored_processor, restored_rest, restores}
-use Rattle.sn_model.specs.PointEvents.{step_of_recovery, recovers, restored, restored_node, living_switches, undone_count}
+use Rattle.sn_model.specs.PointEvents.{step_of_recovery, recovers, fabric_restored_to, restored_node, living_switches, undone_count}
 use Rattle.sn_fabric.specs.Fabric.{IsAfter}
 use Rattle.consistent_cuts.proofs.Clocks.{same_clocks}
 use Rattle.sn_machine.specs.declared.processor.Processor.{Processor as ProcessorUnit}
@@ -86,16 +86,16 @@ kept-all h w sound n l =
     let high = (sound.times n here).reached in
     record { from = omega (arith, first, low); below = omega (arith, first, count, high) }
 
-restored_count : (s : Fabric) (k : ℕ) → length (restored s k).nodes ≡ length s.nodes
-unfolding restored
+restored_count : (s : Fabric) (k : ℕ) → length (fabric_restored_to s k).nodes ≡ length s.nodes
+unfolding fabric_restored_to
 restored_count s k = length-map s.nodes (restored_node k)
 
-restored_known : (s : Fabric) (n : ℕ) → n < length s.nodes → (node_at (restored s s.point) n).known ≡ s.point
-unfolding restored
+restored_known : (s : Fabric) (n : ℕ) → n < length s.nodes → (node_at (fabric_restored_to s s.point) n).known ≡ s.point
+unfolding fabric_restored_to
 restored_known s n l = each_node (λ m x y. m < length s.nodes → y.known ≡ s.point) s (λ m k h. refl) (λ m k h. absurd (omega arith)) n l
 
-restored_point : (s : Fabric) (k : ℕ) → (restored s k).point ≡ s.point
-unfolding restored
+restored_point : (s : Fabric) (k : ℕ) → (fabric_restored_to s k).point ≡ s.point
+unfolding fabric_restored_to
 restored_point s k = refl
 
 module _ (h g : Hardware) (w : IsWhole h) (sound : IsSound (state_of h)) where

@@ -13,7 +13,7 @@ use Rattle.sn_model.specs.Fabric.{Fabric, node_at}
 use Rattle.sn_model.specs.Fabric as fabric
 use Rattle.sn_model.specs.Access.{step_of_access, lacks_room}
 use Rattle.sn_model.specs.Machine.{State, processor_at}
-use Rattle.sn_model.specs.Instructions.{FoundOutside, MachineStep, nothing_found, next_byte, is_retired, refused, machine_step_of, step_of_retirement, record_with}
+use Rattle.sn_model.specs.Instructions.{FoundOutside, MachineStep, nothing_found, next_byte, is_retired, machine_step_refused, machine_step_of, step_of_retirement, record_with}
 use Rattle.sn_model.specs.Instructions.{found_at, held_in}
 use Rattle.fabric_coherence.specs.Events.{CanWrite}
 use Rattle.consistent_cuts.specs.Accesses.{CanRetire}
@@ -26,7 +26,7 @@ abbrev pub ComesTo : ImageData → Config → State → ℕ → MachineStep → 
 ComesTo image config s n x (Retires did) = CanRetire image config s n × (did ≡ record_with n (found_at image s n)) × (x ≡ step_of_retirement image s n)
 ComesTo image config s n x (Misses block need) =
     ((step_of_access config s.fabric n block need).answer ≡ Missed) × (x ≡ machine_step_of s (step_of_access config s.fabric n block need))
-ComesTo image config s n x (Refused answer) = x ≡ refused s answer
+ComesTo image config s n x (Refused answer) = x ≡ machine_step_refused s answer
 
 -- the same of an access of a block that an instruction wants, with what it finds
 abbrev pub IsAccess : Config → Fabric → ℕ → ℕ → Need → FoundOutside → NodeStep → Type 0

@@ -4,10 +4,11 @@ ghost use Rattle.route_plan.specs.Distances.{is_dead};
 ghost use Rattle.home_directory.specs.Home.{owner_of};
 ghost use Rattle.sn_model.specs.Caches.{block_count, line_of, no_line, is_present};
 ghost use Rattle.sn_model.specs.Fabric.{node_at, home_of};
+ghost use Rattle.sn_model.specs.Homes.{Itself};
 ghost use Rattle.sn_model.specs.Machine.{processor_at};
 ghost use Rattle.sn_model.specs.NodeEvents.{ready_of};
 ghost use Rattle.sn_fabric.specs.Nets.{net_as};
-ghost use Rattle.sn_machine.specs.Parts.{retirement_as};
+ghost use Rattle.sn_machine.specs.Parts.{retirement_as, held_as};
 ghost use Rattle.sn_machine.specs.Machine.{MachineData, next_of, flat_of};
 ghost use Rattle.sn_machine.specs.Looks.{wanted_block, can_go_from, have_ended};
 
@@ -16,7 +17,7 @@ use crate::steps::block_at;
 use interval_list::Waiting;
 use log_buffer::LogBuffer;
 use rv_core::{CoreState, Record, Want};
-use sn_base::{Answer, BlockNo, Event, Image, Interval, NodeId, NodeSet, SwitchId};
+use sn_base::{Answer, Block, BlockNo, Event, Image, Interval, NodeId, NodeSet, SwitchId};
 use sn_fabric::{Line, OpenMiss, OpenPut, Owner, Transaction};
 use switch_net::Net;
 
@@ -52,6 +53,14 @@ impl Machine {
         ensures { result ≡ (node_at self.now.state.fabric node).now }
     {
         self.hardware.fabric.now(node)
+    }
+
+    /// The recovery point that a node knows: the last one that it learned, or was started again from.
+    pub fn known(&self, node: NodeId) -> Interval
+        requires { node < self.now.config.nodes }
+        ensures { result ≡ (node_at self.now.state.fabric node).known }
+    {
+        self.hardware.fabric.known(node)
     }
 
     /// The checkpoint that a report of the node would say now.
@@ -111,6 +120,14 @@ impl Machine {
         self.hardware.fabric.owner(block)
     }
 
+    /// The content that the home of a block has, which it owns itself.
+    pub fn home_content(&self, block: BlockNo) -> &Block
+        requires { owner_of (home_of self.now.state.fabric block).holder ≡ Owner.Home }
+        ensures { (home_of self.now.state.fabric block).holder ≡ Itself result.now }
+    {
+        self.hardware.fabric.home_content(block)
+    }
+
     /// Which nodes the home of a block has as its sharers.
     pub fn sharers(&self, block: BlockNo) -> NodeSet
         ensures { result ≡ (home_of self.now.state.fabric block).sharers }
@@ -130,6 +147,20 @@ impl Machine {
         ensures { map retirement_as result.now ≡ self.now.state.pending }
     {
         self.hardware.history.pending()
+    }
+
+    /// The checkpoint that each node reported last, in order of the nodes.
+    pub fn reported(&self) -> &[Interval]
+        ensures { result.now ≡ self.now.state.reported }
+    {
+        self.hardware.controller.reported()
+    }
+
+    /// The bytes that wait for the validation of their intervals, in the order in which they were put out.
+    pub fn held(&self) -> &[Waiting<u8>]
+        ensures { map held_as result.now ≡ self.now.state.held }
+    {
+        self.hardware.output.held()
     }
 
     /// Whether a switch is dead.

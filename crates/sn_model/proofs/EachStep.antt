@@ -12,12 +12,12 @@ use Rattle.sn_model.specs.declared.cache.Need.TheVariants.{Read, Write as ToWrit
 use Rattle.sn_model.specs.Access.{has_miss, step_of_access}
 use Rattle.sn_model.specs.Fabric.{node_at}
 use Rattle.sn_model.specs.Machine.{State, processor_at}
-use Rattle.sn_model.specs.Instructions.{MachineStep, refused, machine_step_of, step_of_retirement, is_retired, accessing, takes_input, next_byte}
+use Rattle.sn_model.specs.Instructions.{MachineStep, machine_step_refused, machine_step_of, step_of_retirement, is_retired, accessing, takes_input, next_byte}
 use Rattle.sn_model.specs.Instructions.{step_wanting, step_of_instruction}
 
 module _ (image : ImageData) (config : Config) (s : State) (n : ℕ) (P : MachineStep → Type 0) (done : P (step_of_retirement image s n))
     (carries : (block : ℕ) (need : Need) → P (machine_step_of s (step_of_access config s.fabric n block need)))
-    (ended : P (refused s Ended)) (waits : P (refused s Waits)) (no_input : P (refused s NoInput)) where
+    (ended : P (machine_step_refused s Ended)) (waits : P (machine_step_refused s Waits)) (no_input : P (machine_step_refused s NoInput)) where
   either : (test : Bool) (a b : MachineStep) → P a → P b → P (if test then a else b)
   either true a b first second = first
   either false a b first second = second
@@ -44,5 +44,5 @@ module _ (image : ImageData) (config : Config) (s : State) (n : ℕ) (P : Machin
 
   pub each_step : P (step_of_instruction image config s n)
   each_step =
-      either (not (is_running (processor_at s n).core.end)) (refused s Ended) _ ended
-      (either (has_miss (node_at s.fabric n).cache.miss) (refused s Waits) _ waits (wanting (want_of image (processor_at s n).core)))
+      either (not (is_running (processor_at s n).core.end)) (machine_step_refused s Ended) _ ended
+      (either (has_miss (node_at s.fabric n).cache.miss) (machine_step_refused s Waits) _ waits (wanting (want_of image (processor_at s n).core)))

@@ -19,7 +19,7 @@ use Rattle.sn_model.specs.NetEvents.{Outcome, Busy, AtCache, AtHome, Noted, hops
 use Rattle.sn_model.specs.NetEvents.{step_of_kill}
 use Rattle.sn_model.specs.PointEvents.{step_of_advance, recovers}
 use Rattle.sn_model.specs.Machine.{State}
-use Rattle.sn_model.specs.Instructions.{MachineStep, refused as declined, step_of_instruction, machine_step_of}
+use Rattle.sn_model.specs.Instructions.{MachineStep, machine_step_refused as declined, step_of_instruction, machine_step_of}
 use Rattle.sn_model.specs.MachineEvents.{validates, machine_step_with_news}
 use Rattle.sn_model.specs.Step.{step_of}
 use Rattle.sn_model.specs.Net.{flight_of}

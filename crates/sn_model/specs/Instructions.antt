@@ -26,8 +26,8 @@ pub record MachineStep : Type 0 where
   pub sent : List Sent
 
 -- the answer of an event that changes nothing
-abbrev pub refused : State → Answer → MachineStep
-refused s answer = record { state = s; answer = answer; sent = [] }
+abbrev pub machine_step_refused : State → Answer → MachineStep
+machine_step_refused s answer = record { state = s; answer = answer; sent = [] }
 
 -- the answer of an event that sends nothing
 abbrev pub machine_step_with_answer : State → Answer → MachineStep
@@ -113,7 +113,7 @@ abbrev pub accessing : ImageData → Config → State → ℕ → ℕ → Need �
 accessing image config s n address need = after_access image s n (step_of_access config s.fabric n (block_of address) need)
 
 abbrev pub takes_input : ImageData → State → ℕ → Option ℕ → MachineStep
-takes_input image s n None = refused s NoInput
+takes_input image s n None = machine_step_refused s NoInput
 takes_input image s n (Some byte) = step_of_retirement image s n
 
 abbrev pub step_wanting : ImageData → Config → State → ℕ → Want → MachineStep
@@ -130,6 +130,6 @@ step_wanting image config s n (Sc address) =
 
 abbrev pub step_of_instruction : ImageData → Config → State → ℕ → MachineStep
 step_of_instruction image config s n =
-    if not (is_running (processor_at s n).core.end) then refused s Ended
-    else if has_miss (node_at s.fabric n).cache.miss then refused s Waits
+    if not (is_running (processor_at s n).core.end) then machine_step_refused s Ended
+    else if has_miss (node_at s.fabric n).cache.miss then machine_step_refused s Waits
     else step_wanting image config s n (want_of image (processor_at s n).core)

@@ -10,7 +10,7 @@ use Rattle.sn_model.specs.declared.net.News.TheVariants.{LostCopy, Ready, Advanc
 use Rattle.sn_model.specs.Fabric.{Fabric, FabricStep, node_at}
 use Rattle.sn_model.specs.PointEvents.{step_of_advance}
 use Rattle.sn_model.specs.Machine.{State, Processor, HeldByte, processor_at, with_processor}
-use Rattle.sn_model.specs.Instructions.{MachineStep, refused, machine_step_with_answer, machine_step_of, records_of}
+use Rattle.sn_model.specs.Instructions.{MachineStep, machine_step_refused, machine_step_with_answer, machine_step_of, records_of}
 
 -- what the rest makes of what it hears
 
@@ -79,7 +79,7 @@ abbrev pub commits : State → FabricStep → MachineStep
 commits s moved = with_rest s (is_validated moved.answer) (committed_next s) moved
 
 abbrev pub validates : State → Option ℕ → MachineStep
-validates s (Some node) = refused s (NotReady node)
+validates s (Some node) = machine_step_refused s (NotReady node)
 validates s None = commits s (step_of_advance s.fabric (s.fabric.point + 1))
 
 abbrev pub step_of_validation : State → MachineStep

@@ -31,8 +31,8 @@ abbrev pub is_lost : Switches → Net → Message → Bool
 is_lost routes net m = is_dead net.dead (entry_of routes m)
 
 -- the message takes its number, and stands in its entry switch unless that is dead
-abbrev pub post : Switches → Net → Message → Net
-post routes net m = record net {
+abbrev pub net_after_send : Switches → Net → Message → Net
+net_after_send routes net m = record net {
   flights = (if is_lost routes net m then net.flights else net.flights ++ record { message = m; place = entry_of routes m } ∷ []);
   next_id = net.next_id + 1;
 }
@@ -40,14 +40,14 @@ post routes net m = record net {
 -- the network after these messages from a node, in order
 abbrev pub net_after_sends : Switches → Net → ℕ → ℕ → ℕ → List Out → Net
 net_after_sends routes net from tag block [] = net
-net_after_sends routes net from tag block (out ∷ outs) = net_after_sends routes (post routes net (message_of net from tag block out)) from tag block outs
+net_after_sends routes net from tag block (out ∷ outs) = net_after_sends routes (net_after_send routes net (message_of net from tag block out)) from tag block outs
 
 -- them as they were sent
 abbrev pub sent_by : Switches → Net → ℕ → ℕ → ℕ → List Out → List Sent
 sent_by routes net from tag block [] = []
 sent_by routes net from tag block (out ∷ outs) =
     record { message = message_of net from tag block out; lost = is_lost routes net (message_of net from tag block out) }
-    ∷ sent_by routes (post routes net (message_of net from tag block out)) from tag block outs
+    ∷ sent_by routes (net_after_send routes net (message_of net from tag block out)) from tag block outs
 
 -- the message of a number, where it is in flight
 abbrev pub flight_of : List Flight → ℕ → Option Flight

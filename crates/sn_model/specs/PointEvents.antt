@@ -58,8 +58,8 @@ restored_homes s k block (entry ∷ homes) =
 abbrev pub restored_net : Net → Net
 restored_net net = record net { flights = []; planned = net.dead }
 
-unfoldable pub restored : Fabric → ℕ → Fabric
-restored s k = record s { nodes = map (restored_node k) s.nodes; homes = restored_homes s k 0 s.homes; net = restored_net s.net }
+unfoldable pub fabric_restored_to : Fabric → ℕ → Fabric
+fabric_restored_to s k = record s { nodes = map (restored_node k) s.nodes; homes = restored_homes s k 0 s.homes; net = restored_net s.net }
 
 -- how many log entries are undone: those at or above the checkpoint, in all logs
 abbrev pub undone_count : Fabric → ℕ → ℕ
@@ -70,7 +70,7 @@ living_switches s = record { nodes = length s.nodes; dead = s.net.dead }
 
 abbrev pub recovers : Fabric → ℕ → Option (ℕ × ℕ) → FabricStep
 recovers s k (Some pair) = step_refused s (CutOff pair.0 pair.1)
-recovers s k None = step_with_answer (restored s k) (Recovered (record { to = k; undone = undone_count s k; dropped = length s.net.flights }))
+recovers s k None = step_with_answer (fabric_restored_to s k) (Recovered (record { to = k; undone = undone_count s k; dropped = length s.net.flights }))
 
 abbrev pub step_of_recovery : Fabric → ℕ → FabricStep
 step_of_recovery s k = recovers s k (first_cut_off (living_switches s))

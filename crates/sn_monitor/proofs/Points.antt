@@ -21,12 +21,12 @@ use Rattle.sn_model.specs.Fabric.{Fabric, Flight, FabricStep, node_at, step_refu
 use Rattle.sn_model.specs.Net.{net_limit, routes_of, flight_of, is_there, is_full, next_switch}
 use Rattle.sn_model.specs.NodeEvents.{evicts, begins_put, has_put, checkpoint_limit, step_of_eviction, step_of_edge, step_of_report}
 use Rattle.sn_model.specs.NetEvents.{AtCache, AtHome, outcome_of, delivers, delivers_flight, step_of_delivery, hops, hops_to, step_of_hop, loses, step_of_loss, step_of_kill}
-use Rattle.sn_model.specs.PointEvents.{recovers, step_of_recovery, restored, step_of_advance, living_switches}
+use Rattle.sn_model.specs.PointEvents.{recovers, step_of_recovery, fabric_restored_to, step_of_advance, living_switches}
 use Rattle.route_plan.specs.Distances.{is_dead}
 use Rattle.route_plan.specs.Routes.{first_cut_off}
 use Rattle.sn_model.specs.Machine.{State, Retirement, processor_at, with_processor}
 use Rattle.sn_model.specs.Instructions.{MachineStep, machine_step_of, step_of_retirement, records_of, found_at, next_with, record_with}
-use Rattle.sn_model.specs.Instructions.{refused as stopped}
+use Rattle.sn_model.specs.Instructions.{machine_step_refused as stopped}
 use Rattle.sn_model.specs.MachineEvents.{state_after_news, with_rest, is_edged, with_checkpoint, is_validated, committed_next, validates, unready_node}
 use Rattle.sn_model.specs.MachineEvents.{is_recovered, restored_rest}
 use Rattle.sn_model.specs.Step.{step_of}
@@ -99,7 +99,7 @@ flight_rises config s (Some f) = by_test s (not (is_there f)) (step_refused s No
     (delivers_rises config s f.message))
 
 recovers_rises : (s : Fabric) (k : ℕ) (cut : Option (ℕ × ℕ)) → Rises s (recovers s k cut)
-unfolding restored
+unfolding fabric_restored_to
 recovers_rises s k (Some pair) = (le_refl s.point, none)
 recovers_rises s k None = (le_refl s.point, none)
 

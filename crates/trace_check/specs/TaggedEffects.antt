@@ -38,6 +38,6 @@ core_effects image n c (r ∷ rs) =
     if n == r.core then effect_of image c r ∷ core_effects image n (next image c r) rs else core_effects image n c rs
 
 -- what all cores do, in the order of the records
-abbrev pub tagged : ImageData → (ℕ → CoreState) → List Record → List EffectData
-tagged image c [] = []
-tagged image c (r ∷ rs) = effect_of image (c r.core) r ∷ tagged image (λ n. core_step image n (c n) r) rs
+abbrev pub effects_of_all : ImageData → (ℕ → CoreState) → List Record → List EffectData
+effects_of_all image c [] = []
+effects_of_all image c (r ∷ rs) = effect_of image (c r.core) r ∷ effects_of_all image (λ n. core_step image n (c n) r) rs

@@ -8,13 +8,13 @@ use Rattle.usage_reasons.specs.declared.table.Command.TheVariants.{Demo}
 use Rattle.usage_reasons.specs.declared.table.Quantity.{Quantity}
 use Rattle.usage_reasons.specs.declared.table.Quantity.TheVariants.{Nodes}
 use Rattle.usage_reasons.specs.declared.table.Key.{Key}
-use Rattle.usage_reasons.specs.declared.table.Key.TheVariants.{Number, Watch, Kill}
-use Rattle.usage_reasons.specs.Table.{command_by, files_of, flags_of, rule_of}
+use Rattle.usage_reasons.specs.declared.table.Key.TheVariants.{Number, Watch, Kill, Order}
+use Rattle.usage_reasons.specs.Table.{command_by, files_of, flags_of, order_names, rule_of}
 use Rattle.usage_reasons.specs.Words.{begins, is_short, is_help, is_among, option_in, value_in, key_in, is_given}
 
 -- what is wrong: no word is there; the first is no command; a word asks for help among others; the command has no such option; an option
 -- has no value, or a flag has one; an option stands twice; the value isn't the option's number, no address, no switch that dies on so
--- many nodes, or no size of a demonstration; a word that must be there is lacking; a word is one too many; two flags of one report; or
+-- many nodes, no size of a demonstration, or no order of turns; a word that must be there is lacking; a word is one too many; two flags of one report; or
 -- nothing that is looked for here
 pub data Fault : Type 0 where
   NoCommand : Fault
@@ -28,6 +28,7 @@ pub data Fault : Type 0 where
   BadAddress : Text → Fault
   BadKill : ℕ → Text → Fault
   BadSize : Text → Fault
+  BadOrder : Text → Fault
   Lacking : Command → Text → Fault
   OneTooMany : Command → Text → Fault
   Together : Fault
@@ -75,11 +76,15 @@ with_number quantity r value =
 unfoldable pub with_address : Read → Text → Result Read Fault
 with_address r value = if is_some (watch_by (Some value)) then Ok r else Err (BadAddress value)
 
+unfoldable pub with_order : Read → Text → Result Read Fault
+with_order r value = if is_among order_names value then Ok r else Err (BadOrder value)
+
 -- what an option's value does; a switch that dies is looked at when the number of nodes is known
 abbrev pub with_value : Key → Read → Text → Result Read Fault
 with_value (Number quantity) r value = with_number quantity r value
 with_value Watch r value = with_address r value
 with_value Kill r value = Ok (record r { kill = Some value })
+with_value Order r value = with_order r value
 
 abbrev pub with_key : Key → Read → Option Text → Result Read Fault
 with_key key r None = Ok (record r { waiting = Some key })

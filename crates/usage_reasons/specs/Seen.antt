@@ -1,7 +1,7 @@
 -- The code's readings and faults as the definitions' ones.
 use Rattle.std.specs.Prelude.{map, option_map, Result, Ok, Err}
 use Rattle.usage_reasons.specs.Faults.{Fault, Read, NoCommand, UnknownCommand, HelpAmong, UnknownOption, ValueLacking, ValueUnwanted, Twice}
-use Rattle.usage_reasons.specs.Faults.{BadNumber, BadAddress, BadKill, BadSize, Lacking, OneTooMany, Together, Other}
+use Rattle.usage_reasons.specs.Faults.{BadNumber, BadAddress, BadKill, BadSize, BadOrder, Lacking, OneTooMany, Together, Other}
 use Rattle.usage_reasons.specs.declared.reading.Reading.{Reading}
 use Rattle.usage_reasons.specs.declared.fault.Fault as code
 use Rattle.usage_reasons.specs.declared.fault.Fault.TheVariants as found
@@ -27,6 +27,7 @@ fault_seen (found.BadNumber quantity value) = BadNumber quantity value.now
 fault_seen (found.BadAddress value) = BadAddress value.now
 fault_seen (found.BadKill nodes value) = BadKill nodes value.now
 fault_seen (found.BadSize word) = BadSize word.now
+fault_seen (found.BadOrder value) = BadOrder value.now
 fault_seen (found.Lacking command file) = Lacking command file.now
 fault_seen (found.OneTooMany command word) = OneTooMany command word.now
 fault_seen found.Together = Together

@@ -4,15 +4,16 @@ use Rattle.option_values.specs.Values.{Text, nodes_rule, sets_rule, ways_rule, l
 use Rattle.option_values.specs.Runs.{interval_rule, wait_rule, budget_rule, lose_rule, seed_rule}
 use Rattle.option_values.specs.declared.number.NumberRule.{NumberRule}
 use Rattle.usage_reasons.specs.declared.table.Command.{Command}
-use Rattle.usage_reasons.specs.declared.table.Command.TheVariants.{Replay, Roll, Run, Monitor, Check, Demo, Asm, Dis}
+use Rattle.usage_reasons.specs.declared.table.Command.TheVariants.{Replay, Roll, Run, Monitor, Check, Judge, Demo, Asm, Dis}
 use Rattle.usage_reasons.specs.declared.table.Quantity.{Quantity}
 use Rattle.usage_reasons.specs.declared.table.Quantity.TheVariants.{Nodes, Sets, Ways, Log, Interval, Wait, LoseEvery, Budget, Seed}
 use Rattle.usage_reasons.specs.declared.table.Key.{Key}
-use Rattle.usage_reasons.specs.declared.table.Key.TheVariants.{Number, Watch, Kill}
+use Rattle.usage_reasons.specs.declared.table.Key.TheVariants.{Number, Watch, Kill, Order}
 
 abbrev pub command_names : List Text
 command_names =
-    codes "replay" ∷ codes "roll" ∷ codes "run" ∷ codes "monitor" ∷ codes "check" ∷ codes "demo" ∷ codes "asm" ∷ codes "dis" ∷ []
+    codes "replay" ∷ codes "roll" ∷ codes "run" ∷ codes "monitor" ∷ codes "check" ∷ codes "judge" ∷ codes "demo" ∷ codes "asm"
+    ∷ codes "dis" ∷ []
 
 -- the command of a word, where it is one's name
 abbrev pub command_by : Text → Option Command
@@ -22,6 +23,7 @@ command_by word =
     if bytes_eq word (codes "run") then Some Run else
     if bytes_eq word (codes "monitor") then Some Monitor else
     if bytes_eq word (codes "check") then Some Check else
+    if bytes_eq word (codes "judge") then Some Judge else
     if bytes_eq word (codes "demo") then Some Demo else
     if bytes_eq word (codes "asm") then Some Asm else
     if bytes_eq word (codes "dis") then Some Dis else None
@@ -32,6 +34,7 @@ name_of Roll = codes "roll"
 name_of Run = codes "run"
 name_of Monitor = codes "monitor"
 name_of Check = codes "check"
+name_of Judge = codes "judge"
 name_of Demo = codes "demo"
 name_of Asm = codes "asm"
 name_of Dis = codes "dis"
@@ -43,6 +46,7 @@ files_of Roll = codes "PROGRAM" ∷ codes "SCRIPT" ∷ codes "CONTROL" ∷ []
 files_of Run = codes "PROGRAM" ∷ []
 files_of Monitor = codes "PROGRAM" ∷ []
 files_of Check = codes "PROGRAM" ∷ codes "TRACE" ∷ []
+files_of Judge = codes "ACCESSES" ∷ []
 files_of Demo = codes "SIZE" ∷ []
 files_of Asm = codes "TEXT" ∷ []
 files_of Dis = codes "PROGRAM" ∷ []
@@ -56,13 +60,18 @@ run_options =
     codes "--nodes" ∷ codes "--sets" ∷ codes "--ways" ∷ codes "--log" ∷ codes "--watch" ∷ codes "--interval" ∷ codes "--wait"
     ∷ codes "--lose-every" ∷ codes "--kill" ∷ codes "--budget" ∷ codes "--seed" ∷ []
 
+-- the words that say who has the next turn
+abbrev pub order_names : List Text
+order_names = codes "threads" ∷ codes "round" ∷ codes "drawn" ∷ []
+
 -- the options that take a value
 abbrev pub options_of : Command → List Text
 options_of Replay = sizes
 options_of Roll = sizes
-options_of Run = run_options
+options_of Run = codes "--order" ∷ run_options
 options_of Monitor = run_options
 options_of Check = codes "--nodes" ∷ []
+options_of Judge = []
 options_of Demo = []
 options_of Asm = []
 options_of Dis = []
@@ -74,11 +83,12 @@ flags_of Roll = []
 flags_of Run = codes "--trace" ∷ codes "--journal" ∷ []
 flags_of Monitor = []
 flags_of Check = []
+flags_of Judge = []
 flags_of Demo = []
 flags_of Asm = []
 flags_of Dis = []
 
--- what an option's value is: a number, the address of a word or a switch that dies
+-- what an option's value is: a number, the address of a word, a switch that dies or an order of turns
 abbrev pub quantity_by : Text → Option Quantity
 quantity_by option =
     if bytes_eq option (codes "--nodes") then Some Nodes else
@@ -94,7 +104,8 @@ quantity_by option =
 abbrev pub key_of : Text → Option Key
 key_of option =
     if bytes_eq option (codes "--watch") then Some Watch else
-    if bytes_eq option (codes "--kill") then Some Kill else option_map (λ quantity. Number quantity) (quantity_by option)
+    if bytes_eq option (codes "--kill") then Some Kill else
+    if bytes_eq option (codes "--order") then Some Order else option_map (λ quantity. Number quantity) (quantity_by option)
 
 unfoldable pub quantity_name : Quantity → Text
 quantity_name Nodes = codes "--nodes"
@@ -111,6 +122,7 @@ unfoldable pub key_name : Key → Text
 key_name (Number quantity) = quantity_name quantity
 key_name Watch = codes "--watch"
 key_name Kill = codes "--kill"
+key_name Order = codes "--order"
 
 -- the range of a number, by the rules of the options' values
 abbrev pub rule_of : Quantity → NumberRule

@@ -14,11 +14,11 @@ use Rattle.usage_reasons.specs.declared.table.Key.{Key}
 use Rattle.usage_reasons.specs.Table.{command_names, name_of, options_of, flags_of, quantity_name, key_name, rule_of}
 use Rattle.usage_reasons.specs.Words.{begins}
 use Rattle.usage_reasons.specs.Faults.{Fault, NoCommand, UnknownCommand, HelpAmong, UnknownOption, ValueLacking, ValueUnwanted, Twice}
-use Rattle.usage_reasons.specs.Faults.{BadNumber, BadAddress, BadKill, BadSize, Lacking, OneTooMany, Together, Other, fault_of}
+use Rattle.usage_reasons.specs.Faults.{BadNumber, BadAddress, BadKill, BadSize, BadOrder, Lacking, OneTooMany, Together, Other, fault_of}
 
 -- a word as one can see it: its first 60 bytes, with two dots behind them where there are more, and quotation marks where it is empty
-unfoldable pub worded : Text → Text
-worded word =
+unfoldable pub quoted_word : Text → Text
+quoted_word word =
     if nat_lt 60 (length word) then escaped_text (take 60 word) ++ codes ".."
     else if nat_eq (length word) 0 then codes "\"\"" else escaped_text word
 
@@ -35,11 +35,11 @@ near_or text None page = see text page
 -- a text, and then that a word is no command
 unfoldable pub unknown_command : Text → Text → Text
 unknown_command text word =
-    if begins (codes "-") word then see (text ++ worded word ++ codes ": the command comes first") None
-    else near_or (text ++ worded word ++ codes ": there is no such command") (nearest command_names word) None
+    if begins (codes "-") word then see (text ++ quoted_word word ++ codes ": the command comes first") None
+    else near_or (text ++ quoted_word word ++ codes ": there is no such command") (nearest command_names word) None
 
 unfoldable pub help_among : Text → Text → Text
-help_among text word = text ++ worded word ++ codes ": a call for help is a command and --help, as safetynet run --help"
+help_among text word = text ++ quoted_word word ++ codes ": a call for help is a command and --help, as safetynet run --help"
 
 abbrev pub nearest_option : Command → Text → Option Text
 nearest_option command option = option_or (nearest (options_of command) option) (nearest (flags_of command) option)
@@ -47,21 +47,21 @@ nearest_option command option = option_or (nearest (options_of command) option) 
 -- a text, and then that the command has no such option
 unfoldable pub unknown_option : Text → Command → Text → Text
 unknown_option text command option =
-    near_or (text ++ worded option ++ codes ": " ++ name_of command ++ codes " has no such option") (nearest_option command option)
+    near_or (text ++ quoted_word option ++ codes ": " ++ name_of command ++ codes " has no such option") (nearest_option command option)
     (Some command)
 
 unfoldable pub value_lacking : Text → Key → Text
 value_lacking text key = text ++ key_name key ++ codes ": a value is lacking"
 
 unfoldable pub value_unwanted : Text → Text → Text
-value_unwanted text word = text ++ worded word ++ codes ": this option takes no value"
+value_unwanted text word = text ++ quoted_word word ++ codes ": this option takes no value"
 
 unfoldable pub twice : Text → Text → Text
-twice text option = text ++ worded option ++ codes ": it stands twice"
+twice text option = text ++ quoted_word option ++ codes ": it stands twice"
 
 -- an option and its value, as they stand
 unfoldable pub given_as : Text → Text → Text → Text
-given_as text option value = text ++ option ++ codes " " ++ worded value ++ codes ": "
+given_as text option value = text ++ option ++ codes " " ++ quoted_word value ++ codes ": "
 
 -- what the numbers of an option count: what stands before their range, and behind it
 unfoldable pub range_front : Quantity → Text
@@ -87,12 +87,12 @@ range_back Budget = codes " events"
 range_back Seed = []
 
 -- a text, and then the range of a number
-unfoldable pub ranged : Text → Quantity → Text
-ranged text quantity =
+unfoldable pub range_text : Text → Quantity → Text
+range_text text quantity =
     text ++ range_front quantity ++ decimal (rule_of quantity).least ++ codes " to " ++ decimal (rule_of quantity).greatest ++ range_back quantity
 
 unfoldable pub bad_number : Text → Quantity → Text → Text
-bad_number text quantity value = ranged (given_as text (quantity_name quantity) value) quantity
+bad_number text quantity value = range_text (given_as text (quantity_name quantity) value) quantity
 
 unfoldable pub bad_address : Text → Text → Text
 bad_address text value =
@@ -107,11 +107,14 @@ bad_kill text nodes value =
 unfoldable pub bad_size : Text → Text → Text
 bad_size text word = given_as text (codes "demo") word ++ codes "a demonstration has 1 to 1000000 events"
 
+unfoldable pub bad_order : Text → Text → Text
+bad_order text value = given_as text (codes "--order") value ++ codes "an order is threads, round or drawn"
+
 unfoldable pub lacking : Text → Command → Text → Text
 lacking text command file = see (text ++ name_of command ++ codes ": " ++ file ++ codes " is lacking") (Some command)
 
 unfoldable pub one_too_many : Text → Command → Text → Text
-one_too_many text command word = see (text ++ worded word ++ codes ": " ++ name_of command ++ codes " takes no more files") (Some command)
+one_too_many text command word = see (text ++ quoted_word word ++ codes ": " ++ name_of command ++ codes " takes no more files") (Some command)
 
 -- a text, and then what is wrong
 abbrev pub fault_text : Text → Fault → Text
@@ -126,6 +129,7 @@ fault_text text (BadNumber quantity value) = bad_number text quantity value
 fault_text text (BadAddress value) = bad_address text value
 fault_text text (BadKill nodes value) = bad_kill text nodes value
 fault_text text (BadSize word) = bad_size text word
+fault_text text (BadOrder value) = bad_order text value
 fault_text text (Lacking command file) = lacking text command file
 fault_text text (OneTooMany command word) = one_too_many text command word
 fault_text text Together = text ++ codes "--trace and --journal don't stand together"

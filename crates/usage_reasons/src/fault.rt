@@ -19,6 +19,7 @@ pub(crate) enum Fault<'a> {
     /// A switch that a machine of so many nodes doesn't have, or that dies at no number of events.
     BadKill(u8, &'a str),
     BadSize(&'a str),
+    BadOrder(&'a str),
     /// A word that must be there, as the command's page names it.
     Lacking(Command, &'static str),
     OneTooMany(Command, &'a str),

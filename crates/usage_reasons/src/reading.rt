@@ -1,12 +1,12 @@
 //! The words of a call, read from left to right.
 ghost use Rattle.std.specs.Prelude.{◌≡◌, ◌≤◌, [], map, option_map, string_bytes};
 ghost use Rattle.usage_reasons.specs.Faults.{first_read, no_such_command, no_such_option, is_bad_size, with_file, read_with, with_number};
-ghost use Rattle.usage_reasons.specs.Faults.{with_address, with_value, with_key, with_flag, with_option, with_word, step, kill_on, kill_fault};
+ghost use Rattle.usage_reasons.specs.Faults.{with_address, with_order, with_value, with_key, with_flag, with_option, with_word, step, kill_on, kill_fault};
 ghost use Rattle.usage_reasons.specs.Faults.{at_end, fault_from, fault_behind, fault_of};
 ghost use Rattle.usage_reasons.specs.Seen.{read_seen, fault_seen, step_seen};
 
 use crate::fault::Fault;
-use crate::table::{Command, Key, Quantity, command_by, files_of, flags_of};
+use crate::table::{Command, Key, Quantity, command_by, files_of, flags_of, order_names};
 use crate::values::{is_address, is_kill, is_number, is_size};
 use crate::words::{
     begins, has_value, is_among, is_given, is_help, is_short, key_in, option_in, value_in,
@@ -130,6 +130,17 @@ fn with_address<'a>(reading: Reading<'a>, value: &'a str) -> Result<Reading<'a>,
     }
 }
 
+#[tactic(auto, unfolding(crate::specs::Faults::with_order))]
+fn with_order<'a>(reading: Reading<'a>, value: &'a str) -> Result<Reading<'a>, Fault<'a>>
+    ensures { step_seen result ≡ with_order (read_seen reading.entry) value.entry.now }
+{
+    if is_among(order_names(), value) {
+        Ok(reading)
+    } else {
+        Err(Fault::BadOrder(value))
+    }
+}
+
 fn with_value<'a>(key: Key, reading: Reading<'a>, value: &'a str) -> Result<Reading<'a>, Fault<'a>>
     ensures { step_seen result ≡ with_value key (read_seen reading.entry) value.entry.now }
 {
@@ -140,6 +151,7 @@ fn with_value<'a>(key: Key, reading: Reading<'a>, value: &'a str) -> Result<Read
             kill: Some(value),
             ..reading
         }),
+        Key::Order => with_order(reading, value),
     }
 }
 

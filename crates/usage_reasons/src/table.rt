@@ -3,7 +3,7 @@
 //! This is the one place of them here. `command_words` has the same table in the form that clap wants.
 ghost use Rattle.std.specs.Prelude.{◌≡◌, true, map};
 ghost use Rattle.sn_base.specs.Config.{lies_in};
-ghost use Rattle.usage_reasons.specs.Table.{command_names, command_by, name_of, files_of, options_of, flags_of};
+ghost use Rattle.usage_reasons.specs.Table.{command_names, command_by, name_of, files_of, order_names, options_of, flags_of};
 ghost use Rattle.usage_reasons.specs.Table.{quantity_by, key_of, quantity_name, key_name, rule_of};
 
 use option_values::{BUDGET, INTERVAL, LOG, LOSE_EVERY, NODES, NumberRule, SEED, SETS, WAIT, WAYS};
@@ -15,6 +15,7 @@ pub(crate) enum Command {
     Run,
     Monitor,
     Check,
+    Judge,
     Demo,
     Asm,
     Dis,
@@ -42,12 +43,14 @@ pub(crate) enum Key {
     Watch,
     /// A switch that dies.
     Kill,
+    /// Who has the next turn.
+    Order,
 }
 
 const NONE: &[&str] = &[];
 
 const COMMANDS: &[&str] = &[
-    "replay", "roll", "run", "monitor", "check", "demo", "asm", "dis",
+    "replay", "roll", "run", "monitor", "check", "judge", "demo", "asm", "dis",
 ];
 
 const PROGRAM: &[&str] = &["PROGRAM"];
@@ -57,6 +60,8 @@ const PROGRAM_AND_SCRIPT: &[&str] = &["PROGRAM", "SCRIPT"];
 const PROGRAM_AND_CONTROL: &[&str] = &["PROGRAM", "SCRIPT", "CONTROL"];
 
 const PROGRAM_AND_TRACE: &[&str] = &["PROGRAM", "TRACE"];
+
+const ACCESSES: &[&str] = &["ACCESSES"];
 
 const SIZE: &[&str] = &["SIZE"];
 
@@ -70,7 +75,24 @@ const TRACE: &[&str] = &["--trace"];
 
 const TRACE_OR_JOURNAL: &[&str] = &["--trace", "--journal"];
 
+const ORDERS: &[&str] = &["threads", "round", "drawn"];
+
 const RUN_OPTIONS: &[&str] = &[
+    "--order",
+    "--nodes",
+    "--sets",
+    "--ways",
+    "--log",
+    "--watch",
+    "--interval",
+    "--wait",
+    "--lose-every",
+    "--kill",
+    "--budget",
+    "--seed",
+];
+
+const MONITOR_OPTIONS: &[&str] = &[
     "--nodes",
     "--sets",
     "--ways",
@@ -99,6 +121,7 @@ pub(crate) fn command_by(word: &str) -> Option<Command>
         "run" => Some(Command::Run),
         "monitor" => Some(Command::Monitor),
         "check" => Some(Command::Check),
+        "judge" => Some(Command::Judge),
         "demo" => Some(Command::Demo),
         "asm" => Some(Command::Asm),
         "dis" => Some(Command::Dis),
@@ -116,6 +139,7 @@ pub(crate) fn name_of(command: Command) -> &'static str
         Command::Run => "run",
         Command::Monitor => "monitor",
         Command::Check => "check",
+        Command::Judge => "judge",
         Command::Demo => "demo",
         Command::Asm => "asm",
         Command::Dis => "dis",
@@ -131,9 +155,17 @@ pub(crate) fn files_of(command: Command) -> &'static [&'static str]
         Command::Roll => PROGRAM_AND_CONTROL,
         Command::Run | Command::Monitor | Command::Dis => PROGRAM,
         Command::Check => PROGRAM_AND_TRACE,
+        Command::Judge => ACCESSES,
         Command::Demo => SIZE,
         Command::Asm => TEXT,
     }
+}
+
+/// The words that say who has the next turn.
+pub(crate) fn order_names() -> &'static [&'static str]
+    ensures { map (λ name. name.now) result.now ≡ order_names }
+{
+    ORDERS
 }
 
 /// The options that take a value.
@@ -142,9 +174,10 @@ pub(crate) fn options_of(command: Command) -> &'static [&'static str]
 {
     match command {
         Command::Replay | Command::Roll => SIZES,
-        Command::Run | Command::Monitor => RUN_OPTIONS,
+        Command::Run => RUN_OPTIONS,
+        Command::Monitor => MONITOR_OPTIONS,
         Command::Check => NODES_ALONE,
-        Command::Demo | Command::Asm | Command::Dis => NONE,
+        Command::Judge | Command::Demo | Command::Asm | Command::Dis => NONE,
     }
 }
 
@@ -158,6 +191,7 @@ pub(crate) fn flags_of(command: Command) -> &'static [&'static str]
         Command::Roll
         | Command::Monitor
         | Command::Check
+        | Command::Judge
         | Command::Demo
         | Command::Asm
         | Command::Dis => NONE,
@@ -187,6 +221,7 @@ pub(crate) fn key_of(option: &str) -> Option<Key>
     match option {
         "--watch" => Some(Key::Watch),
         "--kill" => Some(Key::Kill),
+        "--order" => Some(Key::Order),
         _ => Some(Key::Number(quantity_by(option)?)),
     }
 }
@@ -216,6 +251,7 @@ pub(crate) fn key_name(key: Key) -> &'static str
         Key::Number(quantity) => quantity_name(quantity),
         Key::Watch => "--watch",
         Key::Kill => "--kill",
+        Key::Order => "--order",
     }
 }
 

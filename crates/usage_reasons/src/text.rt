@@ -1,9 +1,9 @@
 //! The line of each fault.
 ghost use Rattle.std.specs.Prelude.{◌≡◌, ◌++◌, None, map, option_map, string_bytes, OnOk};
-ghost use Rattle.reasons.specs.Reason.{begun, ended};
-ghost use Rattle.usage_reasons.specs.Texts.{worded, see, near_or, unknown_command, help_among, nearest_option, unknown_option};
-ghost use Rattle.usage_reasons.specs.Texts.{value_lacking, value_unwanted, twice, given_as, range_front, range_back, ranged, bad_number};
-ghost use Rattle.usage_reasons.specs.Texts.{bad_address, bad_kill, bad_size, lacking, one_too_many, fault_text, usage_reason};
+ghost use Rattle.reasons.specs.Reason.{begun, line_of_reason};
+ghost use Rattle.usage_reasons.specs.Texts.{quoted_word, see, near_or, unknown_command, help_among, nearest_option, unknown_option};
+ghost use Rattle.usage_reasons.specs.Texts.{value_lacking, value_unwanted, twice, given_as, range_front, range_back, range_text, bad_number};
+ghost use Rattle.usage_reasons.specs.Texts.{bad_address, bad_kill, bad_size, bad_order, lacking, one_too_many, fault_text, usage_reason};
 ghost use Rattle.usage_reasons.specs.Seen.{fault_seen};
 
 use crate::fault::Fault;
@@ -19,9 +19,9 @@ use sn_base::{Memory, RAM_END, RAM_START};
 /// The most bytes of a word that are shown.
 const MOST_SHOWN: usize = 60;
 
-#[tactic(auto, unfolding(crate::specs::Texts::worded))]
+#[tactic(auto, unfolding(crate::specs::Texts::quoted_word))]
 fn write_word(reason: &mut Reason, word: &str) -> Result<(), Memory>
-    ensures { OnOk result (reason.new ≡ reason.old ++ worded word.now) }
+    ensures { OnOk result (reason.new ≡ reason.old ++ quoted_word word.now) }
 {
     let bytes = word.as_bytes();
     if bytes.len() > MOST_SHOWN {
@@ -174,9 +174,9 @@ fn range_back(quantity: Quantity) -> &'static str
     }
 }
 
-#[tactic(auto, unfolding(crate::specs::Texts::ranged))]
+#[tactic(auto, unfolding(crate::specs::Texts::range_text))]
 fn write_range(reason: &mut Reason, quantity: Quantity) -> Result<(), Memory>
-    ensures { OnOk result (reason.new ≡ ranged reason.old quantity) }
+    ensures { OnOk result (reason.new ≡ range_text reason.old quantity) }
 {
     let rule = rule_of(quantity);
     reason.text(range_front(quantity))?;
@@ -224,6 +224,14 @@ fn write_bad_size(reason: &mut Reason, word: &str) -> Result<(), Memory>
     reason.text("a demonstration has 1 to 1000000 events")
 }
 
+#[tactic(auto, unfolding(crate::specs::Texts::bad_order))]
+fn write_bad_order(reason: &mut Reason, value: &str) -> Result<(), Memory>
+    ensures { OnOk result (reason.new ≡ bad_order reason.old value.now) }
+{
+    write_given(reason, "--order", value)?;
+    reason.text("an order is threads, round or drawn")
+}
+
 #[tactic(auto, unfolding(crate::specs::Texts::lacking))]
 fn write_lacking(reason: &mut Reason, command: Command, file: &str) -> Result<(), Memory>
     ensures { OnOk result (reason.new ≡ lacking reason.old command file.now) }
@@ -269,6 +277,7 @@ fn write_fault(reason: &mut Reason, fault: Fault<'_>) -> Result<(), Memory>
         Fault::BadAddress(value) => write_bad_address(reason, value),
         Fault::BadKill(nodes, value) => write_bad_kill(reason, nodes, value),
         Fault::BadSize(word) => write_bad_size(reason, word),
+        Fault::BadOrder(value) => write_bad_order(reason, value),
         Fault::Lacking(command, file) => write_lacking(reason, command, file),
         Fault::OneTooMany(command, word) => write_one_too_many(reason, command, word),
         Fault::Together => reason.text("--trace and --journal don't stand together"),
@@ -279,7 +288,7 @@ fn write_fault(reason: &mut Reason, fault: Fault<'_>) -> Result<(), Memory>
 /// The line that says what is wrong with the words of a call, of which the first is the program's own name.
 #[tactic(auto, unfolding(crate::specs::Texts::usage_reason))]
 pub fn write_usage(reason: &mut Reason, words: &[String]) -> Result<(), Memory>
-    ensures { OnOk result (reason.new ≡ ended (usage_reason (begun reason.old) (map string_bytes words.now))) }
+    ensures { OnOk result (reason.new ≡ line_of_reason (usage_reason (begun reason.old) (map string_bytes words.now))) }
 {
     reason.begin()?;
     write_fault(reason, fault_of(words))?;

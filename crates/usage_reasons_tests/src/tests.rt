@@ -164,6 +164,10 @@ const FILES: &[(&str, &str)] = &[
         "check p",
         "check: TRACE is lacking; see safetynet check --help",
     ),
+    (
+        "judge",
+        "judge: ACCESSES is lacking; see safetynet judge --help",
+    ),
     ("demo", "demo: SIZE is lacking; see safetynet demo --help"),
     ("asm", "asm: TEXT is lacking; see safetynet asm --help"),
     ("dis", "dis: PROGRAM is lacking; see safetynet dis --help"),
@@ -186,6 +190,10 @@ const FILES: &[(&str, &str)] = &[
     (
         "monitor p s",
         "s: monitor takes no more files; see safetynet monitor --help",
+    ),
+    (
+        "judge a b",
+        "b: judge takes no more files; see safetynet judge --help",
     ),
     (
         "demo 1 2",
@@ -257,6 +265,23 @@ const OPTIONS: &[(&str, &str)] = &[
         "--trace: monitor has no such option; see safetynet monitor --help",
     ),
     (
+        "monitor p --order round",
+        "--order: monitor has no such option; see safetynet monitor --help",
+    ),
+    (
+        "run p --order slow",
+        "--order slow: an order is threads, round or drawn",
+    ),
+    (
+        "run p --order=",
+        "--order \"\": an order is threads, round or drawn",
+    ),
+    ("run p --order", "--order: a value is lacking"),
+    (
+        "run p --order round --order=drawn",
+        "--order: it stands twice",
+    ),
+    (
         "monitor p --journal",
         "--journal: monitor has no such option; see safetynet monitor --help",
     ),
@@ -267,6 +292,10 @@ const OPTIONS: &[(&str, &str)] = &[
     (
         "check p t --sets 4",
         "--sets: check has no such option; see safetynet check --help",
+    ),
+    (
+        "judge a --nodes 2",
+        "--nodes: judge has no such option; see safetynet judge --help",
     ),
     (
         "demo -5",
@@ -544,6 +573,8 @@ const WORDS: &[&str] = &[
     "--kill=b3@5",
     "a1@0",
     "--seed",
+    "--order=drawn",
+    "--order",
     "--trace",
     "--trace=x",
     "--journal",
@@ -583,7 +614,7 @@ fn something_is_said_of_all_words_that_are_refused_and_of_no_others(
     rt: HostRuntime,
 ) -> Result<(), Fail> {
     for command in [
-        "replay", "roll", "run", "monitor", "check", "demo", "asm", "dis",
+        "replay", "roll", "run", "monitor", "check", "judge", "demo", "asm", "dis",
     ] {
         all_agree(&rt, rt.alloc(), command)?;
     }

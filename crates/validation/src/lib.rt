@@ -101,6 +101,13 @@ impl Controller {
         self.point
     }
 
+    /// The checkpoint that each node reported last, in order of the nodes.
+    pub fn reported(&self) -> &[Interval]
+        ensures { result.now ≡ self.now.reported }
+    {
+        &self.reports[..self.nodes]
+    }
+
     /// After a recovery every node stands at the recovery point.
     pub fn reset(&mut self)
         ensures { self.new ≡ record self.old { reported = replicate (length self.old.reported) self.old.point } }
@@ -131,5 +138,6 @@ mod tests {
         controller.reset();
         assert_eq!(rt; controller.check(), behind(first, 1));
         assert_eq!(rt; controller.point(), 1);
+        assert_eq!(rt; controller.reported(), [1, 1].as_slice());
     }
 }

@@ -29,6 +29,43 @@ examples:
       examples/traces/lost_addition.trace
 ";
 
+pub const JUDGE: &str = "\
+Judges accesses to memory by themselves, without a program: whether one memory
+gives each read what it read, in the order of the list.
+
+usage: safetynet judge ACCESSES
+
+reads:
+  ACCESSES  one access a line, at most 64 MiB and 1,000,000 of them:
+              CORE OP ADDRESS SIZE VALUE
+              CORE amo ADDRESS SIZE VALUE OLD
+            OP is r (read), w (wrote), lr, sc (done), scfail; amo read OLD and
+            wrote VALUE. ADDRESS has eight digits, from 80000000 to 803fffff,
+            and is a multiple of SIZE: 1, 2 or 4. A value has two digits for
+            each byte. Before the first access, lines
+              init ADDRESS WORD
+            say what memory has at the start; it is 0 elsewhere. Empty lines
+            and lines that begin with # are skipped (help formats)
+
+writes:
+  standard error   \"legal\" and the number of accesses; or \"refused\" and the
+                   place, from 1, of the first that isn't legal after those
+                   before it. Then a line says why: \"expected VALUE since P\"
+                   (memory has VALUE there, and access P was the last to write
+                   it), or \"unreserved since P\" (an sc was done without its
+                   core's reservation, which access P was the last to end).
+                   P is 0 if it was so from the start
+
+The accesses of every run of every program are legal: that is proved.
+
+exit status: 0 legal, 9 refused; 1 usage, 2 store, 4 script (ACCESSES is
+             refused), 5 sink, 7 memory (help statuses)
+
+examples:
+  safetynet judge examples/judge/message_passing.accesses
+  safetynet judge examples/judge/stale_value.accesses
+";
+
 pub const DEMO: &str = "\
 Runs a program of its own, in which four nodes add to one word: a driver picks
 the events, with a loss and a recovery now and then. It needs no file, and one

@@ -15,6 +15,7 @@ commands:
   run PROGRAM                  lets a worker for each node pick the events
   monitor PROGRAM              the same, turn by turn, with a watcher beside it
   check PROGRAM TRACE          judges whether a trace is an execution
+  judge ACCESSES               judges accesses to memory, without a program
   demo SIZE                    runs a program of its own; needs no file
   asm TEXT                     turns assembly text into a program
   dis PROGRAM                  turns a program into assembly text

@@ -1,9 +1,9 @@
 //! The commands whose workers pick the events.
 
 pub const RUN: &str = "\
-Runs a program with a worker for each node, in a thread of its own. Each worker
-applies events that are due, under rules, until all cores have ended, a recovery
-finds two nodes cut off, or the budget is spent.
+Runs a program with a worker for each node, in a thread of its own or by turns.
+Each worker applies events that are due, under rules, until all cores have
+ended, a recovery finds two nodes cut off, or the budget is spent.
 
 usage: safetynet run [OPTIONS] PROGRAM
 
@@ -21,7 +21,10 @@ options, before or after the file, each at most once, as --nodes 2 or --nodes=2:
                    none [default: 0]
   --kill S@N       switch S, aN or bN of node N, dies after N events, 0 to
                    1000000 [default: none]
-  --seed N         of the numbers that workers draw, 0 to 2^64 - 1 [default: 1]
+  --seed N         of the numbers that workers draw, and of drawn turns, 0 to
+                   2^64 - 1 [default: 1]
+  --order WORD     who has the next turn: threads, round or drawn
+                   [default: threads]
   --watch ADDRESS  also show the word at ADDRESS in the summary: eight
                    hexadecimal digits, 80000000 to 803ffffc, a multiple of 4
   --trace          report the committed trace, one record a line, and then the
@@ -37,9 +40,12 @@ writes:
   standard output  the bytes that the program puts out, once validated
   standard error   the summary, after the trace or the journal
 
-The threads decide whose turn comes next, so two runs on more than one node may
-differ. Each run can be had again: replay its journal, which is a script, with
-the same sizes; it puts the same output and the same summary.
+With --order threads each worker has a thread of its own, and the threads decide
+whose turn comes next: two runs on more than one node may differ. With --order
+round the workers' turns come in rounds, with --order drawn each turn's worker
+is drawn, from the seed too; both on one thread, and the same words and program
+give the same bytes. Each run can be had again: replay its journal, which is a
+script, with the same sizes; it puts the same output and the same summary.
 
 exit status: 0 done, 1 usage, 2 store, 3 program, 5 sink, 6 budget, 7 memory,
              8 cutoff, 10 trapped (help statuses)
@@ -48,6 +54,7 @@ examples:
   safetynet run --nodes 1 --interval 10 examples/first/a.hex
   safetynet run --nodes 2 --lose-every 500 --wait 2000 --budget 20000 --journal \\
       examples/shared/count.hex
+  safetynet run --order drawn --seed 7 --budget 2000 examples/order/turns.hex
 ";
 
 pub const MONITOR: &str = "\

@@ -43,7 +43,8 @@ one with 2 reads a byte into x10, and one with 93 ends the core with code x10.
     00000073
 
 SCRIPT: one event a line (help events). CONTROL: one step of a recovery a line
-(help roll). TRACE: one instruction a line, in the order of the execution:
+(help roll). ACCESSES: one access to memory a line (help judge). TRACE: one
+instruction a line, in the order of the execution:
 
   N WORD F     the core of node N did one that saw WORD, eight hexadecimal
                digits; F is 1 where a store-conditional was done, else 0
@@ -73,15 +74,16 @@ standard error names it (`# safetynet: WORD`). The line above it says why
    1  usage          the words aren't a command, or a value isn't in its range
    2  store          a file is lacking or couldn't be read
    3  program CAUSE  PROGRAM is too long (toolong) or can't be loaded
-   4  script CAUSE   SCRIPT, CONTROL or TRACE is too long (toolong, toomany), has
-                     a line of another form (badline), or names a node, a block
-                     or a switch that isn't there (outofrange)
+   4  script CAUSE   SCRIPT, CONTROL, TRACE or ACCESSES is too long (toolong,
+                     toomany), has a line of another form (badline), or names a
+                     node, a block or a switch that isn't there (outofrange)
    5  sink           not all of the output could be written
    6  budget         a run has as many events as its budget
    7  memory         there was not enough of it
    8  cutoff A B     in a run nodes A and B were found cut off from each other
-   9  refused P      TRACE is no execution; its P-th instruction is the first
-                     that can't come after those before it
+   9  refused P      TRACE is no execution, or ACCESSES aren't legal; the P-th
+                     instruction or access is the first that can't come after
+                     those before it
   10  trapped N CAUSE  in a run all cores have ended, and N is the least node
                      whose core trapped
   13  asm CAUSE      TEXT is too long (toolong, toomanywords), has a line that is

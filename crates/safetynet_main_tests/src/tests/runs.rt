@@ -88,6 +88,39 @@ fn a_run_ends_with_all_exits(rt: HostRuntime) -> Result<(), Fail> {
     each_is_left(&rt, rt.alloc(), &[ENDED])
 }
 
+/// On one node each order gives its turns to the one worker.
+const ORDERED: [Case; 4] = [
+    Case {
+        words: "safetynet run --nodes 1 --order round a.hex",
+        ..ENDED
+    },
+    Case {
+        words: "safetynet run --nodes 1 --order=drawn a.hex",
+        ..ENDED
+    },
+    Case {
+        words: "safetynet run --journal --order round --nodes 1 --budget 3 a.hex",
+        report: SPENT_JOURNAL,
+        ..SPENT_RUN
+    },
+    Case {
+        words: "safetynet run --nodes 1 --order drawn a.hex",
+        faults: Faults {
+            console: 1,
+            ..NO_FAULT
+        },
+        status: Status::SinkFault,
+        console: "",
+        report: "",
+        ..ENDED
+    },
+];
+
+#[test]
+fn a_run_has_its_turns_in_an_order(rt: HostRuntime) -> Result<(), Fail> {
+    each_is_left(&rt, rt.alloc(), &ORDERED)
+}
+
 #[test]
 fn a_run_ends_with_its_least_trap(rt: HostRuntime) -> Result<(), Fail> {
     let first = NodeId::numbered(0);

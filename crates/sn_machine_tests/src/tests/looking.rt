@@ -1,7 +1,7 @@
 //! What is looked at of a machine, at its node 0 and at its block 64, which the programs share.
 ghost use Rattle.std.specs.Prelude.{◌<◌};
 
-use sn_base::{BlockNo, Entries, NodeId, SwitchId};
+use sn_base::{BlockNo, Entries, NodeId, SwitchId, Width};
 use sn_machine::{Machine, Owner};
 
 /// What is looked at. A look that is answered yes or no gives 1 or 0.
@@ -16,10 +16,18 @@ pub enum Look {
     /// How many messages the last event sent.
     Sent,
     Pending,
+    /// How many bytes wait for their checkpoint.
+    Held,
+    /// The checkpoint that the last node reported last.
+    Reported,
+    /// The first word of block 0 as its home has it; 0 where a cache owns it.
+    HomeWord,
     /// Whether the last instruction that waits is a store-conditional that was done.
     IsLastDone,
     IsOver,
     Interval,
+    /// The recovery point that the node knows.
+    Known,
     Ready,
     Pc,
     X7,
@@ -68,6 +76,23 @@ fn is_node(owner: Owner, number: u8) -> bool {
     }
 }
 
+/// The first word of block 0 as its home has it.
+fn home_word(machine: &Machine) -> u64 {
+    let block = BlockNo::new(0);
+    match machine.owner(block) {
+        Owner::Home => u64::from(machine.home_content(block).load(0, Width::Word)),
+        Owner::Cache(_) => 0,
+    }
+}
+
+/// The checkpoint that the last node reported last.
+fn last_reported(machine: &Machine) -> u64 {
+    match machine.reported().last() {
+        Some(checkpoint) => u64::from(*checkpoint),
+        None => 0,
+    }
+}
+
 /// What is seen of the cut at the recovery point.
 fn seen_of_cut(machine: &Machine, node: NodeId, look: Look) -> u64
     requires { node < machine.now.config.nodes }
@@ -101,6 +126,7 @@ fn seen_of_node(machine: &Machine, node: NodeId, look: Look) -> u64
 {
     match look {
         Look::Interval => u64::from(machine.now(node)),
+        Look::Known => u64::from(machine.known(node)),
         Look::Ready => u64::from(machine.ready(node)),
         Look::Pc => u64::from(machine.core(node).pc),
         Look::X7 => u64::from(machine.core(node).x[7]),
@@ -126,6 +152,9 @@ pub fn seen(machine: &Machine, node: NodeId, look: Look) -> u64
         Look::InFlight => machine.net().count() as u64,
         Look::Sent => machine.sent().len() as u64,
         Look::Pending => machine.pending().len() as u64,
+        Look::Held => machine.held().len() as u64,
+        Look::Reported => last_reported(machine),
+        Look::HomeWord => home_word(machine),
         Look::IsLastDone => u64::from(is_last_done(machine)),
         Look::IsOver => u64::from(machine.over()),
         _ => seen_of_node(machine, node, look),

@@ -24,6 +24,8 @@ core 0 80000000 running
         (Look::Pc, 0x8000_0000),
         (Look::CanEvict, 0),
         (Look::CutFirstWord, 0x0410_0513),
+        (Look::HomeWord, 0x0410_0513),
+        (Look::Reported, 0),
         (Look::IsCutAtHome, 1),
         (Look::IsOver, 0),
     ],
@@ -51,7 +53,12 @@ committed 0
 released 0
 core 0 80000000 running
 ",
-    looks: &[(Look::Pending, 3)],
+    looks: &[
+        (Look::Pending, 3),
+        (Look::Held, 1),
+        (Look::Reported, 1),
+        (Look::HomeWord, 0x0410_0513),
+    ],
 };
 
 /// Then it is.
@@ -78,7 +85,12 @@ committed 3
 released 1
 core 0 8000000c running x10=00000041 x17=00000001
 ",
-    looks: &[(Look::Pending, 0), (Look::Room, 1993)],
+    looks: &[
+        (Look::Pending, 0),
+        (Look::Room, 1993),
+        (Look::Held, 0),
+        (Look::Known, 0),
+    ],
 };
 
 /// A recovery takes the byte back, and the next checkpoint of that number isn't reported.

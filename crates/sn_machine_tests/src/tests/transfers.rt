@@ -145,6 +145,7 @@ core 1 8000000c running x5=80001000 x6=00000001 x7=00000001 x10=00000001
         (Look::Sent, 0),
         (Look::CutWord, 2),
         (Look::IsCutOwner(1), 1),
+        (Look::Known, 1),
     ],
 };
 

@@ -10,6 +10,7 @@ returns c =
     let three = c.in_ok-command-3.ensures ∙ ap₂ with_command two c.in_ok-run.ensures.app in
     let four = c.in_ok-command-4.ensures ∙ ap₂ with_command three c.in_ok-monitor.ensures.app in
     let five = c.in_ok-command-5.ensures ∙ ap₂ with_command four c.in_ok-check.ensures.app in
-    let six = c.in_ok-command-6.ensures ∙ ap₂ with_command five c.in_ok-demo.ensures.app in
-    let seven = c.in_ok-command-7.ensures ∙ ap₂ with_command six c.in_ok-asm.ensures.app in
-    IfOk-weaker c.with_command-8.result _ _ (λ r is. is ∙ ap₂ with_command seven c.in_ok-dis.ensures.app) c.with_command-8.ensures
+    let six = c.in_ok-command-6.ensures ∙ ap₂ with_command five c.in_ok-judge.ensures.app in
+    let seven = c.in_ok-command-7.ensures ∙ ap₂ with_command six c.in_ok-demo.ensures.app in
+    let eight = c.in_ok-command-8.ensures ∙ ap₂ with_command seven c.in_ok-asm.ensures.app in
+    IfOk-weaker c.with_command-9.result _ _ (λ r is. is ∙ ap₂ with_command eight c.in_ok-dis.ensures.app) c.with_command-9.ensures

@@ -1,5 +1,5 @@
 use Rattle.std.proofs.Common.{◌≡◌, false, refl, ap, sym, ◌∙◌}
-use Rattle.home_directory.specs.Receipt.{kept, noting, look_of}
+use Rattle.home_directory.specs.Receipt.{entry_as_it_is, noting, look_of}
 use Rattle.home_directory.specs.Serving.{lacks_room, waits}
 use Rattle.sn_model.specs.declared.look.Look.TheVariants.{Sends}
 use Rattle.home_directory.proofs.Verdicts.{judged_is, sends_are}
@@ -12,7 +12,7 @@ returns c =
     let k : lacks_room c.args.log.now
     (noting c.args.entry.now c.args.now c.args.message.now c.args.message.now.body) c.args.message.now.block ≡ false = cc in
     ap Sends c.count_sends.ensures
-    ∙ sym (sends_are (kept c.args.entry.now c.args.log.now.entries) c.args.now c.args.message.now c.args.message.now.body c.requires w)
+    ∙ sym (sends_are (entry_as_it_is c.args.entry.now c.args.log.now.entries) c.args.now c.args.message.now c.args.message.now.body c.requires w)
     ∙ sym
     (ap look_of
     (judged_is c.args.log.now c.args.entry.now c.args.now c.args.message.now c.args.message.now.body c.requires c.lacks_room.ensures.good.within w ∙ rw k refl))

@@ -1,5 +1,5 @@
 use Rattle.std.proofs.Common.{◌≡◌, Some, subst, sym}
-use Rattle.rv_decode.specs.Decoded.{decoded}
+use Rattle.rv_decode.specs.Decoded.{instruction_at}
 use Rattle.rv_decode.specs.Table.{IsWordOf}
 use Rattle.rv_decode.proofs.Words.{word_of-right, decoded-word_of}
 use Rattle.rv_decode.proofs.writing.encode.Goals as goal
@@ -9,4 +9,4 @@ returns-clause-word c = subst (IsWordOf c.args.instr.now) (sym c.written.ensures
 
 pub returns-clause-back : goal.returns-clause-back
 returns-clause-back c =
-    subst (λ word. decoded word ≡ Some c.args.instr.now) (sym c.written.ensures) (decoded-word_of c.args.instr.now c.requires)
+    subst (λ word. instruction_at word ≡ Some c.args.instr.now) (sym c.written.ensures) (decoded-word_of c.args.instr.now c.requires)

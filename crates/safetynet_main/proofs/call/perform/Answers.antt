@@ -1,12 +1,19 @@
 use Rattle.std.proofs.Common.{refl, ap}
 use Rattle.std.specs.Prelude.{Err}
-use Rattle.safetynet_main.proofs.CallLaws.{follows-check, follows-run_done, follows-run_broken, follows-watch_done, follows-watch_broken}
+use Rattle.safetynet_main.proofs.CallLaws.{follows-check, follows-judge, follows-run_done, follows-run_broken, follows-watch_done, follows-watch_broken}
+use Rattle.safetynet_main.proofs.CallLaws.{follows-order_done, follows-order_broken}
 use Rattle.safetynet_main.proofs.call.perform.Goals as goal
 
 pub returns-in-Check-clause-follows : goal.returns-in-Check-clause-follows
 returns-in-Check-clause-follows g c = λ m.
     follows-check _ c.args.job c.in-Check.job c.check.result _ _ _ _ c.in-Check.is
     (λ given. c.check.ensures.follows m given (g.C.Sink.faults c.args.console.now) (g.C.Sink.faults c.args.console.now)
+    (g.C.Sink.written c.args.console.now))
+
+pub returns-in-Judge-clause-follows : goal.returns-in-Judge-clause-follows
+returns-in-Judge-clause-follows g c = λ m.
+    follows-judge _ c.args.job c.in-Judge.list c.judge.result _ _ _ _ c.in-Judge.is
+    (λ given. c.judge.ensures.follows m given (g.C.Sink.faults c.args.console.now) (g.C.Sink.faults c.args.console.now)
     (g.C.Sink.written c.args.console.now))
 
 pub returns-in-Ok-run-clause-follows : goal.returns-in-Ok-run-clause-follows
@@ -27,3 +34,13 @@ pub returns-in-Err-Sink-monitor-clause-follows : goal.returns-in-Err-Sink-monito
 returns-in-Err-Sink-monitor-clause-follows g c = λ m.
     follows-watch_broken _ _ c.args.job c.in-Monitor.job _ _ _ _ _ c.in-Monitor.is refl
     (c.in-Err-Sink-monitor.ensures.sink (ap (λ t. Err t) c.in-Err-Sink-monitor.field-0-is))
+
+pub returns-in-Ok-run_in_order-clause-follows : goal.returns-in-Ok-run_in_order-clause-follows
+returns-in-Ok-run_in_order-clause-follows g c = λ m.
+    follows-order_done _ _ c.args.job c.in-OrderedRun.job c.in-OrderedRun.order c.in-Ok-run_in_order.ending
+    c.ended_as-in-Ok-run_in_order.result _ _ _ _ c.in-OrderedRun.is c.ended_as-in-Ok-run_in_order.ensures c.in-Ok-run_in_order.ensures.ok
+
+pub returns-in-Err-Sink-run_in_order-clause-follows : goal.returns-in-Err-Sink-run_in_order-clause-follows
+returns-in-Err-Sink-run_in_order-clause-follows g c = λ m.
+    follows-order_broken _ _ c.args.job c.in-OrderedRun.job c.in-OrderedRun.order _ _ _ _ _ c.in-OrderedRun.is refl
+    (c.in-Err-Sink-run_in_order.ensures.sink (ap (λ t. Err t) c.in-Err-Sink-run_in_order.field-0-is))

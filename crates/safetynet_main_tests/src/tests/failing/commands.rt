@@ -9,7 +9,7 @@ use safetynet_main::Status;
 /// A recovery undoes a request that stands at its receiver.
 const RECOVERED: &str = "step 0\nstep 1\nstep 1\nstep 1\nhop 1\nrecover\nedge 0\n";
 
-pub const COMMANDS: [Command; 12] = [
+pub const COMMANDS: [Command; 13] = [
     Command {
         words: "safetynet replay --nodes 1 a.hex a.script",
         program: PUTS_A,
@@ -138,6 +138,16 @@ watch 80001000 00000000
         fetches: 2,
         status: Status::Refused(6),
         pieces: &[(Report, "refused 6\n")],
+        console: 0,
+        report: 1,
+    },
+    Command {
+        words: "safetynet judge a.script",
+        program: "",
+        script: "1 sc 80001000 4 00000001\n",
+        fetches: 1,
+        status: Status::Refused(1),
+        pieces: &[(Report, "refused 1\nunreserved since 0\n")],
         console: 0,
         report: 1,
     },

@@ -21,8 +21,10 @@ const NO_COMMANDS: &[&str] = &[
     "safetynet run --trace --journal a.hex",
     "safetynet run --kill a0@0 --kill b0@0 a.hex",
     "safetynet run --nodes 2 --kill a2@0 a.hex",
+    "safetynet run --order slow a.hex",
     "safetynet monitor --trace a.hex",
     "safetynet check --nodes 17 a.hex a.script",
+    "safetynet judge --nodes 2 a.script",
     "safetynet demo 0",
 ];
 

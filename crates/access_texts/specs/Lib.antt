@@ -1,0 +1,4 @@
+pub mod Lines
+pub mod Fitting
+pub mod Lists
+pub mod Verdicts

@@ -1,0 +1,18 @@
+//! A run whose turns are had in an order, on the calling thread, with all that is put of it.
+//!
+//! The layer above knows of it what it knows of a run by node threads, and which journal it is: the one that follows from the
+//! program, the sizes, the rules, the seed and the order. So the same words give the same bytes. What is released is put to the
+//! console after the turn that releases it. Nothing here knows words, files or statuses.
+#![tactic(auto)]
+
+mod course;
+mod laws;
+mod running;
+mod starting;
+mod telling;
+mod turns;
+
+pub use laws::{an_ordered_journal_is_due, an_ordered_run_ends, same_run_same_bytes};
+pub use node_run::{Ending, Run, RunFault, RunShowing};
+pub use running::run;
+pub use turn_orders::Order;

@@ -1,0 +1,105 @@
+//! A whole run: all memory first, then the turns with the console, and then the report.
+ghost use Rattle.std.specs.Prelude.{◌≡◌, ◌≤◌, ◌⊎◌, [], length, IfOk, Err};
+ghost use Rattle.sn_io.specs.Outside.{Rose};
+ghost use Rattle.sink_pieces.specs.Pieces.{ends};
+ghost use Rattle.sn_probe.specs.Probes.{meters_in};
+ghost use Rattle.node_threads.specs.Finishes.{IsRunOf, Ends};
+ghost use Rattle.node_run.specs.Shown.{MayBegin};
+ghost use Rattle.ordered_run.specs.Ordered.{journal_after};
+ghost use Rattle.ordered_run.specs.Shown.{IsDone, IsBrokenOff};
+ghost use Rattle.ordered_run.specs.Stands.{Stands, IsReady, its_start};
+
+use crate::course::Course;
+use crate::starting::start;
+use crate::telling::tell;
+use crate::turns::make_turns;
+use node_run::{Ending, Run, RunFault, put_ended};
+use node_threads::Finished;
+use sn_io::Sink;
+use sn_probe::ProbeSet;
+use sn_text::Line;
+use std::alloc::Global;
+use turn_orders::Order;
+
+// All turns, and what they leave.
+fn finish<C: Sink>(course: Course, console: &mut C) -> Finished
+    requires stands { Stands course }
+    requires ready { IsReady course }
+    requires fresh { course.machine.state.released ≡ [] }
+    ensures run { IsRunOf (its_start course) result.machine result.journal.items result.answers.items }
+    ensures ends { Ends (its_start course) result.journal.items result.finish result.machine.state.released
+        (C.written console.old) (C.written console.new) (C.faults console.old) (C.faults console.new) }
+    ensures ordered { result.journal.items ≡ journal_after course.scheduler.order (its_start course) (length result.journal.items) }
+    ensures later { C.faults console.old ≤ C.faults console.new }
+{
+    let mut course = course;
+    let finish = make_turns(&mut course, console);
+    let Course {
+        machine,
+        driver: _,
+        scheduler: _,
+        generators: _,
+        journal,
+        answers,
+        seed: _,
+        budget: _,
+    } = course;
+    Finished {
+        machine,
+        journal,
+        answers,
+        finish,
+    }
+}
+
+/// Runs the program by turns of one worker a node, in this order, up to the run's end; puts what each turn releases to the console;
+/// and then tells each probe the journal's events and puts what is to be shown to the report. It takes all memory before the first
+/// event.
+pub fn run<C: Sink, R: Sink>(
+    alloc: Global,
+    job: Run,
+    order: Order,
+    probes: &mut ProbeSet,
+    console: &mut C,
+    report: &mut R,
+) -> Result<Ending, RunFault>
+    requires { MayBegin job }
+
+    // It came to the end of the order's journal, and all of that journal's text is put.
+    ensures ok { IfOk result (λ ending. IsDone order job (meters_in first tally step probes.old.probes.items) ending
+        (ends (C.written console.old) (R.written report.old)) (ends (C.written console.new) (R.written report.new))
+        (meters_in first tally step probes.new.probes.items)) }
+
+    // A sink broke: the console after so many turns, and the report has nothing, or the report, after all of the console's text.
+    ensures sink { result ≡ Err RunFault.Sink → IsBrokenOff order job (meters_in first tally step probes.old.probes.items)
+        (C.faults console.old) (C.faults console.new)
+        (ends (C.written console.old) (R.written report.old)) (ends (C.written console.new) (R.written report.new))
+        (meters_in first tally step probes.new.probes.items) }
+
+    // Memory was lacking, and nothing is done.
+    ensures memory { result ≡ Err RunFault.Memory →
+        (console.new ≡ console.old) × (report.new ≡ report.old) × (probes.new ≡ probes.old) }
+    ensures cause { result ≡ Err RunFault.Sink
+        → Rose (C.faults console.old) (C.faults console.new) ⊎ Rose (R.faults report.old) (R.faults report.new) }
+{
+    let Run {
+        program,
+        config,
+        rules,
+        seed,
+        budget,
+        showing,
+    } = job;
+    let Ok(mut line) = Line::new(alloc) else {
+        return Err(RunFault::Memory);
+    };
+    let Ok(course) = start(alloc, program, config, rules, seed, budget, order) else {
+        return Err(RunFault::Memory);
+    };
+    let finished = finish(course, console);
+    tell(&finished.journal, &finished.answers, probes);
+    match put_ended(&mut line, &finished, &showing, probes, report) {
+        Some(ending) => Ok(ending),
+        None => Err(RunFault::Sink),
+    }
+}

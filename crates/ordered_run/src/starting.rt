@@ -1,0 +1,101 @@
+//! A run before its first turn.
+ghost use Rattle.std.specs.Prelude.{◌≡◌, ◌+◌, ◌≤◌, true, [], length, vec_capacity, IfOk};
+ghost use Rattle.sn_base.specs.declared.limits.TheConstants.{EVENTS};
+ghost use Rattle.sn_base.specs.Config.{config_fits};
+ghost use Rattle.sn_base.specs.Rules.{AreRules};
+ghost use Rattle.sn_model.specs.Machine.{start_of};
+ghost use Rattle.turn_orders.specs.Drawn.{AreDrawn};
+ghost use Rattle.ordered_run.specs.Stands.{Stands, IsReady, its_start};
+
+use crate::course::Course;
+use rand_pcg::Pcg32;
+use run_journals::JournalEntry;
+use sn_base::{Answer, Config, Image, Memory, Rules};
+use sn_driver::Driver;
+use sn_machine::Machine;
+use std::alloc::Global;
+use turn_orders::{Order, Scheduler, generators};
+
+// What the turns fill.
+#[derive(Drop)]
+struct Room {
+    generators: Vec<Pcg32>,
+    journal: Vec<JournalEntry>,
+    answers: Vec<Answer>,
+}
+
+fn room_for(alloc: Global, seed: u64, budget: u32, workers: u8) -> Result<Room, Memory>
+    ensures drawn { IfOk result (λ room. AreDrawn seed [] room.generators.items × (length room.generators.items ≡ workers)) }
+    ensures journal { IfOk result (λ room. (room.journal.items ≡ []) × (budget ≤ vec_capacity room.journal)) }
+    ensures answers { IfOk result (λ room. (room.answers.items ≡ []) × (budget ≤ vec_capacity room.answers)) }
+{
+    let generators = generators(alloc, seed, workers)?;
+    let journal = Vec::with_capacity(alloc, budget as usize)?;
+    let answers = Vec::with_capacity(alloc, budget as usize)?;
+    Ok(Room {
+        generators,
+        journal,
+        answers,
+    })
+}
+
+// A machine of these sizes at the start of the program, with room for the events.
+fn machine_for(
+    alloc: Global,
+    program: Image,
+    config: Config,
+    budget: u32,
+) -> Result<Machine, Memory>
+    requires sizes { config_fits config ≡ true }
+    requires few { budget ≤ EVENTS }
+    ensures program { IfOk result (λ m. (m.image ≡ program) × (m.config ≡ config)) }
+    ensures start { IfOk result (λ m. (m.applied ≡ 0) × (m.state ≡ start_of program config.nodes)) }
+    ensures room { IfOk result (λ m. budget + 1 ≤ m.spare) }
+{
+    let mut machine = Machine::new(alloc, program, config)?;
+    // One event more than the run does, so that it may always be asked for one.
+    machine.reserve(budget + 1)?;
+    Ok(machine)
+}
+
+/// Takes all memory of the run.
+pub(crate) fn start(
+    alloc: Global,
+    program: Image,
+    config: Config,
+    rules: Rules,
+    seed: u64,
+    budget: u32,
+    order: Order,
+) -> Result<Course, Memory>
+    requires sizes { config_fits config ≡ true }
+    requires ruled { AreRules rules config.nodes }
+    requires few { budget ≤ EVENTS }
+    ensures stands { IfOk result (λ c. Stands c) }
+    ensures ready { IfOk result (λ c. IsReady c) }
+    ensures began { IfOk result
+        (λ c. its_start c ≡ record { image = program; config = config; rules = rules; seed = seed; budget = budget }) }
+    ensures order { IfOk result (λ c. c.scheduler.order ≡ order) }
+    ensures fresh { IfOk result (λ c. c.machine.state.released ≡ []) }
+{
+    let nodes = config.nodes;
+    let room = room_for(alloc, seed, budget, nodes)?;
+    let machine = machine_for(alloc, program, config, budget)?;
+    let driver = Driver::new(rules, nodes);
+    let scheduler = Scheduler::new(order, seed, nodes);
+    let Room {
+        generators,
+        journal,
+        answers,
+    } = room;
+    Ok(Course {
+        machine,
+        driver,
+        scheduler,
+        generators,
+        journal,
+        answers,
+        seed,
+        budget,
+    })
+}

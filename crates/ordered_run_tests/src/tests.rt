@@ -1,0 +1,240 @@
+//! What a run in an order puts, whose turns it has, and what it leaves where a sink fails.
+ghost use Rattle.std.specs.Prelude.{IfOk};
+ghost use Rattle.node_run.specs.Shown.{MayBegin};
+
+use elf_load::load;
+use ordered_run::{Ending, Order, Run, RunFault, RunShowing, run};
+use sn_base::{Config, Rules, RunReport};
+use sn_io::MemSink;
+use sn_probe::ProbeSet;
+use std::alloc::Global;
+use std::process::Abort;
+use std::test::Fail;
+use text_lines::lines_of;
+use turn_orders::{Scheduler, draw, generators};
+
+/// Puts `A` and exits.
+const PUTS_A: &str = "04100513\n00100893\n00000073\n05d00893\n00000073\n";
+
+/// Jumps to itself.
+const LOOPS: &str = "0000006f\n";
+
+/// Isn't an instruction.
+const TRAPS: &str = "00000000\n";
+
+/// A round of four workers, and again.
+const ROUNDS: &[&[u8]] = &[
+    b"# worker 0",
+    b"# worker 1",
+    b"# worker 2",
+    b"# worker 3",
+    b"# worker 0",
+    b"# worker 1",
+    b"# worker 2",
+    b"# worker 3",
+    b"# worker 0",
+];
+
+/// The first words of the PCG32 that is seeded with 1 + 0x9e3779b97f4a7c15, of four workers.
+const DRAWN: &[&[u8]] = &[
+    b"# worker 0",
+    b"# worker 2",
+    b"# worker 0",
+    b"# worker 1",
+    b"# worker 3",
+    b"# worker 3",
+    b"# worker 3",
+    b"# worker 3",
+    b"# worker 1",
+    b"# worker 3",
+    b"# worker 2",
+    b"# worker 1",
+];
+
+/// A program on so many nodes, with at most so many events.
+fn job(
+    rt: &impl Abort,
+    alloc: Global,
+    program: &str,
+    nodes: u8,
+    budget: u32,
+    report: RunReport,
+) -> Result<Run, Fail>
+    ensures { IfOk result (λ r. MayBegin r) }
+{
+    let config = Config {
+        nodes,
+        sets: 16,
+        ways: 4,
+        log: 256,
+    };
+    assert!(rt; config.fits());
+    assert!(rt; budget <= 1_000_000);
+    let rules = Rules {
+        interval: 100,
+        wait: 20_000,
+        lose_every: 0,
+        kill: None,
+    };
+    Ok(Run {
+        program: load(alloc, program.as_bytes())?,
+        config,
+        rules,
+        seed: 1,
+        budget,
+        showing: RunShowing {
+            report,
+            watch: None,
+        },
+    })
+}
+
+/// Runs it, where no probe is attached.
+fn ran(
+    alloc: Global,
+    job: Run,
+    order: Order,
+    console: &mut MemSink,
+    report: &mut MemSink,
+) -> Result<Ending, RunFault>
+    requires { MayBegin job }
+{
+    let mut probes = ProbeSet::new(Vec::new(alloc));
+    run(alloc, job, order, &mut probes, console, report)
+}
+
+fn has_exited(ended: &Result<Ending, RunFault>) -> bool {
+    matches!(ended, Ok(Ending::Exited))
+}
+
+fn has_trapped(ended: &Result<Ending, RunFault>) -> bool {
+    matches!(ended, Ok(Ending::Trapped(_, _)))
+}
+
+fn is_spent(ended: &Result<Ending, RunFault>) -> bool {
+    matches!(ended, Ok(Ending::Spent))
+}
+
+fn has_a_broken_sink(ended: &Result<Ending, RunFault>) -> bool {
+    matches!(ended, Err(RunFault::Sink))
+}
+
+/// Whether a journal begins with turns of these workers.
+fn begins_with_turns(journal: &[u8], turns: &[&[u8]]) -> bool {
+    let mut lines = lines_of(journal);
+    'turns: for turn in turns {
+        let worker = lines.next_line();
+        let event = lines.next_line();
+        if worker != Some(*turn) || event.is_none() {
+            return false;
+        }
+    }
+    true
+}
+
+#[test]
+fn rounds_go_from_worker_0_to_the_last_and_round_again(rt: HostRuntime) -> Result<(), Fail> {
+    let alloc = rt.alloc();
+    let mut console = MemSink::with_room(alloc, 8)?;
+    let mut report = MemSink::with_room(alloc, 4_096)?;
+    let job = job(&rt, alloc, LOOPS, 4, 9, RunReport::Journal)?;
+    let ended = ran(alloc, job, Order::Round, &mut console, &mut report);
+    assert!(rt; is_spent(&ended));
+    assert!(rt; begins_with_turns(report.bytes(), ROUNDS));
+    Ok(())
+}
+
+#[test]
+fn drawn_turns_are_of_the_workers_that_the_scheduler_draws(rt: HostRuntime) -> Result<(), Fail> {
+    let alloc = rt.alloc();
+    let mut console = MemSink::with_room(alloc, 8)?;
+    let mut report = MemSink::with_room(alloc, 4_096)?;
+    let job = job(&rt, alloc, LOOPS, 4, 12, RunReport::Journal)?;
+    let ended = ran(alloc, job, Order::Drawn, &mut console, &mut report);
+    assert!(rt; is_spent(&ended));
+    assert!(rt; begins_with_turns(report.bytes(), DRAWN));
+    Ok(())
+}
+
+#[test]
+fn the_same_run_leaves_the_same_bytes(rt: HostRuntime) -> Result<(), Fail> {
+    let alloc = rt.alloc();
+    let mut console = MemSink::with_room(alloc, 8)?;
+    let mut once = MemSink::with_room(alloc, 100_000)?;
+    let mut again = MemSink::with_room(alloc, 100_000)?;
+    let first = job(&rt, alloc, LOOPS, 4, 2_000, RunReport::Journal)?;
+    let second = job(&rt, alloc, LOOPS, 4, 2_000, RunReport::Journal)?;
+    let ended = ran(alloc, first, Order::Drawn, &mut console, &mut once);
+    assert!(rt; is_spent(&ended));
+    let ended = ran(alloc, second, Order::Drawn, &mut console, &mut again);
+    assert!(rt; is_spent(&ended));
+    assert!(rt; once.bytes() == again.bytes());
+    Ok(())
+}
+
+#[test]
+fn a_program_that_exits_leaves_its_output_and_the_summary(rt: HostRuntime) -> Result<(), Fail> {
+    let alloc = rt.alloc();
+    let mut console = MemSink::with_room(alloc, 8)?;
+    let mut report = MemSink::with_room(alloc, 512)?;
+    let job = job(&rt, alloc, PUTS_A, 1, 10_000, RunReport::Summary)?;
+    let ended = ran(alloc, job, Order::Drawn, &mut console, &mut report);
+    assert!(rt; has_exited(&ended));
+    assert_eq!(rt; console.bytes(), b"A".as_slice());
+    assert!(rt; report.bytes().starts_with(b"events ".as_slice()));
+    assert!(rt;
+        report.bytes().ends_with(
+            b"\npoint 1\ncommitted 5\nreleased 1\ncore 0 80000010 exited 65 x10=00000041 x17=0000005d\n".as_slice()
+        )
+    );
+    Ok(())
+}
+
+#[test]
+fn a_core_that_traps_ends_the_run(rt: HostRuntime) -> Result<(), Fail> {
+    let alloc = rt.alloc();
+    let mut console = MemSink::with_room(alloc, 8)?;
+    let mut report = MemSink::with_room(alloc, 512)?;
+    let job = job(&rt, alloc, TRAPS, 1, 10_000, RunReport::Summary)?;
+    let ended = ran(alloc, job, Order::Round, &mut console, &mut report);
+    assert!(rt; has_trapped(&ended));
+    Ok(())
+}
+
+#[test]
+fn where_the_console_fails_the_report_has_nothing(rt: HostRuntime) -> Result<(), Fail> {
+    let alloc = rt.alloc();
+    let mut console = MemSink::with_room(alloc, 8)?;
+    let mut report = MemSink::with_room(alloc, 512)?;
+    console.fail_call(1)?;
+    let job = job(&rt, alloc, PUTS_A, 1, 10_000, RunReport::Summary)?;
+    let ended = ran(alloc, job, Order::Round, &mut console, &mut report);
+    assert!(rt; has_a_broken_sink(&ended));
+    assert!(rt; console.bytes().is_empty() && report.bytes().is_empty());
+    Ok(())
+}
+
+#[test]
+fn where_the_report_fails_the_console_has_all(rt: HostRuntime) -> Result<(), Fail> {
+    let alloc = rt.alloc();
+    let mut console = MemSink::with_room(alloc, 8)?;
+    let mut report = MemSink::with_room(alloc, 512)?;
+    report.fail_call(1)?;
+    let job = job(&rt, alloc, PUTS_A, 1, 10_000, RunReport::Summary)?;
+    let ended = ran(alloc, job, Order::Round, &mut console, &mut report);
+    assert!(rt; has_a_broken_sink(&ended));
+    assert_eq!(rt; console.bytes(), b"A".as_slice());
+    assert!(rt; report.bytes().is_empty());
+    Ok(())
+}
+
+#[test]
+fn a_scheduler_and_workers_draw_from_generators_of_their_own(rt: HostRuntime) -> Result<(), Fail> {
+    let mut scheduler = Scheduler::new(Order::Drawn, 1, 16);
+    assert!(rt; scheduler.next() == 12);
+    assert!(rt; scheduler.next() == 6);
+    let mut generators = generators(rt.alloc(), 1, 4)?;
+    assert!(rt; draw(&mut generators, 2) == 1_170_342_731);
+    assert!(rt; draw(&mut generators, 3) == 668_795_775);
+    Ok(())
+}

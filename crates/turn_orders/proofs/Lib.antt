@@ -1,0 +1,2 @@
+pub mod GeneratorLaws
+pub mod Schedulers
