@@ -66,6 +66,7 @@ impl RegCheckpoints {
         requires few { length self.old.cores < 5 }
         ensures { self.new ≡ record self.old { cores = self.old.cores ++ without_reservation core ∷ [] } }
     {
+        // For the contract alone, which says that the caller's number is the next.
         let _number = k;
         append(&mut self.cores, without_reservation(core));
     }

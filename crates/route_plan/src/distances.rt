@@ -146,6 +146,7 @@ impl Distances {
         ensures same { result ≡ self.now.nodes }
         ensures sized { IsSized self.now }
     {
+        // For the prover alone: the tables' invariant.
         let _ = &self.tables;
         self.grid.nodes()
     }

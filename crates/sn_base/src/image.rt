@@ -152,6 +152,7 @@ impl Image {
     fn fetch_by_bytes(&self, pc: u32) -> Option<u32>
         ensures { result ≡ word_fetched self.now.segments pc }
     {
+        // For the prover alone: the segments' invariants.
         let _ = &self.segments;
         if pc > u32::MAX - 3 {
             return None;

@@ -50,6 +50,7 @@ pub fn eviction(machine: &Machine, node: NodeId, answer: &Answer) -> Option<Even
         return None;
     }
     let block = machine.least_line(node)?;
+    // For the prover alone: the block is one of memory's.
     let _number = block.number();
     Some(Event::Evict(node, block))
 }

@@ -74,7 +74,9 @@ impl Fabric {
         requires misses { (step_of_access self.old.config self.old.fabric node block need).answer ≡ Missed }
         ensures { IsAfter self.old self.new Missed (step_of_access self.old.config self.old.fabric node block need) }
     {
+        // For the prover alone: the block is one of memory's.
         let _number = block.number();
+        // For the prover alone: the network holds no more than its bound.
         let _count = self.net.count();
         self.sent.clear();
         let unit = &mut self.units[usize::from(node.number())];

@@ -36,7 +36,9 @@ impl Fabric {
         requires settled { transaction_before (home_of self.now.fabric block).transaction k ≡ false }
         ensures { HasOneHolderWith self.now.fabric block k result.now (names_at self.now.fabric block k) }
     {
+        // For the prover alone: the sizes fit.
         let _config = &self.config;
+        // For the prover alone: the block is one of memory's.
         let _number = block.number();
         match self.owner_at(block, k) {
             Owner::Home => self.content_at_home(block, k),
@@ -49,6 +51,7 @@ impl Fabric {
         requires { owner_of (names_at self.now.fabric block k) ≡ Owner.Home }
         ensures { names_at self.now.fabric block k ≡ Itself result.now }
     {
+        // For the prover alone: the block is one of memory's.
         let _number = block.number();
         let home = block.home(self.config.nodes);
         let place = usize::from(home.number());

@@ -22,6 +22,7 @@ impl Fabric {
     pub fn owner_at(&self, block: BlockNo, k: Interval) -> Owner
         ensures { result ≡ owner_of (names_at self.now.fabric block k) }
     {
+        // For the prover alone: the block is one of memory's.
         let _number = block.number();
         let home = block.home(self.config.nodes);
         let place = usize::from(home.number());

@@ -52,6 +52,7 @@ impl Fabric {
         requires drops { (step_of_eviction self.old.fabric node block).answer ≡ Evicted }
         ensures { IsAfter self.old self.new Evicted (step_of_eviction self.old.fabric node block) }
     {
+        // For the prover alone: the block is one of memory's.
         let _number = block.number();
         self.sent.clear();
         let unit = &mut self.units[usize::from(node.number())];
@@ -64,7 +65,9 @@ impl Fabric {
         requires puts { (step_of_eviction self.old.fabric node block).answer ≡ PutBegun }
         ensures { IsAfter self.old self.new PutBegun (step_of_eviction self.old.fabric node block) }
     {
+        // For the prover alone: the block is one of memory's.
         let _number = block.number();
+        // For the prover alone: the network holds no more than its bound.
         let _count = self.net.count();
         self.sent.clear();
         let unit = &mut self.units[usize::from(node.number())];

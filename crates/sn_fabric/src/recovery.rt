@@ -22,6 +22,7 @@ fn restore_node(unit: &mut NodeUnit, home: &mut Home, k: Interval) -> u32
     ensures home { IsRestoredHome unit.old.log.entries k home.old home.new }
     ensures undone { result ≡ undone_of k unit.old }
 {
+    // For the prover alone: the log holds no more than its limit.
     let _room = unit.log.room();
     unit.cache.begin_restore();
     unwind(&unit.log, k, &mut unit.cache);

@@ -72,6 +72,7 @@ impl Fabric {
         requires ready { ready ≡ ready_of self.old.fabric node }
         ensures { IsAfter self.old self.new (Reported ready) (step_of_report self.old.fabric node) }
     {
+        // For the prover alone: the network holds no more than its bound.
         let _count = self.net.count();
         self.sent.clear();
         let unit = &self.units[usize::from(node.number())];

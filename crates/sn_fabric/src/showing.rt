@@ -59,6 +59,7 @@ impl Fabric {
         ensures here { block % result.now.nodes ≡ result.now.node }
         ensures entry { home_of self.now.fabric block ≡ entry_of result.now block }
     {
+        // For the prover alone: the block is one of memory's.
         let _number = block.number();
         let home = block.home(self.config.nodes);
         &self.homes[usize::from(home.number())]

@@ -32,6 +32,7 @@ impl<'a> View<'a> {
         ensures back { IsStepOfRun self.now.image self.now.config self.now.state Event.Recover (next_of self.now Event.Recover) }
     {
         let machine = self.machine;
+        // For the prover alone: the program's invariant.
         let _image = &machine.image;
     }
 }

@@ -19,6 +19,7 @@ impl Hardware {
         ensures done { Does self.old self.new result (machine_step_with_news (state_of self.old) (step_of_eviction self.old.fabric.fabric node block)) }
         ensures low { block < block_count }
     {
+        // For the prover alone: the block is one of memory's.
         let _number = block.number();
         self.is_carried = true;
         let answer = self.fabric.evict(node, block);

@@ -147,6 +147,7 @@ impl Machine {
         ensures shown { result ≡ self.now }
         ensures consistent { IsConsistentWithItsRun self.now }
     {
+        // For the prover alone: the program's invariant.
         let _ = &self.image;
         View { machine: self }
     }

@@ -95,6 +95,7 @@ impl Monitored {
             × (made.1 ≡ record { front = snap_now machine watch ∷ []; told = machine.state.fabric.point; late = false })) }
         ensures err { IfErr result (λ refused. (refused.machine ≡ machine) × (refused.driver ≡ driver)) }
     {
+        // For the prover alone: how many events a machine's life has.
         let _life = machine.applied();
         match Board::new(rt, alloc, &snap_of(&machine, watch)) {
             Ok((board, watcher)) => Ok((
