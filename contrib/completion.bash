@@ -16,7 +16,7 @@ declare -gA _safetynet_operands=(
   [dis]='PROGRAM'
 )
 declare -gA _safetynet_options=(
-  [replay]='--nodes= --sets= --ways= --log= --watch= --trace'
+  [replay]='--nodes= --sets= --ways= --log= --watch= --only= --trace --states'
   [roll]='--nodes= --sets= --ways= --log= --watch='
   [run]='--nodes= --sets= --ways= --log= --interval= --wait= --budget= --lose-every= --kill= --seed= --order= --watch= --trace --journal'
   [monitor]='--nodes= --sets= --ways= --log= --interval= --wait= --budget= --lose-every= --kill= --seed= --watch='
@@ -45,8 +45,8 @@ _safetynet_offer_values() { # option, the value's beginning, what stands before 
 _safetynet_offer_options() { # the word at the cursor, command, the words between
   local option offered=() given=" ${*:3} "
   for option in ${_safetynet_options[$2]}; do
-    # a report has the trace or the journal
-    [[ $option == --@(trace|journal) && $given == *' --'@(trace|journal)' '* ]] && continue
+    # a report has the trace, the journal or the states
+    [[ $option == --@(trace|journal|states) && $given == *' --'@(trace|journal|states)' '* ]] && continue
     [[ $given == *" ${option%=}"[\ =]* ]] || offered+=("${option%=}")
   done
   [ $# -gt 2 ] || offered+=(--help -h --version)

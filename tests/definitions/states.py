@@ -4,22 +4,32 @@
     tests/definitions/states.py [COUNT] [SEED]
     tests/definitions/states.py show PLACE
     tests/definitions/states.py fold PLACE
+    tests/definitions/states.py program PROGRAM [COUNT] [SEED]
 
 Each line of a script's states is the definitions'. It is parsed as JSON and, where Python's jsonschema is there, held against
 docs/states.schema.json. From the first line's state on, a fold puts the parts of each event's line in the place of those that they
 name; after each event the folded state must be the one that the definitions tell whole. Scripts are those of schedules.py and
-random ones. The second form prints the lines of a schedule, by its place from 0, and the third folds those of one.
+random ones. The second form prints the lines of a schedule, by its place from 0, and the third folds those of one. The fourth holds
+PROGRAM's `replay --states` of the same scripts against them: each of its lines is the definitions', and folding them gives each state. What
+`dis` writes of a word, and the probes' numbers, the definitions leave to the program.
 """
 import json
 import random
+import subprocess
 import sys
+import tempfile
+from pathlib import Path
 
 import instructions
 import schedules
-from compare import BLOCKS, PROGRAMS, Machine, candidates, cases, event_of
+from compare import BLOCKS, PROGRAMS, Machine, candidates, cases, event_of, event_text
 from evaluate import Con, Rec, World, curried, in_deep_stack, repository
 
 CRATES = ["sn_base", "sn_msg", "rv_core", "log_buffer", "route_plan", "sn_model", "text_lines", "sn_text", "state_parts", "state_json"]
+
+
+sys.path.append(str(Path(__file__).resolve().parent.parent))
+from folded_states import folded  # noqa: E402  (after the line above: it stands with the tests of the program)
 
 
 def load_definitions():
@@ -90,21 +100,6 @@ class Shown:
         return self.text(self.get("state_json", "Lines", "last_line")(machine.image)(machine.config)(watch)(((1, 2), ()))(events)(machine.state))
 
 
-def folded(state, line):
-    """The state after an event, by the state before it and the event's line."""
-    if "state" in line:
-        return line["state"]
-    parts = line["parts"]
-    nodes = {node["node"]: node for node in state["nodes"] + parts["nodes"]}
-    homes = {home["block"]: home for home in state["homes"] + parts["homes"]}
-    return {
-        "nodes": [nodes[n] for n in sorted(nodes)],
-        "homes": [homes[b] for b in sorted(homes) if len(homes[b]) > 1],
-        "net": parts["net"] or state["net"],
-        "controller": parts["controller"] or state["controller"],
-    }
-
-
 def checked(line, schema, number):
     if not line.endswith("\n") or "\n" in line[:-1]:
         raise ValueError(f"line {number} isn't one line")
@@ -151,6 +146,62 @@ def compare(count, seed):
     return 0
 
 
+class Program:
+    """The program, asked for the states of a script, and for its program's words."""
+
+    def __init__(self, name, folder):
+        self.name, self.hex, self.script = name, folder / "program.hex", folder / "events.script"
+
+    def instructions(self, words):
+        """The text that `dis` writes of each word."""
+        self.hex.write_text("\n".join(words.split()) + "\n")
+        lines = subprocess.run([self.name, "dis", self.hex], capture_output=True, check=True).stdout.decode().splitlines()
+        return {f".word 0x{word}": line for word, line in zip(words.split(), [line for line in lines if not line.startswith("#")])}
+
+    def lines(self, script, machine):
+        self.script.write_text(script)
+        sizes = [f"--{name}={machine.config[name]}" for name in ("nodes", "sets", "ways", "log")]
+        words = [self.name, "replay", "--states", *sizes, f"--watch={machine.watch:08x}", self.hex, self.script]
+        return subprocess.run(words, capture_output=True, check=True).stderr.decode().splitlines(keepends=True)
+
+
+def followed(program, shown, words, events):
+    """What the program says otherwise than the definitions, if anything."""
+    texts, script = program.instructions(words), []
+    told = list(lines_of(shown, (script.append(event_text(event)) or event for event in events)))
+    found = program.lines("\n".join(script) + "\n", shown.machine)
+    if len(found) != len(told):
+        return f"{len(found)} lines, and {len(told)} are due"
+    state = None
+    for number, (line, (due, whole)) in enumerate(zip(found, told)):
+        value, wanted = json.loads(line), json.loads(due)
+        if "step" in wanted:
+            wanted["step"]["instruction"] = texts.get(wanted["step"]["instruction"], wanted["step"]["instruction"])
+        if "summary" in wanted:
+            wanted["summary"]["probes"] = value["summary"]["probes"]
+        if line != json.dumps(wanted, separators=(",", ":")) + "\n":
+            return f"line {number}: {line}and the definitions have {json.dumps(wanted, separators=(',', ':'))}"
+        state = value["state"] if number == 0 else folded(state, value)
+        if whole is not None and state != whole:
+            return f"line {number}: the folded state isn't the machine's: {line}"
+    return None
+
+
+def compare_program(name, count, seed):
+    world, done = load_definitions(), 0
+    with tempfile.TemporaryDirectory() as folder:
+        program = Program(str(Path(name).resolve()), Path(folder))
+        for case, text, shape, events in cases(count, seed):
+            machine = Machine(world, PROGRAMS[text], *shape, 0x80001000)
+            fault = followed(program, Shown(world, machine), PROGRAMS[text], events(machine))
+            if fault:
+                print(f"{case}: {fault}\nprogram: {text}\nshape: {shape}")
+                return 1
+            done += 1
+    print(f"{done} scripts, no difference")
+    return 0
+
+
 def show(place):
     world = load_definitions()
     program, shape, script = list(schedules.SCHEDULES.values())[place]
@@ -173,6 +224,8 @@ def main():
     words = sys.argv[1:]
     if words and words[0] == "show":
         return in_deep_stack(lambda: show(int(words[1])))
+    if words and words[0] == "program":
+        return in_deep_stack(lambda: compare_program(words[1], int(words[2]) if len(words) > 2 else 200, words[3] if len(words) > 3 else "1"))
     if words and words[0] == "fold":
         return in_deep_stack(lambda: fold(int(words[1])))
     return in_deep_stack(lambda: compare(int(words[0]) if words else 200, words[1] if len(words) > 1 else "1"))

@@ -36,11 +36,11 @@ packages() { # what it shows, the lines
   PATH=$bin "$BASH" tools/packages >"$work/out" 2>&1
   is_so "$1: $(cat "$work/out")" diff <(printf '%s\n' "$2") <(sed "/install\(ed\)\? $filed\$/d; s/\( $filed\)*\$//" "$work/out")
 }
-packages "without apt-get" "# packages: lacking: man-db groff-base mandoc shellcheck mypy chromium chromium-driver gcc-riscv64-unknown-elf
+packages "without apt-get" "# packages: lacking: man-db groff-base mandoc shellcheck mypy chromium chromium-driver gcc-riscv64-unknown-elf snakemake slurm-wlm munge
 # packages: apt-get isn't there; nothing was installed"
 ln -s "$work/apt-get" "$bin/apt-get"
 if [ "$(id -u)" = 0 ]; then
-  packages "without a network" "# packages: lacking: man-db groff-base mandoc shellcheck mypy chromium chromium-driver gcc-riscv64-unknown-elf
+  packages "without a network" "# packages: lacking: man-db groff-base mandoc shellcheck mypy chromium chromium-driver gcc-riscv64-unknown-elf snakemake slurm-wlm munge
 # packages: the lists of packages can't be fetched; those that are here serve
 # packages: can't install man-db
 # packages: can't install groff-base
@@ -49,10 +49,13 @@ if [ "$(id -u)" = 0 ]; then
 # packages: can't install mypy
 # packages: can't install chromium
 # packages: can't install chromium-driver
-# packages: can't install gcc-riscv64-unknown-elf"
+# packages: can't install gcc-riscv64-unknown-elf
+# packages: can't install snakemake
+# packages: can't install slurm-wlm
+# packages: can't install munge"
   : >"$work/LISTS"
   printf '%s\n' "man-db man" "groff-base groff" "mypy other" "shellcheck shellcheck" >"$work/HAS"
-  lays mandoc chromium riscv64-unknown-elf-gcc
+  lays mandoc chromium riscv64-unknown-elf-gcc snakemake sbatch munged
   packages "what lacks is installed, each by itself" "# packages: lacking: man-db groff-base shellcheck mypy chromium-driver
 # packages: installed man-db
 # packages: installed groff-base
@@ -68,7 +71,7 @@ install --no-install-recommends mypy
 install --no-install-recommends chromium-driver
 END
 else
-  packages "without the right to install" "# packages: lacking: man-db groff-base mandoc shellcheck mypy chromium chromium-driver gcc-riscv64-unknown-elf
+  packages "without the right to install" "# packages: lacking: man-db groff-base mandoc shellcheck mypy chromium chromium-driver gcc-riscv64-unknown-elf snakemake slurm-wlm munge
 # packages: only root may install them; nothing was installed"
   is_so "apt-get isn't called" [ ! -s "$work/calls" ]
 fi

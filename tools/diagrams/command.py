@@ -3,7 +3,7 @@ import os
 import subprocess
 import sys
 from pathlib import Path
-from typing import Dict, List, NamedTuple, Optional, Sequence
+from typing import Callable, Dict, List, NamedTuple, Optional, Sequence, Tuple
 
 from .picture import picture
 from .report import BadReport, Report, read
@@ -45,8 +45,8 @@ class Wish(NamedTuple):
     hops: bool
 
 
-def wish_of(given: Sequence[str]) -> Wish:
-    """The wish of these words. Raises Refusal where they are no words of this command."""
+def wish_of(given: Sequence[str], valued: Sequence[str] = VALUED, tool: str = "tools/diagram") -> Wish:
+    """The wish of these words, for a tool whose options are these with a value, and --hops. Raises Refusal where they are no words of it."""
     files: List[str] = []
     options: Dict[str, str] = {}
     hops = False
@@ -58,8 +58,8 @@ def wish_of(given: Sequence[str]) -> Wish:
             files.append(word)
         elif word == "--hops" and not hops:
             hops = True
-        elif name not in VALUED:
-            raise Refusal(2, f"{word} is given twice" if word == "--hops" else f"{word} is no option (tools/diagram --help lists them)")
+        elif name not in valued:
+            raise Refusal(2, f"{word} is given twice" if word == "--hops" else f"{word} is no option ({tool} --help lists them)")
         elif name in options:
             raise Refusal(2, f"{name} is given twice")
         elif not equals and not rest:
@@ -67,7 +67,7 @@ def wish_of(given: Sequence[str]) -> Wish:
         else:
             options[name] = value if equals else rest.pop(0)
     if len(files) != 2:
-        raise Refusal(2, f"a program and a script are needed, and {len(files)} files are given (tools/diagram --help)")
+        raise Refusal(2, f"a program and a script are needed, and {len(files)} files are given ({tool} --help)")
     return Wish(files, options, hops)
 
 
@@ -95,56 +95,79 @@ def program_of(wish: Wish) -> str:
     return wish.options.get("--safetynet") or os.environ.get("SAFETYNET") or str(default)
 
 
-def replayed(wish: Wish) -> Report:
-    """The report of the replay. Raises Refusal where the program refuses, or can't be asked."""
+class Said(NamedTuple):
+    """What the program put: the console's bytes, and the report."""
+
+    console: bytes
+    report: str
+
+
+def asked(wish: Wish, more: Sequence[str]) -> Said:
+    """What the program says to a replay with these words more. Raises Refusal where it refuses, or can't be asked."""
     program = program_of(wish)
     options = [f"{name}={wish.options[name]}" for name in PASSED if name in wish.options]
     try:
-        done = subprocess.run([program, "replay", *options, *wish.files], stdin=subprocess.DEVNULL, stdout=subprocess.DEVNULL, stderr=subprocess.PIPE, check=False)
+        done = subprocess.run([program, "replay", *more, *options, *wish.files], stdin=subprocess.DEVNULL, stdout=subprocess.PIPE, stderr=subprocess.PIPE, check=False)
     except (OSError, ValueError) as cause:
         raise Refusal(1, f"{program} can't be asked: {cause}") from None
     said = done.stderr.decode("ascii", "backslashreplace")
     if done.returncode != 0:
         lines = [line for line in said.splitlines() if line.startswith("#")] or said.splitlines()[-1:]
         raise Refusal(done.returncode if done.returncode > 0 else 1, "\n".join([f"{program} ended with status {done.returncode}:", *lines]))
+    return Said(done.stdout, said)
+
+
+def report_of(said: Said) -> Report:
+    """The report that was put. Raises Refusal where it has another form."""
     try:
-        return read(said)
+        return read(said.report)
     except BadReport as cause:
         raise Refusal(1, str(cause)) from None
 
 
-def drawn(wish: Wish) -> str:
-    """The picture that is wished for. Raises Refusal where there is none."""
+def span_of(wish: Wish, count: int, most: int) -> Tuple[int, int]:
+    """The first and the last place that are wished for, of so many events. Raises Refusal where there are none such, or more than `most`."""
     first, last = place_of(wish, "--from"), place_of(wish, "--to")
-    title = title_of(wish)
-    report = replayed(wish)
-    count = len(report.events)
     for name, place in (("--from", first), ("--to", last)):
         if place is not None and place > count:
             raise Refusal(2, f"{name} {place}: the replay has {count} events")
     begin, end = first or 1, last or count
     if first is not None and begin > end:
         raise Refusal(2, f"--from {begin} --to {end}: the first comes after the last")
-    if end - begin + 1 > ROWS:
-        raise Refusal(2, f"{end - begin + 1} events are more than {ROWS} rows: choose some by --from A --to B, as --from {begin} --to {begin + ROWS - 1}")
+    if end - begin + 1 > most:
+        raise Refusal(2, f"{end - begin + 1} events are more than {most} rows: choose some by --from A --to B, as --from {begin} --to {begin + most - 1}")
+    return begin, end
+
+
+def drawn(wish: Wish) -> str:
+    """The picture that is wished for. Raises Refusal where there is none."""
+    for name in ("--from", "--to"):
+        place_of(wish, name)
+    title = title_of(wish)
+    report = report_of(asked(wish, ()))
+    begin, end = span_of(wish, len(report.events), ROWS)
     return picture(told(report), title, begin, end, wish.hops)
 
 
-def main(given: Sequence[str]) -> int:
-    """Draws what the words ask for, and returns the status."""
+def put(tool: str, made: Callable[[], str]) -> int:
+    """Writes what is made to standard output, all of it or nothing, and returns the status."""
     try:
-        if "--help" in given or "-h" in given:
-            text = USAGE
-        else:
-            text = drawn(wish_of(given))
-        sys.stdout.buffer.write(text.encode("utf-8"))
+        sys.stdout.buffer.write(made().encode("utf-8"))
         sys.stdout.buffer.flush()
     except Refusal as refusal:
-        print(f"diagram: {refusal}", file=sys.stderr)
+        print(f"{tool}: {refusal}", file=sys.stderr)
         return refusal.status
     except OSError as cause:
-        print(f"diagram: the picture couldn't be written: {cause.strerror}", file=sys.stderr)
+        what = "picture" if tool == "diagram" else "page"
+        print(f"{tool}: the {what} couldn't be written: {cause.strerror}", file=sys.stderr)
         # what is left in the buffer would be tried again at the end, and say the same a second time
         os.dup2(os.open(os.devnull, os.O_WRONLY), sys.stdout.fileno())
         return 1
     return 0
+
+
+def main(given: Sequence[str]) -> int:
+    """Draws what the words ask for, and returns the status."""
+    if "--help" in given or "-h" in given:
+        return put("diagram", lambda: USAGE)
+    return put("diagram", lambda: drawn(wish_of(given)))

@@ -4,10 +4,10 @@ ghost use Rattle.sn_text.specs.Script.{after, begins, parts_at_blank};
 ghost use Rattle.access_texts.specs.Lines.{access_by, access_of, both_values, one_value, operation_of, start_by, start_of, statement_of, two_values, words_of};
 ghost use Rattle.access_texts.specs.Fitting.{IsFittingStatement};
 
-use crate::operands::{number_in, parted, value_in, width_in, word_in, words_in};
+use crate::operands::{value_in, width_in, words_in};
 use access_check::{Access, Operation, StartWord, is_fitting};
 use sn_base::{NodeId, Width};
-use sn_text::{Fault, rest_after};
+use sn_text::{Fault, number_in, parted, rest_after, word_in};
 
 /// What a line says that is neither empty nor a comment.
 #[derive(Clone, Copy, PartialEq, Eq, Debug)]

@@ -1,6 +1,5 @@
 //! Reads lists of accesses.
 ghost use Rattle.std.specs.Prelude.{◌≡◌, ℕ, ◌+◌, ◌<◌, ◌^◌, [], ◌∷◌, ◌++◌, List, All, IfOk, IfErr, OnOk, Ok, length};
-ghost use Rattle.sn_text.specs.Items.{is_skipped, cause_at};
 ghost use Rattle.access_check.specs.Accesses.{IsFittingAccess, IsFittingWord};
 ghost use Rattle.access_texts.specs.Fitting.{IsFittingStatement};
 ghost use Rattle.access_texts.specs.Lists.{IsRefusedAs, nothing_said, said_by, said_from, with_statement};
@@ -8,7 +7,7 @@ ghost use Rattle.access_texts.specs.Lists.{IsRefusedAs, nothing_said, said_by, s
 use crate::access_line::{Statement, statement_in};
 use access_check::{Access, StartWord};
 use sn_base::EVENTS;
-use sn_text::{Fault, ScriptCause, ScriptFault};
+use sn_text::{ScriptCause, ScriptFault, cause_at, is_skipped};
 use std::alloc::Global;
 use std::marker::Model;
 use text_lines::lines_of;
@@ -99,21 +98,6 @@ fn append<T: Drop>(items: &mut Vec<T>, item: T) -> Result<(), ScriptFault>
     ensures memory { IfErr result (λ fault. fault ≡ ScriptFault.Memory) }
 {
     items.push(item).map_err(|_| ScriptFault::Memory)
-}
-
-fn is_skipped(line: &[u8]) -> bool
-    ensures { result ≡ is_skipped line.now }
-{
-    line.is_empty() || line[0] == b'#'
-}
-
-fn cause_at(number: u64, fault: Fault) -> ScriptCause
-    ensures { result ≡ cause_at number fault }
-{
-    match fault {
-        Fault::NotOfForm => ScriptCause::BadLine(number),
-        Fault::NotThere => ScriptCause::OutOfRange(number),
-    }
 }
 
 /// The words and accesses that a text says, or the first cause for which it has another form. A line is refused for its

@@ -1,27 +1,9 @@
 //! The words of a line, and numbers in them.
-ghost use Rattle.std.specs.Prelude.{◌≡◌, nat_eq, ◌<◌, IfSome, MatchOption, Some, None};
-ghost use Rattle.std.specs.List.{position};
-ghost use Rattle.sn_text.specs.Digits.{number_of};
-ghost use Rattle.sn_text.specs.Script.{parts_at_blank, hex_value, byte_of};
-ghost use Rattle.sn_text.specs.Trace.{word_of};
+ghost use Rattle.std.specs.Prelude.{◌≡◌, MatchOption, Some, None};
 ghost use Rattle.access_texts.specs.Lines.{half_of, value_of, width_of, words_of};
 
 use sn_base::Width;
-use sn_text::message_in;
-
-fn first_blank(text: &[u8]) -> Option<usize>
-    ensures { result ≡ position (λ byte. nat_eq byte 32) text.now }
-{
-    text.iter().position(|byte| *byte == b' ')
-}
-
-/// What stands before the first blank, and what stands after it.
-pub fn parted(text: &[u8]) -> Option<(&[u8], &[u8])>
-    ensures { MatchOption result (parts_at_blank text.now ≡ None) (λ words. parts_at_blank text.now ≡ Some (words.0.now, words.1.now)) }
-{
-    let blank = first_blank(text)?;
-    Some((&text[..blank], &text[blank + 1..]))
-}
+use sn_text::{byte_in, parted, word_in};
 
 /// The words of an access's line; the values are all that stands after the size.
 #[derive(Clone, Copy)]
@@ -51,13 +33,6 @@ pub fn words_in(line: &[u8]) -> Option<Words<'_>>
     })
 }
 
-/// A number below 2^64, without a leading zero.
-pub fn number_in(text: &[u8]) -> Option<u64>
-    ensures { result ≡ number_of text.now }
-{
-    message_in(text).ok()
-}
-
 pub fn width_in(text: &[u8]) -> Option<Width>
     ensures { result ≡ width_of text.now }
 {
@@ -69,30 +44,6 @@ pub fn width_in(text: &[u8]) -> Option<Width>
     }
 }
 
-/// The value of a lower-case hexadecimal digit.
-fn hex_value(byte: u8) -> Option<u8>
-    ensures same { result ≡ hex_value byte }
-    ensures small { IfSome result (λ value. value < 16) }
-{
-    match byte {
-        b'0'..=b'9' => Some(byte - b'0'),
-        b'a'..=b'f' => Some(byte - b'a' + 10),
-        _ => None,
-    }
-}
-
-/// The byte of two such digits.
-fn byte_in(text: &[u8]) -> Option<u8>
-    ensures { result ≡ byte_of text.now }
-{
-    if text.len() != 2 {
-        return None;
-    }
-    let high = hex_value(text[0])?;
-    let low = hex_value(text[1])?;
-    Some(16 * high + low)
-}
-
 fn half_in(text: &[u8]) -> Option<u32>
     ensures { result ≡ half_of text.now }
 {
@@ -101,23 +52,6 @@ fn half_in(text: &[u8]) -> Option<u32>
     }
     let bytes = [byte_in(&text[..2])?, byte_in(&text[2..])?];
     Some(u32::from(u16::from_be_bytes(bytes)))
-}
-
-/// The word of eight hexadecimal digits.
-#[tactic(auto, unfolding(sn_text::specs::Trace::word_of))]
-pub fn word_in(text: &[u8]) -> Option<u32>
-    ensures { result ≡ word_of text.now }
-{
-    if text.len() != 8 {
-        return None;
-    }
-    let bytes = [
-        byte_in(&text[..2])?,
-        byte_in(&text[2..4])?,
-        byte_in(&text[4..6])?,
-        byte_in(&text[6..])?,
-    ];
-    Some(u32::from_be_bytes(bytes))
 }
 
 /// A value of this width, of two digits for each byte.

@@ -12,7 +12,7 @@ Files = List ℕ → Option (List ℕ)
 
 -- the name of the program
 abbrev pub program_of : Request → Option (List ℕ)
-program_of (Replay config trace watch program script) = Some program
+program_of (Replay config report watch program script) = Some program
 program_of (Roll config watch program script control) = Some program
 program_of (Run config rules report order watch program) = Some program
 program_of (Monitor config rules watch program) = Some program
@@ -29,7 +29,7 @@ assembly_of _ = None
 
 -- the names of the files that a call fetches, in their order
 abbrev pub first_of : Request → Option (List ℕ)
-first_of (Replay config trace watch program script) = Some program
+first_of (Replay config report watch program script) = Some program
 first_of (Roll config watch program script control) = Some program
 first_of (Run config rules report order watch program) = Some program
 first_of (Monitor config rules watch program) = Some program
@@ -40,7 +40,7 @@ first_of (Assemble text) = Some text
 first_of (Disassemble program) = Some program
 
 abbrev pub second_of : Request → Option (List ℕ)
-second_of (Replay config trace watch program script) = Some script
+second_of (Replay config report watch program script) = Some script
 second_of (Roll config watch program script control) = Some script
 second_of (Check nodes program trace) = Some trace
 second_of _ = None
@@ -74,7 +74,7 @@ blamed_in_roll held nodes script control =
     else record { kind = kind.Control; nodes = nodes; name = control }
 
 abbrev pub blamed_of : Files → Request → Option Blamed
-blamed_of held (Replay config trace watch program script) = Some (record { kind = kind.Script; nodes = config.nodes; name = script })
+blamed_of held (Replay config report watch program script) = Some (record { kind = kind.Script; nodes = config.nodes; name = script })
 blamed_of held (Roll config watch program script control) = Some (blamed_in_roll held config.nodes script control)
 blamed_of held (Check nodes program trace) = Some (record { kind = kind.Trace; nodes = nodes; name = trace })
 blamed_of held (Judge accesses) = Some (record { kind = kind.Accesses; nodes = 16; name = accesses })

@@ -30,6 +30,6 @@ notes_by text (Ok image) (Ok events) config is_given = notes_on text image confi
 
 -- the same of a request, with whether its words give the number of nodes; of another command than a replay there are none
 abbrev pub notes_of : List ℕ → Files → Request → Bool → List ℕ
-notes_of text held (Replay config trace watch program script) is_given =
+notes_of text held (Replay config report watch program script) is_given =
     notes_by text (image_of (held_bytes held program 16777216)) (script_of config.nodes (held_bytes held script 33554432)) config is_given
 notes_of text held _ is_given = text

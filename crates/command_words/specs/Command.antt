@@ -20,7 +20,7 @@ command_app name words options flags = with_args kind.Flag flags (with_args kind
 
 abbrev pub replay_app : App
 replay_app = command_app (codes "replay") (codes "program" ∷ codes "script" ∷ [])
-    (codes "nodes" ∷ codes "sets" ∷ codes "ways" ∷ codes "log" ∷ codes "watch" ∷ []) (codes "trace" ∷ [])
+    (codes "nodes" ∷ codes "sets" ∷ codes "ways" ∷ codes "log" ∷ codes "watch" ∷ codes "only" ∷ []) (codes "trace" ∷ codes "states" ∷ [])
 
 abbrev pub roll_app : App
 roll_app = command_app (codes "roll") (codes "program" ∷ codes "script" ∷ codes "control" ∷ [])

@@ -6,6 +6,8 @@ use Rattle.sn_base.specs.Config.{lies_in, config_fits}
 use Rattle.sn_base.specs.declared.config.Config.{Config}
 use Rattle.option_values.specs.declared.run.RunRules.{RunRules}
 use Rattle.option_values.specs.Runs.{run_rules_by, run_rules_fit}
+use Rattle.option_values.specs.declared.places.Places.{Places}
+use Rattle.option_values.specs.Places.{places_by, places_fit}
 use Rattle.option_values.specs.Values.{nodes_rule, number_by, config_by, watch_by, is_word_address, demo_size}
 use Rattle.clap.specs.Words.{Row, Text, first_of, takes, subcommand_of}
 use Rattle.command_words.specs.Command.{the_app}
@@ -15,6 +17,8 @@ use Rattle.command_words.specs.declared.request.Run as code_run
 use Rattle.command_words.specs.declared.request.Monitor as code_monitor
 use Rattle.sn_base.specs.declared.report.RunReport.{RunReport}
 use Rattle.sn_base.specs.declared.report.RunReport.TheVariants as shown
+use Rattle.command_words.specs.declared.request.ReplayReport.{ReplayReport}
+use Rattle.command_words.specs.declared.request.ReplayReport.TheVariants as replayed
 use Rattle.command_words.specs.declared.request.RunOrder.{RunOrder}
 use Rattle.command_words.specs.declared.request.RunOrder.TheVariants as order
 use Rattle.command_words.specs.declared.request.Check as code_check
@@ -22,10 +26,10 @@ use Rattle.command_words.specs.declared.request.Request as code_request
 use Rattle.command_words.specs.declared.request.Request.TheVariants as asked
 use Rattle.sn_base.specs.declared.limits.TheConstants.{EVENTS}
 
--- the sizes, the rules of a run, whether the trace is to be shown or what else of a run is, who has its turns, which word is to be watched, and the
--- names of files: of the program and of the script, the control or the trace, or of the accesses or the text
+-- the sizes, the rules of a run, what of a replay or of a run is to be shown, who has a run's turns, which word is to be watched, and the names of
+-- files: of the program and of the script, the control or the trace, or of the accesses or the text
 pub data Request : Type 0 where
-  Replay : Config → Bool → Option ℕ → Text → Text → Request
+  Replay : Config → ReplayReport → Option ℕ → Text → Text → Request
   Roll : Config → Option ℕ → Text → Text → Text → Request
   Run : Config → RunRules → RunReport → RunOrder → Option ℕ → Text → Request
   Monitor : Config → RunRules → Option ℕ → Text → Request
@@ -43,11 +47,26 @@ abbrev pub config_of : List Row → Option Config
 config_of entries =
     config_by (first_of (codes "nodes") entries) (first_of (codes "sets") entries) (first_of (codes "ways") entries) (first_of (codes "log") entries)
 
+-- what a replay shows by its two flags, which don't stand together, and by the places, which only states have
+abbrev pub replay_report_by : Bool → Bool → Option Places → Option ReplayReport
+replay_report_by true true only = None
+replay_report_by true false (Some places) = None
+replay_report_by true false None = Some replayed.Trace
+replay_report_by false true only = Some (replayed.States only)
+replay_report_by false false (Some places) = None
+replay_report_by false false None = Some replayed.Events
+
+abbrev pub replay_report_of : List Row → Option ReplayReport
+replay_report_of entries =
+    option_and_then (λ only. replay_report_by (flag_of (codes "trace") entries) (flag_of (codes "states") entries) only)
+    (places_by (first_of (codes "only") entries))
+
 abbrev pub replay_of : List Row → Option Request
 replay_of entries =
-    option_and_then (λ config. option_and_then (λ watch. option_and_then (λ program. option_map (λ script.
-    Replay config (flag_of (codes "trace") entries) watch program script)
-    (first_of (codes "script") entries)) (first_of (codes "program") entries)) (watch_by (first_of (codes "watch") entries))) (config_of entries)
+    option_and_then (λ config. option_and_then (λ report. option_and_then (λ watch. option_and_then (λ program. option_map (λ script.
+    Replay config report watch program script)
+    (first_of (codes "script") entries)) (first_of (codes "program") entries)) (watch_by (first_of (codes "watch") entries)))
+    (replay_report_of entries)) (config_of entries)
 
 abbrev pub roll_of : List Row → Option Request
 roll_of entries =
@@ -125,7 +144,7 @@ ask_of words =
 
 -- requests of the code, with their names as bytes
 abbrev pub as_replay : code_replay.Replay → Request
-as_replay r = Replay r.config r.trace r.watch (string_bytes r.program) (string_bytes r.script)
+as_replay r = Replay r.config r.report r.watch (string_bytes r.program) (string_bytes r.script)
 
 abbrev pub as_roll : code_roll.Roll → Request
 as_roll r = Roll r.config r.watch (string_bytes r.program) (string_bytes r.script) (string_bytes r.control)
@@ -154,9 +173,14 @@ as_request (asked.Disassemble program) = Disassemble (string_bytes program)
 abbrev pub watch_fits : Option ℕ → Bool
 watch_fits watch = option_map_or is_word_address watch true
 
--- whether the sizes and the rules of a run lie in their ranges, and the watched word in memory
+-- whether the places of which states are shown are such
+abbrev pub report_fits : ReplayReport → Bool
+report_fits (replayed.States only) = option_map_or places_fit only true
+report_fits _ = true
+
+-- whether the sizes and the rules of a run lie in their ranges, and so do the places that are shown, and the watched word in memory
 abbrev pub request_fits : Request → Bool
-request_fits (Replay config trace watch program script) = config_fits config && watch_fits watch
+request_fits (Replay config report watch program script) = config_fits config && (report_fits report && watch_fits watch)
 request_fits (Roll config watch program script control) = config_fits config && watch_fits watch
 request_fits (Run config rules report order watch program) = config_fits config && (run_rules_fit config.nodes rules && watch_fits watch)
 request_fits (Monitor config rules watch program) = config_fits config && (run_rules_fit config.nodes rules && watch_fits watch)

@@ -77,13 +77,13 @@ fn replay<'a>(alloc: Global) -> Result<Command<'a>, AllocError>
     ensures app { IfOk result (λ c. app_of c ≡ replay_app) }
     ensures alone { IfOk result (λ c. (fields_of c).has_globals ≡ false) }
 {
-    let options = ["nodes", "sets", "ways", "log", "watch"];
+    let options = ["nodes", "sets", "ways", "log", "watch", "only"];
     command_by(
         alloc,
         "replay",
         &["program", "script"],
         &options,
-        &["trace"],
+        &["trace", "states"],
     )
 }
 

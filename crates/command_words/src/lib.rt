@@ -11,4 +11,4 @@ mod reading;
 mod request;
 
 pub use reading::read_words;
-pub use request::{Check, Monitor, Replay, Request, Roll, Run, RunOrder, WordsFault};
+pub use request::{Check, Monitor, Replay, ReplayReport, Request, Roll, Run, RunOrder, WordsFault};

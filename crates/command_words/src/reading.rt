@@ -4,6 +4,7 @@ ghost use Rattle.sn_base.specs.Config.{lies_in, config_fits};
 ghost use Rattle.option_values.specs.Runs.{run_rules_fit};
 ghost use Rattle.clap.specs.Words.{found_of, rows_of, first_of};
 ghost use Rattle.command_words.specs.Request.{ask_of, as_request, request_of, config_of, replay_of, roll_of, run_rules_of, run_report_of};
+ghost use Rattle.command_words.specs.Request.{replay_report_of, report_fits};
 ghost use Rattle.command_words.specs.Request.{run_order_of};
 ghost use Rattle.command_words.specs.Request.{run_of, monitor_of, check_of, demo_of, as_replay, as_roll, as_run, as_monitor, as_check};
 ghost use Rattle.command_words.specs.Request.{watch_fits, request_fits};
@@ -11,9 +12,13 @@ ghost use Rattle.sn_base.specs.declared.limits.TheConstants.{EVENTS};
 
 use crate::command::entries_of;
 use crate::entries::{command_of, has_flag, text_of};
-use crate::request::{Check, Monitor, Replay, Request, Roll, Run, RunOrder, WordsFault};
+use crate::request::{
+    Check, Monitor, Replay, ReplayReport, Request, Roll, Run, RunOrder, WordsFault,
+};
 use clap::ArgMatches;
-use option_values::{RunRules, RunWords, SizeWords, read_demo_size, read_nodes, read_watch};
+use option_values::{
+    RunRules, RunWords, SizeWords, read_demo_size, read_nodes, read_places, read_watch,
+};
 use sn_base::{Config, RunReport};
 use std::alloc::Global;
 
@@ -42,15 +47,34 @@ fn config(entries: &ArgMatches<'_>) -> Result<Config, WordsFault>
     sizes.config().ok_or(WordsFault::Usage)
 }
 
+fn replay_report(entries: &ArgMatches<'_>) -> Result<ReplayReport, WordsFault>
+    ensures ok { IfOk result (λ report. replay_report_of (rows_of (found_of entries.now)) ≡ Some report) }
+    ensures usage { IfErr result (λ fault. (fault ≡ WordsFault.Usage) × (replay_report_of (rows_of (found_of entries.now)) ≡ None)) }
+    ensures fits { IfOk result (λ report. report_fits report ≡ true) }
+{
+    let only = read_places(text_of(entries, "only")).ok_or(WordsFault::Usage)?;
+    match (
+        has_flag(entries, "trace"),
+        has_flag(entries, "states"),
+        only,
+    ) {
+        (false, false, None) => Ok(ReplayReport::Events),
+        (true, false, None) => Ok(ReplayReport::Trace),
+        (false, true, only) => Ok(ReplayReport::States(only)),
+        _ => Err(WordsFault::Usage),
+    }
+}
+
 fn replay(alloc: Global, entries: &ArgMatches<'_>) -> Result<Replay, WordsFault>
     ensures ok { IfOk result (λ replay. replay_of (rows_of (found_of entries.now)) ≡ Some (as_replay replay)) }
     ensures usage { result ≡ Err WordsFault.Usage → replay_of (rows_of (found_of entries.now)) ≡ None }
     ensures fits { IfOk result (λ replay. config_fits replay.config ≡ true) }
+    ensures shown { IfOk result (λ replay. report_fits replay.report ≡ true) }
     ensures watched { IfOk result (λ replay. watch_fits replay.watch ≡ true) }
 {
     Ok(Replay {
         config: config(entries)?,
-        trace: has_flag(entries, "trace"),
+        report: replay_report(entries)?,
         watch: read_watch(text_of(entries, "watch")).ok_or(WordsFault::Usage)?,
         program: name(alloc, entries, "program")?,
         script: name(alloc, entries, "script")?,
@@ -167,7 +191,7 @@ fn check(alloc: Global, entries: &ArgMatches<'_>) -> Result<Check, WordsFault>
 
 fn demo(entries: &ArgMatches<'_>) -> Result<u32, WordsFault>
     ensures ok { IfOk result (λ size. demo_of (rows_of (found_of entries.now)) ≡ Some size) }
-    ensures usage { result ≡ Err WordsFault.Usage → demo_of (rows_of (found_of entries.now)) ≡ None }
+    ensures usage { IfErr result (λ fault. (fault ≡ WordsFault.Usage) × (demo_of (rows_of (found_of entries.now)) ≡ None)) }
     ensures fits { IfOk result (λ size. lies_in 1 EVENTS size ≡ true) }
 {
     let size = text_of(entries, "size").ok_or(WordsFault::Usage)?;

@@ -1,17 +1,27 @@
 //! What the words ask for.
 ghost use Rattle.std.specs.Prelude.{◌≡◌};
 
-use option_values::RunRules;
+use option_values::{Places, RunRules};
 use sn_base::{Config, RunReport};
 use std::alloc::AllocError;
+
+/// What a replay shows.
+#[derive(Clone, Copy, PartialEq, Eq, Debug)]
+pub enum ReplayReport {
+    /// Each event's answer.
+    Events,
+    /// The committed trace in place of that.
+    Trace,
+    /// The machine's state after each event, or of these places alone.
+    States(Option<Places>),
+}
 
 /// The sizes, what is shown, and the names of the files.
 #[derive(Drop)]
 pub struct Replay {
     pub config: Config,
-    /// Whether the committed trace is shown in place of each event's answer.
-    pub trace: bool,
-    /// The address of the word that is shown after each recovery.
+    pub report: ReplayReport,
+    /// The address of the word that is shown after each recovery, or at the end.
     pub watch: Option<u32>,
     pub program: String,
     pub script: String,

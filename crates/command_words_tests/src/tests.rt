@@ -40,9 +40,9 @@ fn shown(alloc: Global, request: &Request) -> Result<String, AllocError> {
     match request {
         Request::Replay(r) => {
             let c = &r.config;
-            let (watch, trace) = (r.watch, r.trace);
+            let (watch, report) = (r.watch, r.report);
             format!(in alloc;
-                "replay {} {} ({} nodes, {} sets, {} ways, log {}) {watch:?} {trace}",
+                "replay {} {} ({} nodes, {} sets, {} ways, log {}) {watch:?} {report:?}",
                 r.program, r.script, c.nodes, c.sets, c.ways, c.log
             )
         }
@@ -87,71 +87,79 @@ fn read(alloc: Global, line: &str) -> Result<String, Memory> {
 const REQUESTS: &[(&str, &str)] = &[
     (
         "replay p s",
-        "replay p s (4 nodes, 16 sets, 4 ways, log 256) None false",
+        "replay p s (4 nodes, 16 sets, 4 ways, log 256) None Events",
     ),
     (
         "replay --nodes 1 p s",
-        "replay p s (1 nodes, 16 sets, 4 ways, log 256) None false",
+        "replay p s (1 nodes, 16 sets, 4 ways, log 256) None Events",
     ),
     (
         "replay --nodes=16 p s",
-        "replay p s (16 nodes, 16 sets, 4 ways, log 256) None false",
+        "replay p s (16 nodes, 16 sets, 4 ways, log 256) None Events",
     ),
     (
         "replay p --sets 1 s",
-        "replay p s (4 nodes, 1 sets, 4 ways, log 256) None false",
+        "replay p s (4 nodes, 1 sets, 4 ways, log 256) None Events",
     ),
     (
         "replay p s --sets=256",
-        "replay p s (4 nodes, 256 sets, 4 ways, log 256) None false",
+        "replay p s (4 nodes, 256 sets, 4 ways, log 256) None Events",
     ),
     (
         "replay p s --ways 16",
-        "replay p s (4 nodes, 16 sets, 16 ways, log 256) None false",
+        "replay p s (4 nodes, 16 sets, 16 ways, log 256) None Events",
     ),
     (
         "replay p s --log=4",
-        "replay p s (4 nodes, 16 sets, 4 ways, log 4) None false",
+        "replay p s (4 nodes, 16 sets, 4 ways, log 4) None Events",
     ),
     (
         "replay p s --log 0004096",
-        "replay p s (4 nodes, 16 sets, 4 ways, log 4096) None false",
+        "replay p s (4 nodes, 16 sets, 4 ways, log 4096) None Events",
     ),
     (
         "replay p s --trace",
-        "replay p s (4 nodes, 16 sets, 4 ways, log 256) None true",
+        "replay p s (4 nodes, 16 sets, 4 ways, log 256) None Trace",
     ),
     (
         "replay --trace p s --watch 80000000",
-        "replay p s (4 nodes, 16 sets, 4 ways, log 256) Some(2147483648) true",
+        "replay p s (4 nodes, 16 sets, 4 ways, log 256) Some(2147483648) Trace",
     ),
     (
         "replay --watch=803FFFFC p s",
-        "replay p s (4 nodes, 16 sets, 4 ways, log 256) Some(2151677948) false",
+        "replay p s (4 nodes, 16 sets, 4 ways, log 256) Some(2151677948) Events",
     ),
     (
         "replay --nodes 2 --sets 3 --ways 5 --log 7 --watch 80000004 --trace p s",
-        "replay p s (2 nodes, 3 sets, 5 ways, log 7) Some(2147483652) true",
+        "replay p s (2 nodes, 3 sets, 5 ways, log 7) Some(2147483652) Trace",
+    ),
+    (
+        "replay p s --states",
+        "replay p s (4 nodes, 16 sets, 4 ways, log 256) None States(None)",
+    ),
+    (
+        "replay --only=3-9 p --states s",
+        "replay p s (4 nodes, 16 sets, 4 ways, log 256) None States(Some(Places { from: 3, to: 9 }))",
     ),
     (
         "replay -- --nodes --trace",
-        "replay --nodes --trace (4 nodes, 16 sets, 4 ways, log 256) None false",
+        "replay --nodes --trace (4 nodes, 16 sets, 4 ways, log 256) None Events",
     ),
     (
         "replay --nodes 2 -- -p -s",
-        "replay -p -s (2 nodes, 16 sets, 4 ways, log 256) None false",
+        "replay -p -s (2 nodes, 16 sets, 4 ways, log 256) None Events",
     ),
     (
         "replay - -",
-        "replay - - (4 nodes, 16 sets, 4 ways, log 256) None false",
+        "replay - - (4 nodes, 16 sets, 4 ways, log 256) None Events",
     ),
     (
         "replay replay help",
-        "replay replay help (4 nodes, 16 sets, 4 ways, log 256) None false",
+        "replay replay help (4 nodes, 16 sets, 4 ways, log 256) None Events",
     ),
     (
         "replay '' s",
-        "replay  s (4 nodes, 16 sets, 4 ways, log 256) None false",
+        "replay  s (4 nodes, 16 sets, 4 ways, log 256) None Events",
     ),
     (
         "roll p s c",
@@ -276,6 +284,17 @@ const USAGE: &[&str] = &[
     "replay p s --watch 80400000",
     "replay p s --watch 8000000",
     "replay p s --trace --trace",
+    "replay p s --trace --states",
+    "replay p s --states --states",
+    "replay p s --states=1",
+    "replay p s --only 1-2",
+    "replay p s --trace --only 1-2",
+    "replay p s --states --only 9-3",
+    "replay p s --states --only 0-1",
+    "replay p s --states --only 3",
+    "replay p s --states --only",
+    "replay p s --states --only 1-2 --only 1-2",
+    "roll p s c --states",
     "replay p s --trace=x",
     "replay p s --trace=true",
     "replay p s --trace=",

@@ -1,7 +1,7 @@
 pub mod Beginnings
-pub mod Generators
 pub mod Going
 pub mod Leaving
+pub mod Looked
 pub mod MarkLaws
 pub mod Outcomes
 pub mod Published

@@ -123,7 +123,7 @@ module _ (marks : List Mark) (published : List SnapData) (rises : Rises publishe
 
   last : (s : SnapData) → EndsIn published s → 0 < s.point → EndsIn lifted.seen s
   last s ends high =
-      let there = taken.last (map mark_of ends.before) (mark_of s) (ap (map mark_of) ends.is ∙ map-append mark_of ends.before (s ∷ [])) high in
+      let there = taken.last (mark_of s) (map mark_of ends.before, ap (map mark_of) ends.is ∙ map-append mark_of ends.before (s ∷ [])) high in
       let snoc = snoc-of lifted.seen there.0 (mark_of s) (lifted.are ∙ there.1) in
       let same = ap (λ (m : Mark). m.point) snoc.mark in
       let either = last-of ends.before snoc.before s snoc.last (subst Rises ends.is rises)

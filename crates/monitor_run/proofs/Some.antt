@@ -62,7 +62,7 @@ pub taken-none : (seen : List Mark) (published : List Mark) → seen ≡ [] → 
 taken-none seen published none empty = record {
   from = subst (λ (l : List Mark). IsSomeOf l published) (sym none) tt;
   above = subst (λ (l : List Mark). All (λ (m : Mark). 0 < m.point) l) (sym none) (All-nil (λ (m : Mark). 0 < m.point));
-  last = λ before m is above. let a = ap (λ (l : List Mark). length l) is in let b = length-append before (m ∷ []) in absurd (omega (arith, a, b, empty));
+  last = λ m ends high. let a = ap (λ (l : List Mark). length l) ends.1 in let b = length-append ends.0 (m ∷ []) in absurd (omega (arith, a, b, empty));
 }
 
 module _ (published before seen : List Mark) (last : Mark) (all : published ≡ before ++ last ∷ []) (some : IsSomeOf seen before) (above : All (λ (m : Mark). 0 < m.point) seen) where
@@ -71,13 +71,13 @@ module _ (published before seen : List Mark) (last : Mark) (all : published ≡ 
     from = subst (λ (l : List Mark). IsSomeOf l published) (sym e)
         (subst (λ (l : List Mark). IsSomeOf (seen ++ last ∷ []) l) (sym all) (some-take seen before last some));
     above = subst (λ (l : List Mark). All (λ (m : Mark). 0 < m.point) l) (sym e) (All-push (λ (m : Mark). 0 < m.point) seen last above high);
-    last = λ others m is positive. (seen, e ∙ ap (λ (x : Mark). seen ++ x ∷ []) (same-last before others last m (sym all ∙ is)));
+    last = λ m ends positive. (seen, e ∙ ap (λ (x : Mark). seen ++ x ∷ []) (same-last before ends.0 last m (sym all ∙ ends.1)));
   }
 
   pub taken-less : last.point ≤ 0 → AreTaken seen published
   taken-less low = record {
     from = subst (λ (l : List Mark). IsSomeOf seen l) (sym all) (some-skip seen before last some);
     above = above;
-    last = λ others m is positive.
-        let same = ap (λ (x : Mark). x.point) (same-last before others last m (sym all ∙ is)) in absurd (omega (arith, same, positive, low));
+    last = λ m ends positive.
+        let same = ap (λ (x : Mark). x.point) (same-last before ends.0 last m (sym all ∙ ends.1)) in absurd (omega (arith, same, positive, low));
   }

@@ -1,4 +1,3 @@
-pub mod Drawn
 pub mod Seen
 pub mod Stands
 pub mod Taken

@@ -11,7 +11,7 @@ use Rattle.monitor_run.specs.declared.turns.Stop.{Stop}
 use Rattle.monitor_run.specs.declared.turns.Stop.TheVariants.{Finished, Memory}
 use Rattle.monitor_run.specs.declared.turns.Turns.{Turns}
 use Rattle.monitor_run.specs.declared.marks.Mark.{Mark}
-use Rattle.monitor_run.specs.Drawn.{AreDrawn}
+use Rattle.turn_orders.specs.Drawn.{AreDrawn}
 use Rattle.monitor_run.specs.Taken.{AreTaken}
 use Rattle.monitor_run.specs.Seen.{published_by, IsInRounds, mark_of}
 

@@ -5,15 +5,12 @@
 //! order, up to the last. That looks run beside the turns no clause says. Nothing here knows words, files or statuses.
 #![tactic(auto)]
 
-mod draws;
-mod ending;
 mod job;
 mod looks;
 mod marks;
 mod monitoring;
 mod reporting;
 mod starting;
-mod telling;
 mod turns;
 
 pub use job::Monitor;

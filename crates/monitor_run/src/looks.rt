@@ -1,11 +1,19 @@
 //! The watcher's side.
+ghost use Rattle.std.specs.Prelude.{◌≡◌, ◌↔◌, ◌≤◌, ◌<◌, true, [], ◌∷◌, ◌++◌, vec_len, vec_capacity};
+ghost use Rattle.snap_board.specs.Snap.{SnapData};
+ghost use Rattle.snap_board.specs.Fronts.{EndsIn};
+ghost use Rattle.monitor_run.specs.Seen.{mark_of};
+ghost use Rattle.monitor_run.specs.Taken.{IsLater};
+
 use crate::marks::{Mark, keep, mark_of};
 use sn_monitor::Watcher;
 use std::sync::Wait;
 use std::sync::atomic::{AtomicBool, Ordering};
 use std::thread;
 
-fn is_later(mark: &Mark, looks: &[Mark]) -> bool {
+fn is_later(mark: &Mark, looks: &[Mark]) -> bool
+    ensures { (result ≡ true) ↔ IsLater looks.now mark.now }
+{
     match looks.last() {
         Some(last) => last.point < mark.point,
         None => true,
@@ -13,7 +21,13 @@ fn is_later(mark: &Mark, looks: &[Mark]) -> bool {
 }
 
 /// Looks once, and notes what is later than all before, where there is room.
-pub(crate) fn look(watcher: &mut Watcher, looks: &mut Vec<Mark>) {
+pub(crate) fn look(watcher: &mut Watcher, looks: &mut Vec<Mark>)
+    ensures noted { (s : SnapData) → EndsIn watcher.new.front s → vec_len looks.old < vec_capacity looks.old
+        → IsLater looks.old.items (mark_of s) → looks.new.items ≡ looks.old.items ++ mark_of s ∷ [] }
+    ensures early { (s : SnapData) → EndsIn watcher.new.front s → (IsLater looks.old.items (mark_of s) → ⊥)
+        → looks.new.items ≡ looks.old.items }
+    ensures full { vec_capacity looks.old ≤ vec_len looks.old → looks.new.items ≡ looks.old.items }
+{
     let mark = mark_of(&watcher.look());
     if looks.len() < looks.capacity() && is_later(&mark, looks.as_slice()) {
         keep(looks, mark);

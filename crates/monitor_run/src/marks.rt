@@ -1,9 +1,7 @@
 //! What a snapshot's line says, and which lines there are.
-ghost use Rattle.std.specs.Prelude.{◌≡◌, ◌+◌, ◌<◌, ◌≤◌, [], ◌∷◌, ◌++◌, All, length, vec_len, vec_capacity};
-ghost use Rattle.snap_board.specs.Snap.{SnapData};
-ghost use Rattle.snap_board.specs.Fronts.{EndsIn};
+ghost use Rattle.std.specs.Prelude.{◌≡◌, ◌⊎◌, ◌↔◌, ◌+◌, ◌<◌, ◌≤◌, true, Some, [], ◌∷◌, ◌++◌, All, Contains, length, slice_get, vec_len, vec_capacity};
 ghost use Rattle.monitor_run.specs.Seen.{IsSomeOf, mark_of};
-ghost use Rattle.monitor_run.specs.Taken.{AreTaken};
+ghost use Rattle.monitor_run.specs.Taken.{AreTaken, Grow, IsFirstFrom, IsLast};
 
 use sn_monitor::Snap;
 
@@ -33,7 +31,9 @@ pub(crate) fn keep(marks: &mut Vec<Mark>, mark: Mark)
 }
 
 // The first place from this one on whose point isn't below.
-fn first_from(looks: &[Mark], place: usize, point: u32) -> usize {
+fn first_from(looks: &[Mark], place: usize, point: u32) -> usize
+    ensures { IsFirstFrom looks.now place point result }
+{
     let mut place = place;
     'looks: while place < looks.len() && looks[place].point < point {
         place += 1;
@@ -41,7 +41,9 @@ fn first_from(looks: &[Mark], place: usize, point: u32) -> usize {
     place
 }
 
-fn is_at(looks: &[Mark], place: usize, mark: &Mark) -> bool {
+fn is_at(looks: &[Mark], place: usize, mark: &Mark) -> bool
+    ensures { (result ≡ true) ↔ (slice_get looks.now place ≡ Some mark.now) }
+{
     place < looks.len() && looks[place] == *mark
 }
 
@@ -51,6 +53,9 @@ fn take_looked(published: &[Mark], looks: &[Mark], seen: &mut Vec<Mark>)
     requires room { length published.now ≤ vec_capacity seen.old }
     ensures some { IsSomeOf seen.new.items published.now }
     ensures above { All (λ m. 0 < m.point) seen.new.items }
+    ensures looked { All (λ m. Contains looks.now m) seen.new.items }
+    ensures all { Grow published.now → Grow looks.now →
+        All (λ m. 0 < m.point → Contains looks.now m → Contains seen.new.items m) published.now }
     ensures few { length seen.new.items ≤ length published.now }
     ensures room { vec_capacity seen.old ≤ vec_capacity seen.new }
 {
@@ -67,7 +72,10 @@ fn take_looked(published: &[Mark], looks: &[Mark], seen: &mut Vec<Mark>)
 pub(crate) fn take_seen(published: &[Mark], looks: &[Mark], seen: &mut Vec<Mark>)
     requires none { seen.old.items ≡ [] }
     requires room { length published.now ≤ vec_capacity seen.old }
-    ensures { AreTaken seen.new.items published.now }
+    ensures taken { AreTaken seen.new.items published.now }
+    ensures looked { All (λ m. Contains looks.now m ⊎ IsLast published.now m) seen.new.items }
+    ensures all { Grow published.now → Grow looks.now →
+        All (λ m. 0 < m.point → Contains looks.now m → Contains seen.new.items m) published.now }
 {
     let Some((last, before)) = published.split_last() else {
         return;

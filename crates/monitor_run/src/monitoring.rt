@@ -3,20 +3,17 @@ ghost use Rattle.std.specs.Prelude.{◌≡◌, ◌+◌, ◌≤◌, ◌⊎◌, tr
 ghost use Rattle.sn_io.specs.Outside.{Rose};
 ghost use Rattle.sink_pieces.specs.Pieces.{ends};
 ghost use Rattle.sn_probe.specs.Probes.{meters_in};
-ghost use Rattle.node_run.specs.Pieces.{begins};
-ghost use Rattle.monitor_run.specs.Taken.{AreTaken};
-ghost use Rattle.monitor_run.specs.Shown.{MayBegin, IsDone, IsBrokenOff, run_of, watched_word};
+ghost use Rattle.monitor_run.specs.Shown.{MayBegin, IsDone, IsBrokenOff};
 ghost use Rattle.monitor_run.specs.Stands.{Stands, IsReady, StopsBy, IsSameRun, HasLeft, its_start};
 
-use crate::ending::how_ended;
 use crate::job::Monitor;
 use crate::looks::{look, look_on};
 use crate::marks::{Mark, take_seen};
 use crate::reporting::put_all;
 use crate::starting::{Started, start};
-use crate::telling::tell;
 use crate::turns::{Stop, Turns, make_turns};
-use node_run::{Ending, RunFault};
+use node_run::{Ending, RunFault, how_ended};
+use node_threads::tell;
 use shared_machine::Finish;
 use sn_io::Sink;
 use sn_machine::Machine;

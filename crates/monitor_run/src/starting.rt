@@ -9,16 +9,17 @@ ghost use Rattle.monitor_run.specs.Shown.{MayBegin, run_of, watched_word};
 ghost use Rattle.monitor_run.specs.Stands.{Stands, IsReady, IsNew, its_start};
 ghost use Rattle.sn_base.specs.declared.limits.TheConstants.{EVENTS};
 
-use crate::draws::generators;
 use crate::job::Monitor;
 use crate::marks::Mark;
 use crate::turns::{Turns, note_last};
-use sn_base::{Config, Image, Memory, RAM_START, Rules};
+use node_run::machine_for;
+use sn_base::{Memory, RAM_START, Rules};
 use sn_driver::Driver;
 use sn_machine::Machine;
 use sn_monitor::{Monitored, Watcher};
 use std::alloc::Global;
 use std::sync::Wait;
+use turn_orders::generators;
 
 /// A run with its watcher, and all memory that they take but for the snapshots.
 pub(crate) struct Started {
@@ -43,25 +44,6 @@ fn room_for(alloc: Global, seed: u64, budget: u32, workers: u8) -> Result<Turns,
         seed,
         budget,
     })
-}
-
-// A machine of these sizes at the start of the program, with room for the events.
-fn machine_for(
-    alloc: Global,
-    program: Image,
-    config: Config,
-    budget: u32,
-) -> Result<Machine, Memory>
-    requires sizes { config_fits config ≡ true }
-    requires few { budget ≤ EVENTS }
-    ensures program { IfOk result (λ m. (m.image ≡ program) × (m.config ≡ config)) }
-    ensures start { IfOk result (λ m. (m.applied ≡ 0) × (m.state ≡ start_of program config.nodes)) }
-    ensures room { IfOk result (λ m. budget + 1 ≤ m.spare) }
-{
-    let mut machine = Machine::new(alloc, program, config)?;
-    // One event more than the run does, so that it may always be asked for one.
-    machine.reserve(budget + 1)?;
-    Ok(machine)
 }
 
 // The watched run of a machine at its start, with the start's snapshot noted.
@@ -106,6 +88,7 @@ pub(crate) fn start(rt: &impl Wait, alloc: Global, job: Monitor) -> Result<Start
     ensures stands { IfOk result (λ s. Stands s.monitored s.turns × IsReady s.monitored s.turns) }
     ensures began { IfOk result (λ s. its_start s.monitored s.turns ≡ begins (run_of job)) }
     ensures watch { IfOk result (λ s. s.monitored.watch ≡ watched_word job.watch) }
+    ensures looks { IfOk result (λ s. (s.looks.items ≡ []) × (job.budget + 1 ≤ vec_capacity s.looks)) }
     ensures seen { IfOk result (λ s. (s.seen.items ≡ []) × (job.budget + 1 ≤ vec_capacity s.seen)) }
 {
     let Monitor {

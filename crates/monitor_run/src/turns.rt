@@ -1,6 +1,5 @@
 //! The turns of a run that a watcher looks at.
-ghost use Rattle.std.specs.Prelude.{◌≡◌, ◌+◌, ◌<◌, ◌≤◌, nat_le, Some, [], ◌∷◌, ◌++◌, length, vec_len, vec_capacity, IfOk, IfErr, IfSome, IsNone};
-ghost use Rattle.run_journals.specs.Journal.{entry_of};
+ghost use Rattle.std.specs.Prelude.{◌≡◌, ◌+◌, ◌<◌, ◌≤◌, Some, [], ◌∷◌, ◌++◌, length, vec_len, vec_capacity, IfOk, IfErr, IfSome, IsNone};
 ghost use Rattle.shared_machine.specs.Shared.{refusal_of, Did};
 ghost use Rattle.sn_monitor.specs.Monitored.{IsTurn};
 ghost use Rattle.sn_driver.specs.declared.turn.Turn.TheVariants as turn;
@@ -9,7 +8,6 @@ ghost use Rattle.snap_board.specs.Fronts.{EndsIn};
 ghost use Rattle.monitor_run.specs.Seen.{mark_of};
 ghost use Rattle.monitor_run.specs.Stands.{Stands, IsReady, StopsBy, IsSameRun};
 
-use crate::draws::draw;
 use crate::marks::{Mark, keep, mark_of};
 use rand_pcg::Pcg32;
 use run_journals::JournalEntry;
@@ -18,6 +16,7 @@ use sn_base::{Answer, Event};
 use sn_driver::Turn;
 use sn_monitor::{Monitored, Published};
 use std::sync::Wait;
+use turn_orders::{draw, note};
 
 /// What the turns fill, with room for the budget.
 #[derive(Drop)]
@@ -65,24 +64,6 @@ fn drive(
     }
 }
 
-// Adds an event to the journal, and its answer to the answers.
-fn note(
-    journal: &mut Vec<JournalEntry>,
-    answers: &mut Vec<Answer>,
-    worker: u32,
-    event: Event,
-    answer: Answer,
-)
-    requires journal { vec_len journal.old < vec_capacity journal.old }
-    requires answers { vec_len answers.old < vec_capacity answers.old }
-    ensures entry { journal.new.items ≡ journal.old.items ++ entry_of worker event ∷ [] }
-    ensures answer { answers.new.items ≡ answers.old.items ++ answer ∷ [] }
-    ensures room { (vec_capacity journal.old ≤ vec_capacity journal.new) × (vec_capacity answers.old ≤ vec_capacity answers.new) }
-{
-    journal.push(JournalEntry { worker, event }).unwrap();
-    answers.push(answer).unwrap();
-}
-
 /// Notes what was published last.
 pub(crate) fn note_last(monitored: &mut Monitored, published: &mut Vec<Mark>)
     requires { vec_len published.old < vec_capacity published.old }
@@ -99,6 +80,7 @@ fn turn(rt: &impl Wait, monitored: &mut Monitored, turns: &mut Turns) -> Option<
     requires stands { Stands monitored.old turns.old }
     requires ready { IsReady monitored.old turns.old }
     ensures on { IsNone result → Stands monitored.new turns.new × IsReady monitored.new turns.new }
+    ensures had { IsNone result → length turns.new.journal.items ≡ length turns.old.journal.items + 1 }
     ensures stop { IfSome result (λ stop. StopsBy monitored.new turns.new stop) }
     ensures same { IsSameRun monitored.old turns.old monitored.new turns.new }
 {

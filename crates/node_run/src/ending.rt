@@ -54,7 +54,7 @@ fn first_trap(machine: &Machine) -> Option<(NodeId, Cause)>
 }
 
 /// The end of a run that left this machine, by the cause for which no turn was had any more. None where it was stopped.
-pub(crate) fn how_ended(machine: &Machine, finish: Finish) -> Option<Ending>
+pub fn how_ended(machine: &Machine, finish: Finish) -> Option<Ending>
     ensures { result ≡ ending_by machine.now.config.nodes (flat_of machine.now) finish }
 {
     match finish {

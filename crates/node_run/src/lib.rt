@@ -11,9 +11,11 @@ mod ending;
 mod job;
 mod reporting;
 mod running;
+mod starting;
 
-pub use ending::Ending;
+pub use ending::{Ending, how_ended};
 pub use job::{Run, RunShowing};
 pub use reporting::put_ended;
 pub use running::{RunFault, run};
 pub use sn_base::Rules;
+pub use starting::machine_for;

@@ -2,3 +2,4 @@ pub mod Puts
 pub mod Finishing
 pub mod ToldSoFar
 pub mod Turns
+pub mod Numbers

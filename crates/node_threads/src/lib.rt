@@ -17,3 +17,4 @@ mod telling;
 pub use finished::Finished;
 pub use run::run_nodes;
 pub use shared_machine::{Finish, JournalEntry, SharedMachine};
+pub use telling::tell;

@@ -1,5 +1,6 @@
 //! The workers, and their shares of the run's ledger.
-ghost use Rattle.std.specs.Prelude.{◌≡◌, ◌+◌, ◌<◌, ◌≤◌, vec_len, IfOk};
+ghost use Rattle.std.specs.Prelude.{◌≡◌, ◌+◌, ◌<◌, map, vec_len, IfOk};
+ghost use Rattle.std.specs.List.{range_with_len};
 
 use crate::bell::Bell;
 use shared_machine::{Locked, RunName};
@@ -18,7 +19,7 @@ pub(crate) struct Slot<L: RunName> {
     ghost one_part: { share.parts ≡ 1 },
 }
 
-/// One worker a node.
+/// One worker a node, in order of their numbers.
 pub(crate) fn make_slots<L: RunName>(
     alloc: Global,
     nodes: u8,
@@ -27,7 +28,8 @@ pub(crate) fn make_slots<L: RunName>(
     requires nodes { nodes ≡ L.began.config.nodes }
     requires parts { all.old.parts ≡ nodes + 1 }
     requires none { all.old.amount ≡ 0 }
-    ensures { IfOk result (λ v. (vec_len v ≡ nodes) × (all.new.parts ≡ 1)) }
+    ensures numbers { IfOk result (λ v. map (λ s. s.worker) v.items ≡ range_with_len 0 nodes) }
+    ensures parts { IfOk result (λ v. (vec_len v ≡ nodes) × (all.new.parts ≡ 1)) }
 {
     let mut slots = Vec::with_capacity(alloc, usize::from(nodes))?;
     'workers: for worker in 0..nodes {

@@ -8,7 +8,7 @@ use sn_base::Answer;
 use sn_probe::ProbeSet;
 
 /// Tells the probes each event of a journal with its answer.
-pub(crate) fn tell(journal: &Vec<JournalEntry>, answers: &Vec<Answer>, probes: &mut ProbeSet)
+pub fn tell(journal: &Vec<JournalEntry>, answers: &Vec<Answer>, probes: &mut ProbeSet)
     requires { length answers.now.items ≡ length journal.now.items }
     ensures { meters_in first tally step probes.new.probes.items
         ≡ told_all journal.now.items answers.now.items (meters_in first tally step probes.old.probes.items) }

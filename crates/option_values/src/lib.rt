@@ -7,6 +7,7 @@
 mod address;
 mod digits;
 mod number;
+mod places;
 mod run;
 mod sizes;
 
@@ -14,6 +15,7 @@ pub use address::read_watch;
 pub use number::{
     BUDGET, INTERVAL, LOG, LOSE_EVERY, NODES, NumberRule, SEED, SETS, WAIT, WAYS, read_demo_size,
 };
+pub use places::{Places, read_places};
 pub use run::{RunRules, RunWords};
 pub use sizes::{SizeWords, read_nodes};
 

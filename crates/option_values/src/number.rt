@@ -104,19 +104,34 @@ impl NumberRule {
     }
 }
 
+// A number of events, at most 1,000,000.
+fn read_count(text: &str, least: u64) -> Option<u32>
+    ensures count { result ≡ number_in least EVENTS text.now }
+    ensures inside { IfSome result (λ count. lies_in least EVENTS count ≡ true) }
+{
+    let count = read_number(text, least, EVENTS)?;
+    Some(count as u32)
+}
+
 /// How large a demonstration is: 1 to 1,000,000 events.
 pub fn read_demo_size(text: &str) -> Option<u32>
     ensures size { result ≡ demo_size text.now }
     ensures inside { IfSome result (λ size. lies_in 1 EVENTS size ≡ true) }
 {
-    let size = read_number(text, 1, EVENTS)?;
-    Some(size as u32)
+    read_count(text, 1)
+}
+
+/// The place of an event: 1 to 1,000,000.
+pub(crate) fn read_place(text: &str) -> Option<u32>
+    ensures place { result ≡ number_in 1 EVENTS text.now }
+    ensures inside { IfSome result (λ place. lies_in 1 EVENTS place ≡ true) }
+{
+    read_count(text, 1)
 }
 
 /// After how many events something happens: 0 to 1,000,000.
 pub(crate) fn read_events(text: &str) -> Option<u32>
     ensures { result ≡ number_in 0 EVENTS text.now }
 {
-    let events = read_number(text, 0, EVENTS)?;
-    Some(events as u32)
+    read_count(text, 0)
 }

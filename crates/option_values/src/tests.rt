@@ -1,5 +1,7 @@
 //! Texts of values, and what they mean; None where they break their rule.
-use super::{LOG, RunRules, RunWords, SizeWords, read_demo_size, read_nodes, read_watch};
+use super::{
+    LOG, Places, RunRules, RunWords, SizeWords, read_demo_size, read_nodes, read_places, read_watch,
+};
 use sn_base::{Config, NodeId, Rules, SwitchId};
 
 #[test]
@@ -52,6 +54,40 @@ fn a_watched_word_is_aligned_and_lies_in_memory(rt: HostRuntime) {
         assert_eq!(rt; read_watch(Some(text)), watch, "at {text}");
     }
     assert!(rt; read_watch(None) == Some(None));
+}
+
+fn ends_of(text: &str) -> Option<(u32, u32)> {
+    match read_places(Some(text)) {
+        Some(Some(Places { from, to })) => Some((from, to)),
+        _ => None,
+    }
+}
+
+#[test]
+fn places_are_two_numbers_from_1_in_their_order(rt: HostRuntime) {
+    let rows = [
+        ("1-1", Some((1, 1))),
+        ("3-9", Some((3, 9))),
+        ("003-1000000", Some((3, 1_000_000))),
+        ("9-3", None),
+        ("0-1", None),
+        ("0-0", None),
+        ("1-1000001", None),
+        ("1-", None),
+        ("-1", None),
+        ("-", None),
+        ("1", None),
+        ("1-2-3", None),
+        ("1--2", None),
+        ("1 -2", None),
+        ("1-2 ", None),
+        ("", None),
+        ("1–2", None),
+    ];
+    for (text, places) in rows {
+        assert_eq!(rt; ends_of(text), places, "at {text}");
+    }
+    assert!(rt; read_places(None) == Some(None));
 }
 
 #[test]

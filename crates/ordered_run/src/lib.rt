@@ -9,7 +9,6 @@ mod course;
 mod laws;
 mod running;
 mod starting;
-mod telling;
 mod turns;
 
 pub use laws::{an_ordered_journal_is_due, an_ordered_run_ends, same_run_same_bytes};

@@ -11,10 +11,9 @@ ghost use Rattle.ordered_run.specs.Stands.{Stands, IsReady, its_start};
 
 use crate::course::Course;
 use crate::starting::start;
-use crate::telling::tell;
 use crate::turns::make_turns;
 use node_run::{Ending, Run, RunFault, put_ended};
-use node_threads::Finished;
+use node_threads::{Finished, tell};
 use sn_io::Sink;
 use sn_probe::ProbeSet;
 use sn_text::Line;

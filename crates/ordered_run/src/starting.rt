@@ -1,18 +1,17 @@
 //! A run before its first turn.
-ghost use Rattle.std.specs.Prelude.{◌≡◌, ◌+◌, ◌≤◌, true, [], length, vec_capacity, IfOk};
+ghost use Rattle.std.specs.Prelude.{◌≡◌, ◌≤◌, true, [], length, vec_capacity, IfOk};
 ghost use Rattle.sn_base.specs.declared.limits.TheConstants.{EVENTS};
 ghost use Rattle.sn_base.specs.Config.{config_fits};
 ghost use Rattle.sn_base.specs.Rules.{AreRules};
-ghost use Rattle.sn_model.specs.Machine.{start_of};
 ghost use Rattle.turn_orders.specs.Drawn.{AreDrawn};
 ghost use Rattle.ordered_run.specs.Stands.{Stands, IsReady, its_start};
 
 use crate::course::Course;
+use node_run::machine_for;
 use rand_pcg::Pcg32;
 use run_journals::JournalEntry;
 use sn_base::{Answer, Config, Image, Memory, Rules};
 use sn_driver::Driver;
-use sn_machine::Machine;
 use std::alloc::Global;
 use turn_orders::{Order, Scheduler, generators};
 
@@ -37,25 +36,6 @@ fn room_for(alloc: Global, seed: u64, budget: u32, workers: u8) -> Result<Room, 
         journal,
         answers,
     })
-}
-
-// A machine of these sizes at the start of the program, with room for the events.
-fn machine_for(
-    alloc: Global,
-    program: Image,
-    config: Config,
-    budget: u32,
-) -> Result<Machine, Memory>
-    requires sizes { config_fits config ≡ true }
-    requires few { budget ≤ EVENTS }
-    ensures program { IfOk result (λ m. (m.image ≡ program) × (m.config ≡ config)) }
-    ensures start { IfOk result (λ m. (m.applied ≡ 0) × (m.state ≡ start_of program config.nodes)) }
-    ensures room { IfOk result (λ m. budget + 1 ≤ m.spare) }
-{
-    let mut machine = Machine::new(alloc, program, config)?;
-    // One event more than the run does, so that it may always be asked for one.
-    machine.reserve(budget + 1)?;
-    Ok(machine)
 }
 
 /// Takes all memory of the run.

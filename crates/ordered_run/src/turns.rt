@@ -1,20 +1,18 @@
 //! The turns of a run, and what is put to the console of each.
-ghost use Rattle.std.specs.Prelude.{◌≡◌, ◌+◌, ◌<◌, ◌≤◌, nat_le, Some, [], ◌∷◌, ◌++◌, length, take, drop, vec_len, vec_capacity, IfOk, IfErr, IfSome, IsNone, OnOk, OnErr};
+ghost use Rattle.std.specs.Prelude.{◌≡◌, ◌<◌, ◌≤◌, Some, length, take, drop, IfOk, IfErr, IfSome, IsNone, OnOk, OnErr};
 ghost use Rattle.sn_io.specs.Outside.{Rose};
 ghost use Rattle.sn_console.specs.Handed.{IsHandedOn, IsBegun};
-ghost use Rattle.run_journals.specs.Journal.{entry_of};
 ghost use Rattle.shared_machine.specs.Shared.{refusal_of, Did};
 ghost use Rattle.ordered_run.specs.Stands.{Stands, IsReady, IsSameRun, IsNext, IsRefused, EndsTurns};
 
 use crate::course::Course;
-use run_journals::JournalEntry;
 use shared_machine::Finish;
 use sink_pieces::put_console;
 use sn_base::{Answer, Event};
 use sn_driver::{Driver, Turn};
 use sn_io::{Failed, Sink};
 use sn_machine::Machine;
-use turn_orders::draw;
+use turn_orders::{draw, note};
 
 // One turn of the driver, where the run goes on: nothing is done where the budget is spent.
 fn drive(
@@ -40,24 +38,6 @@ fn drive(
         Turn::Over => Err(Finish::Over),
         Turn::CutOff(first, second) => Err(Finish::CutOff(first, second)),
     }
-}
-
-// Adds an event to the journal, and its answer to the answers.
-fn note(
-    journal: &mut Vec<JournalEntry>,
-    answers: &mut Vec<Answer>,
-    worker: u32,
-    event: Event,
-    answer: Answer,
-)
-    requires journal { vec_len journal.old < vec_capacity journal.old }
-    requires answers { vec_len answers.old < vec_capacity answers.old }
-    ensures entry { journal.new.items ≡ journal.old.items ++ entry_of worker event ∷ [] }
-    ensures answer { answers.new.items ≡ answers.old.items ++ answer ∷ [] }
-    ensures room { (vec_capacity journal.old ≤ vec_capacity journal.new) × (vec_capacity answers.old ≤ vec_capacity answers.new) }
-{
-    journal.push(JournalEntry { worker, event }).unwrap();
-    answers.push(answer).unwrap();
 }
 
 // One turn of the worker whose it is, or why there is none any more.

@@ -25,12 +25,15 @@ use Rattle.ordered_run.specs.Shown.{IsDone as IsOrderDone, IsBrokenOff as IsOrde
 use Rattle.monitor_run.specs.declared.job.Monitor.{Monitor}
 use Rattle.monitor_run.specs.Shown.{IsDone as IsWatchDone, IsBrokenOff as IsWatchBroken}
 use Rattle.safetynet_main.specs.LoadPlan.{Loads}
-use Rattle.safetynet_main.specs.Call.{Fetches, AsksNothing, plan_of, due_of, EndsIn, Follows, Comes}
+use Rattle.shown_states.specs.declared.job.StatesReplay.{StatesReplay}
+use Rattle.shown_states.specs.Shown.{IsShown as AreStatesShown, IsShownInPart as AreStatesShownInPart, IsCutShort as AreStatesCutShort}
+use Rattle.safetynet_main.specs.Call.{Fetches, AsksNothing, plan_of, due_of, EndsIn, Follows, Comes, IsCutShort, EndsInTheMiddle}
 use Rattle.safetynet_main.specs.Outcome.{Outcome, Finished, Judged, JudgedAccesses, Ran, Watched, IsVerdict, verdict_line, verdict_status}
 use Rattle.safetynet_main.specs.Outcome.{access_status, ending_status, status_of}
 use Rattle.safetynet_main.specs.declared.job.Check.{Check}
 use Rattle.safetynet_main.specs.declared.job.Job.{Job}
-use Rattle.safetynet_main.specs.declared.job.Job.TheVariants.{Run as RunJob, OrderedRun as OrderedJob, Monitor as MonitorJob, Check as CheckJob, Judge as JudgeJob}
+use Rattle.safetynet_main.specs.declared.job.Job.TheVariants.{States as StatesJob, Run as RunJob, OrderedRun as OrderedJob, Monitor as MonitorJob}
+use Rattle.safetynet_main.specs.declared.job.Job.TheVariants.{Check as CheckJob, Judge as JudgeJob}
 use Rattle.safetynet_main.specs.declared.job.Verdict.{Verdict}
 use Rattle.safetynet_main.specs.declared.job.Verdict.TheVariants as verdict
 use Rattle.safetynet_main.specs.declared.status.Status.{Status}
@@ -227,6 +230,38 @@ pub follows-accesses_broken : (probes : List Meter) (said : Said) (verdict : Acc
     Follows probes (Ok (JudgeJob said)) status was is (ends c old) (ends c new)
 follows-accesses_broken probes said verdict status was is c old new s h =
     inl (JudgedAccesses verdict, (h.right, inr (s, h.breaks c, tt)))
+
+pub follows-states_done : (probes : List Meter) (job : Job) (r : StatesReplay) (was is : ℕ) (before behind : Ends) → job ≡ StatesJob r →
+    AreStatesShown r probes before behind → Follows probes (Ok job) Done was is before behind
+follows-states_done probes job r was is before behind e h =
+    subst (λ (j : Job). Follows probes (Ok j) Done was is before behind) (sym e) (inl (Finished, (refl, inl (refl, h.put, h))))
+
+pub follows-states_broken : (probes : List Meter) (job : Job) (r : StatesReplay) (was is : ℕ) (before behind : Ends) → job ≡ StatesJob r →
+    AreStatesShownInPart r probes before behind → Follows probes (Ok job) SinkFault was is before behind
+follows-states_broken probes job r was is before behind e h =
+    subst (λ (j : Job). Follows probes (Ok j) SinkFault was is before behind) (sym e) (inl (Finished, (refl, inr (refl, h.broken, h))))
+
+-- memory was lacking: nothing is written, or the states of some first events are
+pub states-cut_short : (probes told : List Meter) (job : Job) (r : StatesReplay) (before behind : Ends) (C R P : Type 0) → job ≡ StatesJob r →
+    (C × R × P) ⊎ AreStatesCutShort r probes before behind told → (C × R) ⊎ ((Memory ≡ Memory) × IsCutShort probes job before behind)
+states-cut_short probes told job r before behind C R P e (inl (c, r_same, p)) = inl (c, r_same)
+states-cut_short probes told job r before behind C R P e (inr h) =
+    inr (refl, subst (λ (j : Job). IsCutShort probes j before behind) (sym e) (told, h))
+
+pub middle-some : {S : Type 0} (fetches : S → List ℕ → ℕ → Found → S → Type 0) (probes : List Meter) (ask : Option Request) (r : Request)
+    (job : Job) (status : Status) (old new : S) (before behind : Ends) (A : Type 0) → ask ≡ Some r →
+    Loads fetches (plan_of (Some r)) (Ok job) old new → A ⊎ ((status ≡ Memory) × IsCutShort probes job before behind) →
+    A ⊎ ((status ≡ Memory) × EndsInTheMiddle fetches probes ask old new before behind)
+middle-some fetches probes ask r job status old new before behind A e h (inl a) = inl a
+middle-some fetches probes ask r job status old new before behind A e h (inr (m, cut)) =
+    inr (m, (job, subst (λ (a : Option Request). Loads fetches (plan_of a) (Ok job) old new) (sym e) h, cut))
+
+pub middle-same : {S : Type 0} (fetches : S → List ℕ → ℕ → Found → S → Type 0) (probes others : List Meter) (ask : Option Request)
+    (status : Status) (old new : S) (before behind : Ends) (A : Type 0) → others ≡ probes →
+    A ⊎ ((status ≡ Memory) × EndsInTheMiddle fetches others ask old new before behind) →
+    A ⊎ ((status ≡ Memory) × EndsInTheMiddle fetches probes ask old new before behind)
+middle-same fetches probes others ask status old new before behind A e h =
+    subst (λ (p : List Meter). A ⊎ ((status ≡ Memory) × EndsInTheMiddle fetches p ask old new before behind)) e h
 
 pub follows-run_done : (probes told : List Meter) (job : Job) (r : Run) (ending : Ending) (status : Status) (was is : ℕ) (before behind : Ends) →
     job ≡ RunJob r → status ≡ ending_status ending → IsRunDone r probes ending before behind told →

@@ -22,13 +22,13 @@ use Rattle.command_words.specs.Request.{Request, Replay, Roll, Run, Monitor, Che
 use Rattle.sn_base.specs.declared.report.RunReport.{RunReport}
 use Rattle.option_values.specs.declared.run.RunRules.{RunRules}
 use Rattle.command_words.specs.declared.request.RunOrder.{RunOrder}
-use Rattle.script_replay.specs.declared.job.Showing.{Showing}
+use Rattle.command_words.specs.declared.request.ReplayReport.{ReplayReport}
 use Rattle.asm_texts.specs.Texts.{words_text}
 use Rattle.counting_program.specs.Program.{counting_words}
 use Rattle.safetynet_main.specs.Files.{program_limit, script_limit, accesses_limit, if_loaded, program_of, if_read, events_of, steps_of, records_of}
 use Rattle.safetynet_main.specs.Files.{if_said, accesses_of, if_assembled, assembly_of, listing_of}
 use Rattle.safetynet_main.specs.LoadPlan.{LoadPlan, Due, Fetch, due_by, Loads}
-use Rattle.safetynet_main.specs.Call.{Fetches, report_of, job_with, roll_with, run_with, monitor_with, check_with, judge_with, text_job}
+use Rattle.safetynet_main.specs.Call.{Fetches, job_with, roll_with, run_with, monitor_with, check_with, judge_with, text_job}
 use Rattle.safetynet_main.specs.Call.{script_plan, control_plan, rolled_plan, trace_plan}
 use Rattle.safetynet_main.specs.Call.{generated_job, plan_of}
 use Rattle.safetynet_main.specs.declared.job.Job.{Job}
@@ -80,10 +80,10 @@ assembled r true = (λ e. cc, λ e. cc)
 assembled (Ok words) false = (λ e. cc, λ e. cc)
 assembled (Err cause) false = (λ e. cc, λ e. cc)
 
-plain-job : (config : Config) (showing : Showing) (image : ImageData) (events : Result (List Event) Status) → IsOfBytes events →
-    IsOfBytes (job_with config showing image events)
-plain-job config showing image (Ok events) h = (λ e. cc, λ e. cc)
-plain-job config showing image (Err status) h = (λ e. h.0 cc, λ e. h.1 cc)
+plain-job : (config : Config) (report : ReplayReport) (watch : Option ℕ) (image : ImageData) (events : Result (List Event) Status) → IsOfBytes events →
+    IsOfBytes (job_with config report watch image events)
+plain-job config report watch image (Ok events) h = (λ e. cc, λ e. cc)
+plain-job config report watch image (Err status) h = (λ e. h.0 cc, λ e. h.1 cc)
 
 plain-roll : (config : Config) (watch : Option ℕ) (image : ImageData) (events : List Event) (controls : Result (List Control) Status) →
     IsOfBytes controls → IsOfBytes (roll_with config watch image events controls)
@@ -117,13 +117,13 @@ plain-listing : (program : Result ImageData Status) → IsOfBytes program → Is
 plain-listing (Ok image) h = (λ e. cc, λ e. cc)
 plain-listing (Err status) h = (λ e. h.0 cc, λ e. h.1 cc)
 
-plain-script : (config : Config) (showing : Showing) (script : List ℕ) (program : Result ImageData Status) → IsOfBytes program →
-    IsPlain (script_plan config showing script program)
-plain-script config showing script (Err status) h = (λ e. h.0 cc, λ e. h.1 cc)
-plain-script config showing script (Ok image) h = (
+plain-script : (config : Config) (report : ReplayReport) (watch : Option ℕ) (script : List ℕ) (program : Result ImageData Status) → IsOfBytes program →
+    IsPlain (script_plan config report watch script program)
+plain-script config report watch script (Err status) h = (λ e. h.0 cc, λ e. h.1 cc)
+plain-script config report watch script (Ok image) h = (
   refl,
-  plain-job config showing image (Err (BadScript ScriptTooLong)) (λ e. cc, λ e. cc),
-  λ bytes. plain-job config showing image (events_of config.nodes bytes)
+  plain-job config report watch image (Err (BadScript ScriptTooLong)) (λ e. cc, λ e. cc),
+  λ bytes. plain-job config report watch image (events_of config.nodes bytes)
       (read (script_of config.nodes bytes) (nat_lt script_limit (length bytes))),
 )
 
@@ -172,12 +172,11 @@ plan-of_words (Some (Check nodes program trace)) = (
 )
 plan-of_words (Some (Demo size)) =
     inr (plain-generated size (program_of (words_text counting_words)) (program-of_bytes (words_text counting_words)))
-plan-of_words (Some (Replay config trace watch program script)) =
-    let showing : Showing = record { report = report_of trace; watch = watch } in (
-      refl,
-      plain-script config showing script (Err (BadProgram ProgramTooLong)) (λ e. cc, λ e. cc),
-      λ bytes. plain-script config showing script (program_of bytes) (program-of_bytes bytes),
-    )
+plan-of_words (Some (Replay config report watch program script)) = (
+  refl,
+  plain-script config report watch script (Err (BadProgram ProgramTooLong)) (λ e. cc, λ e. cc),
+  λ bytes. plain-script config report watch script (program_of bytes) (program-of_bytes bytes),
+)
 plan-of_words (Some (Roll config watch program script control)) = (
   refl,
   plain-rolled config watch script control (Err (BadProgram ProgramTooLong)) (λ e. cc, λ e. cc),
@@ -338,7 +337,7 @@ refused-at_once None e = refl
 refused-at_once (Some (Check nodes program trace)) e = absurd cc
 refused-at_once (Some (Demo size)) e =
     absurd ((plain-generated size (program_of (words_text counting_words)) (program-of_bytes (words_text counting_words))).1 cc)
-refused-at_once (Some (Replay config trace watch program script)) e = absurd cc
+refused-at_once (Some (Replay config report watch program script)) e = absurd cc
 refused-at_once (Some (Roll config watch program script control)) e = absurd cc
 refused-at_once (Some (Run config rules report order watch program)) e = absurd cc
 refused-at_once (Some (Monitor config rules watch program)) e = absurd cc

@@ -6,8 +6,8 @@ use Rattle.sn_base.specs.declared.config.Config.{Config}
 use Rattle.sn_base.specs.declared.event.Event.{Event}
 use Rattle.rv_core.specs.declared.step.Record.{Record}
 use Rattle.sn_io.specs.Outside.{Found}
-use Rattle.script_replay.specs.declared.job.Showing.{Showing}
 use Rattle.option_values.specs.declared.run.RunRules.{RunRules}
+use Rattle.command_words.specs.declared.request.ReplayReport.{ReplayReport}
 use Rattle.command_words.specs.declared.request.RunOrder.{RunOrder}
 use Rattle.sn_base.specs.declared.report.RunReport.{RunReport}
 use Rattle.rolling_recovery.specs.declared.controls.Control.{Control}
@@ -28,17 +28,17 @@ module _ {S : Type 0} (fetches : S → List ℕ → ℕ → Found → S → Type
       (h.0, mid, h.1, subst (λ (r : Result ImageData Status). Loads fetches (rest r) job mid new) h.2 l)
 
   -- a replay's files, by the names that the request has
-  pub loads-replay : (config : Config) (showing : Showing) (events : Result (List Event) Status)
+  pub loads-replay : (config : Config) (report : ReplayReport) (watch : Option ℕ) (events : Result (List Event) Status)
       (program script asked_program asked_script : List ℕ)
       → program ≡ asked_program → script ≡ asked_script
       → (found : Found) × fetches old program program_limit found mid × (Ok image ≡ program_in found)
       → (found : Found) × fetches mid script script_limit found new × (events ≡ script_in config.nodes found)
-      → Loads fetches (replay_plan config showing asked_program asked_script) (job_with config showing image events) old new
-  loads-replay config showing events program script asked_program asked_script p s h k =
-      subst (λ (t : List ℕ). Loads fetches (replay_plan config showing t asked_script) (job_with config showing image events) old new) p
-      (subst (λ (t : List ℕ). Loads fetches (replay_plan config showing program t) (job_with config showing image events) old new) s
-      (loads-rest (script_plan config showing script) (job_with config showing image events) program h
-      (k.0, new, k.1, (ap (job_with config showing image) k.2, refl))))
+      → Loads fetches (replay_plan config report watch asked_program asked_script) (job_with config report watch image events) old new
+  loads-replay config report watch events program script asked_program asked_script p s h k =
+      subst (λ (t : List ℕ). Loads fetches (replay_plan config report watch t asked_script) (job_with config report watch image events) old new) p
+      (subst (λ (t : List ℕ). Loads fetches (replay_plan config report watch program t) (job_with config report watch image events) old new) s
+      (loads-rest (script_plan config report watch script) (job_with config report watch image events) program h
+      (k.0, new, k.1, (ap (job_with config report watch image) k.2, refl))))
 
   -- a check's
   pub loads-check : (nodes : ℕ) (records : Result (List Record) Status) (program trace asked_program asked_trace : List ℕ)

@@ -1,15 +1,22 @@
--- A watched word that fits is one of memory, and rules that fit are ones that so many nodes can keep.
-use Rattle.std.proofs.Common.{◌≡◌, ℕ, ◌≤◌, ◌<◌, ◌*◌, true, Option, Some, None, arith}
+-- A watched word that fits is one of memory, rules that fit are ones that so many nodes can keep, and a replay of what was read may begin.
+use Rattle.std.proofs.Common.{◌≡◌, ℕ, ◌≤◌, ◌<◌, ◌*◌, true, List, length, Option, Some, None, arith}
 use Rattle.std.specs.Prelude.{IfSome}
 use Rattle.std.proofs.lemmas.Bool.Decides.{nat_tests}
 use Rattle.sn_base.specs.Config.{config_fits}
 use Rattle.sn_base.specs.declared.config.Config.{Config}
+use Rattle.sn_base.specs.Image.{ImageData}
 use Rattle.sn_base.specs.Rules.{AreRules, kill_fits}
+use Rattle.sn_base.specs.declared.event.Event.{Event}
+use Rattle.sn_base.specs.declared.limits.TheConstants.{EVENTS}
+use Rattle.consistent_cuts.specs.Runs.{AllFit}
 use Rattle.option_values.specs.Values.{is_word_address}
 use Rattle.option_values.specs.Runs.{run_rules_fit}
 use Rattle.option_values.specs.declared.run.RunRules.{RunRules}
 use Rattle.command_words.specs.Request.{watch_fits}
+use Rattle.command_words.specs.declared.request.ReplayReport.{ReplayReport}
+use Rattle.command_words.specs.declared.request.ReplayReport.TheVariants as replayed
 use Rattle.script_replay.specs.Played.{IsWord, IsWatchable}
+use Rattle.safetynet_main.specs.Call.{replay_job, IsRead}
 
 word-is : (address : ℕ) → is_word_address address ≡ true → IsWord address
 word-is address e = record { low = grind (arith, nat_tests); high = grind (arith, nat_tests); aligned = grind (arith, nat_tests) }
@@ -17,6 +24,16 @@ word-is address e = record { low = grind (arith, nat_tests); high = grind (arith
 pub watched_is : (watch : Option ℕ) → watch_fits watch ≡ true → IsWatchable watch
 watched_is None e = tt
 watched_is (Some address) e = word-is address e
+
+pub replay_may_begin : (config : Config) (report : ReplayReport) (watch : Option ℕ) (image : ImageData) (events : List Event) →
+    config_fits config ≡ true → AllFit config.nodes events → length events ≤ EVENTS → watch_fits watch ≡ true →
+    IsRead (replay_job config report watch image events)
+replay_may_begin config replayed.Events watch image events fits all few watched =
+    record { run = record { fits = fits; events_fit = all }; few = few; watched = watched_is watch watched }
+replay_may_begin config replayed.Trace watch image events fits all few watched =
+    record { run = record { fits = fits; events_fit = all }; few = few; watched = watched_is watch watched }
+replay_may_begin config (replayed.States only) watch image events fits all few watched =
+    record { run = record { fits = fits; events_fit = all }; few = few; watched = watched_is watch watched }
 
 kill-is : (nodes : ℕ) (kill : Option (ℕ × ℕ)) → kill_fits nodes kill ≡ true → IfSome kill (λ rule. rule.0 < 2 * nodes)
 kill-is nodes None e = tt

@@ -8,18 +8,20 @@ use Rattle.sn_base.specs.declared.event.Event.{Event}
 use Rattle.rv_core.specs.declared.step.Record.{Record}
 use Rattle.sn_io.specs.Outside.{Found, File, TooLong, Missing, Rose, found_in}
 use Rattle.option_values.specs.declared.run.RunRules.{RunRules}
+use Rattle.command_words.specs.declared.request.ReplayReport.{ReplayReport}
+use Rattle.command_words.specs.declared.request.ReplayReport.TheVariants as replayed
 use Rattle.command_words.specs.declared.request.RunOrder.{RunOrder}
 use Rattle.command_words.specs.declared.request.RunOrder.TheVariants as order
 use Rattle.command_words.specs.Request.{Request, Replay, Roll as RollRequest, Run as RunRequest, Monitor as MonitorRequest, Check, Demo}
 use Rattle.command_words.specs.Request.{Judge as JudgeRequest, Assemble, Disassemble}
 use Rattle.sn_probe.specs.Probes.{Meter}
 use Rattle.sink_pieces.specs.Pieces.{Piece, Report, Ends, after, Breaks, console_piece}
-use Rattle.script_replay.specs.declared.job.Showing.{Showing}
-use Rattle.script_replay.specs.declared.job.ReportKind.{ReportKind}
 use Rattle.script_replay.specs.declared.job.ReportKind.TheVariants.{Events, Trace as TraceReport, Summary}
 use Rattle.script_replay.specs.Played.{MayBegin}
 use Rattle.script_replay.specs.Probed.{tallies_due}
 use Rattle.script_replay.specs.Shown.{pieces_due, IsShown, IsShownInPart}
+use Rattle.shown_states.specs.Shown.{MayBegin as MayShowStates, pieces_due as states_pieces, IsShown as AreStatesShown}
+use Rattle.shown_states.specs.Shown.{IsShownInPart as AreStatesShownInPart, IsCutShort as AreStatesCutShort}
 use Rattle.rolling_recovery.specs.declared.controls.Control.{Control}
 use Rattle.rolled_replay.specs.Rolled.{MayRoll, IsRolled, IsBrokenOff as IsRollBrokenOff, pieces_due as rolled_pieces}
 use Rattle.run_journals.specs.declared.entry.JournalEntry.{JournalEntry}
@@ -48,7 +50,8 @@ use Rattle.safetynet_main.specs.LoadPlan.{LoadPlan, Due, Fetch, due_by, Loads}
 use Rattle.safetynet_main.specs.Outcome.{Outcome, Finished, Judged, JudgedAccesses, Ran, Watched, IsVerdict, verdict_line, status_of}
 use Rattle.safetynet_main.specs.declared.job.Check.{Check as Judging}
 use Rattle.safetynet_main.specs.declared.job.Job.{Job}
-use Rattle.safetynet_main.specs.declared.job.Job.TheVariants.{Replay as ReplayJob, Roll as RollJob, Run as RunJob, Monitor as MonitorJob}
+use Rattle.safetynet_main.specs.declared.job.Job.TheVariants.{Replay as ReplayJob, States as StatesJob, Roll as RollJob, Run as RunJob}
+use Rattle.safetynet_main.specs.declared.job.Job.TheVariants.{Monitor as MonitorJob}
 use Rattle.safetynet_main.specs.declared.job.Job.TheVariants.{OrderedRun as OrderedJob, Check as CheckJob, Judge as JudgeJob, Text}
 use Rattle.safetynet_main.specs.declared.files.Unread.{Unread}
 use Rattle.safetynet_main.specs.declared.files.Unread.TheVariants.{Missing as UnreadMissing, TooLong as UnreadTooLong}
@@ -73,10 +76,19 @@ pub record Fetches {S : Type 0} (files : S → Option (List ℕ → Option (List
   pub same_files : files new ≡ files old
   pub stays_sure : sure old → sure new
 
--- the job of a program and of what was read of the script
-abbrev pub job_with : Config → Showing → ImageData → Result (List Event) Status → Result Job Status
-job_with config showing image (Ok events) = Ok (ReplayJob (record { program = image; config = config; showing = showing; script = events }))
-job_with config showing image (Err status) = Err status
+-- the job of a program and of a script's events, by what is shown of them
+abbrev pub replay_job : Config → ReplayReport → Option ℕ → ImageData → List Event → Job
+replay_job config replayed.Events watch image events =
+    ReplayJob (record { program = image; config = config; showing = record { report = Events; watch = watch }; script = events })
+replay_job config replayed.Trace watch image events =
+    ReplayJob (record { program = image; config = config; showing = record { report = TraceReport; watch = watch }; script = events })
+replay_job config (replayed.States only) watch image events =
+    StatesJob (record { program = image; config = config; watch = watch; only = only; script = events })
+
+-- the same of what was read of the script
+abbrev pub job_with : Config → ReplayReport → Option ℕ → ImageData → Result (List Event) Status → Result Job Status
+job_with config report watch image (Ok events) = Ok (replay_job config report watch image events)
+job_with config report watch image (Err status) = Err status
 
 -- the job of a program, of a script's events and of what was read of the control file
 abbrev pub roll_with : Config → Option ℕ → ImageData → List Event → Result (List Control) Status → Result Job Status
@@ -136,10 +148,10 @@ monitor_with config rules watch (Ok image) = Ok (MonitorJob (monitor_of config r
 monitor_with config rules watch (Err status) = Err status
 
 -- a program that is refused leaves the script alone, or the trace
-abbrev pub script_plan : Config → Showing → List ℕ → Result ImageData Status → LoadPlan
-script_plan config showing script (Ok image) =
-    Fetch script script_limit (λ found. Due (job_with config showing image (script_in config.nodes found)))
-script_plan config showing script (Err status) = Due (Err status)
+abbrev pub script_plan : Config → ReplayReport → Option ℕ → List ℕ → Result ImageData Status → LoadPlan
+script_plan config report watch script (Ok image) =
+    Fetch script script_limit (λ found. Due (job_with config report watch image (script_in config.nodes found)))
+script_plan config report watch script (Err status) = Due (Err status)
 
 -- a script that is refused leaves the control file alone
 abbrev pub control_plan : Config → Option ℕ → List ℕ → ImageData → Result (List Event) Status → LoadPlan
@@ -156,14 +168,10 @@ abbrev pub trace_plan : ℕ → List ℕ → Result ImageData Status → LoadPla
 trace_plan nodes trace (Ok image) = Fetch trace script_limit (λ found. Due (check_with nodes image (trace_in nodes found)))
 trace_plan nodes trace (Err status) = Due (Err status)
 
--- the report that the words ask for
-abbrev pub report_of : Bool → ReportKind
-report_of true = TraceReport
-report_of false = Events
-
 -- what each command fetches, and what is due then
-abbrev pub replay_plan : Config → Showing → List ℕ → List ℕ → LoadPlan
-replay_plan config showing program script = Fetch program program_limit (λ found. script_plan config showing script (program_in found))
+abbrev pub replay_plan : Config → ReplayReport → Option ℕ → List ℕ → List ℕ → LoadPlan
+replay_plan config report watch program script =
+    Fetch program program_limit (λ found. script_plan config report watch script (program_in found))
 
 abbrev pub roll_plan : Config → Option ℕ → List ℕ → List ℕ → List ℕ → LoadPlan
 roll_plan config watch program script control =
@@ -190,7 +198,13 @@ listing_plan program = Fetch program program_limit (λ found. Due (text_job (lis
 
 -- the job of a generated run, of which the summary alone is shown
 abbrev pub generated_job : ℕ → Result ImageData Status → Result Job Status
-generated_job size (Ok image) = job_with generated_config (record { report = Summary; watch = None }) image (Ok (generated_events size))
+generated_job size (Ok image) =
+    Ok (ReplayJob (record {
+      program = image;
+      config = generated_config;
+      showing = record { report = Summary; watch = None };
+      script = generated_events size;
+    }))
 generated_job size (Err status) = Err status
 
 -- it needs no file: its program is a text of this repository's own
@@ -199,8 +213,7 @@ demo_plan size = Due (generated_job size (program_of (words_text counting_words)
 
 -- words that aren't a command's are refused
 abbrev pub plan_of : Option Request → LoadPlan
-plan_of (Some (Replay config trace watch program script)) =
-    replay_plan config (record { report = report_of trace; watch = watch }) program script
+plan_of (Some (Replay config report watch program script)) = replay_plan config report watch program script
 plan_of (Some (RollRequest config watch program script control)) = roll_plan config watch program script control
 plan_of (Some (RunRequest config rules report order watch program)) = run_plan config rules report order watch program
 plan_of (Some (MonitorRequest config rules watch program)) = monitor_plan config rules watch program
@@ -247,6 +260,7 @@ AreJudged said _ = ⊥
 -- what a job comes to: events and a text come to their end, workers to one of a due journal, and a trace and accesses to their verdict
 abbrev pub IsOutcome : Job → Outcome → Type 0
 IsOutcome (ReplayJob r) outcome = outcome ≡ Finished
+IsOutcome (StatesJob r) outcome = outcome ≡ Finished
 IsOutcome (RollJob r) outcome = outcome ≡ Finished
 IsOutcome (RunJob r) outcome = RunsTo r outcome
 IsOutcome (OrderedJob r order) outcome = RunsInOrderTo r order outcome
@@ -275,6 +289,7 @@ access_pieces said _ = []
 -- all that a job puts that comes to this, where these probes are told its events
 abbrev pub pieces_of_job : List Meter → Job → Outcome → List Piece
 pieces_of_job probes (ReplayJob r) outcome = pieces_due r probes
+pieces_of_job probes (StatesJob r) outcome = states_pieces r probes
 pieces_of_job probes (RollJob r) outcome = rolled_pieces r probes
 pieces_of_job probes (RunJob r) outcome = journal_pieces probes r outcome
 pieces_of_job probes (OrderedJob r order) outcome = journal_pieces probes r outcome
@@ -308,6 +323,7 @@ ShowsWatchedInPart probes r _ old new = ⊥
 -- what the sinks show of a job that was done, and of one that a sink broke
 abbrev pub Shows : List Meter → Job → Outcome → Ends → Ends → Type 0
 Shows probes (ReplayJob r) outcome old new = IsShown r.program r.config r.showing (tallies_due r probes) r.script old new
+Shows probes (StatesJob r) outcome old new = AreStatesShown r probes old new
 Shows probes (RollJob r) outcome old new = IsRolled r probes old new
 Shows probes (RunJob r) outcome old new = ShowsRun probes r outcome old new
 Shows probes (OrderedJob r order) outcome old new = ShowsRun probes r outcome old new
@@ -318,6 +334,7 @@ Shows probes (Text text) outcome old new = ⊤
 
 abbrev pub ShowsInPart : List Meter → Job → Outcome → Ends → Ends → Type 0
 ShowsInPart probes (ReplayJob r) outcome old new = IsShownInPart r.program r.config r.showing (tallies_due r probes) r.script old new
+ShowsInPart probes (StatesJob r) outcome old new = AreStatesShownInPart r probes old new
 ShowsInPart probes (RollJob r) outcome old new = IsRollBrokenOff r probes old new
 ShowsInPart probes (RunJob r) outcome old new = ShowsRunInPart probes r outcome old new
 ShowsInPart probes (OrderedJob r order) outcome old new = ShowsRunInPart probes r outcome old new
@@ -332,6 +349,11 @@ abbrev pub BrokeOff : Job → ℕ → ℕ → Ends → Ends → Type 0
 BrokeOff (RunJob r) was is old new = Rose was is × ((journal : List JournalEntry) × IsStopped r journal old new)
 BrokeOff (OrderedJob r order) was is old new = Rose was is × ((turn : ℕ) × IsStopped r (journal_after order (begins r) turn) old new)
 BrokeOff _ was is old new = ⊥
+
+-- memory was wanted in the middle: the pieces of some first events are put, and no others; it is so of a replay that shows states alone
+abbrev pub IsCutShort : List Meter → Job → Ends → Ends → Type 0
+IsCutShort probes (StatesJob r) old new = (told : List Meter) × AreStatesCutShort r probes old new told
+IsCutShort probes _ old new = ⊥
 
 -- the job came to this, and all pieces are put, or a sink broke
 abbrev pub ComesTo : List Meter → Job → Status → Ends → Ends → Outcome → Type 0
@@ -352,9 +374,15 @@ abbrev pub Comes : {S : Type 0} → (S → List ℕ → ℕ → Found → S → 
 Comes fetches probes ask status old new was is before behind =
     (job : Result Job Status) × Loads fetches (plan_of ask) job old new × Follows probes job status was is before behind
 
+-- the same of a call whose job is cut short
+abbrev pub EndsInTheMiddle : {S : Type 0} → (S → List ℕ → ℕ → Found → S → Type 0) → List Meter → Option Request → S → S → Ends → Ends → Type 0
+EndsInTheMiddle fetches probes ask old new before behind =
+    (job : Job) × Loads fetches (plan_of ask) (Ok job) old new × IsCutShort probes job before behind
+
 -- a job that may begin
 abbrev pub IsRead : Job → Type 0
 IsRead (ReplayJob r) = MayBegin r
+IsRead (StatesJob r) = MayShowStates r
 IsRead (RollJob r) = MayRoll r
 IsRead (RunJob r) = MayRun r
 IsRead (OrderedJob r order) = MayRun r

@@ -5,7 +5,7 @@ ghost use Rattle.command_words.specs.Request.{ask_of};
 ghost use Rattle.sn_probe.specs.Probes.{meters_of, meters_in};
 ghost use Rattle.sink_pieces.specs.Pieces.{ends};
 ghost use Rattle.safetynet_main.specs.Status.{has_written};
-ghost use Rattle.safetynet_main.specs.Call.{Fetches, Comes, Follows, AsksNothing, due_of, EndsIn, IsRead};
+ghost use Rattle.safetynet_main.specs.Call.{Fetches, Comes, Follows, AsksNothing, due_of, EndsIn, IsCutShort, EndsInTheMiddle, IsRead};
 
 use crate::checking::check;
 use crate::demo::demo;
@@ -19,6 +19,7 @@ use node_run::{RunFault, run};
 use ordered_run::run as run_in_order;
 use rolled_replay::{RollFault, roll};
 use script_replay::{ReplayFault, replay};
+use shown_states::{StatesFault, replay_states};
 use sink_pieces::put_console;
 use sn_io::{Gate, Sink, Store};
 use sn_probe::{Probe, ProbeSet};
@@ -40,7 +41,9 @@ fn perform<T: Threads + Wait + Sync, C: Sink + Send, R: Sink, G: Gate + Sync>(
     ensures follows { result ≢ Status.Memory → Follows (meters_in first tally step probes.old.probes.items) (Ok job) result
         (C.faults console.old) (C.faults console.new)
         (ends (C.written console.old) (R.written report.old)) (ends (C.written console.new) (R.written report.new)) }
-    ensures nothing { has_written result ≡ false → (console.new ≡ console.old) × (report.new ≡ report.old) }
+    ensures nothing { has_written result ≡ false → ((console.new ≡ console.old) × (report.new ≡ report.old))
+        ⊎ ((result ≡ Status.Memory) × IsCutShort (meters_in first tally step probes.old.probes.items) job
+        (ends (C.written console.old) (R.written report.old)) (ends (C.written console.new) (R.written report.new))) }
     ensures cause { result ≡ Status.SinkFault
         → Rose (C.faults console.old) (C.faults console.new) ⊎ Rose (R.faults report.old) (R.faults report.new) }
 {
@@ -49,6 +52,11 @@ fn perform<T: Threads + Wait + Sync, C: Sink + Send, R: Sink, G: Gate + Sync>(
             Ok(()) => Status::Done,
             Err(ReplayFault::Sink) => Status::SinkFault,
             Err(ReplayFault::Memory) => Status::Memory,
+        },
+        Job::States(job) => match replay_states(alloc, job, probes, console, report) {
+            Ok(()) => Status::Done,
+            Err(StatesFault::Sink) => Status::SinkFault,
+            Err(StatesFault::Memory) => Status::Memory,
         },
         Job::Roll(job) => match roll(alloc, job, probes, console, report) {
             Ok(()) => Status::Done,
@@ -95,7 +103,10 @@ fn answer<T: Threads + Wait + Sync, S: Store, C: Sink + Send, R: Sink, G: Gate +
         (meters_in first tally step probes.old.probes.items) (ask_of (map string_bytes words.now)) result store.old store.new
         (C.faults console.old) (C.faults console.new)
         (ends (C.written console.old) (R.written report.old)) (ends (C.written console.new) (R.written report.new)) }
-    ensures nothing { has_written result ≡ false → (console.new ≡ console.old) × (report.new ≡ report.old) }
+    ensures nothing { has_written result ≡ false → ((console.new ≡ console.old) × (report.new ≡ report.old))
+        ⊎ ((result ≡ Status.Memory) × EndsInTheMiddle (Fetches S.files S.sure S.faults S.gave)
+        (meters_in first tally step probes.old.probes.items) (ask_of (map string_bytes words.now)) store.old store.new
+        (ends (C.written console.old) (R.written report.old)) (ends (C.written console.new) (R.written report.new))) }
     ensures sink_fault { result ≡ Status.SinkFault
         → Rose (C.faults console.old) (C.faults console.new) ⊎ Rose (R.faults report.old) (R.faults report.new) }
     ensures no_command { AsksNothing (ask_of (map string_bytes words.now)) →
@@ -163,7 +174,10 @@ pub fn safetynet<T: Threads + Wait + Sync, S: Store, C: Sink + Send, R: Sink, G:
     ensures store_fault { result ≡ Status.StoreFault → Rose (S.faults store.old) (S.faults store.new) }
     ensures sink_fault { result ≡ Status.SinkFault
         → Rose (C.faults console.old) (C.faults console.new) ⊎ Rose (R.faults report.old) (R.faults report.new) }
-    ensures nothing { has_written result ≡ false → (console.new ≡ console.old) × (report.new ≡ report.old) }
+    ensures nothing { has_written result ≡ false → ((console.new ≡ console.old) × (report.new ≡ report.old))
+        ⊎ ((result ≡ Status.Memory) × EndsInTheMiddle (Fetches S.files S.sure S.faults S.gave)
+        (meters_of first tally step probes.items) (ask_of (map string_bytes words.now)) store.old store.new
+        (ends (C.written console.old) (R.written report.old)) (ends (C.written console.new) (R.written report.new))) }
 
     // Whatever the answer is, the store's files are as before, and it is as sure.
     ensures files { S.files store.new ≡ S.files store.old }

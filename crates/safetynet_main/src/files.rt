@@ -9,7 +9,7 @@ ghost use Rattle.command_words.specs.Request.{as_request, watch_fits, request_fi
 ghost use Rattle.option_values.specs.Runs.{run_rules_fit};
 ghost use Rattle.safetynet_main.specs.Files.{program_in, script_in, control_in, trace_in, accesses_in, assembly_in};
 ghost use Rattle.safetynet_main.specs.LoadPlan.{Loads};
-ghost use Rattle.safetynet_main.specs.Call.{Fetches, found_by, report_of, plan_of, replay_plan, roll_plan};
+ghost use Rattle.safetynet_main.specs.Call.{Fetches, found_by, replay_job, plan_of, replay_plan, roll_plan};
 ghost use Rattle.safetynet_main.specs.Call.{run_plan, monitor_plan, check_plan, judge_plan, assembly_plan, listing_plan, IsRead};
 ghost use Rattle.sn_base.specs.declared.limits.TheConstants.{EVENTS};
 
@@ -20,13 +20,14 @@ use crate::reading::{
 };
 use crate::status::{ProgramCause, Status};
 use access_texts::AccessList;
-use command_words::{Request, RunOrder};
+use command_words::{ReplayReport, Request, RunOrder};
 use monitor_run::Monitor;
 use node_run::{Run, RunShowing};
 use rolled_replay::{Controls, Roll};
 use rv_asm::AsmCause;
 use script_replay::{Replay, ReportKind, Script, Showing};
-use sn_base::Image;
+use shown_states::StatesReplay;
+use sn_base::{Config, Image};
 use sn_io::{Fetched, Store, StoreFault};
 use sn_text::ScriptCause;
 use std::alloc::Global;
@@ -173,18 +174,42 @@ fn fetch_assembly<S: Store>(alloc: Global, store: &mut S, name: &str) -> Result<
     }
 }
 
-fn report_of(trace: bool) -> ReportKind
-    ensures { result ≡ report_of trace }
+// The job of a program and of a script's events.
+fn replay_job(
+    config: Config,
+    report: ReplayReport,
+    watch: Option<u32>,
+    program: Image,
+    script: Script,
+) -> Job
+    ensures { result ≡ replay_job config report watch program script }
 {
-    if trace {
-        ReportKind::Trace
-    } else {
-        ReportKind::Events
-    }
+    let kind = match report {
+        ReplayReport::States(only) => {
+            return Job::States(StatesReplay {
+                program,
+                config,
+                watch,
+                only,
+                script,
+            });
+        }
+        ReplayReport::Events => ReportKind::Events,
+        ReplayReport::Trace => ReportKind::Trace,
+    };
+    Job::Replay(Replay {
+        program,
+        config,
+        showing: Showing {
+            report: kind,
+            watch,
+        },
+        script,
+    })
 }
 
 // The program and the script of a replay, in this order.
-#[tactic(auto, using(crate::proofs::Watched::watched_is))]
+#[tactic(auto, using(crate::proofs::Watched::watched_is, crate::proofs::Watched::replay_may_begin))]
 fn load_replay<S: Store>(
     alloc: Global,
     store: &mut S,
@@ -193,8 +218,7 @@ fn load_replay<S: Store>(
     requires sizes { config_fits asked.now.config ≡ true }
     requires watched { watch_fits asked.now.watch ≡ true }
     ensures loads { result ≢ Err Status.Memory → Loads (Fetches S.files S.sure S.faults S.gave)
-        (replay_plan asked.now.config (record { report = report_of asked.now.trace; watch = asked.now.watch })
-        (string_bytes asked.now.program) (string_bytes asked.now.script))
+        (replay_plan asked.now.config asked.now.report asked.now.watch (string_bytes asked.now.program) (string_bytes asked.now.script))
         result store.old store.new }
     ensures read { IfOk result IsRead }
     ensures files { S.files store.new ≡ S.files store.old }
@@ -205,17 +229,9 @@ fn load_replay<S: Store>(
         Err(status) => return Err(status),
     };
     let config = asked.config;
-    let showing = Showing {
-        report: report_of(asked.trace),
-        watch: asked.watch,
-    };
+    let (report, watch) = (asked.report, asked.watch);
     match fetch_script(alloc, store, asked.script.as_str(), config.nodes) {
-        Ok(script) => Ok(Job::Replay(Replay {
-            program,
-            config,
-            showing,
-            script,
-        })),
+        Ok(script) => Ok(replay_job(config, report, watch, program, script)),
         Err(status) => Err(status),
     }
 }

@@ -9,6 +9,7 @@ use node_run::Run;
 use rolled_replay::Roll;
 use rv_core::Record;
 use script_replay::Replay;
+use shown_states::StatesReplay;
 use sn_base::Image;
 use std::marker::Model;
 use turn_orders::Order;
@@ -83,6 +84,8 @@ pub struct Check {
 pub enum Job {
     /// Events are applied.
     Replay(Replay),
+    /// Events are applied, and states are shown.
+    States(StatesReplay),
     /// Events are applied, and then controls lead a recovery.
     Roll(Roll),
     /// Workers run a machine, each in a thread of its own.

@@ -38,7 +38,8 @@ pub enum Status {
     SinkFault,
     /// A run has as many events as its budget. All text is written.
     Budget,
-    /// Memory was wanted and not given. Nothing is written.
+    /// Memory was wanted and not given. Nothing is written, but by a replay that shows states: it may have put the pieces of
+    /// some first events.
     Memory,
     /// In a run a recovery found these two nodes cut off from each other by switches that are dead. All text is written.
     CutOff(NodeId, NodeId),

@@ -29,13 +29,15 @@ pub trait Form {
         ensures good { IfOk result (good self.now) };
 }
 
-fn is_skipped(line: &[u8]) -> bool
+/// Whether a line says nothing: an empty one, or a comment.
+pub fn is_skipped(line: &[u8]) -> bool
     ensures { result ≡ is_skipped line.now }
 {
     line.is_empty() || line[0] == b'#'
 }
 
-fn cause_at(number: u64, fault: Fault) -> ScriptCause
+/// Why a text is refused for this line, whose number is counted from 1.
+pub fn cause_at(number: u64, fault: Fault) -> ScriptCause
     ensures { result ≡ cause_at number fault }
 {
     match fault {

@@ -19,10 +19,11 @@ mod trace;
 mod trace_text;
 
 pub use cause::{Fault, ScriptCause, ScriptFault};
-pub use items::{Form, read_items};
+pub use items::{Form, cause_at, is_skipped, read_items};
 pub use laws::{scripts_are_read_back, traces_are_read_back};
 pub use line::{LINE_ROOM, Line};
-pub use operands::{message_in, node_in};
+pub use numbers::number_in;
+pub use operands::{byte_in, message_in, node_in, parted};
 pub use script::{read_script, rest_after};
 pub use state_text::trap_name;
-pub use trace::read_trace;
+pub use trace::{read_trace, word_in};

@@ -42,7 +42,7 @@ fn digits_in(text: &[u8]) -> Option<u64>
 }
 
 /// A number as a script has it: 0, or digits without a leading zero, below 2^64.
-pub(crate) fn number_in(text: &[u8]) -> Option<u64>
+pub fn number_in(text: &[u8]) -> Option<u64>
     ensures { result ≡ number_of text.now }
 {
     if text.is_empty() {

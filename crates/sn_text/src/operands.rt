@@ -62,7 +62,7 @@ fn first_blank(text: &[u8]) -> Option<usize>
 }
 
 /// What stands before the first blank, and what stands after it.
-pub(crate) fn parted(text: &[u8]) -> Option<(&[u8], &[u8])>
+pub fn parted(text: &[u8]) -> Option<(&[u8], &[u8])>
     ensures { MatchOption result (parts_at_blank text.now ≡ None) (λ words. parts_at_blank text.now ≡ Some (words.0.now, words.1.now)) }
 {
     let blank = first_blank(text)?;
@@ -116,8 +116,8 @@ fn hex_value(byte: u8) -> Option<u8>
     }
 }
 
-/// The byte of two such digits.
-pub(crate) fn byte_in(text: &[u8]) -> Option<u8>
+/// The byte of two lower-case hexadecimal digits.
+pub fn byte_in(text: &[u8]) -> Option<u8>
     ensures { result ≡ byte_of text.now }
 {
     if text.len() != 2 {

@@ -12,9 +12,9 @@ use rv_core::Record;
 use std::alloc::Global;
 use std::marker::Model;
 
-/// The word of eight hexadecimal digits.
+/// The word of eight lower-case hexadecimal digits.
 #[tactic(auto, unfolding(crate::specs::Trace::word_of))]
-fn word_in(text: &[u8]) -> Option<u32>
+pub fn word_in(text: &[u8]) -> Option<u32>
     ensures { result ≡ word_of text.now }
 {
     if text.len() != 8 {

@@ -1,5 +1,5 @@
 //! The cells of the blocks that were accessed.
-ghost use Rattle.std.specs.Prelude.{◌≡◌, ◌≢◌, ℕ, ◌<◌, ◌↔◌, true, [], length, slice_index_or, IfOk, IsTrue};
+ghost use Rattle.std.specs.Prelude.{◌≡◌, ◌≢◌, ℕ, ◌<◌, ◌↔◌, true, false, [], length, slice_index_or, IfOk, IsTrue};
 ghost use Rattle.trace_check.specs.Cells.{Finds, IsAfter};
 ghost use Rattle.trace_check.specs.CellPlaces.{IsWide, cell_at, first_cell, missing};
 ghost use Rattle.trace_check.specs.Parts.{IsFitting};
@@ -113,6 +113,7 @@ fn replay_cell(cell: &mut Cell, effect: &MemoryEffect, taken: &Record) -> bool
     requires { IsFitting effect.now taken.now }
     ensures finds { IsTrue result ↔ Finds cell.old effect.now.want taken.now }
     ensures after { result ≡ true → IsAfter cell.old effect.now taken.now cell.new }
+    ensures kept { result ≡ false → cell.new ≡ cell.old }
 {
     if !cell.finds(effect.want(), taken) {
         return false;

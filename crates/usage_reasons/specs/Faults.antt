@@ -1,21 +1,22 @@
 -- What is wrong with the words of a call.
-use Rattle.std.specs.Prelude.{ℕ, Bool, true, false, not, ◌||◌, bytes_eq, if◌then◌else◌, List, [], ◌∷◌, ◌++◌, codes, Option, Some, None, is_some}
+use Rattle.std.specs.Prelude.{ℕ, Bool, true, false, not, ◌&&◌, ◌||◌, bytes_eq, if◌then◌else◌, List, [], ◌∷◌, ◌++◌, codes, Option, Some, None, is_some}
 use Rattle.std.specs.Prelude.{Result, Ok, Err}
 use Rattle.option_values.specs.Values.{Text, nodes_rule, number_by, watch_by, demo_size}
 use Rattle.option_values.specs.Runs.{kill_in}
+use Rattle.option_values.specs.Places.{places_by}
 use Rattle.usage_reasons.specs.declared.table.Command.{Command}
 use Rattle.usage_reasons.specs.declared.table.Command.TheVariants.{Demo}
 use Rattle.usage_reasons.specs.declared.table.Quantity.{Quantity}
 use Rattle.usage_reasons.specs.declared.table.Quantity.TheVariants.{Nodes}
 use Rattle.usage_reasons.specs.declared.table.Key.{Key}
-use Rattle.usage_reasons.specs.declared.table.Key.TheVariants.{Number, Watch, Kill, Order}
+use Rattle.usage_reasons.specs.declared.table.Key.TheVariants.{Number, Watch, Kill, Order, Only}
 use Rattle.usage_reasons.specs.Table.{command_by, files_of, flags_of, order_names, rule_of}
-use Rattle.usage_reasons.specs.Words.{begins, is_short, is_help, is_among, option_in, value_in, key_in, is_given}
+use Rattle.usage_reasons.specs.Words.{begins, is_short, is_help, is_among, option_in, value_in, key_in, is_given, is_any_given}
 
 -- what is wrong: no word is there; the first is no command; a word asks for help among others; the command has no such option; an option
 -- has no value, or a flag has one; an option stands twice; the value isn't the option's number, no address, no switch that dies on so
--- many nodes, no size of a demonstration, or no order of turns; a word that must be there is lacking; a word is one too many; two flags of one report; or
--- nothing that is looked for here
+-- many nodes, no size of a demonstration, no order of turns, or no places of events; a word that must be there is lacking; a word is one too
+-- many; two flags of one report; places without the states that are shown of them; or nothing that is looked for here
 pub data Fault : Type 0 where
   NoCommand : Fault
   UnknownCommand : Text → Fault
@@ -29,22 +30,34 @@ pub data Fault : Type 0 where
   BadKill : ℕ → Text → Fault
   BadSize : Text → Fault
   BadOrder : Text → Fault
+  BadPlaces : Text → Fault
   Lacking : Command → Text → Fault
   OneTooMany : Command → Text → Fault
-  Together : Fault
+  Together : Command → Fault
+  PlacesAlone : Fault
   Other : Fault
 
 -- what has been read of a command's words: the option whose value the next word is, the files that are still to come, whether `--` was
--- met, behind which all words are files, and the texts of the nodes and of the switch that dies
+-- met, behind which all words are files, the texts of the nodes and of the switch that dies, and whether places and states are asked for
 pub record Read : Type 0 where
   pub waiting : Option Key
   pub wanted : List Text
   pub only_files : Bool
   pub nodes : Option Text
   pub kill : Option Text
+  pub places : Bool
+  pub states : Bool
 
 abbrev pub first_read : Command → Read
-first_read command = record { waiting = None; wanted = files_of command; only_files = false; nodes = None; kill = None }
+first_read command = record {
+  waiting = None;
+  wanted = files_of command;
+  only_files = false;
+  nodes = None;
+  kill = None;
+  places = false;
+  states = false;
+}
 
 abbrev pub no_such_command : Text → Fault
 no_such_command word = if is_help word then HelpAmong word else UnknownCommand word
@@ -79,12 +92,16 @@ with_address r value = if is_some (watch_by (Some value)) then Ok r else Err (Ba
 unfoldable pub with_order : Read → Text → Result Read Fault
 with_order r value = if is_among order_names value then Ok r else Err (BadOrder value)
 
+unfoldable pub with_places : Read → Text → Result Read Fault
+with_places r value = if is_some (places_by (Some value)) then Ok (record r { places = true }) else Err (BadPlaces value)
+
 -- what an option's value does; a switch that dies is looked at when the number of nodes is known
 abbrev pub with_value : Key → Read → Text → Result Read Fault
 with_value (Number quantity) r value = with_number quantity r value
 with_value Watch r value = with_address r value
 with_value Kill r value = Ok (record r { kill = Some value })
 with_value Order r value = with_order r value
+with_value Only r value = with_places r value
 
 abbrev pub with_key : Key → Read → Option Text → Result Read Fault
 with_key key r None = Ok (record r { waiting = Some key })
@@ -96,8 +113,8 @@ with_flag command earlier r word =
     if not (is_among (flags_of command) (option_in word)) then Err (no_such_option command (option_in word))
     else if is_some (value_in word) then Err (ValueUnwanted word)
     else if is_given (option_in word) earlier then Err (Twice (option_in word))
-    else if is_given (codes "--trace") earlier || is_given (codes "--journal") earlier then Err Together
-    else Ok r
+    else if is_any_given (flags_of command) earlier then Err (Together command)
+    else Ok (record r { states = r.states || bytes_eq (option_in word) (codes "--states") })
 
 abbrev pub option_by : Option Key → Command → List Text → Read → Text → Result Read Fault
 option_by None command earlier r word = with_flag command earlier r word
@@ -136,12 +153,17 @@ kill_by_nodes (Some nodes) kill = kill_on nodes kill
 abbrev pub kill_fault : Option Text → Text → Fault
 kill_fault nodes kill = kill_by_nodes (number_by nodes_rule nodes) kill
 
+-- what is wrong with a switch that dies, where one does
 abbrev pub end_by_kill : Option Text → Read → Fault
 end_by_kill None r = Other
 end_by_kill (Some kill) r = kill_fault r.nodes kill
 
+-- places stand with states alone
+abbrev pub end_by_places : Read → Fault
+end_by_places r = if r.places && not r.states then PlacesAlone else end_by_kill r.kill r
+
 abbrev pub end_by_files : List Text → Command → Read → Fault
-end_by_files [] command r = end_by_kill r.kill r
+end_by_files [] command r = end_by_places r
 end_by_files (file ∷ rest) command r = Lacking command file
 
 abbrev pub end_by : Option Key → Command → Read → Fault

@@ -8,7 +8,7 @@ use Rattle.usage_reasons.specs.declared.table.Command.TheVariants.{Replay, Roll,
 use Rattle.usage_reasons.specs.declared.table.Quantity.{Quantity}
 use Rattle.usage_reasons.specs.declared.table.Quantity.TheVariants.{Nodes, Sets, Ways, Log, Interval, Wait, LoseEvery, Budget, Seed}
 use Rattle.usage_reasons.specs.declared.table.Key.{Key}
-use Rattle.usage_reasons.specs.declared.table.Key.TheVariants.{Number, Watch, Kill, Order}
+use Rattle.usage_reasons.specs.declared.table.Key.TheVariants.{Number, Watch, Kill, Order, Only}
 
 abbrev pub command_names : List Text
 command_names =
@@ -66,7 +66,7 @@ order_names = codes "threads" ∷ codes "round" ∷ codes "drawn" ∷ []
 
 -- the options that take a value
 abbrev pub options_of : Command → List Text
-options_of Replay = sizes
+options_of Replay = codes "--nodes" ∷ codes "--sets" ∷ codes "--ways" ∷ codes "--log" ∷ codes "--watch" ∷ codes "--only" ∷ []
 options_of Roll = sizes
 options_of Run = codes "--order" ∷ run_options
 options_of Monitor = run_options
@@ -78,7 +78,7 @@ options_of Dis = []
 
 -- the options that take none
 abbrev pub flags_of : Command → List Text
-flags_of Replay = codes "--trace" ∷ []
+flags_of Replay = codes "--trace" ∷ codes "--states" ∷ []
 flags_of Roll = []
 flags_of Run = codes "--trace" ∷ codes "--journal" ∷ []
 flags_of Monitor = []
@@ -88,7 +88,7 @@ flags_of Demo = []
 flags_of Asm = []
 flags_of Dis = []
 
--- what an option's value is: a number, the address of a word, a switch that dies or an order of turns
+-- what an option's value is: a number, the address of a word, a switch that dies, an order of turns or places of events
 abbrev pub quantity_by : Text → Option Quantity
 quantity_by option =
     if bytes_eq option (codes "--nodes") then Some Nodes else
@@ -105,7 +105,8 @@ abbrev pub key_of : Text → Option Key
 key_of option =
     if bytes_eq option (codes "--watch") then Some Watch else
     if bytes_eq option (codes "--kill") then Some Kill else
-    if bytes_eq option (codes "--order") then Some Order else option_map (λ quantity. Number quantity) (quantity_by option)
+    if bytes_eq option (codes "--order") then Some Order else
+    if bytes_eq option (codes "--only") then Some Only else option_map (λ quantity. Number quantity) (quantity_by option)
 
 unfoldable pub quantity_name : Quantity → Text
 quantity_name Nodes = codes "--nodes"
@@ -123,6 +124,7 @@ key_name (Number quantity) = quantity_name quantity
 key_name Watch = codes "--watch"
 key_name Kill = codes "--kill"
 key_name Order = codes "--order"
+key_name Only = codes "--only"
 
 -- the range of a number, by the rules of the options' values
 abbrev pub rule_of : Quantity → NumberRule

@@ -1,5 +1,5 @@
 -- The text of each fault.
-use Rattle.std.specs.Prelude.{ℕ, ◌-◌, nat_eq, nat_lt, if◌then◌else◌, List, [], ◌++◌, length, take, codes, decimal}
+use Rattle.std.specs.Prelude.{ℕ, ◌-◌, nat_eq, nat_lt, if◌then◌else◌, List, [], ◌∷◌, ◌++◌, length, take, codes, decimal}
 use Rattle.std.specs.Prelude.{Option, Some, None}
 use Rattle.std.specs.Option.{option_or}
 use Rattle.sn_base.specs.declared.limits.TheConstants.{RAM_START, RAM_END}
@@ -14,7 +14,8 @@ use Rattle.usage_reasons.specs.declared.table.Key.{Key}
 use Rattle.usage_reasons.specs.Table.{command_names, name_of, options_of, flags_of, quantity_name, key_name, rule_of}
 use Rattle.usage_reasons.specs.Words.{begins}
 use Rattle.usage_reasons.specs.Faults.{Fault, NoCommand, UnknownCommand, HelpAmong, UnknownOption, ValueLacking, ValueUnwanted, Twice}
-use Rattle.usage_reasons.specs.Faults.{BadNumber, BadAddress, BadKill, BadSize, BadOrder, Lacking, OneTooMany, Together, Other, fault_of}
+use Rattle.usage_reasons.specs.Faults.{BadNumber, BadAddress, BadKill, BadSize, BadOrder, BadPlaces, Lacking, OneTooMany, Together}
+use Rattle.usage_reasons.specs.Faults.{PlacesAlone, Other, fault_of}
 
 -- a word as one can see it: its first 60 bytes, with two dots behind them where there are more, and quotation marks where it is empty
 unfoldable pub quoted_word : Text → Text
@@ -110,6 +111,15 @@ bad_size text word = given_as text (codes "demo") word ++ codes "a demonstration
 unfoldable pub bad_order : Text → Text → Text
 bad_order text value = given_as text (codes "--order") value ++ codes "an order is threads, round or drawn"
 
+unfoldable pub bad_places : Text → Text → Text
+bad_places text value =
+    given_as text (codes "--only") value ++ codes "places are two numbers of events from 1 to 1000000, as 3-9, the second not below the first"
+
+-- the first two of a command's flags, of which one report has one
+abbrev pub together : Text → List Text → Text
+together text (one ∷ other ∷ more) = text ++ one ++ codes " and " ++ other ++ codes " don't stand together"
+together text _ = text
+
 unfoldable pub lacking : Text → Command → Text → Text
 lacking text command file = see (text ++ name_of command ++ codes ": " ++ file ++ codes " is lacking") (Some command)
 
@@ -130,9 +140,11 @@ fault_text text (BadAddress value) = bad_address text value
 fault_text text (BadKill nodes value) = bad_kill text nodes value
 fault_text text (BadSize word) = bad_size text word
 fault_text text (BadOrder value) = bad_order text value
+fault_text text (BadPlaces value) = bad_places text value
 fault_text text (Lacking command file) = lacking text command file
 fault_text text (OneTooMany command word) = one_too_many text command word
-fault_text text Together = text ++ codes "--trace and --journal don't stand together"
+fault_text text (Together command) = together text (flags_of command)
+fault_text text PlacesAlone = text ++ codes "--only stands with --states alone"
 fault_text text Other = see (text ++ codes "the words are no command's") None
 
 -- a text, and then what is wrong with the words of a call, of which the first is the program's own name

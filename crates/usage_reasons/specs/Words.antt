@@ -36,3 +36,7 @@ key_in command option = if is_among (options_of command) option then key_of opti
 -- whether one of the words is the option
 abbrev pub is_given : Text → List Text → Bool
 is_given option words = list_any (λ word. bytes_eq (option_in word) option) words
+
+-- whether one of the words is one of the options
+abbrev pub is_any_given : List Text → List Text → Bool
+is_any_given options words = list_any (λ option. is_given option words) options

@@ -20,11 +20,14 @@ pub(crate) enum Fault<'a> {
     BadKill(u8, &'a str),
     BadSize(&'a str),
     BadOrder(&'a str),
+    BadPlaces(&'a str),
     /// A word that must be there, as the command's page names it.
     Lacking(Command, &'static str),
     OneTooMany(Command, &'a str),
     /// Two flags of one report.
-    Together,
+    Together(Command),
+    /// Places without the states that are shown of them.
+    PlacesAlone,
     /// Nothing is wrong that is looked for here.
     Other,
 }

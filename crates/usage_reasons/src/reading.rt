@@ -1,15 +1,16 @@
 //! The words of a call, read from left to right.
 ghost use Rattle.std.specs.Prelude.{◌≡◌, ◌≤◌, [], map, option_map, string_bytes};
 ghost use Rattle.usage_reasons.specs.Faults.{first_read, no_such_command, no_such_option, is_bad_size, with_file, read_with, with_number};
-ghost use Rattle.usage_reasons.specs.Faults.{with_address, with_order, with_value, with_key, with_flag, with_option, with_word, step, kill_on, kill_fault};
+ghost use Rattle.usage_reasons.specs.Faults.{with_address, with_order, with_places, with_value, with_key, with_flag, with_option, with_word, step, kill_on, kill_fault};
 ghost use Rattle.usage_reasons.specs.Faults.{at_end, fault_from, fault_behind, fault_of};
 ghost use Rattle.usage_reasons.specs.Seen.{read_seen, fault_seen, step_seen};
 
 use crate::fault::Fault;
 use crate::table::{Command, Key, Quantity, command_by, files_of, flags_of, order_names};
-use crate::values::{is_address, is_kill, is_number, is_size};
+use crate::values::{are_places, is_address, is_kill, is_number, is_size};
 use crate::words::{
-    begins, has_value, is_among, is_given, is_help, is_short, key_in, option_in, value_in,
+    begins, has_value, is_among, is_any_given, is_given, is_help, is_short, key_in, option_in,
+    value_in,
 };
 use option_values::read_nodes;
 
@@ -24,6 +25,8 @@ pub(crate) struct Reading<'a> {
     only_files: bool,
     nodes: Option<&'a str>,
     kill: Option<&'a str>,
+    places: bool,
+    states: bool,
 }
 
 // What is read is lent from the words.
@@ -36,6 +39,8 @@ fn first_read<'a>(command: Command, _words: &'a [String]) -> Reading<'a>
         only_files: false,
         nodes: None,
         kill: None,
+        places: false,
+        states: false,
     }
 }
 
@@ -141,6 +146,20 @@ fn with_order<'a>(reading: Reading<'a>, value: &'a str) -> Result<Reading<'a>, F
     }
 }
 
+#[tactic(auto, unfolding(crate::specs::Faults::with_places))]
+fn with_places<'a>(reading: Reading<'a>, value: &'a str) -> Result<Reading<'a>, Fault<'a>>
+    ensures { step_seen result ≡ with_places (read_seen reading.entry) value.entry.now }
+{
+    if are_places(value) {
+        Ok(Reading {
+            places: true,
+            ..reading
+        })
+    } else {
+        Err(Fault::BadPlaces(value))
+    }
+}
+
 fn with_value<'a>(key: Key, reading: Reading<'a>, value: &'a str) -> Result<Reading<'a>, Fault<'a>>
     ensures { step_seen result ≡ with_value key (read_seen reading.entry) value.entry.now }
 {
@@ -152,6 +171,7 @@ fn with_value<'a>(key: Key, reading: Reading<'a>, value: &'a str) -> Result<Read
             ..reading
         }),
         Key::Order => with_order(reading, value),
+        Key::Only => with_places(reading, value),
     }
 }
 
@@ -190,10 +210,13 @@ fn with_flag<'a>(
     if is_given(option, earlier) {
         return Err(Fault::Twice(option));
     }
-    if is_given("--trace", earlier) || is_given("--journal", earlier) {
-        return Err(Fault::Together);
+    if is_any_given(flags_of(command), earlier) {
+        return Err(Fault::Together(command));
     }
-    Ok(reading)
+    Ok(Reading {
+        states: reading.states || option == "--states",
+        ..reading
+    })
 }
 
 /// `--name` or `--name=value`.
@@ -297,6 +320,9 @@ fn at_end<'a>(command: Command, reading: Reading<'a>) -> Fault<'a>
     }
     if let [file, ..] = reading.wanted {
         return Fault::Lacking(command, *file);
+    }
+    if reading.places && !reading.states {
+        return Fault::PlacesAlone;
     }
     match reading.kill {
         Some(kill) => kill_fault(reading.nodes, kill),

@@ -45,6 +45,8 @@ pub(crate) enum Key {
     Kill,
     /// Who has the next turn.
     Order,
+    /// Places of events.
+    Only,
 }
 
 const NONE: &[&str] = &[];
@@ -71,7 +73,9 @@ const NODES_ALONE: &[&str] = &["--nodes"];
 
 const SIZES: &[&str] = &["--nodes", "--sets", "--ways", "--log", "--watch"];
 
-const TRACE: &[&str] = &["--trace"];
+const REPLAY_OPTIONS: &[&str] = &["--nodes", "--sets", "--ways", "--log", "--watch", "--only"];
+
+const TRACE_OR_STATES: &[&str] = &["--trace", "--states"];
 
 const TRACE_OR_JOURNAL: &[&str] = &["--trace", "--journal"];
 
@@ -173,7 +177,8 @@ pub(crate) fn options_of(command: Command) -> &'static [&'static str]
     ensures { map (λ name. name.now) result.now ≡ options_of command }
 {
     match command {
-        Command::Replay | Command::Roll => SIZES,
+        Command::Replay => REPLAY_OPTIONS,
+        Command::Roll => SIZES,
         Command::Run => RUN_OPTIONS,
         Command::Monitor => MONITOR_OPTIONS,
         Command::Check => NODES_ALONE,
@@ -186,7 +191,7 @@ pub(crate) fn flags_of(command: Command) -> &'static [&'static str]
     ensures { map (λ name. name.now) result.now ≡ flags_of command }
 {
     match command {
-        Command::Replay => TRACE,
+        Command::Replay => TRACE_OR_STATES,
         Command::Run => TRACE_OR_JOURNAL,
         Command::Roll
         | Command::Monitor
@@ -222,6 +227,7 @@ pub(crate) fn key_of(option: &str) -> Option<Key>
         "--watch" => Some(Key::Watch),
         "--kill" => Some(Key::Kill),
         "--order" => Some(Key::Order),
+        "--only" => Some(Key::Only),
         _ => Some(Key::Number(quantity_by(option)?)),
     }
 }
@@ -252,6 +258,7 @@ pub(crate) fn key_name(key: Key) -> &'static str
         Key::Watch => "--watch",
         Key::Kill => "--kill",
         Key::Order => "--order",
+        Key::Only => "--only",
     }
 }
 

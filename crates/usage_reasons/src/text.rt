@@ -3,7 +3,8 @@ ghost use Rattle.std.specs.Prelude.{◌≡◌, ◌++◌, None, map, option_map, 
 ghost use Rattle.reasons.specs.Reason.{begun, line_of_reason};
 ghost use Rattle.usage_reasons.specs.Texts.{quoted_word, see, near_or, unknown_command, help_among, nearest_option, unknown_option};
 ghost use Rattle.usage_reasons.specs.Texts.{value_lacking, value_unwanted, twice, given_as, range_front, range_back, range_text, bad_number};
-ghost use Rattle.usage_reasons.specs.Texts.{bad_address, bad_kill, bad_size, bad_order, lacking, one_too_many, fault_text, usage_reason};
+ghost use Rattle.usage_reasons.specs.Texts.{bad_address, bad_kill, bad_size, bad_order, bad_places, together, lacking, one_too_many};
+ghost use Rattle.usage_reasons.specs.Texts.{fault_text, usage_reason};
 ghost use Rattle.usage_reasons.specs.Seen.{fault_seen};
 
 use crate::fault::Fault;
@@ -232,6 +233,31 @@ fn write_bad_order(reason: &mut Reason, value: &str) -> Result<(), Memory>
     reason.text("an order is threads, round or drawn")
 }
 
+#[tactic(auto, unfolding(crate::specs::Texts::bad_places))]
+fn write_bad_places(reason: &mut Reason, value: &str) -> Result<(), Memory>
+    ensures { OnOk result (reason.new ≡ bad_places reason.old value.now) }
+{
+    write_given(reason, "--only", value)?;
+    reason.text(
+        "places are two numbers of events from 1 to 1000000, as 3-9, the second not below the first",
+    )
+}
+
+// The first two of a command's flags, of which one report has one.
+fn write_together(reason: &mut Reason, flags: &[&'static str]) -> Result<(), Memory>
+    ensures { OnOk result (reason.new ≡ together reason.old (map (λ flag. flag.now) flags.now)) }
+{
+    match flags {
+        [one, other, ..] => {
+            reason.text(one)?;
+            reason.text(" and ")?;
+            reason.text(other)?;
+            reason.text(" don't stand together")
+        }
+        _ => Ok(()),
+    }
+}
+
 #[tactic(auto, unfolding(crate::specs::Texts::lacking))]
 fn write_lacking(reason: &mut Reason, command: Command, file: &str) -> Result<(), Memory>
     ensures { OnOk result (reason.new ≡ lacking reason.old command file.now) }
@@ -278,9 +304,11 @@ fn write_fault(reason: &mut Reason, fault: Fault<'_>) -> Result<(), Memory>
         Fault::BadKill(nodes, value) => write_bad_kill(reason, nodes, value),
         Fault::BadSize(word) => write_bad_size(reason, word),
         Fault::BadOrder(value) => write_bad_order(reason, value),
+        Fault::BadPlaces(value) => write_bad_places(reason, value),
         Fault::Lacking(command, file) => write_lacking(reason, command, file),
         Fault::OneTooMany(command, word) => write_one_too_many(reason, command, word),
-        Fault::Together => reason.text("--trace and --journal don't stand together"),
+        Fault::Together(command) => write_together(reason, flags_of(command)),
+        Fault::PlacesAlone => reason.text("--only stands with --states alone"),
         Fault::Other => write_with_overview(reason, "the words are no command's"),
     }
 }

@@ -340,6 +340,29 @@ const OPTIONS: &[(&str, &str)] = &[
     ("replay p s --trace --trace", "--trace: it stands twice"),
     ("run p --journal --journal", "--journal: it stands twice"),
     (
+        "replay --states p --trace s",
+        "--trace and --states don't stand together",
+    ),
+    ("replay p s --only 1-2", "--only stands with --states alone"),
+    (
+        "replay p s --only 1-2 --trace",
+        "--only stands with --states alone",
+    ),
+    (
+        "replay p s --states --only 9-3",
+        "--only 9-3: places are two numbers of events from 1 to 1000000, as 3-9, the second not below the first",
+    ),
+    (
+        "replay p s --only=0-1 --states",
+        "--only 0-1: places are two numbers of events from 1 to 1000000, as 3-9, the second not below the first",
+    ),
+    ("replay p s --states --only", "--only: a value is lacking"),
+    (
+        "replay p s --states=1",
+        "--states=1: this option takes no value",
+    ),
+    ("replay p s --states --states", "--states: it stands twice"),
+    (
         "run --trace --journal p",
         "--trace and --journal don't stand together",
     ),
@@ -577,6 +600,8 @@ const WORDS: &[&str] = &[
     "--order",
     "--trace",
     "--trace=x",
+    "--states",
+    "--only=1-2",
     "--journal",
     "--help",
 ];

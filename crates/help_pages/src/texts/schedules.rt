@@ -15,6 +15,11 @@ options, before or after the files, each at most once, as --nodes 2 or --nodes=2
                    hexadecimal digits, 80000000 to 803ffffc, a multiple of 4
   --trace          report the committed trace in place of the events, one record
                    a line, and then the summary with \"# \" before each line
+  --states         report the machine's states in place of the events: a JSON
+                   object a line, the start, each event with what it touched,
+                   and the summary; not together with --trace
+  --only A-B       with --states: only the events from place A to place B, from
+                   1 to 1000000, and the state before them
 
 reads:
   PROGRAM  an ELF file or a text of words, at most 16 MiB (help formats)
@@ -36,6 +41,8 @@ examples:
   safetynet replay --nodes 2 --watch 80001000 \\
       examples/shared/count.hex examples/shared/shared_word.script
   safetynet replay --nodes=1 --trace examples/first/a.hex examples/first/a.script
+  safetynet replay --nodes 2 --states --only 5-7 \\
+      examples/shared/count.hex examples/shared/lost_transfer.script
 ";
 
 pub const ROLL: &str = "\

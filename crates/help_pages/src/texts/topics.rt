@@ -92,5 +92,6 @@ standard error names it (`# safetynet: WORD`). The line above it says why
                      nowhere (nolabel)
 
 Where the words or a file are refused (1 to 4, 13), or memory is lacking (7),
-nothing was written before these two lines.
+nothing was written before these two lines; but `replay --states` takes memory
+as it goes on, so it may have told some first events.
 ";

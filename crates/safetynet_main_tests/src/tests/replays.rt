@@ -63,6 +63,12 @@ const LATE_TRACE: &str = "\
 # core 0 80000010 running x10=00000041 x17=00000001
 ";
 
+const STATES_REPORT: &str = "\
+{\"form\":\"safetynet states 1\",\"nodes\":1,\"sets\":16,\"ways\":4,\"log\":256,\"entry\":\"80000000\",\"events\":6,\"state\":{\"nodes\":[{\"node\":0,\"now\":1,\"known\":0,\"core\":{\"pc\":\"8000000c\",\"end\":\"running\",\"registers\":{\"x10\":\"00000041\",\"x17\":\"00000001\"},\"reservation\":null},\"lines\":[],\"miss\":null,\"put\":null,\"log\":[],\"given\":\"\",\"taken\":0,\"waiting\":[{\"interval\":0,\"seen\":\"00000000\",\"done\":false,\"read\":null},{\"interval\":0,\"seen\":\"00000000\",\"done\":false,\"read\":null},{\"interval\":0,\"seen\":\"00000000\",\"done\":false,\"read\":null}]}],\"homes\":[],\"net\":{\"messages\":[],\"dead\":[],\"next\":\"2\"},\"controller\":{\"point\":0,\"reported\":[1],\"committed\":0,\"held\":[{\"interval\":0,\"byte\":\"41\"}],\"released\":0}}}
+{\"place\":7,\"event\":\"validate\",\"answer\":\"validated 1\",\"sent\":[{\"message\":{\"id\":\"2\",\"kind\":\"advance\",\"from\":0,\"to\":0,\"tag\":1,\"point\":1},\"lost\":false}],\"parts\":{\"nodes\":[{\"node\":0,\"now\":1,\"known\":0,\"core\":{\"pc\":\"8000000c\",\"end\":\"running\",\"registers\":{\"x10\":\"00000041\",\"x17\":\"00000001\"},\"reservation\":null},\"lines\":[],\"miss\":null,\"put\":null,\"log\":[],\"given\":\"\",\"taken\":0,\"waiting\":[]}],\"homes\":[],\"net\":{\"messages\":[{\"message\":{\"id\":\"2\",\"kind\":\"advance\",\"from\":0,\"to\":0,\"tag\":1,\"point\":1},\"switch\":\"a0\"}],\"dead\":[],\"next\":\"3\"},\"controller\":{\"point\":1,\"reported\":[1],\"committed\":3,\"held\":[],\"released\":1}}}
+{\"summary\":{\"events\":7,\"point\":1,\"committed\":3,\"released\":1,\"cores\":[{\"pc\":\"8000000c\",\"end\":\"running\",\"registers\":{\"x10\":\"00000041\",\"x17\":\"00000001\"},\"reservation\":null}],\"watch\":null,\"probes\":[]}}
+";
+
 /// A byte is put and released.
 const RELEASED: Case = Case {
     words: WORDS,
@@ -74,7 +80,7 @@ const RELEASED: Case = Case {
     report: VALIDATED_REPORT,
 };
 
-const SHOWN: [Case; 3] = [
+const SHOWN: [Case; 4] = [
     RELEASED,
     Case {
         words: "safetynet replay a.hex --watch=80000000 --nodes=1 a.script",
@@ -93,6 +99,15 @@ const SHOWN: [Case; 3] = [
         status: Status::Done,
         console: "A",
         report: LATE_TRACE,
+    },
+    Case {
+        words: "safetynet replay --states --only 7-7 --nodes 1 a.hex a.script",
+        program: PUTS_A,
+        script: VALIDATED,
+        faults: NO_FAULT,
+        status: Status::Done,
+        console: "A",
+        report: STATES_REPORT,
     },
 ];
 

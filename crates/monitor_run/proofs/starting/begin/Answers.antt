@@ -5,7 +5,7 @@ use Rattle.sn_monitor.specs.Cut.{snap_now}
 use Rattle.sn_monitor.specs.Monitored.{MonitoredData}
 use Rattle.monitor_run.specs.declared.marks.Mark.{Mark}
 use Rattle.monitor_run.specs.declared.turns.Turns.{Turns}
-use Rattle.monitor_run.specs.Drawn.{AreDrawn}
+use Rattle.turn_orders.specs.Drawn.{AreDrawn}
 use Rattle.monitor_run.specs.Seen.{mark_of}
 use Rattle.monitor_run.specs.Stands.{Stands, IsReady}
 use Rattle.monitor_run.proofs.Beginnings.{stands-first}

@@ -1,8 +1,8 @@
-use Rattle.std.proofs.Common.{◌≡◌, ℕ, ◌%◌, nat_le, List, length, sym, ap, subst, ◌∙◌, arith}
+use Rattle.std.proofs.Common.{◌≡◌, ℕ, ◌%◌, nat_le, List, length, length-append, sym, ap, subst, ◌∙◌, arith}
 use Rattle.sn_base.specs.declared.config.Config.{Config}
 use Rattle.run_journals.specs.declared.entry.JournalEntry.{JournalEntry}
 use Rattle.sn_monitor.specs.Monitored.{MonitoredData}
-use Rattle.monitor_run.specs.Drawn.{AreDrawn}
+use Rattle.turn_orders.specs.Drawn.{AreDrawn}
 use Rattle.monitor_run.specs.Stands.{Stands, IsReady}
 use Rattle.monitor_run.proofs.Going.{stands-same, stands-more}
 use Rattle.monitor_run.proofs.turns.turn.Goals as goal
@@ -67,3 +67,9 @@ returns-in-New-clause-on g c = λ on.
         drawers = c.draw-pick.ensures.count ∙ ready.drawers ∙ ap (λ (k : Config). k.nodes) (sym did.later.config);
       },
     )
+
+pub returns-in-Nothing-clause-had : goal.returns-in-Nothing-clause-had
+returns-in-Nothing-clause-had g c = λ on. ap (λ (l : List JournalEntry). length l) c.note.ensures.entry ∙ length-append c.args.turns.now.journal.items _
+
+pub returns-in-New-clause-had : goal.returns-in-New-clause-had
+returns-in-New-clause-had g c = λ on. ap (λ (l : List JournalEntry). length l) c.note.ensures.entry ∙ length-append c.args.turns.now.journal.items _

@@ -1,4 +1,5 @@
-use Rattle.safetynet_main.proofs.CallLaws.{clause-comes, clause-sure, clause-told, clause-complete, comes-rose, comes-usage, meters-same}
+use Rattle.safetynet_main.specs.Call.{Fetches}
+use Rattle.safetynet_main.proofs.CallLaws.{clause-comes, clause-sure, clause-told, clause-complete, comes-rose, comes-usage, meters-same, middle-same}
 use Rattle.safetynet_main.proofs.call.safetynet.Given as given
 use Rattle.safetynet_main.proofs.call.safetynet.Goals as goal
 
@@ -28,3 +29,9 @@ returns-clause-told g c =
     clause-told _ _ _ _ _ _ _ _ _ _ _ _ _ _ c.answer.ensures.comes
     (meters-same (λ z. (given.Probe-dyn g z).first z.1) (λ z. (given.Probe-dyn g z).tally z.1)
     (λ z. (given.Probe-dyn g z).step z.1) _ _ c.new-probes.ensures)
+
+pub returns-clause-nothing : goal.returns-clause-nothing
+returns-clause-nothing g c = λ e.
+    middle-same (Fetches g.S.Store.files g.S.Store.sure g.S.Store.faults g.S.Store.gave) _ _ _ _ _ _ _ _ _
+    (meters-same (λ z. (given.Probe-dyn g z).first z.1) (λ z. (given.Probe-dyn g z).tally z.1)
+    (λ z. (given.Probe-dyn g z).step z.1) _ _ c.new-probes.ensures) (c.answer.ensures.nothing e)

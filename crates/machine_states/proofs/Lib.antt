@@ -1,0 +1,6 @@
+pub mod Blocks
+pub mod Flights
+pub mod Homes
+pub mod Lists
+pub mod Parts
+pub mod Records

@@ -1,0 +1,6 @@
+pub mod Laws
+pub mod Moments
+pub mod Puts
+pub mod Played
+pub mod Ended
+pub mod SameJob

@@ -1,0 +1,9 @@
+pub mod Added
+pub mod DetailLaws
+pub mod Lined
+pub mod Opens
+pub mod Steps
+pub mod Summed
+pub mod Taken
+pub mod TouchedLaws
+pub mod Undone
