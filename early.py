@@ -56,6 +56,8 @@ def objection(words: List[str]) -> Optional[str]:
     """Why a call has no early answer that could be compared with the proved one, if there is a reason."""
     if words and words[0] == "run" and nodes_in(words[1:]) != "1" and order_in(words[1:]) == "threads":
         return "threads decide whose turn comes next, so no two runs need be alike"
+    if words and words[0] == "drive":
+        return "it reads standard input, which can be read once only"
     if words and words[0] == "monitor":
         return "threads decide what the watcher sees, so no two runs need be alike"
     once = [it for it in words if os.path.exists(it) and not os.path.isfile(it)]

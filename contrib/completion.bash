@@ -6,6 +6,7 @@
 # Of each command what stands behind its options, and the options: one that ends with = takes a value.
 declare -gA _safetynet_operands=(
   [replay]='PROGRAM SCRIPT'
+  [drive]='PROGRAM'
   [roll]='PROGRAM SCRIPT CONTROL'
   [run]='PROGRAM'
   [monitor]='PROGRAM'
@@ -16,9 +17,10 @@ declare -gA _safetynet_operands=(
   [dis]='PROGRAM'
 )
 declare -gA _safetynet_options=(
-  [replay]='--nodes= --sets= --ways= --log= --watch= --only= --trace --states'
+  [replay]='--nodes= --sets= --ways= --log= --watch= --only= --trace --states --statistics --accesses'
+  [drive]='--nodes= --sets= --ways= --log= --watch='
   [roll]='--nodes= --sets= --ways= --log= --watch='
-  [run]='--nodes= --sets= --ways= --log= --interval= --wait= --budget= --lose-every= --kill= --seed= --order= --watch= --trace --journal'
+  [run]='--nodes= --sets= --ways= --log= --interval= --wait= --budget= --lose-every= --kill= --seed= --order= --watch= --trace --journal --statistics --seeds='
   [monitor]='--nodes= --sets= --ways= --log= --interval= --wait= --budget= --lose-every= --kill= --seed= --watch='
   [check]='--nodes='
   [judge]=''
@@ -45,8 +47,8 @@ _safetynet_offer_values() { # option, the value's beginning, what stands before 
 _safetynet_offer_options() { # the word at the cursor, command, the words between
   local option offered=() given=" ${*:3} "
   for option in ${_safetynet_options[$2]}; do
-    # a report has the trace, the journal or the states
-    [[ $option == --@(trace|journal|states) && $given == *' --'@(trace|journal|states)' '* ]] && continue
+    # a report has the trace, the journal, the states, the statistics or the accesses
+    [[ $option == --@(trace|journal|states|statistics|accesses) && $given == *' --'@(trace|journal|states|statistics|accesses)' '* ]] && continue
     [[ $given == *" ${option%=}"[\ =]* ]] || offered+=("${option%=}")
   done
   [ $# -gt 2 ] || offered+=(--help -h --version)

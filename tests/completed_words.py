@@ -46,9 +46,9 @@ def values_of(command: str) -> Dict[str, List[str]]:
 
 
 def excluded_by(command: str, option: str) -> List[str]:
-    """The options that the page lets not stand beside one."""
-    pairs = [(it.term, re.findall(r"not together with (--\w+)", it.text)) for it in list_on(command, "options")]
-    return [it for one, others in pairs for it in [one, *others] if option in [one, *others] and others and it != option]
+    """The options that don't stand beside one: those that take no value say what the report has, and at most one of them stands."""
+    flags = [it for it, value in read_command(command).options.items() if not value]
+    return [it for it in flags if it != option] if option in flags else []
 
 
 def option_cases(command: str) -> List[Case]:

@@ -35,19 +35,20 @@ def rows_so_far(part: Path, batch: Batch) -> Dict[int, Row]:
     return rows
 
 
-def _called(plan: Plan, settings: Settings) -> Called:
-    words = settings.words(str(plan.image(settings)), *plan.options())
+def _called(plan: Plan, settings: Settings, *options: str) -> Called:
+    words = settings.words(str(plan.image(settings)), *options)
     return call(words, command=plan.program, timeout=plan.campaign.timeout)
 
 
-def _kept_journal(plan: Plan, row: Row, report: str) -> Row:
-    """The row, with the file of its journal where the campaign wants that."""
+def _kept_journal(plan: Plan, settings: Settings, row: Row, report: str) -> Row:
+    """The row, with the file of its journal where the campaign wants that: the report, or that of the same run once more."""
     wanted = plan.campaign.journals
     if not row.is_result or wanted == "none" or (wanted == "unfinished" and row.status == 0):
         return row
     file = plan.folder / "journals" / f"{row.run}.script"
     file.parent.mkdir(exist_ok=True)
-    file.write_text(report, encoding="ascii")
+    journal = _called(plan, settings, "--journal").report if plan.counts(settings) else report
+    file.write_text(journal, encoding="ascii")
     return replace(row, journal=f"journals/{file.name}")
 
 
@@ -63,8 +64,9 @@ def row_of_run(plan: Plan, run: int, settings: Settings) -> Row:
     row = Row(run, settings, image, 127, DIED)
     for tries in range(1, plan.campaign.tries + 1):
         try:
-            called = _called(plan, settings)
-            row = row_of_call(run, settings, image, called, "--journal" in plan.options())
+            options = plan.options(settings)
+            called = _called(plan, settings, *options)
+            row = row_of_call(run, settings, image, called, "--journal" in options)
         except ProgramMissing:
             raise
         except SafetyNetError as error:
@@ -72,7 +74,7 @@ def row_of_run(plan: Plan, run: int, settings: Settings) -> Row:
             continue
         row = replace(row, tries=tries)
         if row.is_result:
-            return _kept_journal(plan, row, called.report)
+            return _kept_journal(plan, settings, row, called.report)
         if row.status in REFUSAL_STATUSES:
             return row
     return row if row.words == DIED else replace(row, words=DIED, why=f"{row.words}: {row.why}")

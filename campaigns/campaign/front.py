@@ -110,7 +110,7 @@ def ask_program(plan: Plan) -> None:
     firsts = {(name, value): settings for name, value, settings in _firsts(plan.campaign)}
     for (name, _), settings in firsts.items():
         asked = settings if name == "budget" else replace(settings, budget=1)
-        words = asked.words(str(plan.image(settings)), *plan.options())
+        words = asked.words(str(plan.image(settings)), *plan.options(asked))
         try:
             called = call(words, command=plan.program, timeout=plan.campaign.timeout)
         except SafetyNetError as error:

@@ -81,10 +81,16 @@ class Plan:
         """The file that a run is given."""
         return image_path(self.folder, settings.program, self.made(settings).image)
 
-    def options(self) -> List[str]:
-        """The options that each run has beside its settings."""
-        words = ["--statistics"] if self.statistics else []
-        return [*words, "--journal"] if self.campaign.journals != "none" else words
+    def counts(self, settings: Settings) -> bool:
+        """Whether a run is counted: the program counts only runs whose turns come in an order."""
+        return self.statistics and settings.order != "threads"
+
+    def options(self, settings: Settings) -> List[str]:
+        """The options that a run has beside its settings. Statistics and a journal don't stand together, so a counted run has its journal
+        from a second call of the same words, which is the same run."""
+        if self.counts(settings):
+            return ["--statistics"]
+        return ["--journal"] if self.campaign.journals != "none" else []
 
     def batch(self, name: str) -> Batch:
         """The batch of a name.
@@ -160,7 +166,7 @@ def images_for(campaign: Campaign, folder: Path) -> Dict[Tuple[str, int], Made]:
 
 def _batches(plan: Plan) -> Iterator[Batch]:
     """The batches of a plan, each named after what is in it."""
-    head = json.dumps([plan.sum, plan.options()])
+    head = json.dumps([plan.sum, plan.statistics, plan.campaign.journals])
     size = plan.campaign.batch
     content, first = hashlib.sha256(head.encode()), 1
     for run, settings in enumerate(plan.campaign, 1):

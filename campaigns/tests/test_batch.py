@@ -4,6 +4,7 @@ from __future__ import annotations
 import shlex
 import subprocess
 import sys
+from dataclasses import replace
 from pathlib import Path
 from typing import Callable, List
 
@@ -54,6 +55,22 @@ def test_journals_are_kept_and_replay_to_the_same_summary(program: Path, plan: P
         words = row.settings.replay_words(str(TOP / COUNT), str(made.folder / row.journal))
         report = subprocess.run([program, *words], capture_output=True, check=False).stderr.decode()
         assert f"\nevents {row.numbers['events']}\npoint {row.numbers['point']}\ncommitted {row.numbers['committed']}\n" in report
+
+
+def test_a_counted_run_has_its_statistics_and_its_journal(program: Path, plan: PlanMaker) -> None:
+    made = replace(plan(program, journals="all"), statistics=True)
+    run_batch(made, made.batches[0])
+    for row in rows_of(made):
+        words = row.settings.replay_words(str(TOP / COUNT), str(made.folder / row.journal))
+        report = subprocess.run([program, *words, "--statistics"], capture_output=True, check=False).stderr.decode()
+        for name in ("retired", "hopped", "sent_getm", "undone_instructions_sum"):
+            assert f"\nstat {name} {row.numbers[name]}\n" in report
+
+
+def test_what_threads_decide_is_not_counted(plan: PlanMaker) -> None:
+    made = replace(plan(journals="all"), statistics=True)
+    assert made.options(replace(made.campaign[0], order="threads")) == ["--journal"]
+    assert made.options(made.campaign[0]) == ["--statistics"]
 
 
 def test_of_unfinished_runs_alone_the_journal_is_kept(program: Path, plan: PlanMaker) -> None:

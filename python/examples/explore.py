@@ -76,7 +76,6 @@ class Walk:
         if not choices and not self.is_late():
             self.outcomes[self.outcome(machine)] += 1
         for event in choices:
-            # what was foreseen isn't asked again: a fork knows it too
             with machine.fork() as next_one:
                 next_one.apply(event)
                 self.walk(next_one, depth - 1)

@@ -1,9 +1,11 @@
 """Drives `safetynet`, a proved simulator of a SafetyNet multiprocessor, from Python.
 
-`Machine` is driven event by event; `replay`, `run`, `check`, `judge`, `assemble`, `disassemble` and `demo` are the program's commands. Nothing here
-computes what a machine answers: the program is asked. Modules: `machine`, `calls`, `events`, `report`, `trace`, `journal`, `program`, `errors`.
+`Machine` is driven event by event; `replay`, `accesses`, `run`, `runs`, `check`, `judge`, `assemble`, `disassemble` and `demo` are the program's commands. Nothing here
+computes what a machine answers: the program is asked. Modules: `machine`, `calls`, `events`, `report`, `states`, `statistics`, `trace`, `journal`,
+`program`, `errors`; `backends` and `drive` are what a machine stands on.
 """
-from .calls import Replay, Run, Verdict, assemble, check, demo, disassemble, judge, replay, run
+from .access import Access
+from .calls import Replay, Run, Verdict, accesses, assemble, check, demo, disassemble, judge, replay, run, runs
 from .errors import ProgramKilled, ProgramMissing, ProgramTimeout, ReportError, SafetyNetError
 from .events import (
     Deliver,
@@ -25,16 +27,23 @@ from .events import (
 from .journal import Journal, Turn
 from .machine import Machine
 from .program import find_program
-from .report import Answer, Core, Message, ReplayReport, Summary, Watch, parse_report, parse_summary
+from .report import Answer, Core, Foreseen, Message, ReplayReport, Summary, Watch, parse_report, parse_summary
+from .states import CoreState, Flight, Home, NodeState, State
+from .statistics import Recovery, Spread, Statistics
 from .trace import Record, Trace
 
 __all__ = [
+    "Access",
     "Answer",
     "Core",
+    "CoreState",
     "Deliver",
     "Edge",
     "Event",
     "Evict",
+    "Flight",
+    "Foreseen",
+    "Home",
     "Hop",
     "Input",
     "Journal",
@@ -42,17 +51,22 @@ __all__ = [
     "Lose",
     "Machine",
     "Message",
+    "NodeState",
     "ProgramKilled",
     "ProgramMissing",
     "ProgramTimeout",
     "Record",
     "Recover",
+    "Recovery",
     "Replay",
     "ReplayReport",
     "Report",
     "ReportError",
     "Run",
     "SafetyNetError",
+    "Spread",
+    "State",
+    "Statistics",
     "Step",
     "Summary",
     "Trace",
@@ -60,6 +74,7 @@ __all__ = [
     "Validate",
     "Verdict",
     "Watch",
+    "accesses",
     "assemble",
     "check",
     "demo",
@@ -72,5 +87,6 @@ __all__ = [
     "parse_summary",
     "replay",
     "run",
+    "runs",
     "script_text",
 ]

@@ -1,4 +1,4 @@
-"""The program's commands as functions: replay, run, check, judge, assemble, disassemble, demo.
+"""The program's commands as functions: replay, accesses, run, runs, check, judge, assemble, disassemble, demo.
 
 Each is one call of the program. A program is a path, bytes (a file's content) or a list of words; `command` says where `safetynet` is
 (`safetynet.program.find_program`), `timeout` is the time limit in seconds. All of them raise `SafetyNetError` where the program refuses its words
@@ -9,13 +9,15 @@ from __future__ import annotations
 import os
 import re
 from dataclasses import dataclass
-from typing import List, Optional, Tuple, Union
+from typing import List, Optional, Sequence, Tuple, Union
 
+from .access import Access, parse_accesses
 from .errors import ReportError
 from .files import Files, ProgramLike, ScriptLike, TraceLike, options, watch_option
 from .journal import Journal
 from .program import DEFAULT_TIMEOUT, Called, PathLike, call
 from .report import Answer, Summary, parse_report, parse_summary, parted_summary
+from .statistics import Statistics, parted_statistics
 from .trace import Trace
 
 _LEGAL = re.compile(r"legal (0|[1-9][0-9]*)\n")
@@ -26,6 +28,7 @@ _WORD = re.compile(r"[0-9a-f]{8}")
 _SWITCH_AT = re.compile(r"[ab](0|[1-9][0-9]*)@(0|[1-9][0-9]*)")
 # The statuses with which a run's report is whole: done, its budget spent, two nodes cut off, a core trapped.
 _RUN_ENDS = (0, 6, 8, 10)
+_ENDS = {"done": 0, "budget": 6, "cutoff": 8, "trapped": 10}
 _ORDERS = ("threads", "round", "drawn")
 
 
@@ -43,12 +46,15 @@ class Replay:
         What the program put out and was validated.
     trace : Trace or None
         The committed trace, where it was asked for.
+    statistics : Statistics or None
+        What the events come to, counted, where it was asked for.
     """
 
     answers: Tuple[Answer, ...]
     summary: Summary
     console: bytes
     trace: Optional[Trace] = None
+    statistics: Optional[Statistics] = None
 
 
 @dataclass(frozen=True)
@@ -71,6 +77,10 @@ class Run:
         The committed trace, where it was asked for.
     why : str or None
         More on how it ended, where the program says it.
+    statistics : Statistics or None
+        What its events come to, counted, where it was asked for.
+    seed : int or None
+        Of one of several runs its seed.
     """
 
     status: int
@@ -80,6 +90,8 @@ class Run:
     journal: Optional[Journal] = None
     trace: Optional[Trace] = None
     why: Optional[str] = None
+    statistics: Optional[Statistics] = None
+    seed: Optional[int] = None
 
 
 @dataclass(frozen=True)
@@ -125,6 +137,21 @@ def read_traced(text: str) -> Tuple[Trace, Summary]:
     return trace, summary
 
 
+def read_accesses(text: str) -> Tuple[Tuple[Access, ...], Summary]:
+    """The accesses of a report with ``--accesses``, and the summary below them.
+
+    Raises
+    ------
+    ReportError
+        It isn't such a report.
+    """
+    above, summary = parted_summary(text)
+    found = parse_accesses(above)
+    if len(found) != summary.committed:
+        raise ReportError(f"{len(found)} accesses aren't those of {summary.committed} records")
+    return found, summary
+
+
 def replay(
     program: ProgramLike,
     script: ScriptLike,
@@ -135,6 +162,7 @@ def replay(
     log: int = 256,
     watch: Optional[int] = None,
     trace: bool = False,
+    statistics: bool = False,
     command: Optional[PathLike] = None,
     timeout: float = DEFAULT_TIMEOUT,
 ) -> Replay:
@@ -152,6 +180,52 @@ def replay(
         The address of a word that is shown wherever cores are.
     trace : bool
         Whether to give the committed trace in place of the answers.
+    statistics : bool
+        Whether to count what the events come to: events, instructions and messages. Not with the trace.
+
+    Raises
+    ------
+    ValueError
+        A line or an event of the script is none, an option is no number, or both trace and statistics are asked for.
+    SafetyNetError
+        The program, the script or an option is refused.
+    """
+    if trace and statistics:
+        raise ValueError("a replay gives its trace or its statistics, and not both")
+    files = Files()
+    words = ["replay", *options(nodes=nodes, sets=sets, ways=ways, log=log)]
+    words += [watch_option(watch)] if watch is not None else []
+    words += ["--trace"] if trace else []
+    words += ["--statistics"] if statistics else []
+    words += [files.program(program), files.script(script)]
+    called = call(words, files.contents, command=command, timeout=timeout)
+    if called.status != 0:
+        called.raise_refusal()
+    if trace:
+        committed, summary = read_traced(called.report)
+        return Replay((), summary, called.console, committed)
+    text, counted = parted_statistics(called.report) if statistics else (called.report, None)
+    report = parse_report(text)
+    return Replay(report.answers, report.summary, called.console, None, counted)
+
+
+def accesses(
+    program: ProgramLike,
+    script: ScriptLike,
+    *,
+    nodes: int = 4,
+    sets: int = 16,
+    ways: int = 4,
+    log: int = 256,
+    command: Optional[PathLike] = None,
+    timeout: float = DEFAULT_TIMEOUT,
+) -> Tuple[Access, ...]:
+    """The committed trace of a replay with what an architect reads of it: each instruction, and what it reads and writes in memory.
+
+    Parameters
+    ----------
+    program, script, nodes, sets, ways, log
+        As of `replay`.
 
     Raises
     ------
@@ -161,18 +235,11 @@ def replay(
         The program, the script or an option is refused.
     """
     files = Files()
-    words = ["replay", *options(nodes=nodes, sets=sets, ways=ways, log=log)]
-    words += [watch_option(watch)] if watch is not None else []
-    words += ["--trace"] if trace else []
-    words += [files.program(program), files.script(script)]
+    words = ["replay", *options(nodes=nodes, sets=sets, ways=ways, log=log), "--accesses", files.program(program), files.script(script)]
     called = call(words, files.contents, command=command, timeout=timeout)
     if called.status != 0:
         called.raise_refusal()
-    if trace:
-        committed, summary = read_traced(called.report)
-        return Replay((), summary, called.console, committed)
-    report = parse_report(called.report)
-    return Replay(report.answers, report.summary, called.console)
+    return read_accesses(called.report)[0]
 
 
 def run(
@@ -192,6 +259,7 @@ def run(
     watch: Optional[int] = None,
     trace: bool = False,
     journal: bool = False,
+    statistics: bool = False,
     command: Optional[PathLike] = None,
     timeout: float = DEFAULT_TIMEOUT,
 ) -> Run:
@@ -222,6 +290,8 @@ def run(
         The address of a word that the summary shows.
     trace, journal : bool
         Whether to give the committed trace, or the journal; not both.
+    statistics : bool
+        Whether to count what the events come to, where turns are round or drawn.
 
     Raises
     ------
@@ -232,37 +302,117 @@ def run(
     """
     if trace and journal:
         raise ValueError("a run gives its trace or its journal, and not both")
-    if kill is not None and not (isinstance(kill, str) and _SWITCH_AT.fullmatch(kill)):
-        raise ValueError(f"kill is a switch and a number of events, as a1@500, and not {kill!r}")
-    if order not in _ORDERS:
-        raise ValueError(f"an order is threads, round or drawn, and not {order!r}")
     files = Files()
     sizes = options(nodes=nodes, sets=sets, ways=ways, log=log)
     rules = options(interval=interval, wait=wait, budget=budget, lose_every=lose_every, seed=seed)
-    words = ["run", *sizes, *rules]
-    words += [f"--order={order}"] if order != "threads" else []
-    words += [f"--kill={kill}"] if kill is not None else []
-    words += [watch_option(watch)] if watch is not None else []
+    words = ["run", *sizes, *rules, *_run_options(order, kill, watch, statistics)]
     words += ["--trace"] if trace else ["--journal"] if journal else []
     called = call([*words, files.program(program)], files.contents, command=command, timeout=timeout)
     if called.status not in _RUN_ENDS:
         called.raise_refusal()
-    return _run_of(called, trace, journal)
+    return _run_of(called, trace, journal, statistics)
 
 
-def _run_of(called: Called, trace: bool, journal: bool) -> Run:
+def _run_options(order: str, kill: Optional[str], watch: Optional[int], statistics: bool) -> List[str]:
+    """The options of a run that aren't numbers. ValueError: one has another form."""
+    if kill is not None and not (isinstance(kill, str) and _SWITCH_AT.fullmatch(kill)):
+        raise ValueError(f"kill is a switch and a number of events, as a1@500, and not {kill!r}")
+    if order not in _ORDERS:
+        raise ValueError(f"an order is threads, round or drawn, and not {order!r}")
+    words = [f"--order={order}"] if order != "threads" else []
+    words += [f"--kill={kill}"] if kill is not None else []
+    words += [watch_option(watch)] if watch is not None else []
+    return words + (["--statistics"] if statistics else [])
+
+
+def _run_of(called: Called, trace: bool, journal: bool, statistics: bool) -> Run:
+    text, counted = parted_statistics(called.report) if statistics else (called.report, None)
     committed, turns = None, None
     if trace:
-        committed, summary = read_traced(called.report)
+        committed, summary = read_traced(text)
     elif journal:
-        above, summary = parted_summary(called.report)
+        above, summary = parted_summary(text)
         try:
             turns = Journal.parse(above)
         except ValueError as error:
             raise ReportError(str(error)) from None
     else:
-        summary = parse_summary(called.report)
-    return Run(called.status, called.words, summary, called.console, turns, committed, called.why)
+        summary = parse_summary(text)
+    return Run(called.status, called.words, summary, called.console, turns, committed, called.why, counted)
+
+
+def runs(
+    program: ProgramLike,
+    seeds: Sequence[int],
+    *,
+    nodes: int = 4,
+    sets: int = 16,
+    ways: int = 4,
+    log: int = 256,
+    interval: int = 100,
+    wait: int = 20_000,
+    budget: int = 1_000_000,
+    lose_every: int = 0,
+    kill: Optional[str] = None,
+    order: str = "drawn",
+    watch: Optional[int] = None,
+    statistics: bool = False,
+    command: Optional[PathLike] = None,
+    timeout: float = DEFAULT_TIMEOUT,
+) -> Tuple[Run, ...]:
+    """Many runs by one call, each by a seed of its own and as `run` gives it alone; but without the probes' tallies.
+
+    Parameters
+    ----------
+    program : path, bytes or sequence of int
+        The program that each core runs.
+    seeds : range or sequence of int
+        Seeds one after another, as ``range(1, 101)``.
+    nodes, sets, ways, log, interval, wait, budget, lose_every, kill, watch, statistics
+        As of `run`.
+    order : {"round", "drawn"}
+        Who has the next turn.
+
+    Raises
+    ------
+    ValueError
+        An option has another form, or the seeds don't follow each other.
+    SafetyNetError
+        The program or an option is refused.
+    """
+    numbers = list(seeds)
+    if not numbers or numbers != list(range(numbers[0], numbers[0] + len(numbers))):
+        raise ValueError(f"seeds are numbers that follow each other, and not {seeds!r}")
+    files = Files()
+    sizes = options(nodes=nodes, sets=sets, ways=ways, log=log)
+    rules = options(interval=interval, wait=wait, budget=budget, lose_every=lose_every)
+    words = ["run", *sizes, *rules, *_run_options(order, kill, watch, statistics), f"--seeds={numbers[0]}-{numbers[-1]}"]
+    called = call([*words, files.program(program)], files.contents, command=command, timeout=timeout)
+    if called.status != 0:
+        called.raise_refusal()
+    return _runs_of(called, numbers, statistics)
+
+
+def _runs_of(called: Called, seeds: Sequence[int], statistics: bool) -> Tuple[Run, ...]:
+    """The blocks of seeds, each with its part of what was put out."""
+    blocks = re.split("^seed (.*)\n", called.report, flags=re.M)
+    if blocks[0] != "" or blocks[1::2] != [str(seed) for seed in seeds]:
+        raise ReportError(f"the report hasn't a block for each of the seeds {seeds[0]} to {seeds[-1]}")
+    found: List[Run] = []
+    place = 0
+    for seed, block in zip(seeds, blocks[2::2]):
+        text, _, words = block.rpartition("end ")
+        status = _ENDS.get(words.split(" ")[0].strip())
+        if not words.endswith("\n") or status is None:
+            raise ReportError(f"the block of seed {seed} doesn't say how its run ended")
+        text, counted = parted_statistics(text) if statistics else (text, None)
+        summary = parse_summary(text)
+        console = called.console[place : place + summary.released]
+        place += summary.released
+        found.append(Run(status, words[:-1], summary, console, statistics=counted, seed=seed))
+    if place != len(called.console):
+        raise ReportError(f"the runs released {place} bytes, and {len(called.console)} were put out")
+    return tuple(found)
 
 
 def check(
@@ -390,4 +540,4 @@ def demo(size: int, *, command: Optional[PathLike] = None, timeout: float = DEFA
     called = call(["demo", str(size)], command=command, timeout=timeout)
     if called.status != 0:
         called.raise_refusal()
-    return _run_of(called, False, False)
+    return _run_of(called, False, False, False)

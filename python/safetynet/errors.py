@@ -10,7 +10,7 @@ class SafetyNetError(Exception):
     Attributes
     ----------
     status : int
-        The program's exit status, 1 to 13 where it refused something (`safetynet help statuses`).
+        The program's exit status, 1 to 14 where it refused something (`safetynet help statuses`).
     words : str
         What its last line says behind ``# safetynet: ``, as ``"script badline"``.
     why : str or None

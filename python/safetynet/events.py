@@ -6,6 +6,7 @@ from __future__ import annotations
 
 import re
 from dataclasses import dataclass
+from functools import lru_cache
 from typing import Callable, ClassVar, Dict, Iterable, List, Tuple, Union
 
 _NUMBER = re.compile(r"0|[1-9][0-9]{0,19}")
@@ -212,6 +213,12 @@ def parse_event(line: str) -> Event:
     """
     if not isinstance(line, str):
         raise ValueError(f"an event is an Event or a line, and not {line!r}")
+    return _event_in(line)
+
+
+@lru_cache(maxsize=4096)
+def _event_in(line: str) -> Event:
+    """The event of a line; an event has no state, so that many lines may share one."""
     word, *operands = line.split(" ")
     count, read = _READERS.get(word, (-1, None))
     if read is None or len(operands) != count:

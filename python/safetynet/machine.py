@@ -1,34 +1,30 @@
 """A machine that is driven event by event.
 
-The program has no command yet that keeps a machine, so each question here is one call of `replay` with all events so far: the cost of an event
-grows with their number. Answers that were given are kept and never asked again, and `Machine.apply_all` asks for many at once.
+A process of `safetynet drive` keeps it, so that an event costs the same however many there were. What that doesn't tell is asked by a replay of the events so
+far: the committed trace, a word, statistics. A program that has no such command is asked by replays alone. Which of the two it is, `safetynet.backends`
+finds out; here nothing depends on it.
 """
 from __future__ import annotations
 
 import html
-from typing import Dict, Iterable, List, NamedTuple, Optional, Sequence, Tuple, Type
+from dataclasses import replace
+from typing import Any, Dict, Iterable, List, Optional, Tuple, Type
 
-from .calls import read_traced
+from . import states
+from .access import Access
+from .backends import Backend, Loaded, Now, Past, begun
+from .calls import read_accesses, read_traced
 from .errors import ReportError
 from .events import Deliver, Edge, Event, EventLike, Evict, Hop, Input, Kill, Lose, Recover, Report, Step, Validate, event_of
 from .files import ProgramLike, options, program_bytes, watch_option
-from .program import DEFAULT_TIMEOUT, Called, PathLike, call, find_program
-from .report import Answer, Core, Summary, parse_report
+from .program import DEFAULT_TIMEOUT, Called, PathLike, find_program
+from .report import Answer, Core, Foreseen, Summary, parse_summary
+from .states import CoreState, Flight, Home, NodeState, State
+from .statistics import Statistics, parted_statistics
 from .trace import Trace
 
-
-class _Now(NamedTuple):
-    """What is known of the machine as it stands."""
-
-    summary: Summary
-    console: bytes
-
-
-class _Growth(NamedTuple):
-    """What some events give: their answers, and what is known afterwards."""
-
-    answers: Tuple[Answer, ...]
-    now: _Now
+# The blocks of memory.
+_BLOCKS = 65536
 
 
 class Machine:
@@ -56,9 +52,11 @@ class Machine:
 
     Notes
     -----
-    Each question is one call of `replay` on the events so far, so its cost grows with their number; `apply_all` asks many at once. An
-    error of a call leaves the machine as it was. Every method that applies events raises `ValueError` for what isn't an event, or names a node,
-    a block or a switch that isn't there.
+    An error of a question leaves the machine as it was; if its process has gone or was killed, the next question begins another. Every method that
+    applies events raises `ValueError` for what isn't an event, or names a node, a block or a switch that isn't there, or would be the 1,000,001st.
+    The process ends with the machine: as it is closed, as nobody has it any more, or as Python ends. At most 16 processes keep machines at once
+    (`safetynet.backends.MOST_PROCESSES`); the machine that was asked longest ago is asked by another process then. A machine may be pickled, copied
+    deeply, and used by a process that ``os.fork`` made; it begins a process of its own there. Two threads may use two machines, but not one.
     """
 
     def __init__(
@@ -72,79 +70,62 @@ class Machine:
         command: Optional[PathLike] = None,
         timeout: float = DEFAULT_TIMEOUT,
     ) -> None:
-        self._sizes = options(nodes=nodes, sets=sets, ways=ways, log=log)
-        self._program = program_bytes(program)
-        self._command = find_program(command)
-        self._timeout = timeout
-        self._is_closed = False
+        loaded = Loaded(program_bytes(program), options(nodes=nodes, sets=sets, ways=ways, log=log), find_program(command), timeout)
+        self._loaded = loaded
         self._nodes = nodes
-        self._answers: List[Answer] = []
-        self._texts: List[str] = []
-        self._forget()
-        self._now: Optional[_Now] = self._grown([]).now
+        self._past = Past()
+        self._is_closed = False
+        self._backend, now = begun(loaded)
+        self._forget(now)
 
-    def _forget(self) -> None:
-        """Drops what is known of the machine as it stood."""
-        self._now = None
+    def _forget(self, now: Optional[Now] = None) -> None:
+        """Drop what is known of the machine as it stood, and know this of it as it stands."""
+        self._now = now
         self._traced: Optional[Trace] = None
+        self._state: Optional[State] = None
+        self._statistics: Optional[Statistics] = None
         self._words: Dict[int, int] = {}
-        self._foreseen: Dict[Event, _Growth] = {}
 
-    # One call each.
-
-    def _asked(self, events: Sequence[Event], *more: str) -> Called:
-        """A replay of the events so far and these, or a ValueError where the script is refused."""
+    @property
+    def _asked(self) -> Backend:
+        """What answers questions."""
         if self._is_closed:
             raise ValueError("this machine is closed")
-        script = self.script() + "".join(f"{event}\n" for event in events)
-        words = ["replay", *self._sizes, *more, "program", "script"]
-        files = {"program": self._program, "script": script.encode("ascii")}
-        called = call(words, files, command=self._command, timeout=self._timeout)
-        if called.status == 4:
-            these = str(events[0]) if len(events) == 1 else f"one of {len(events)} events"
-            raise ValueError(f"{these}: {called.words}" + (f": {called.why}" if called.why else ""))
+        return self._backend
+
+    def _replayed(self, *more: str) -> Called:
+        """A replay of the events so far, with more words."""
+        self._asked
+        called = self._loaded.replayed(self._past.script(), *more)
         if called.status != 0:
             called.raise_refusal()
         return called
 
-    def _grown(self, events: Sequence[Event]) -> _Growth:
-        """What these events give after those so far. The machine stays."""
-        called = self._asked(events)
-        kept = "".join(self._texts)
-        if not called.report.startswith(kept):
-            raise ReportError("the events so far have other answers than they had")
-        report = parse_report(called.report[len(kept) :], len(self._texts) + 1)
-        if [answer.event for answer in report.answers] != list(events):
-            raise ReportError("the answers aren't those of the events that were asked")
-        return _Growth(report.answers, _Now(report.summary, called.console))
-
-    def _take(self, growth: _Growth) -> Tuple[Answer, ...]:
-        """Goes on to where these events lead."""
-        self._answers.extend(growth.answers)
-        self._texts.extend(f"{answer}\n" for answer in growth.answers)
-        if growth.answers:
-            self._forget()
-        self._now = growth.now
-        return growth.answers
+    def _knows(self, summary: Summary, console: bytes) -> None:
+        """Keep what a replay said at its end; words that were watched are no part of it."""
+        self._now = Now(replace(summary, watches=()), console)
 
     # Events.
 
     def apply(self, event: EventLike) -> Answer:
         """Apply an event, or the event that a script's line says, and give its answer."""
-        asked = event_of(event)
-        growth = self._foreseen.get(asked) or self._grown([asked])
-        return self._take(growth)[0]
+        return self._take([event_of(event)])[0]
 
     def apply_all(self, events: Iterable[EventLike]) -> Tuple[Answer, ...]:
-        """Apply events by one call of the program, and give their answers: all are applied, or none where one is refused."""
-        return self._take(self._grown([event_of(event) for event in events]))
+        """Apply events by one question, and give their answers: all are applied, or none where one is refused."""
+        return self._take([event_of(event) for event in events])
 
-    def foresee(self, event: EventLike) -> Answer:
-        """The answer that an event would get. The machine stays; to apply it next asks nothing again."""
-        asked = event_of(event)
-        if asked not in self._foreseen:
-            self._foreseen[asked] = self._grown([asked])
-        return self._foreseen[asked].answers[0]
+    def _take(self, events: List[Event]) -> Tuple[Answer, ...]:
+        """Go on to where these events lead."""
+        growth = self._asked.grown(self._past, events)
+        if growth.answers:
+            self._past.take(growth.answers)
+            self._forget(growth.now)
+        return growth.answers
+
+    def foresee(self, event: EventLike) -> Foreseen:
+        """The answer that an event would get, its name and numbers. The machine stays. What the event would send, ``fork().apply(event)`` tells."""
+        return self._asked.foreseen(self._past, event_of(event))
 
     def step(self, node: int) -> Answer:
         """Let the core of a node do one instruction."""
@@ -194,31 +175,34 @@ class Machine:
 
     def mark(self) -> int:
         """How many events were applied: what `back` takes to come here again."""
-        return len(self._answers)
+        return len(self._past)
 
     def back(self, mark: int) -> None:
-        """Go back to the machine after its first events, so many as `mark` said. It asks nothing.
+        """Go back to the machine after its first events, so many as `mark` said. It asks nothing; the next question applies these again.
 
         Raises
         ------
         ValueError
             There weren't so many events.
         """
-        if isinstance(mark, bool) or not isinstance(mark, int) or not 0 <= mark <= len(self._answers):
-            raise ValueError(f"a mark is a number from 0 to {len(self._answers)}, and not {mark!r}")
-        if mark < len(self._answers):
-            del self._answers[mark:], self._texts[mark:]
+        if isinstance(mark, bool) or not isinstance(mark, int) or not 0 <= mark <= len(self._past):
+            raise ValueError(f"a mark is a number from 0 to {len(self._past)}, and not {mark!r}")
+        if mark < len(self._past):
+            self._past.cut(mark)
+            self._backend.leave()
             self._forget()
 
     def fork(self) -> "Machine":
-        """Another machine that stands where this one does; neither changes the other. It asks nothing."""
-        if self._is_closed:
-            raise ValueError("this machine is closed")
+        """Another machine that stands where this one does; neither changes the other. It asks nothing; its first question applies the events again."""
+        backend = self._asked.fork()
         other = type(self).__new__(type(self))
         other.__dict__.update(self.__dict__)
-        other._answers, other._texts = list(self._answers), list(self._texts)
-        # what is known of this point holds for both; a machine that goes on drops it and begins anew
+        # what is known of this point holds for both; a machine that goes on drops it
+        other._backend, other._past, other._words = backend, self._past.copy(), dict(self._words)
         return other
+
+    def __copy__(self) -> "Machine":
+        return self.fork()
 
     # What there is to see.
 
@@ -230,29 +214,36 @@ class Machine:
     @property
     def answers(self) -> Tuple[Answer, ...]:
         """The answers so far."""
-        return tuple(self._answers)
+        return tuple(self._past.answers)
 
     @property
     def console(self) -> bytes:
         """What the program put out and was validated."""
-        return self._known().console
+        return self._asked.console(self._past) if self._now is None else self._now.console
 
     def script(self) -> str:
         """The events so far as a script, which `replay` takes."""
-        return "".join(f"{answer.event}\n" for answer in self._answers)
+        return self._past.script()
 
     def summary(self) -> Summary:
-        """The machine at its recovery point. A call only after `back`."""
-        return self._known().summary
+        """The machine at its recovery point.
+
+        A process that keeps the machine tells it as it ends, so that the next question begins another and applies the events again.
+        """
+        if self._now is None:
+            self._now = self._asked.now(self._past)
+        return self._now.summary
 
     def committed(self) -> Trace:
-        """The committed trace: the instructions up to the recovery point on one memory. One call."""
+        """The committed trace: the instructions up to the recovery point on one memory. A replay."""
         if self._traced is None:
-            self._traced, _ = read_traced(self._asked([], "--trace").report)
+            called = self._replayed("--trace")
+            self._traced, summary = read_traced(called.report)
+            self._knows(summary, called.console)
         return self._traced
 
     def watch(self, address: int) -> int:
-        """The word at an address, a multiple of 4 from 80000000 to 803ffffc, at the recovery point. One call.
+        """The word at an address, a multiple of 4 from 80000000 to 803ffffc, at the recovery point. A replay.
 
         Raises
         ------
@@ -262,22 +253,99 @@ class Machine:
             The program refuses the address.
         """
         if address not in self._words:
-            self._traced, summary = read_traced(self._asked([], watch_option(address), "--trace").report)
+            called = self._replayed(watch_option(address), "--trace")
+            self._traced, summary = read_traced(called.report)
             if [it.address for it in summary.watches] != [address]:
                 raise ReportError(f"the word at {address:08x} isn't shown")
             self._words[address] = summary.watches[0].word
+            self._knows(summary, called.console)
         return self._words[address]
 
-    def _known(self) -> _Now:
-        if self._now is None:
-            self._now = self._grown([]).now
-        return self._now
+    def statistics(self) -> Statistics:
+        """What the events so far come to, counted. A replay.
+
+        Raises
+        ------
+        SafetyNetError
+            The program is older than its statistics.
+        """
+        if self._statistics is None:
+            called = self._replayed("--statistics")
+            before = self._past.report()
+            if not called.report.startswith(before):
+                raise ReportError("the events so far have other answers than they had")
+            summary, self._statistics = parted_statistics(called.report[len(before) :])
+            self._knows(parse_summary(summary), called.console)
+        return self._statistics
+
+    def accesses(self) -> Tuple[Access, ...]:
+        """The committed trace with what an architect reads of it: each instruction, and what it reads and writes in memory. A replay.
+
+        Raises
+        ------
+        SafetyNetError
+            The program is older than its accesses.
+        """
+        called = self._replayed("--accesses")
+        found, summary = read_accesses(called.report)
+        self._knows(summary, called.console)
+        return found
+
+    # Its state as it stands now. A process that keeps the machine shows it; where it can't, a replay does.
+
+    @property
+    def state(self) -> State:
+        """The whole machine as it stands now."""
+        if self._state is None:
+            shown = self._asked.look(self._past, "show")
+            self._state = self._replayed_state() if shown is None else states.state(shown)
+        return self._state
+
+    def _replayed_state(self) -> State:
+        last = len(self._past)
+        only = [f"--only={last}-{last}"] if last > 0 else []
+        return states.last_state(self._replayed("--states", *only).report, last)
+
+    def _look(self, line: str) -> Optional[Any]:
+        """What the look that a line asks for shows; None where the state tells it: it is known, or there is no such look."""
+        return self._asked.look(self._past, line) if self._state is None else None
+
+    def flights(self) -> Tuple[Flight, ...]:
+        """The messages in flight, in the order of their numbers."""
+        shown = self._look("flights")
+        return self.state.net.flights if shown is None else states.flights(shown)
+
+    def core(self, node: int) -> CoreState:
+        """The core of a node as it stands now. ValueError: there is no such node."""
+        shown = self._look(f"core {self._checked(node, self._nodes, 'node')}")
+        return self.state.nodes[node].core if shown is None else states.core_state(node)(shown)
+
+    def node(self, node: int) -> NodeState:
+        """A node as it stands now: its core, its cache, what it waits for, its log. ValueError: there is no such node."""
+        shown = self._look(f"node {self._checked(node, self._nodes, 'node')}")
+        return self.state.nodes[node] if shown is None else states.node_state(shown)
+
+    def block(self, block: int) -> Home:
+        """The home of a block as it stands now: who owns it, who shares it, what is under way. ValueError: there is no such block.
+
+        A program whose `drive` has no looks doesn't tell the content of a home that is as at the program's start: its `content` is None then.
+        """
+        shown = self._look(f"block {self._checked(block, _BLOCKS, 'block')}")
+        return self.state.home(block) if shown is None else states.home(shown)
+
+    @staticmethod
+    def _checked(number: int, below: int, what: str) -> int:
+        if isinstance(number, bool) or not isinstance(number, int) or not 0 <= number < below:
+            raise ValueError(f"a {what} is a number from 0 to {below - 1}, and not {number!r}")
+        return number
 
     # As a context manager, and in a notebook.
 
     def close(self) -> None:
-        """End the machine. What it said stays readable; what needs a call raises ValueError. To close it again does nothing."""
-        self._is_closed = True
+        """End the machine and its process. What it said stays readable; what needs a question raises ValueError. To close it again does nothing."""
+        if not self._is_closed:
+            self._is_closed = True
+            self._now = self._backend.last(self._past) or self._now
 
     def __enter__(self) -> "Machine":
         return self
@@ -287,7 +355,7 @@ class Machine:
 
     def __repr__(self) -> str:
         closed = ", closed" if self._is_closed else ""
-        return f"<Machine of {self._nodes} nodes after {len(self._answers)} events{closed}>"
+        return f"<Machine of {self._nodes} nodes after {len(self._past)} events{closed}>"
 
     def _repr_html_(self) -> str:
         """A small table of the machine at its recovery point, for a notebook."""

@@ -11,7 +11,7 @@ import signal
 import subprocess
 import tempfile
 from pathlib import Path
-from typing import Dict, List, Mapping, NamedTuple, NoReturn, Optional, Sequence, Tuple, Union
+from typing import Dict, Mapping, NamedTuple, NoReturn, Optional, Sequence, Tuple, Union
 
 from .errors import ProgramKilled, ProgramMissing, ProgramTimeout, ReportError, SafetyNetError
 
@@ -33,6 +33,7 @@ _WORDS: Dict[int, str] = {
     9: "refused",
     10: "trapped",
     13: "asm",
+    14: "input",
 }
 
 
@@ -138,46 +139,72 @@ def call(
     with tempfile.TemporaryDirectory(prefix="safetynet-") as folder:
         for name, content in files.items():
             Path(folder, name).write_bytes(content)
-        status, console, error = _run([str(program), *words], folder, timeout)
-    report, ended, why = _parted(status, error)
-    return Called(status, ended, why, console, report)
+        process = started([str(program), *words], folder)
+        try:
+            console, error_text = process.communicate(timeout=timeout)
+        except BaseException as error:
+            end_process(process)
+            if isinstance(error, subprocess.TimeoutExpired):
+                raise timeout_error(timeout) from None
+            raise
+    return called_of(process.returncode, console, error_text)
 
 
-def _run(words: List[str], folder: str, timeout: float) -> Tuple[int, bytes, bytes]:
-    """Status, standard output and standard error of a process in a session of its own, which goes with it."""
+def started(words: Sequence[str], folder: str, stdin: int = subprocess.DEVNULL) -> "subprocess.Popen[bytes]":
+    """A process in a session of its own, whose standard output and standard error are pipes.
+
+    Raises
+    ------
+    ProgramMissing
+        It can't be started.
+    """
     try:
-        process = subprocess.Popen(
+        return subprocess.Popen(
             words,
             cwd=folder,
-            stdin=subprocess.DEVNULL,
+            bufsize=0,
+            stdin=stdin,
             stdout=subprocess.PIPE,
             stderr=subprocess.PIPE,
             start_new_session=True,
         )
     except OSError as error:
         raise ProgramMissing(f"{words[0]}: {error}") from error
-    try:
-        console, error_text = process.communicate(timeout=timeout)
-    except BaseException as error:
-        _end(process)
-        if isinstance(error, subprocess.TimeoutExpired):
-            raise ProgramTimeout(-signal.SIGKILL, "timeout", f"it didn't end within {timeout:g} s") from None
-        raise
-    if process.returncode < 0:
-        raise ProgramKilled(process.returncode, "killed", f"{_signal_name(-process.returncode)} ended it")
-    return process.returncode, console, error_text
 
 
-def _end(process: "subprocess.Popen[bytes]") -> None:
-    """Ends a process and those that it started, and lets go of its pipes without reading them."""
-    try:
-        os.killpg(process.pid, signal.SIGKILL)
-    except ProcessLookupError:
-        pass
-    for pipe in (process.stdout, process.stderr):
+def end_process(process: "subprocess.Popen[bytes]") -> None:
+    """End a process and those that it started, and let go of its pipes without reading them."""
+    # once it was waited for, its number may be another's
+    if process.returncode is None:
+        try:
+            os.killpg(process.pid, signal.SIGKILL)
+        except (ProcessLookupError, PermissionError):
+            pass
+    for pipe in (process.stdin, process.stdout, process.stderr):
         if pipe is not None:
             pipe.close()
     process.wait()
+
+
+def timeout_error(seconds: float, what: str = "end") -> ProgramTimeout:
+    """What is raised where the program didn't do something within its time limit."""
+    return ProgramTimeout(-signal.SIGKILL, "timeout", f"it didn't {what} within {seconds:g} s")
+
+
+def called_of(status: int, console: bytes, error: bytes) -> Called:
+    """How a process ended, by its status and what it wrote.
+
+    Raises
+    ------
+    ProgramKilled
+        A signal ended it.
+    ReportError
+        Its last line doesn't say how it ended.
+    """
+    if status < 0:
+        raise ProgramKilled(status, "killed", f"{_signal_name(-status)} ended it")
+    report, ended, why = _parted(status, error)
+    return Called(status, ended, why, console, report)
 
 
 def _signal_name(number: int) -> str:

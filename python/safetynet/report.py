@@ -7,13 +7,16 @@ from __future__ import annotations
 
 import re
 from dataclasses import dataclass
-from typing import Dict, List, Match, NoReturn, Optional, Pattern, Tuple, Union
+from functools import lru_cache
+from typing import Callable, Dict, List, Match, NoReturn, Optional, Pattern, Tuple, TypeVar, Union
 
 from .errors import ReportError
 from .events import Event, parse_event
 
+_T = TypeVar("_T")
+
 _N = "(0|[1-9][0-9]{0,19})"
-_EVENT = re.compile(rf"([1-9][0-9]*) ([^:]+): ([a-z]+)((?: [a-z0-9]+)*)")
+_EVENT = re.compile(r"([1-9][0-9]*) ([^:]+): ([a-z]+)((?: [a-z0-9]+)*)")
 _MESSAGE = re.compile(rf"  msg {_N} ([a-z]+) {_N} {_N} {_N} {_N}((?: [a-z]+ [0-9]+)*)( lost)?")
 _CORE = re.compile(rf"core {_N} ([0-9a-f]{{8}}) (?:(running)|exited {_N}|trapped ([a-z]+))((?: x[0-9]+=[0-9a-f]+)*)")
 _REGISTER = re.compile(r"x([1-9][0-9]?)=([0-9a-f]{8})")
@@ -131,6 +134,11 @@ class Watch:
         return f"watch {self.address:08x} {self.word:08x}"
 
 
+def _event_line(place: int, event: Event, name: str, fields: Tuple[int, ...]) -> str:
+    """An event's line, with its answer."""
+    return f"{place} {event}: {name}" + "".join(f" {label}{number}" for label, number in zip(ANSWERS[name], fields))
+
+
 @dataclass(frozen=True)
 class Answer:
     """What an event was answered.
@@ -162,9 +170,33 @@ class Answer:
     watches: Tuple[Watch, ...] = ()
 
     def __str__(self) -> str:
-        numbers = "".join(f" {label}{number}" for label, number in zip(ANSWERS[self.name], self.fields))
         below = [*self.sent, *(f"  {it}" for it in self.cores), *(f"  {it}" for it in self.watches)]
-        return f"{self.place} {self.event}: {self.name}{numbers}" + "".join(f"\n{it}" for it in below)
+        return _event_line(self.place, self.event, self.name, self.fields) + "".join(f"\n{it}" for it in below)
+
+
+@dataclass(frozen=True)
+class Foreseen:
+    """What an event would be answered as the next one; which messages it would send, and where cores would stand, isn't said.
+
+    Attributes
+    ----------
+    place : int
+        The place, from 1, that the event would have.
+    event : Event
+        The event.
+    name : str
+        The answer's name, one of `ANSWERS`.
+    fields : tuple of int
+        Its numbers, as of an `Answer`.
+    """
+
+    place: int
+    event: Event
+    name: str
+    fields: Tuple[int, ...] = ()
+
+    def __str__(self) -> str:
+        return _event_line(self.place, self.event, self.name, self.fields)
 
 
 @dataclass(frozen=True)
@@ -259,9 +291,14 @@ class _Reader:
         return int(found[1])
 
 
+@lru_cache(maxsize=None)
+def _fields_form(labels: Tuple[str, ...]) -> Pattern[str]:
+    return re.compile("".join(f" {label}{_N}" for label in labels))
+
+
 def _fields(reader: _Reader, labels: Tuple[str, ...], text: str, what: str) -> Tuple[int, ...]:
     """The numbers of an answer or a message, behind their labels."""
-    found = re.fullmatch("".join(f" {label}{_N}" for label in labels), text)
+    found = _fields_form(labels).fullmatch(text)
     if found is None:
         reader.fail(f"these aren't the fields of {what}")
     return tuple(map(int, found.groups()))
@@ -320,7 +357,8 @@ def _cores(reader: _Reader) -> Tuple[Tuple[Core, ...], Tuple[Watch, ...]]:
     return tuple(cores), tuple(watches)
 
 
-def _answer(reader: _Reader, place: int) -> Answer:
+def _head(reader: _Reader, place: int) -> Tuple[Event, str, Tuple[int, ...]]:
+    """An event's line: the event, its answer's name, and that one's numbers."""
     found = reader.found(_EVENT, "an event's line")
     number, event_text, name, rest = found.groups()
     if int(number) != place:
@@ -333,6 +371,11 @@ def _answer(reader: _Reader, place: int) -> Answer:
     except ValueError as error:
         reader.fail(str(error))
     reader.passes()
+    return event, name, fields
+
+
+def _answer(reader: _Reader, place: int) -> Answer:
+    event, name, fields = _head(reader, place)
     sent: List[Message] = []
     while reader.looking_at("  msg "):
         sent.append(_message(reader))
@@ -395,6 +438,62 @@ def parse_report(text: Union[str, bytes], first: int = 1) -> ReplayReport:
         reader.place = reader_place
         reader.fail(f"there were {first + len(answers) - 1} events")
     return ReplayReport(tuple(answers), summary)
+
+
+def parse_answers(text: str, first: int = 1) -> Tuple[Answer, ...]:
+    """The groups of events alone, without a summary below them; the first event has the place `first`.
+
+    Raises
+    ------
+    ReportError
+        A line has another form or stands where it can't.
+    """
+    reader = _Reader(text)
+    answers: List[Answer] = []
+    while not reader.is_over():
+        answers.append(_answer(reader, first + len(answers)))
+    return tuple(answers)
+
+
+def _alone(reader: _Reader, read: Callable[[_Reader], _T]) -> _T:
+    """What is read of one line, which is all that there is."""
+    found = read(reader)
+    if not reader.is_over():
+        reader.fail("one line is due")
+    return found
+
+
+def parse_foreseen(text: str, place: int) -> Foreseen:
+    """The line that an event would get at this place.
+
+    Raises
+    ------
+    ReportError
+        It isn't one such line.
+    """
+    return _alone(_Reader(text), lambda reader: Foreseen(place, *_head(reader, place)))
+
+
+def parse_core(line: str, node: int) -> Core:
+    """The line of a node's core, without its end.
+
+    Raises
+    ------
+    ReportError
+        It isn't such a line.
+    """
+    return _alone(_Reader(f"{line}\n"), lambda reader: _core(reader, node))
+
+
+def parse_message(line: str) -> Message:
+    """The line of a message that was sent, without its end.
+
+    Raises
+    ------
+    ReportError
+        It isn't such a line.
+    """
+    return _alone(_Reader(f"{line}\n"), _message)
 
 
 def parse_summary(text: Union[str, bytes], prefix: str = "") -> Summary:

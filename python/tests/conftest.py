@@ -1,8 +1,9 @@
-"""Programs in place of the real one: one that counts its calls, and small ones that end badly."""
+"""Programs in place of the real one: one that counts its calls, one that has no `drive`, and small ones that end badly."""
 from __future__ import annotations
 
 import os
 import shlex
+import sys
 from pathlib import Path
 from typing import Callable
 
@@ -15,13 +16,29 @@ settings.register_profile("gate", deadline=None, database=None, derandomize=True
 settings.load_profile("gate")
 
 
-class Counted:
-    """The real program behind a script that notes each call."""
+# What a program says that is older than the command, as its script says it too.
+NO_DRIVE = """case $1 in drive)
+  printf '%s\\n' '# why: drive: there is no such command; see safetynet --help' '# safetynet: usage' >&2
+  exit 1;;
+esac
+"""
+# A program whose `drive` answers each line with what `answer(line)` gives for its number and its text.
+ANSWERING = """import os, sys
+if sys.argv[1] != "drive":
+    os.execv({program!r}, [{program!r}, *sys.argv[1:]])
+{answer}
+for number, line in enumerate(sys.stdin, 1):
+    os.write(2, f"badline {{number}}\\n".encode() if line == "?\\n" else answer(number, line[:-1]))
+"""
 
-    def __init__(self, folder: Path) -> None:
+
+class Counted:
+    """The real program, or another, behind a script that notes each call."""
+
+    def __init__(self, folder: Path, program: str = PROGRAM) -> None:
         self.notes = folder / "notes"
         self.command = folder / "counted"
-        self.command.write_text(f'#!/bin/sh\necho call >>{shlex.quote(str(self.notes))}\nexec {shlex.quote(PROGRAM)} "$@"\n')
+        self.command.write_text(f'#!/bin/sh\necho call >>{shlex.quote(str(self.notes))}\nexec {shlex.quote(program)} "$@"\n')
         self.command.chmod(0o755)
 
     def calls(self) -> int:
@@ -45,6 +62,44 @@ def made(tmp_path: Path) -> Callable[[str], str]:
         return str(file)
 
     return make
+
+
+@pytest.fixture
+def answering(tmp_path: Path) -> Callable[[str], str]:
+    """Makes a program whose `drive` answers by a function of Python, ``answer(number, line)``, and gives its path."""
+
+    def make(answer: str) -> str:
+        file = tmp_path / f"answering{len(os.listdir(tmp_path))}"
+        file.write_text(f"#!{sys.executable}\n" + ANSWERING.format(program=PROGRAM, answer=answer))
+        file.chmod(0o755)
+        return str(file)
+
+    return make
+
+
+@pytest.fixture(scope="session")
+def older(tmp_path_factory: pytest.TempPathFactory) -> str:
+    """The real program without the command `drive`."""
+    file = tmp_path_factory.mktemp("older") / "safetynet"
+    file.write_text(f'#!/bin/sh\n{NO_DRIVE}exec {shlex.quote(PROGRAM)} "$@"\n')
+    file.chmod(0o755)
+    return str(file)
+
+
+@pytest.fixture(scope="session")
+def without_looks(tmp_path_factory: pytest.TempPathFactory) -> str:
+    """The real program whose `drive` takes no look for one."""
+    file = tmp_path_factory.mktemp("without_looks") / "safetynet"
+    looks = "sed -uE 's/^(show|flights|core .*|node .*|block .*)$/!&/'"
+    file.write_text(f'#!/bin/sh\ncase $1 in drive) {looks} | {shlex.quote(PROGRAM)} "$@"; exit;; esac\nexec {shlex.quote(PROGRAM)} "$@"\n')
+    file.chmod(0o755)
+    return str(file)
+
+
+@pytest.fixture(params=["driven", "without looks", "replayed"])
+def command(request: pytest.FixtureRequest, older: str, without_looks: str) -> str:
+    """The real program: as it is, with a `drive` without looks, and without `drive`."""
+    return {"driven": PROGRAM, "without looks": without_looks, "replayed": older}[request.param]
 
 
 @pytest.fixture(autouse=True)

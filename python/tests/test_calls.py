@@ -133,6 +133,7 @@ BAD: "list[Callable[[Any], Any]]" = [
     lambda it: replay(COUNT, b"", nodes="2", command=it),  # type: ignore[arg-type]
     lambda it: replay(COUNT, b"", watch=-4, command=it),
     lambda it: run(COUNT, journal=True, trace=True, command=it),
+    lambda it: replay(COUNT, [], statistics=True, trace=True, command=it),
     lambda it: run(COUNT, kill="c1@3", command=it),
     lambda it: run(COUNT, kill="a1", command=it),
     lambda it: run(COUNT, order="slow", command=it),

@@ -39,6 +39,17 @@ def test_the_first_lines_of_the_readme_print_what_it_says() -> None:
     assert given.stdout == printed, given.stderr
 
 
+def test_the_lines_of_the_readme_on_a_state_are_so() -> None:
+    blocks = re.findall(r"(?:^    .*\n)+", (FOLDER / "README.md").read_text(), re.M)
+    (lines,) = ("\n".join(line[4:] for line in block.splitlines()) for block in blocks if "flights()" in block)
+    said = re.search(r"# (Miss\(.*\))", lines)
+    assert said is not None and "message 1, a getm for block 64 in switch a1" in lines
+    more = "\nprint(machine.node(1).miss, machine.flights()[0].has_arrived, flight.message.id, flight.message.kind, flight.message.block, flight.switch)"
+    begin = "from safetynet import Machine\n"
+    given = subprocess.run([sys.executable, "-c", begin + lines + more], cwd=CHECKOUT, env=WITH_PACKAGE, capture_output=True, text=True, timeout=60)
+    assert given.stdout == f"{said[1]} True 1 getm 64 a1\n", given.stderr
+
+
 def test_a_walk_counts_outcomes_of_one_memory() -> None:
     text = said("explore", "--depth", "1", "--losses", "--seconds", "200")
     assert re.search(r"^interleavings: [1-9]", text)

@@ -254,7 +254,7 @@ for words in '' --help -h help; do
   check "the overview that '$words' asks for needs no build" 0 "$(./safetynet --help)" 0 $words
 done
 page_calls=("events=help events" "formats=help formats" "statuses=help statuses" "version=--version")
-for command in replay roll run monitor check judge demo asm dis; do
+for command in replay drive roll run monitor check judge demo asm dis; do
   page_calls+=("$command=$command --help" "$command=$command -h" "$command=$command help" "$command=help $command" "version=$command --version")
 done
 for call in "${page_calls[@]}"; do

@@ -33,6 +33,8 @@ says 1 usage '--nodes 17: a machine has 1 to 16 nodes' replay --nodes 17 "$first
 says 1 usage '--node: replay has no such option; did you mean --nodes?' replay --node 2 "$first" a.script
 says 1 usage '--order slow: an order is threads, round or drawn' run --order slow "$first"
 says 1 usage '--trace and --journal don'\''t stand together' run --trace --journal "$first"
+says 1 usage '--statistics and --states don'\''t stand together' replay --statistics --states "$first" a.script
+says 1 usage 'a.script: drive takes no more files; see safetynet drive --help' drive "$first" a.script
 says 1 usage 'replay: SCRIPT is lacking; see safetynet replay --help' replay "$first"
 says 1 usage 'a word isn'\''t UTF-8' replay $'\xff'
 
@@ -42,6 +44,7 @@ says 1 usage '--trace: monitor has no such option; see safetynet monitor --help'
 mkdir folder
 says 2 store 'missing.hex: no such file' dis missing.hex
 says 2 store 'folder: it is a directory' dis folder
+says 2 store 'missing.hex: no such file' drive missing.hex
 says 2 store 'missing.script: no such file' replay "$first" missing.script
 says 2 store 'missing.control: no such file' roll "$first" /dev/null missing.control
 says 2 store 'a\x0ab: no such file' dis $'a\nb'

@@ -3,7 +3,7 @@ use Rattle.std.specs.Prelude.{ℕ, zero, suc, if◌then◌else◌, List, Option,
 use Rattle.sn_io.specs.Outside.{found_in}
 use Rattle.reasons.specs.declared.hints.TextKind.{TextKind}
 use Rattle.reasons.specs.declared.hints.TextKind.TheVariants as kind
-use Rattle.command_words.specs.Request.{Request, Replay, Roll, Run, Monitor, Check, Judge, Demo, Assemble, Disassemble}
+use Rattle.command_words.specs.Request.{Request, Replay, Drive, Roll, Run, Monitor, Check, Judge, Demo, Assemble, Disassemble}
 use Rattle.call_reasons.specs.Files.{is_refused}
 
 -- the files that are there, by their names
@@ -13,8 +13,9 @@ Files = List ℕ → Option (List ℕ)
 -- the name of the program
 abbrev pub program_of : Request → Option (List ℕ)
 program_of (Replay config report watch program script) = Some program
+program_of (Drive config watch program) = Some program
 program_of (Roll config watch program script control) = Some program
-program_of (Run config rules report order watch program) = Some program
+program_of (Run config rules report order scope watch program) = Some program
 program_of (Monitor config rules watch program) = Some program
 program_of (Check nodes program trace) = Some program
 program_of (Judge accesses) = None
@@ -30,8 +31,9 @@ assembly_of _ = None
 -- the names of the files that a call fetches, in their order
 abbrev pub first_of : Request → Option (List ℕ)
 first_of (Replay config report watch program script) = Some program
+first_of (Drive config watch program) = Some program
 first_of (Roll config watch program script control) = Some program
-first_of (Run config rules report order watch program) = Some program
+first_of (Run config rules report order scope watch program) = Some program
 first_of (Monitor config rules watch program) = Some program
 first_of (Check nodes program trace) = Some program
 first_of (Judge accesses) = Some accesses
@@ -57,7 +59,7 @@ file_of ask (suc (suc (suc _))) = None
 
 -- how many events a run may have, also one that is watched
 abbrev pub budget_of : Request → Option ℕ
-budget_of (Run config rules report order watch program) = Some rules.budget
+budget_of (Run config rules report order scope watch program) = Some rules.budget
 budget_of (Monitor config rules watch program) = Some rules.budget
 budget_of _ = None
 

@@ -1,5 +1,5 @@
 -- The line that says why a call ended as it did, over the files that are there.
-use Rattle.std.specs.Prelude.{◌≡◌, ℕ, List, ◌++◌, Option, Some, None}
+use Rattle.std.specs.Prelude.{◌≡◌, ℕ, List, ◌++◌, codes, Option, Some, None}
 use Rattle.sn_io.specs.Outside.{found_in}
 use Rattle.reasons.specs.Reason.{of_file, too_long, begun, line_of_reason}
 use Rattle.reasons.specs.Ends.{lack_reason, spent_reason, cut_off, trap_reason}
@@ -12,12 +12,12 @@ use Rattle.reasons.specs.Verdicts.{record_place, verdict_reason}
 use Rattle.rv_asm.specs.declared.fault.AsmCause.{AsmCause}
 use Rattle.sn_text.specs.declared.cause.ScriptCause.{ScriptCause}
 use Rattle.access_texts.specs.Lists.{said_by}
-use Rattle.command_words.specs.Request.{Request, Check, Judge}
+use Rattle.command_words.specs.Request.{Request, Drive, Check, Judge}
 use Rattle.safetynet_main.specs.declared.status.ProgramCause.{ProgramCause}
 use Rattle.safetynet_main.specs.declared.status.ProgramCause.TheVariants.{TooLong, Load}
 use Rattle.safetynet_main.specs.declared.status.Status.{Status}
 use Rattle.safetynet_main.specs.declared.status.Status.TheVariants.{Done, Usage, StoreFault, BadProgram, BadScript, BadAsm, SinkFault, Budget}
-use Rattle.safetynet_main.specs.declared.status.Status.TheVariants.{Memory, CutOff, Refused, Trapped}
+use Rattle.safetynet_main.specs.declared.status.Status.TheVariants.{Memory, CutOff, Refused, Trapped, InputFault}
 use Rattle.call_reasons.specs.Files.{bytes_in, records_in}
 use Rattle.call_reasons.specs.Blame.{Files, Blamed, program_of, assembly_of, budget_of, blamed_of}
 use Rattle.call_reasons.specs.Verdict.{record_at, IsFound}
@@ -49,6 +49,18 @@ abbrev pub of_budget : List ℕ → Option ℕ → List ℕ
 of_budget text None = text
 of_budget text (Some budget) = line_of_reason (spent_reason (begun text) budget)
 
+-- the same of a drive that had all events that there is room for
+unfoldable pub of_full : List ℕ → List ℕ
+of_full text = line_of_reason (begun text ++ codes "the drive has 1000000 events, and there is room for no more")
+
+abbrev pub of_spent : List ℕ → Request → List ℕ
+of_spent text (Drive config watch program) = of_full text
+of_spent text ask = of_budget text (budget_of ask)
+
+-- a text, and then why a drive ended before its lines did
+unfoldable pub of_input : List ℕ → List ℕ
+of_input text = line_of_reason (begun text ++ codes "standard input can't be read to its end")
+
 -- a text, and then which record of a trace is no step, with the word that memory has, where that is why
 abbrev pub of_record : List ℕ → ℕ → List ℕ → ℕ → Option ℕ → List ℕ
 of_record text nodes trace place word =
@@ -74,8 +86,9 @@ IsReason held ask (BadProgram cause) text new = new ≡ of_program text held (pr
 IsReason held ask (BadScript cause) text new = new ≡ of_lines text held (blamed_of held ask) cause
 IsReason held ask (BadAsm cause) text new = new ≡ of_assembly text held (assembly_of ask) cause
 IsReason held ask SinkFault text new = new ≡ line_of_reason (lack_reason (begun text) lack.Output)
-IsReason held ask Budget text new = new ≡ of_budget text (budget_of ask)
+IsReason held ask Budget text new = new ≡ of_spent text ask
 IsReason held ask Memory text new = new ≡ line_of_reason (lack_reason (begun text) lack.Memory)
 IsReason held ask (CutOff a b) text new = new ≡ line_of_reason (cut_off (begun text) a b)
 IsReason held ask (Refused place) text new = IsOfRecord held ask place text new
 IsReason held ask (Trapped node cause) text new = new ≡ line_of_reason (trap_reason (begun text) node cause)
+IsReason held ask InputFault text new = new ≡ of_input text

@@ -11,6 +11,7 @@ pub fn program_of(request: &Request) -> Option<&str>
 {
     match request {
         Request::Replay(asked) => Some(asked.program.as_str()),
+        Request::Drive(asked) => Some(asked.program.as_str()),
         Request::Roll(asked) => Some(asked.program.as_str()),
         Request::Run(asked) => Some(asked.program.as_str()),
         Request::Monitor(asked) => Some(asked.program.as_str()),

@@ -2,7 +2,7 @@
 ghost use Rattle.std.specs.Prelude.{◌≡◌, ℕ, List, Option, Some, OnOk, true};
 ghost use Rattle.command_words.specs.Request.{as_request, request_fits};
 ghost use Rattle.call_reasons.specs.Blame.{budget_of};
-ghost use Rattle.call_reasons.specs.Reason.{of_budget, IsOfRecord, IsReason};
+ghost use Rattle.call_reasons.specs.Reason.{of_budget, of_full, of_spent, of_input, IsOfRecord, IsReason};
 
 use crate::accesses::write_accesses;
 use crate::blame::budget_of;
@@ -15,6 +15,36 @@ use safetynet_main::Status;
 use sn_base::Memory;
 use sn_io::Store;
 use std::alloc::Global;
+
+// Why a drive ended at an event.
+#[tactic(auto, unfolding(crate::specs::Reason::of_full))]
+fn write_full(reason: &mut Reason) -> Result<(), Memory>
+    ensures { OnOk result (reason.new ≡ of_full reason.old) }
+{
+    reason.begin()?;
+    reason.text("the drive has 1000000 events, and there is room for no more")?;
+    reason.end()
+}
+
+// Why a run or a drive ended at its budget.
+fn write_spent_by(reason: &mut Reason, request: &Request) -> Result<(), Memory>
+    ensures { OnOk result (reason.new ≡ of_spent reason.old (as_request request.now)) }
+{
+    match request {
+        Request::Drive(_) => write_full(reason),
+        _ => write_budget(reason, request),
+    }
+}
+
+// Why a drive ended before its lines did.
+#[tactic(auto, unfolding(crate::specs::Reason::of_input))]
+fn write_input(reason: &mut Reason) -> Result<(), Memory>
+    ensures { OnOk result (reason.new ≡ of_input reason.old) }
+{
+    reason.begin()?;
+    reason.text("standard input can't be read to its end")?;
+    reason.end()
+}
 
 // Why a run ended at its budget.
 fn write_budget(reason: &mut Reason, request: &Request) -> Result<(), Memory>
@@ -69,10 +99,11 @@ pub fn write_reason<S: Store>(
         Status::BadScript(cause) => write_lines(alloc, store, reason, request, cause),
         Status::BadAsm(cause) => write_assembly_of(alloc, store, reason, request, cause),
         Status::SinkFault => write_lack(reason, Lack::Output),
-        Status::Budget => write_budget(reason, request),
+        Status::Budget => write_spent_by(reason, request),
         Status::Memory => write_lack(reason, Lack::Memory),
         Status::CutOff(a, b) => write_cut_off(reason, a, b),
         Status::Refused(place) => write_record(alloc, store, reason, request, place),
         Status::Trapped(node, cause) => write_trapped(reason, node, cause),
+        Status::InputFault => write_input(reason),
     }
 }

@@ -202,7 +202,7 @@ fn access_rows() -> [Row; 5] {
     ]
 }
 
-fn other_rows() -> [Row; 6] {
+fn other_rows() -> [Row; 8] {
     [
         Row {
             words: "safetynet run --budget 50 a.hex",
@@ -227,6 +227,18 @@ fn other_rows() -> [Row; 6] {
             files: &[],
             status: Status::Memory,
             line: "# why: there wasn't enough memory\n",
+        },
+        Row {
+            words: "safetynet drive a.hex",
+            files: &[],
+            status: Status::InputFault,
+            line: "# why: standard input can't be read to its end\n",
+        },
+        Row {
+            words: "safetynet drive a.hex",
+            files: &[],
+            status: Status::Budget,
+            line: "# why: the drive has 1000000 events, and there is room for no more\n",
         },
         Row {
             words: "safetynet replay a.hex a.script",

@@ -20,7 +20,11 @@ command_app name words options flags = with_args kind.Flag flags (with_args kind
 
 abbrev pub replay_app : App
 replay_app = command_app (codes "replay") (codes "program" ∷ codes "script" ∷ [])
-    (codes "nodes" ∷ codes "sets" ∷ codes "ways" ∷ codes "log" ∷ codes "watch" ∷ codes "only" ∷ []) (codes "trace" ∷ codes "states" ∷ [])
+    (codes "nodes" ∷ codes "sets" ∷ codes "ways" ∷ codes "log" ∷ codes "watch" ∷ codes "only" ∷ []) (codes "trace" ∷ codes "states" ∷ codes "statistics" ∷ codes "accesses" ∷ [])
+
+abbrev pub drive_app : App
+drive_app = command_app (codes "drive") (codes "program" ∷ [])
+    (codes "nodes" ∷ codes "sets" ∷ codes "ways" ∷ codes "log" ∷ codes "watch" ∷ []) []
 
 abbrev pub roll_app : App
 roll_app = command_app (codes "roll") (codes "program" ∷ codes "script" ∷ codes "control" ∷ [])
@@ -33,7 +37,7 @@ run_options =
     ∷ codes "interval" ∷ codes "wait" ∷ codes "lose-every" ∷ codes "kill" ∷ codes "budget" ∷ codes "seed" ∷ []
 
 abbrev pub run_app : App
-run_app = command_app (codes "run") (codes "program" ∷ []) (codes "order" ∷ run_options) (codes "trace" ∷ codes "journal" ∷ [])
+run_app = command_app (codes "run") (codes "program" ∷ []) (codes "order" ∷ codes "seeds" ∷ run_options) (codes "trace" ∷ codes "journal" ∷ codes "statistics" ∷ [])
 
 abbrev pub monitor_app : App
 monitor_app = command_app (codes "monitor") (codes "program" ∷ []) run_options []
@@ -65,4 +69,4 @@ with_command app command = with_subcommand app command.top
 abbrev pub the_app : App
 the_app =
     fold with_command named_app
-    (replay_app ∷ roll_app ∷ run_app ∷ monitor_app ∷ check_app ∷ judge_app ∷ demo_app ∷ asm_app ∷ dis_app ∷ [])
+    (replay_app ∷ drive_app ∷ roll_app ∷ run_app ∷ monitor_app ∷ check_app ∷ judge_app ∷ demo_app ∷ asm_app ∷ dis_app ∷ [])

@@ -1,5 +1,5 @@
 -- What the words ask for.
-use Rattle.std.specs.Prelude.{ℕ, Bool, true, false, ◌&&◌, if◌then◌else◌, List, codes, bytes_eq, Option, Some, None, option_map}
+use Rattle.std.specs.Prelude.{ℕ, Bool, true, false, ◌&&◌, if◌then◌else◌, List, codes, bytes_eq, Option, Some, None, is_some, option_map}
 use Rattle.std.specs.Prelude.{option_and_then, string_bytes}
 use Rattle.std.specs.Option.{option_map_or}
 use Rattle.sn_base.specs.Config.{lies_in, config_fits}
@@ -8,10 +8,13 @@ use Rattle.option_values.specs.declared.run.RunRules.{RunRules}
 use Rattle.option_values.specs.Runs.{run_rules_by, run_rules_fit}
 use Rattle.option_values.specs.declared.places.Places.{Places}
 use Rattle.option_values.specs.Places.{places_by, places_fit}
+use Rattle.option_values.specs.declared.seeds.Seeds.{Seeds}
+use Rattle.option_values.specs.Seeds.{seeds_by, seeds_fit}
 use Rattle.option_values.specs.Values.{nodes_rule, number_by, config_by, watch_by, is_word_address, demo_size}
 use Rattle.clap.specs.Words.{Row, Text, first_of, takes, subcommand_of}
 use Rattle.command_words.specs.Command.{the_app}
 use Rattle.command_words.specs.declared.request.Replay as code_replay
+use Rattle.command_words.specs.declared.request.Drive as code_drive
 use Rattle.command_words.specs.declared.request.Roll as code_roll
 use Rattle.command_words.specs.declared.request.Run as code_run
 use Rattle.command_words.specs.declared.request.Monitor as code_monitor
@@ -21,6 +24,8 @@ use Rattle.command_words.specs.declared.request.ReplayReport.{ReplayReport}
 use Rattle.command_words.specs.declared.request.ReplayReport.TheVariants as replayed
 use Rattle.command_words.specs.declared.request.RunOrder.{RunOrder}
 use Rattle.command_words.specs.declared.request.RunOrder.TheVariants as order
+use Rattle.command_words.specs.declared.request.RunScope.{RunScope}
+use Rattle.command_words.specs.declared.request.RunScope.TheVariants as scope
 use Rattle.command_words.specs.declared.request.Check as code_check
 use Rattle.command_words.specs.declared.request.Request as code_request
 use Rattle.command_words.specs.declared.request.Request.TheVariants as asked
@@ -30,8 +35,9 @@ use Rattle.sn_base.specs.declared.limits.TheConstants.{EVENTS}
 -- files: of the program and of the script, the control or the trace, or of the accesses or the text
 pub data Request : Type 0 where
   Replay : Config → ReplayReport → Option ℕ → Text → Text → Request
+  Drive : Config → Option ℕ → Text → Request
   Roll : Config → Option ℕ → Text → Text → Text → Request
-  Run : Config → RunRules → RunReport → RunOrder → Option ℕ → Text → Request
+  Run : Config → RunRules → RunReport → RunOrder → RunScope → Option ℕ → Text → Request
   Monitor : Config → RunRules → Option ℕ → Text → Request
   Check : ℕ → Text → Text → Request
   Judge : Text → Request
@@ -47,18 +53,20 @@ abbrev pub config_of : List Row → Option Config
 config_of entries =
     config_by (first_of (codes "nodes") entries) (first_of (codes "sets") entries) (first_of (codes "ways") entries) (first_of (codes "log") entries)
 
--- what a replay shows by its two flags, which don't stand together, and by the places, which only states have
-abbrev pub replay_report_by : Bool → Bool → Option Places → Option ReplayReport
-replay_report_by true true only = None
-replay_report_by true false (Some places) = None
-replay_report_by true false None = Some replayed.Trace
-replay_report_by false true only = Some (replayed.States only)
-replay_report_by false false (Some places) = None
-replay_report_by false false None = Some replayed.Events
+-- what a replay shows by its four flags, no two of which stand together, and by the places, which only states have
+abbrev pub replay_report_by : Bool → Bool → Bool → Bool → Option Places → Option ReplayReport
+replay_report_by false false false false None = Some replayed.Events
+replay_report_by true false false false None = Some replayed.Trace
+replay_report_by false true false false only = Some (replayed.States only)
+replay_report_by false false true false None = Some replayed.Statistics
+replay_report_by false false false true None = Some replayed.Accesses
+replay_report_by trace states statistics accesses only = None
 
 abbrev pub replay_report_of : List Row → Option ReplayReport
 replay_report_of entries =
-    option_and_then (λ only. replay_report_by (flag_of (codes "trace") entries) (flag_of (codes "states") entries) only)
+    option_and_then (λ only. replay_report_by
+    (flag_of (codes "trace") entries) (flag_of (codes "states") entries) (flag_of (codes "statistics") entries)
+    (flag_of (codes "accesses") entries) only)
     (places_by (first_of (codes "only") entries))
 
 abbrev pub replay_of : List Row → Option Request
@@ -67,6 +75,11 @@ replay_of entries =
     Replay config report watch program script)
     (first_of (codes "script") entries)) (first_of (codes "program") entries)) (watch_by (first_of (codes "watch") entries)))
     (replay_report_of entries)) (config_of entries)
+
+abbrev pub drive_of : List Row → Option Request
+drive_of entries =
+    option_and_then (λ config. option_and_then (λ watch. option_map (λ program. Drive config watch program)
+    (first_of (codes "program") entries)) (watch_by (first_of (codes "watch") entries))) (config_of entries)
 
 abbrev pub roll_of : List Row → Option Request
 roll_of entries =
@@ -102,12 +115,33 @@ run_order_by (Some text) =
 abbrev pub run_order_of : List Row → Option RunOrder
 run_order_of entries = run_order_by (first_of (codes "order") entries)
 
+-- whether the workers have their turns in an order, and nothing is shown beside the summary
+abbrev pub is_plain : RunOrder → RunReport → Bool
+is_plain order.Threads report = false
+is_plain order shown.Trace = false
+is_plain order shown.Journal = false
+is_plain order shown.Summary = true
+
+-- how many runs there are, and whether they are counted: by the flag for statistics, a range of seeds, whether the run is plain, and whether one
+-- seed is given
+abbrev pub run_scope_by : Bool → Option Seeds → Bool → Bool → Option RunScope
+run_scope_by false None plain seed = Some scope.One
+run_scope_by true None true seed = Some scope.Counted
+run_scope_by counted (Some seeds) true false = Some (scope.Seeds seeds counted)
+run_scope_by counted seeds plain seed = None
+
+abbrev pub run_scope_of : RunOrder → RunReport → List Row → Option RunScope
+run_scope_of order report entries =
+    option_and_then (λ seeds. run_scope_by
+    (flag_of (codes "statistics") entries) seeds (is_plain order report) (is_some (first_of (codes "seed") entries)))
+    (seeds_by (first_of (codes "seeds") entries))
+
 abbrev pub run_of : List Row → Option Request
 run_of entries =
-    option_and_then (λ config. option_and_then (λ rules. option_and_then (λ report. option_and_then (λ order. option_and_then (λ watch.
-    option_map (λ program. Run config rules report order watch program)
-    (first_of (codes "program") entries)) (watch_by (first_of (codes "watch") entries))) (run_order_of entries)) (run_report_of entries))
-    (run_rules_of config.nodes entries)) (config_of entries)
+    option_and_then (λ config. option_and_then (λ rules. option_and_then (λ report. option_and_then (λ order. option_and_then (λ scope.
+    option_and_then (λ watch. option_map (λ program. Run config rules report order scope watch program)
+    (first_of (codes "program") entries)) (watch_by (first_of (codes "watch") entries))) (run_scope_of order report entries))
+    (run_order_of entries)) (run_report_of entries)) (run_rules_of config.nodes entries)) (config_of entries)
 
 abbrev pub monitor_of : List Row → Option Request
 monitor_of entries =
@@ -128,6 +162,7 @@ demo_of entries = option_and_then demo_size (first_of (codes "size") entries)
 abbrev pub request_of : Text → List Row → Option Request
 request_of command entries =
     if bytes_eq command (codes "replay") then replay_of entries else
+    if bytes_eq command (codes "drive") then drive_of entries else
     if bytes_eq command (codes "roll") then roll_of entries else
     if bytes_eq command (codes "run") then run_of entries else
     if bytes_eq command (codes "monitor") then monitor_of entries else
@@ -146,11 +181,14 @@ ask_of words =
 abbrev pub as_replay : code_replay.Replay → Request
 as_replay r = Replay r.config r.report r.watch (string_bytes r.program) (string_bytes r.script)
 
+abbrev pub as_drive : code_drive.Drive → Request
+as_drive d = Drive d.config d.watch (string_bytes d.program)
+
 abbrev pub as_roll : code_roll.Roll → Request
 as_roll r = Roll r.config r.watch (string_bytes r.program) (string_bytes r.script) (string_bytes r.control)
 
 abbrev pub as_run : code_run.Run → Request
-as_run r = Run r.config r.rules r.report r.order r.watch (string_bytes r.program)
+as_run r = Run r.config r.rules r.report r.order r.scope r.watch (string_bytes r.program)
 
 abbrev pub as_monitor : code_monitor.Monitor → Request
 as_monitor m = Monitor m.config m.rules m.watch (string_bytes m.program)
@@ -160,6 +198,7 @@ as_check c = Check c.nodes (string_bytes c.program) (string_bytes c.trace)
 
 abbrev pub as_request : code_request.Request → Request
 as_request (asked.Replay r) = as_replay r
+as_request (asked.Drive d) = as_drive d
 as_request (asked.Roll r) = as_roll r
 as_request (asked.Run r) = as_run r
 as_request (asked.Monitor m) = as_monitor m
@@ -178,11 +217,19 @@ abbrev pub report_fits : ReplayReport → Bool
 report_fits (replayed.States only) = option_map_or places_fit only true
 report_fits _ = true
 
+-- whether the range of seeds of runs is one
+abbrev pub scope_fits : RunScope → Bool
+scope_fits (scope.Seeds seeds counted) = seeds_fit seeds
+scope_fits scope.One = true
+scope_fits scope.Counted = true
+
 -- whether the sizes and the rules of a run lie in their ranges, and so do the places that are shown, and the watched word in memory
 abbrev pub request_fits : Request → Bool
 request_fits (Replay config report watch program script) = config_fits config && (report_fits report && watch_fits watch)
+request_fits (Drive config watch program) = config_fits config && watch_fits watch
 request_fits (Roll config watch program script control) = config_fits config && watch_fits watch
-request_fits (Run config rules report order watch program) = config_fits config && (run_rules_fit config.nodes rules && watch_fits watch)
+request_fits (Run config rules report order scope watch program) =
+    config_fits config && (run_rules_fit config.nodes rules && (scope_fits scope && watch_fits watch))
 request_fits (Monitor config rules watch program) = config_fits config && (run_rules_fit config.nodes rules && watch_fits watch)
 request_fits (Check nodes program trace) = lies_in 1 16 nodes
 request_fits (Demo size) = lies_in 1 EVENTS size

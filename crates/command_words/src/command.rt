@@ -2,7 +2,7 @@
 ghost use Rattle.std.specs.Prelude.{◌≡◌, ◌↔◌, IfOk, IfErr, false, true, map, string_bytes};
 ghost use Rattle.clap.specs.Words.{app_of, rule_of, with_rule, takes, kind_of, subcommand_of, subcommand_rows_of};
 ghost use Rattle.clap.specs.declared.builder.command.Command.TheViews.{out-Command as fields_of};
-ghost use Rattle.command_words.specs.Command.{rule_by, with_args, command_app, replay_app, roll_app, run_app, monitor_app};
+ghost use Rattle.command_words.specs.Command.{rule_by, with_args, command_app, replay_app, drive_app, roll_app, run_app, monitor_app};
 ghost use Rattle.command_words.specs.Command.{check_app, judge_app, demo_app, asm_app, dis_app, named_app, with_command, the_app};
 
 use crate::request::WordsFault;
@@ -83,8 +83,16 @@ fn replay<'a>(alloc: Global) -> Result<Command<'a>, AllocError>
         "replay",
         &["program", "script"],
         &options,
-        &["trace", "states"],
+        &["trace", "states", "statistics", "accesses"],
     )
+}
+
+fn drive<'a>(alloc: Global) -> Result<Command<'a>, AllocError>
+    ensures app { IfOk result (λ c. app_of c ≡ drive_app) }
+    ensures alone { IfOk result (λ c. (fields_of c).has_globals ≡ false) }
+{
+    let options = ["nodes", "sets", "ways", "log", "watch"];
+    command_by(alloc, "drive", &["program"], &options, &[])
 }
 
 fn roll<'a>(alloc: Global) -> Result<Command<'a>, AllocError>
@@ -107,6 +115,7 @@ fn run<'a>(alloc: Global) -> Result<Command<'a>, AllocError>
 {
     let options = [
         "order",
+        "seeds",
         "nodes",
         "sets",
         "ways",
@@ -119,7 +128,13 @@ fn run<'a>(alloc: Global) -> Result<Command<'a>, AllocError>
         "budget",
         "seed",
     ];
-    command_by(alloc, "run", &["program"], &options, &["trace", "journal"])
+    command_by(
+        alloc,
+        "run",
+        &["program"],
+        &options,
+        &["trace", "journal", "statistics"],
+    )
 }
 
 fn monitor<'a>(alloc: Global) -> Result<Command<'a>, AllocError>
@@ -198,6 +213,7 @@ fn command<'a>(alloc: Global) -> Result<Command<'a>, AllocError>
     ensures { IfOk result (λ c. app_of c ≡ the_app) }
 {
     let command = with_command(named(alloc), replay(alloc)?)?;
+    let command = with_command(command, drive(alloc)?)?;
     let command = with_command(command, roll(alloc)?)?;
     let command = with_command(command, run(alloc)?)?;
     let command = with_command(command, monitor(alloc)?)?;

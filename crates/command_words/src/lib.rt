@@ -11,4 +11,6 @@ mod reading;
 mod request;
 
 pub use reading::read_words;
-pub use request::{Check, Monitor, Replay, ReplayReport, Request, Roll, Run, RunOrder, WordsFault};
+pub use request::{
+    Check, Drive, Monitor, Replay, ReplayReport, Request, Roll, Run, RunOrder, RunScope, WordsFault,
+};

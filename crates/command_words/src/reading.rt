@@ -1,23 +1,23 @@
 //! The request of the words: the entries' texts are read, and the names are copied.
-ghost use Rattle.std.specs.Prelude.{◌≡◌, ◌≤◌, IfOk, IfErr, true, Some, None, map, string_bytes};
+ghost use Rattle.std.specs.Prelude.{◌≡◌, ◌≤◌, Bool, IfOk, IfErr, true, Some, None, map, string_bytes};
 ghost use Rattle.sn_base.specs.Config.{lies_in, config_fits};
 ghost use Rattle.option_values.specs.Runs.{run_rules_fit};
 ghost use Rattle.clap.specs.Words.{found_of, rows_of, first_of};
-ghost use Rattle.command_words.specs.Request.{ask_of, as_request, request_of, config_of, replay_of, roll_of, run_rules_of, run_report_of};
+ghost use Rattle.command_words.specs.Request.{ask_of, as_request, request_of, config_of, replay_of, drive_of, roll_of, run_rules_of, run_report_of};
 ghost use Rattle.command_words.specs.Request.{replay_report_of, report_fits};
-ghost use Rattle.command_words.specs.Request.{run_order_of};
-ghost use Rattle.command_words.specs.Request.{run_of, monitor_of, check_of, demo_of, as_replay, as_roll, as_run, as_monitor, as_check};
+ghost use Rattle.command_words.specs.Request.{run_order_of, is_plain, run_scope_by, run_scope_of, scope_fits};
+ghost use Rattle.command_words.specs.Request.{run_of, monitor_of, check_of, demo_of, as_replay, as_drive, as_roll, as_run, as_monitor, as_check};
 ghost use Rattle.command_words.specs.Request.{watch_fits, request_fits};
 ghost use Rattle.sn_base.specs.declared.limits.TheConstants.{EVENTS};
 
 use crate::command::entries_of;
 use crate::entries::{command_of, has_flag, text_of};
 use crate::request::{
-    Check, Monitor, Replay, ReplayReport, Request, Roll, Run, RunOrder, WordsFault,
+    Check, Drive, Monitor, Replay, ReplayReport, Request, Roll, Run, RunOrder, RunScope, WordsFault,
 };
 use clap::ArgMatches;
 use option_values::{
-    RunRules, RunWords, SizeWords, read_demo_size, read_nodes, read_places, read_watch,
+    RunRules, RunWords, SizeWords, read_demo_size, read_nodes, read_places, read_seeds, read_watch,
 };
 use sn_base::{Config, RunReport};
 use std::alloc::Global;
@@ -56,11 +56,15 @@ fn replay_report(entries: &ArgMatches<'_>) -> Result<ReplayReport, WordsFault>
     match (
         has_flag(entries, "trace"),
         has_flag(entries, "states"),
+        has_flag(entries, "statistics"),
+        has_flag(entries, "accesses"),
         only,
     ) {
-        (false, false, None) => Ok(ReplayReport::Events),
-        (true, false, None) => Ok(ReplayReport::Trace),
-        (false, true, only) => Ok(ReplayReport::States(only)),
+        (false, false, false, false, None) => Ok(ReplayReport::Events),
+        (true, false, false, false, None) => Ok(ReplayReport::Trace),
+        (false, true, false, false, only) => Ok(ReplayReport::States(only)),
+        (false, false, true, false, None) => Ok(ReplayReport::Statistics),
+        (false, false, false, true, None) => Ok(ReplayReport::Accesses),
         _ => Err(WordsFault::Usage),
     }
 }
@@ -78,6 +82,19 @@ fn replay(alloc: Global, entries: &ArgMatches<'_>) -> Result<Replay, WordsFault>
         watch: read_watch(text_of(entries, "watch")).ok_or(WordsFault::Usage)?,
         program: name(alloc, entries, "program")?,
         script: name(alloc, entries, "script")?,
+    })
+}
+
+fn drive(alloc: Global, entries: &ArgMatches<'_>) -> Result<Drive, WordsFault>
+    ensures ok { IfOk result (λ drive. drive_of (rows_of (found_of entries.now)) ≡ Some (as_drive drive)) }
+    ensures usage { result ≡ Err WordsFault.Usage → drive_of (rows_of (found_of entries.now)) ≡ None }
+    ensures fits { IfOk result (λ drive. config_fits drive.config ≡ true) }
+    ensures watched { IfOk result (λ drive. watch_fits drive.watch ≡ true) }
+{
+    Ok(Drive {
+        config: config(entries)?,
+        watch: read_watch(text_of(entries, "watch")).ok_or(WordsFault::Usage)?,
+        program: name(alloc, entries, "program")?,
     })
 }
 
@@ -143,19 +160,78 @@ fn run_order(entries: &ArgMatches<'_>) -> Result<RunOrder, WordsFault>
     }
 }
 
+// Whether the workers have their turns in an order, and nothing is shown beside the summary.
+fn is_plain(order: &RunOrder, report: &RunReport) -> bool
+    ensures { result ≡ is_plain order.now report.now }
+{
+    match order {
+        RunOrder::Threads => false,
+        RunOrder::Round | RunOrder::Drawn => match report {
+            RunReport::Summary => true,
+            RunReport::Trace | RunReport::Journal => false,
+        },
+    }
+}
+
+// One run, which is counted or isn't.
+fn one_run(is_counted: bool, is_plain: bool) -> Result<RunScope, WordsFault>
+    ensures ok { IfOk result (λ scope. (seed : Bool) → run_scope_by is_counted None is_plain seed ≡ Some scope) }
+    ensures usage { IfErr result (λ fault. (fault ≡ WordsFault.Usage) × ((seed : Bool) → run_scope_by is_counted None is_plain seed ≡ None)) }
+    ensures fits { IfOk result (λ scope. scope_fits scope ≡ true) }
+{
+    if !is_counted {
+        Ok(RunScope::One)
+    } else if is_plain {
+        Ok(RunScope::Counted)
+    } else {
+        Err(WordsFault::Usage)
+    }
+}
+
+fn run_scope(
+    entries: &ArgMatches<'_>,
+    order: &RunOrder,
+    report: &RunReport,
+) -> Result<RunScope, WordsFault>
+    ensures ok { IfOk result (λ scope. run_scope_of order.now report.now (rows_of (found_of entries.now)) ≡ Some scope) }
+    ensures usage { IfErr result (λ fault. (fault ≡ WordsFault.Usage) × (run_scope_of order.now report.now (rows_of (found_of entries.now)) ≡ None)) }
+    ensures fits { IfOk result (λ scope. scope_fits scope ≡ true) }
+{
+    let is_counted = has_flag(entries, "statistics");
+    let is_plain = is_plain(order, report);
+    let has_seed = text_of(entries, "seed").is_some();
+    match read_seeds(text_of(entries, "seeds")) {
+        Some(None) => one_run(is_counted, is_plain),
+        Some(Some(seeds)) => {
+            if is_plain && !has_seed {
+                Ok(RunScope::Seeds(seeds, is_counted))
+            } else {
+                Err(WordsFault::Usage)
+            }
+        }
+        None => Err(WordsFault::Usage),
+    }
+}
+
 fn run(alloc: Global, entries: &ArgMatches<'_>) -> Result<Run, WordsFault>
     ensures ok { IfOk result (λ run. run_of (rows_of (found_of entries.now)) ≡ Some (as_run run)) }
     ensures usage { result ≡ Err WordsFault.Usage → run_of (rows_of (found_of entries.now)) ≡ None }
     ensures fits { IfOk result (λ run. config_fits run.config ≡ true) }
     ensures ruled { IfOk result (λ run. run_rules_fit run.config.nodes run.rules ≡ true) }
+    ensures scoped { IfOk result (λ run. scope_fits run.scope ≡ true) }
     ensures watched { IfOk result (λ run. watch_fits run.watch ≡ true) }
 {
     let config = config(entries)?;
+    let rules = rules(entries, config.nodes)?;
+    let report = run_report(entries)?;
+    let order = run_order(entries)?;
+    let scope = run_scope(entries, &order, &report)?;
     Ok(Run {
         config,
-        rules: rules(entries, config.nodes)?,
-        report: run_report(entries)?,
-        order: run_order(entries)?,
+        rules,
+        report,
+        order,
+        scope,
         watch: read_watch(text_of(entries, "watch")).ok_or(WordsFault::Usage)?,
         program: name(alloc, entries, "program")?,
     })
@@ -205,6 +281,7 @@ fn request(alloc: Global, command: &str, entries: &ArgMatches<'_>) -> Result<Req
 {
     match command {
         "replay" => Ok(Request::Replay(replay(alloc, entries)?)),
+        "drive" => Ok(Request::Drive(drive(alloc, entries)?)),
         "roll" => Ok(Request::Roll(roll(alloc, entries)?)),
         "run" => Ok(Request::Run(run(alloc, entries)?)),
         "monitor" => Ok(Request::Monitor(monitor(alloc, entries)?)),

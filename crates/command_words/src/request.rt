@@ -1,7 +1,7 @@
 //! What the words ask for.
 ghost use Rattle.std.specs.Prelude.{◌≡◌};
 
-use option_values::{Places, RunRules};
+use option_values::{Places, RunRules, Seeds};
 use sn_base::{Config, RunReport};
 use std::alloc::AllocError;
 
@@ -14,6 +14,10 @@ pub enum ReplayReport {
     Trace,
     /// The machine's state after each event, or of these places alone.
     States(Option<Places>),
+    /// Each event's answer, and behind the summary what was counted of the run.
+    Statistics,
+    /// The accesses of the committed trace in place of the events.
+    Accesses,
 }
 
 /// The sizes, what is shown, and the names of the files.
@@ -25,6 +29,15 @@ pub struct Replay {
     pub watch: Option<u32>,
     pub program: String,
     pub script: String,
+}
+
+/// The sizes, what is shown, and the name of the program's file. The events come line by line.
+#[derive(Drop)]
+pub struct Drive {
+    pub config: Config,
+    /// The address of the word that is shown after each recovery, and at the end.
+    pub watch: Option<u32>,
+    pub program: String,
 }
 
 /// The sizes, what is shown, and the names of the files.
@@ -50,6 +63,17 @@ pub enum RunOrder {
     Drawn,
 }
 
+/// How many runs there are, and whether they are counted.
+#[derive(Clone, Copy, PartialEq, Eq, Debug)]
+pub enum RunScope {
+    /// One, with the seed of its rules.
+    One,
+    /// One, and behind its summary what was counted of it.
+    Counted,
+    /// One for each seed of a range; whether they are counted.
+    Seeds(Seeds, bool),
+}
+
 /// The sizes, what the run goes by, what is shown, and the name of the program's file.
 #[derive(Drop)]
 pub struct Run {
@@ -57,6 +81,8 @@ pub struct Run {
     pub rules: RunRules,
     pub report: RunReport,
     pub order: RunOrder,
+    /// More than one, and what is counted, are had in an order and beside the summary alone.
+    pub scope: RunScope,
     /// The address of the word that is shown in the summary.
     pub watch: Option<u32>,
     pub program: String,
@@ -84,6 +110,7 @@ pub struct Check {
 #[derive(Drop)]
 pub enum Request {
     Replay(Replay),
+    Drive(Drive),
     Roll(Roll),
     Run(Run),
     Monitor(Monitor),

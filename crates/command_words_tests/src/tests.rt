@@ -46,6 +46,14 @@ fn shown(alloc: Global, request: &Request) -> Result<String, AllocError> {
                 r.program, r.script, c.nodes, c.sets, c.ways, c.log
             )
         }
+        Request::Drive(d) => {
+            let c = &d.config;
+            let watch = d.watch;
+            format!(in alloc;
+                "drive {} ({} nodes, {} sets, {} ways, log {}) {watch:?}",
+                d.program, c.nodes, c.sets, c.ways, c.log
+            )
+        }
         Request::Roll(r) => {
             let c = &r.config;
             let watch = r.watch;
@@ -56,8 +64,8 @@ fn shown(alloc: Global, request: &Request) -> Result<String, AllocError> {
         }
         Request::Run(r) => {
             let rules = rules_shown(alloc, &r.config, &r.rules, r.watch)?;
-            let (report, order) = (r.report, r.order);
-            format!(in alloc; "run {} {rules} {report:?} {order:?}", r.program)
+            let (report, order, scope) = (r.report, r.order, r.scope);
+            format!(in alloc; "run {} {rules} {report:?} {order:?} {scope:?}", r.program)
         }
         Request::Monitor(r) => {
             let rules = rules_shown(alloc, &r.config, &r.rules, r.watch)?;
@@ -142,6 +150,22 @@ const REQUESTS: &[(&str, &str)] = &[
         "replay p s (4 nodes, 16 sets, 4 ways, log 256) None States(Some(Places { from: 3, to: 9 }))",
     ),
     (
+        "replay p --statistics s",
+        "replay p s (4 nodes, 16 sets, 4 ways, log 256) None Statistics",
+    ),
+    (
+        "replay p s --accesses",
+        "replay p s (4 nodes, 16 sets, 4 ways, log 256) None Accesses",
+    ),
+    (
+        "drive p",
+        "drive p (4 nodes, 16 sets, 4 ways, log 256) None",
+    ),
+    (
+        "drive --nodes 2 --sets 3 --ways 5 --log 7 --watch 80000004 p",
+        "drive p (2 nodes, 3 sets, 5 ways, log 7) Some(2147483652)",
+    ),
+    (
         "replay -- --nodes --trace",
         "replay --nodes --trace (4 nodes, 16 sets, 4 ways, log 256) None Events",
     ),
@@ -171,43 +195,55 @@ const REQUESTS: &[(&str, &str)] = &[
     ),
     (
         "run p",
-        "run p (4 nodes, 16 sets, 4 ways, log 256) interval 100 wait 20000 lose 0 kill None budget 1000000 seed 1 None Summary Threads",
+        "run p (4 nodes, 16 sets, 4 ways, log 256) interval 100 wait 20000 lose 0 kill None budget 1000000 seed 1 None Summary Threads One",
     ),
     (
         "run --trace p",
-        "run p (4 nodes, 16 sets, 4 ways, log 256) interval 100 wait 20000 lose 0 kill None budget 1000000 seed 1 None Trace Threads",
+        "run p (4 nodes, 16 sets, 4 ways, log 256) interval 100 wait 20000 lose 0 kill None budget 1000000 seed 1 None Trace Threads One",
     ),
     (
         "run p --journal",
-        "run p (4 nodes, 16 sets, 4 ways, log 256) interval 100 wait 20000 lose 0 kill None budget 1000000 seed 1 None Journal Threads",
+        "run p (4 nodes, 16 sets, 4 ways, log 256) interval 100 wait 20000 lose 0 kill None budget 1000000 seed 1 None Journal Threads One",
     ),
     (
         "run --nodes 2 --sets 3 --ways 5 --log 7 --watch 80000004 --interval 8 --wait 9 --lose-every 10 --kill b1@11 --budget 12 --seed 13 --journal p",
-        "run p (2 nodes, 3 sets, 5 ways, log 7) interval 8 wait 9 lose 10 kill Some((3, 11)) budget 12 seed 13 Some(2147483652) Journal Threads",
+        "run p (2 nodes, 3 sets, 5 ways, log 7) interval 8 wait 9 lose 10 kill Some((3, 11)) budget 12 seed 13 Some(2147483652) Journal Threads One",
     ),
     (
         "run --kill=a15@1000000 --nodes=16 --seed=18446744073709551615 p",
-        "run p (16 nodes, 16 sets, 4 ways, log 256) interval 100 wait 20000 lose 0 kill Some((30, 1000000)) budget 1000000 seed 18446744073709551615 None Summary Threads",
+        "run p (16 nodes, 16 sets, 4 ways, log 256) interval 100 wait 20000 lose 0 kill Some((30, 1000000)) budget 1000000 seed 18446744073709551615 None Summary Threads One",
     ),
     (
         "run --kill a0@00 --seed 00 --lose-every 00 p",
-        "run p (4 nodes, 16 sets, 4 ways, log 256) interval 100 wait 20000 lose 0 kill Some((0, 0)) budget 1000000 seed 0 None Summary Threads",
+        "run p (4 nodes, 16 sets, 4 ways, log 256) interval 100 wait 20000 lose 0 kill Some((0, 0)) budget 1000000 seed 0 None Summary Threads One",
     ),
     (
         "run --order round p",
-        "run p (4 nodes, 16 sets, 4 ways, log 256) interval 100 wait 20000 lose 0 kill None budget 1000000 seed 1 None Summary Round",
+        "run p (4 nodes, 16 sets, 4 ways, log 256) interval 100 wait 20000 lose 0 kill None budget 1000000 seed 1 None Summary Round One",
     ),
     (
         "run p --order=drawn",
-        "run p (4 nodes, 16 sets, 4 ways, log 256) interval 100 wait 20000 lose 0 kill None budget 1000000 seed 1 None Summary Drawn",
+        "run p (4 nodes, 16 sets, 4 ways, log 256) interval 100 wait 20000 lose 0 kill None budget 1000000 seed 1 None Summary Drawn One",
+    ),
+    (
+        "run p --order drawn --statistics",
+        "run p (4 nodes, 16 sets, 4 ways, log 256) interval 100 wait 20000 lose 0 kill None budget 1000000 seed 1 None Summary Drawn Counted",
+    ),
+    (
+        "run --seeds 3-9 p --order round",
+        "run p (4 nodes, 16 sets, 4 ways, log 256) interval 100 wait 20000 lose 0 kill None budget 1000000 seed 1 None Summary Round Seeds(Seeds { first: 3, last: 9 }, false)",
+    ),
+    (
+        "run --statistics --seeds=0-999999 p --order=drawn",
+        "run p (4 nodes, 16 sets, 4 ways, log 256) interval 100 wait 20000 lose 0 kill None budget 1000000 seed 1 None Summary Drawn Seeds(Seeds { first: 0, last: 999999 }, true)",
     ),
     (
         "run p --order threads",
-        "run p (4 nodes, 16 sets, 4 ways, log 256) interval 100 wait 20000 lose 0 kill None budget 1000000 seed 1 None Summary Threads",
+        "run p (4 nodes, 16 sets, 4 ways, log 256) interval 100 wait 20000 lose 0 kill None budget 1000000 seed 1 None Summary Threads One",
     ),
     (
         "run run",
-        "run run (4 nodes, 16 sets, 4 ways, log 256) interval 100 wait 20000 lose 0 kill None budget 1000000 seed 1 None Summary Threads",
+        "run run (4 nodes, 16 sets, 4 ways, log 256) interval 100 wait 20000 lose 0 kill None budget 1000000 seed 1 None Summary Threads One",
     ),
     (
         "monitor p",
@@ -286,6 +322,26 @@ const USAGE: &[&str] = &[
     "replay p s --trace --trace",
     "replay p s --trace --states",
     "replay p s --states --states",
+    "replay p s --statistics --statistics",
+    "replay p s --statistics --trace",
+    "replay p s --statistics --states",
+    "replay p s --statistics --only 1-2",
+    "replay p s --accesses --trace",
+    "run p --statistics",
+    "run p --statistics --order threads",
+    "run p --statistics --order round --trace",
+    "run p --seeds 1-2",
+    "run p --seeds 2-1 --order round",
+    "run p --seeds 1 --order round",
+    "run p --seeds 0-1000000 --order round",
+    "run p --seeds 1-2 --order round --journal",
+    "run p --seeds 1-2 --order round --seed 1",
+    "monitor p --seeds 1-2",
+    "drive",
+    "drive p s",
+    "drive p --trace",
+    "drive p --nodes 0",
+    "drive p --watch 80000001",
     "replay p s --states=1",
     "replay p s --only 1-2",
     "replay p s --trace --only 1-2",

@@ -9,7 +9,7 @@ use Rattle.sn_base.specs.Image.{ImageData}
 use Rattle.sn_base.specs.declared.config.Config.{Config}
 use Rattle.sn_base.specs.declared.event.Answer.{Answer}
 use Rattle.sn_base.specs.declared.event.Event.{Event}
-use Rattle.sn_base.specs.Events.{event_fits}
+use Rattle.sn_base.specs.Events.{event_fits, block_fits}
 use Rattle.sn_model.specs.Caches.{Line, block_count, no_line}
 use Rattle.sn_model.specs.Fabric.{no_entry, first_homes}
 use Rattle.sn_model.specs.Homes.{HomeEntry, Transaction}
@@ -21,7 +21,7 @@ use Rattle.sn_base.specs.declared.log.LogEntry.{LogEntry}
 use Rattle.sn_model.specs.Machine.{State}
 use Rattle.sn_model.specs.Step.{step_of, state_after}
 use Rattle.sn_model.specs.Trace.{TraceEntry, trace_after_event, trace_after}
-use Rattle.consistent_cuts.specs.Runs.{AllFit, block_fits}
+use Rattle.consistent_cuts.specs.Runs.{AllFit}
 use Rattle.fabric_coherence.proofs.KeptStart.{first_homes_at, length-first_homes}
 
 -- a state, and the retirements up to it

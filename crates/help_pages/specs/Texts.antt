@@ -5,6 +5,7 @@ use Rattle.help_pages.specs.declared.page.Page.TheVariants as page
 use Rattle.help_pages.specs.declared.texts.overview.TheConstants.{OVERVIEW}
 use Rattle.help_pages.specs.declared.texts.commands.TheConstants.{CHECK, JUDGE, DEMO, ASM, DIS}
 use Rattle.help_pages.specs.declared.texts.schedules.TheConstants.{REPLAY, ROLL}
+use Rattle.help_pages.specs.declared.texts.driven.TheConstants.{DRIVE}
 use Rattle.help_pages.specs.declared.texts.runs.TheConstants.{RUN, MONITOR}
 use Rattle.help_pages.specs.declared.texts.topics.TheConstants.{EVENTS, FORMATS, STATUSES}
 use Rattle.help_pages.specs.declared.texts.overview.TheConstants.{VERSION}
@@ -12,6 +13,7 @@ use Rattle.help_pages.specs.declared.texts.overview.TheConstants.{VERSION}
 abbrev pub text_on : Page → Text
 text_on page.Overview = OVERVIEW.now
 text_on page.Replay = REPLAY.now
+text_on page.Drive = DRIVE.now
 text_on page.Roll = ROLL.now
 text_on page.Run = RUN.now
 text_on page.Monitor = MONITOR.now

@@ -7,6 +7,7 @@ ghost use Rattle.help_pages.specs.Pages.{asked_by, topic_pages, page_in, command
 pub enum Page {
     Overview,
     Replay,
+    Drive,
     Roll,
     Run,
     Monitor,
@@ -39,6 +40,7 @@ fn command_page(word: &str) -> Option<Page>
 {
     match word {
         "replay" => Some(Page::Replay),
+        "drive" => Some(Page::Drive),
         "roll" => Some(Page::Roll),
         "run" => Some(Page::Run),
         "monitor" => Some(Page::Monitor),

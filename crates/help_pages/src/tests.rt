@@ -23,11 +23,12 @@ const ROLL: &str = "roll --help;roll -h;roll help;help roll";
 
 const TOPIC: &str = "help statuses";
 
-const VERSION: &str = "--version;replay --version;roll --version;run --version;monitor --version;\
+const VERSION: &str =
+    "--version;replay --version;drive --version;roll --version;run --version;monitor --version;\
 check --version;judge --version;demo --version;asm --version;dis --version";
 
 const NEITHER: &str = "\
-'';--;-;-V;--Help;HELP;--helper;hel;--help=1;version;replay;run;monitor;check;demo;asm;dis;fly;fly --help;fly --version;--help fly;\
+'';--;-;-V;--Help;HELP;--helper;hel;--help=1;version;replay;drive;run;monitor;check;demo;asm;dis;fly;fly --help;fly --version;--help fly;\
 --help --help;help --help;help help;help fly;help '';-h replay;--help replay;--version replay;Replay --help;statuses;\
 events --help;replay replay;replay --help --help;replay a --help;help replay help;help replay check;replay --nodes 2 --help;\
 demo 5 --help;asm a;dis a -h;replay ''";

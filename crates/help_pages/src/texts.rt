@@ -4,6 +4,7 @@ ghost use Rattle.sn_io.specs.Outside.{Rose, followed_by};
 ghost use Rattle.help_pages.specs.Texts.{text_on};
 
 mod commands;
+mod driven;
 mod overview;
 mod runs;
 mod schedules;
@@ -11,6 +12,7 @@ mod topics;
 
 use crate::page::Page;
 use commands::{ASM, CHECK, DEMO, DIS, JUDGE};
+use driven::DRIVE;
 use overview::{OVERVIEW, VERSION};
 use runs::{MONITOR, RUN};
 use schedules::{REPLAY, ROLL};
@@ -23,6 +25,7 @@ fn text_of(page: Page) -> &'static str
     match page {
         Page::Overview => OVERVIEW,
         Page::Replay => REPLAY,
+        Page::Drive => DRIVE,
         Page::Roll => ROLL,
         Page::Run => RUN,
         Page::Monitor => MONITOR,

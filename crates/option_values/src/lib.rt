@@ -9,6 +9,7 @@ mod digits;
 mod number;
 mod places;
 mod run;
+mod seeds;
 mod sizes;
 
 pub use address::read_watch;
@@ -17,6 +18,7 @@ pub use number::{
 };
 pub use places::{Places, read_places};
 pub use run::{RunRules, RunWords};
+pub use seeds::{MOST_SEEDS, Seeds, read_seeds};
 pub use sizes::{SizeWords, read_nodes};
 
 #[cfg(test)]

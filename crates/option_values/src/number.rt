@@ -1,5 +1,5 @@
 //! Numbers of a range.
-ghost use Rattle.std.specs.Prelude.{◌≡◌, ◌≤◌, true, IfSome, option_map};
+ghost use Rattle.std.specs.Prelude.{◌≡◌, ◌≤◌, ◌-◌, ◌^◌, true, IfSome, option_map};
 ghost use Rattle.sn_base.specs.Config.{lies_in};
 ghost use Rattle.option_values.specs.Values.{number_in, number_by, demo_size};
 ghost use Rattle.sn_base.specs.declared.limits.TheConstants.{EVENTS};
@@ -102,6 +102,13 @@ impl NumberRule {
             None => Some(self.default),
         }
     }
+}
+
+/// A seed: any number of 64 bits.
+pub(crate) fn read_seed(text: &str) -> Option<u64>
+    ensures { result ≡ number_in 0 (2 ^ 64 - 1) text.now }
+{
+    read_number(text, SEED.least, SEED.greatest)
 }
 
 // A number of events, at most 1,000,000.

@@ -1,5 +1,5 @@
 -- What a run in an order has put, by what its turns left.
-use Rattle.std.proofs.Common.{◌≡◌, ◌⊎◌, inl, inr, ℕ, List, length, refl, ap, subst, ◌∙◌}
+use Rattle.std.proofs.Common.{◌≡◌, ◌⊎◌, inl, inr, ℕ, ◌≤◌, List, length, refl, ap, subst, ◌∙◌, arith}
 use Rattle.std.specs.Prelude.{Option, Some, None, option_and_then}
 use Rattle.sn_io.specs.Outside.{Rose}
 use Rattle.sn_probe.specs.Probes.{Meter}
@@ -39,6 +39,11 @@ module _ (order : Order) (r : Run) (journal : List JournalEntry) (ordered : jour
       let f = finished (ending_by r.config.nodes (flat_after (begins r) journal)) (finish_by (begins r) journal) ending e in
       whole order (begins r) journal ordered its.few f.0 f.1
 
+  -- where no sink could stop it, the journal is the whole run's
+  pub whole-by_finish : (found : Finish) → length journal ≤ r.budget → finish_by (begins r) journal ≡ Some found →
+      journal ≡ ordered_journal order (begins r)
+  whole-by_finish found few is = whole order (begins r) journal ordered few found is
+
   pub ordered-done : (probes told : List Meter) (ending : Ending) (before behind : Ends) →
       IsDoneWith r journal probes ending before behind told → IsDone order r probes ending before behind told
   ordered-done probes told ending before behind h =
@@ -62,6 +67,17 @@ module _ (order : Order) (r : Run) (journal : List JournalEntry) (ordered : jour
           know = subst (λ (l : List JournalEntry). KnowAll r l probes told) all knows;
         },
       )
+
+-- a sink without faults stops no run
+pub no-rise : Rose 0 0 → ⊥
+no-rise rose = omega (arith, rose)
+
+pub unstopped-by : (began : Began) (journal : List JournalEntry) (found : Finish) (released : List ℕ) (before behind : Option (List ℕ)) →
+    EndsSo began journal found released before behind 0 0 → finish_by began journal ≡ Some found
+unstopped-by began journal finish.Stopped released before behind so = absurd (no-rise so.1)
+unstopped-by began journal finish.Over released before behind so = so.1
+unstopped-by began journal (finish.CutOff a b) released before behind so = so.1
+unstopped-by began journal finish.Budget released before behind so = so.1
 
 -- a run that was stopped found the console's faults risen; one that came to its end, and didn't put its report, the report's
 pub cause-by : (began : Began) (nodes : ℕ) (flat : FlatState) (journal : List JournalEntry) (found : Finish) (released : List ℕ)

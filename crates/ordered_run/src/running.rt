@@ -1,11 +1,12 @@
 //! A whole run: all memory first, then the turns with the console, and then the report.
-ghost use Rattle.std.specs.Prelude.{◌≡◌, ◌≤◌, ◌⊎◌, [], length, IfOk, Err};
+ghost use Rattle.std.specs.Prelude.{◌≡◌, ◌≤◌, ◌⊎◌, [], length, IfOk, Some, Err};
 ghost use Rattle.sn_io.specs.Outside.{Rose};
 ghost use Rattle.sink_pieces.specs.Pieces.{ends};
 ghost use Rattle.sn_probe.specs.Probes.{meters_in};
-ghost use Rattle.node_threads.specs.Finishes.{IsRunOf, Ends};
+ghost use Rattle.node_threads.specs.Finishes.{IsRunOf, Ends, finish_by};
+ghost use Rattle.node_run.specs.Pieces.{begins};
 ghost use Rattle.node_run.specs.Shown.{MayBegin};
-ghost use Rattle.ordered_run.specs.Ordered.{journal_after};
+ghost use Rattle.ordered_run.specs.Ordered.{journal_after, ordered_journal};
 ghost use Rattle.ordered_run.specs.Shown.{IsDone, IsBrokenOff};
 ghost use Rattle.ordered_run.specs.Stands.{Stands, IsReady, its_start};
 
@@ -14,7 +15,8 @@ use crate::starting::start;
 use crate::turns::make_turns;
 use node_run::{Ending, Run, RunFault, put_ended};
 use node_threads::{Finished, tell};
-use sn_io::Sink;
+use sn_base::Memory;
+use sn_io::{Sink, SureSink};
 use sn_probe::ProbeSet;
 use sn_text::Line;
 use std::alloc::Global;
@@ -49,6 +51,29 @@ fn finish<C: Sink>(course: Course, console: &mut C) -> Finished
         answers,
         finish,
     }
+}
+
+/// All turns of a run, of which nothing is put: what they leave. It takes all memory before the first event; an error is want of it.
+pub fn all_turns(alloc: Global, job: Run, order: Order) -> Result<Finished, Memory>
+    requires { MayBegin job }
+    ensures run { IfOk result (λ left. IsRunOf (begins job) left.machine left.journal.items left.answers.items) }
+    ensures journal { IfOk result (λ left. left.journal.items ≡ ordered_journal order (begins job)) }
+    ensures finish { IfOk result (λ left. finish_by (begins job) left.journal.items ≡ Some left.finish) }
+{
+    let Run {
+        program,
+        config,
+        rules,
+        seed,
+        budget,
+        showing: _,
+    } = job;
+    let Ok(course) = start(alloc, program, config, rules, seed, budget, order) else {
+        return Err(Memory);
+    };
+    let mut nowhere = SureSink::new();
+    let finished = finish(course, &mut nowhere);
+    Ok(finished)
 }
 
 /// Runs the program by turns of one worker a node, in this order, up to the run's end; puts what each turn releases to the console;

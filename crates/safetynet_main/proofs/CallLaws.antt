@@ -21,6 +21,9 @@ use Rattle.node_run.specs.Shown.{IsDone as IsRunDone, IsBrokenOff as IsRunBroken
 use Rattle.node_run.specs.Pieces.{begins}
 use Rattle.turn_orders.specs.declared.order.Order.{Order}
 use Rattle.ordered_run.specs.Ordered.{ordered_journal}
+use Rattle.seed_runs.specs.declared.job.SeedRuns.{SeedRuns}
+use Rattle.seed_runs.specs.Shown.{IsDoneCounted, IsBrokenCounted, AreShown as AreSeedsShown, AreBrokenOff as AreSeedsBroken}
+use Rattle.seed_runs.specs.Shown.{AreLeftOff as AreSeedsLeft}
 use Rattle.ordered_run.specs.Shown.{IsDone as IsOrderDone, IsBrokenOff as IsOrderBroken}
 use Rattle.monitor_run.specs.declared.job.Monitor.{Monitor}
 use Rattle.monitor_run.specs.Shown.{IsDone as IsWatchDone, IsBrokenOff as IsWatchBroken}
@@ -33,12 +36,13 @@ use Rattle.safetynet_main.specs.Outcome.{access_status, ending_status, status_of
 use Rattle.safetynet_main.specs.declared.job.Check.{Check}
 use Rattle.safetynet_main.specs.declared.job.Job.{Job}
 use Rattle.safetynet_main.specs.declared.job.Job.TheVariants.{States as StatesJob, Run as RunJob, OrderedRun as OrderedJob, Monitor as MonitorJob}
+use Rattle.safetynet_main.specs.declared.job.Job.TheVariants.{CountedRun as CountedRunJob, Seeds as SeedsJob}
 use Rattle.safetynet_main.specs.declared.job.Job.TheVariants.{Check as CheckJob, Judge as JudgeJob}
 use Rattle.safetynet_main.specs.declared.job.Verdict.{Verdict}
 use Rattle.safetynet_main.specs.declared.job.Verdict.TheVariants as verdict
 use Rattle.safetynet_main.specs.declared.status.Status.{Status}
 use Rattle.safetynet_main.specs.declared.status.Status.TheVariants.{Done, Usage, StoreFault, BadProgram, BadScript, BadAsm, SinkFault}
-use Rattle.safetynet_main.specs.declared.status.Status.TheVariants.{Budget, Memory, CutOff, Refused, Trapped}
+use Rattle.safetynet_main.specs.declared.status.Status.TheVariants.{Budget, Memory, CutOff, Refused, Trapped, InputFault}
 use Rattle.safetynet_main.proofs.LoadPlans.{plan-of_words, if_some-intro, loads-sure, loads-told, loads-rose, loads-usage, refused-at_once}
 
 -- a run ends in no refusal
@@ -95,6 +99,7 @@ is_memory (BadProgram cause) = inr (λ e. cc)
 is_memory (BadScript cause) = inr (λ e. cc)
 is_memory (BadAsm cause) = inr (λ e. cc)
 is_memory SinkFault = inr (λ e. cc)
+is_memory InputFault = inr (λ e. cc)
 is_memory Budget = inr (λ e. cc)
 is_memory (CutOff a b) = inr (λ e. cc)
 is_memory (Refused place) = inr (λ e. cc)
@@ -324,3 +329,33 @@ pub meters-same : {I : Type 0} {D : I → Type 0} (first tally : (x : I) × D x 
     (step : (x : I) × D x → List ℕ → ℕ → Event → Answer → List ℕ) (a b : Vec (DynBox I Global D) Global) → a ≡ b →
     meters_in first tally step a.items ≡ meters_in first tally step b.items
 meters-same first tally step a b e = ap (λ v. meters_in first tally step v.items) e
+
+-- a run in an order that is counted
+pub follows-counted_done : (probes told : List Meter) (job : Job) (r : Run) (order : Order) (ending : Ending) (status : Status) (was is : ℕ)
+    (before behind : Ends) → job ≡ CountedRunJob r order → status ≡ ending_status ending → IsDoneCounted order r probes ending before behind told →
+    Follows probes (Ok job) status was is before behind
+follows-counted_done probes told job r order ending status was is before behind e s h =
+    subst (λ (j : Job). Follows probes (Ok j) status was is before behind) (sym e)
+    (inl (Ran (ordered_journal order (begins r)) ending, ((refl, h.lawful.journal_is, h.ended), inl (s, h.put, (h.lawful, h.output)))))
+
+pub follows-counted_broken : (probes told : List Meter) (job : Job) (r : Run) (order : Order) (status : Status) (was is : ℕ)
+    (before behind : Ends) → job ≡ CountedRunJob r order → status ≡ SinkFault → IsBrokenCounted order r probes before behind told →
+    Follows probes (Ok job) status was is before behind
+follows-counted_broken probes told job r order status was is before behind e s h =
+    subst (λ (j : Job). Follows probes (Ok j) status was is before behind) (sym e)
+    (inl (Ran (ordered_journal order (begins r)) h.lawful.ending, ((refl, h.lawful.journal_is, h.lawful.ended), inr (s, h.broken, h.lawful))))
+
+-- runs for the seeds of a range
+pub follows-seeds_done : (probes : List Meter) (job : Job) (r : SeedRuns) (status : Status) (was is : ℕ) (before behind : Ends) →
+    job ≡ SeedsJob r → status ≡ Done → AreSeedsShown r before behind → Follows probes (Ok job) status was is before behind
+follows-seeds_done probes job r status was is before behind e s h =
+    subst (λ (j : Job). Follows probes (Ok j) status was is before behind) (sym e) (inl (Finished, (refl, inl (s, h.put, h))))
+
+pub follows-seeds_broken : (probes : List Meter) (job : Job) (r : SeedRuns) (status : Status) (was is : ℕ) (before behind : Ends) →
+    job ≡ SeedsJob r → status ≡ SinkFault → AreSeedsBroken r before behind → Follows probes (Ok job) status was is before behind
+follows-seeds_broken probes job r status was is before behind e s h =
+    subst (λ (j : Job). Follows probes (Ok j) status was is before behind) (sym e) (inl (Finished, (refl, inr (s, h.broken, h))))
+
+pub seeds-cut_short : (probes : List Meter) (job : Job) (r : SeedRuns) (before behind : Ends) (A : Type 0) → job ≡ SeedsJob r →
+    AreSeedsLeft r before behind → A ⊎ ((Memory ≡ Memory) × IsCutShort probes job before behind)
+seeds-cut_short probes job r before behind A e h = inr (refl, subst (λ (j : Job). IsCutShort probes j before behind) (sym e) h)

@@ -18,10 +18,11 @@ use Rattle.sn_text.specs.declared.cause.ScriptCause.{ScriptCause}
 use Rattle.sn_text.specs.declared.cause.ScriptCause.TheVariants.{TooLong as ScriptTooLong}
 use Rattle.rolling_recovery.specs.Controls.{controls_of}
 use Rattle.rolling_recovery.specs.declared.controls.Control.{Control}
-use Rattle.command_words.specs.Request.{Request, Replay, Roll, Run, Monitor, Check, Judge, Demo, Assemble, Disassemble}
+use Rattle.command_words.specs.Request.{Request, Replay, Drive, Roll, Run, Monitor, Check, Judge, Demo, Assemble, Disassemble}
 use Rattle.sn_base.specs.declared.report.RunReport.{RunReport}
 use Rattle.option_values.specs.declared.run.RunRules.{RunRules}
 use Rattle.command_words.specs.declared.request.RunOrder.{RunOrder}
+use Rattle.command_words.specs.declared.request.RunScope.{RunScope}
 use Rattle.command_words.specs.declared.request.ReplayReport.{ReplayReport}
 use Rattle.asm_texts.specs.Texts.{words_text}
 use Rattle.counting_program.specs.Program.{counting_words}
@@ -30,7 +31,7 @@ use Rattle.safetynet_main.specs.Files.{if_said, accesses_of, if_assembled, assem
 use Rattle.safetynet_main.specs.LoadPlan.{LoadPlan, Due, Fetch, due_by, Loads}
 use Rattle.safetynet_main.specs.Call.{Fetches, job_with, roll_with, run_with, monitor_with, check_with, judge_with, text_job}
 use Rattle.safetynet_main.specs.Call.{script_plan, control_plan, rolled_plan, trace_plan}
-use Rattle.safetynet_main.specs.Call.{generated_job, plan_of}
+use Rattle.safetynet_main.specs.Call.{generated_job, plan_of, AsksNothing}
 use Rattle.safetynet_main.specs.declared.job.Job.{Job}
 use Rattle.safetynet_main.specs.declared.status.ProgramCause.TheVariants.{TooLong as ProgramTooLong}
 use Rattle.safetynet_main.specs.declared.status.Status.{Status}
@@ -95,10 +96,10 @@ plain-check : (nodes : ℕ) (image : ImageData) (records : Result (List Record) 
 plain-check nodes image (Ok records) h = (λ e. cc, λ e. cc)
 plain-check nodes image (Err status) h = (λ e. h.0 cc, λ e. h.1 cc)
 
-plain-run : (config : Config) (rules : RunRules) (report : RunReport) (order : RunOrder) (watch : Option ℕ)
-    (program : Result ImageData Status) → IsOfBytes program → IsOfBytes (run_with config rules report order watch program)
-plain-run config rules report order watch (Ok image) h = (λ e. cc, λ e. cc)
-plain-run config rules report order watch (Err status) h = (λ e. h.0 cc, λ e. h.1 cc)
+plain-run : (config : Config) (rules : RunRules) (report : RunReport) (order : RunOrder) (scope : RunScope) (watch : Option ℕ)
+    (program : Result ImageData Status) → IsOfBytes program → IsOfBytes (run_with config rules report order scope watch program)
+plain-run config rules report order scope watch (Ok image) h = (λ e. cc, λ e. cc)
+plain-run config rules report order scope watch (Err status) h = (λ e. h.0 cc, λ e. h.1 cc)
 
 plain-monitor : (config : Config) (rules : RunRules) (watch : Option ℕ) (program : Result ImageData Status) → IsOfBytes program →
     IsOfBytes (monitor_with config rules watch program)
@@ -156,7 +157,7 @@ plain-trace nodes trace (Ok image) h = (
   λ bytes. plain-check nodes image (records_of nodes bytes) (read (trace_of nodes bytes) (nat_lt script_limit (length bytes))),
 )
 
-program-of_bytes : (bytes : List ℕ) → IsOfBytes (program_of bytes)
+pub program-of_bytes : (bytes : List ℕ) → IsOfBytes (program_of bytes)
 program-of_bytes bytes = loaded (image_of bytes) (nat_lt program_limit (length bytes))
 
 plain-generated : (size : ℕ) (program : Result ImageData Status) → IsOfBytes program → IsOfBytes (generated_job size program)
@@ -165,6 +166,7 @@ plain-generated size (Err status) h = (λ e. h.0 cc, λ e. h.1 cc)
 
 pub plan-of_words : (ask : Option Request) → IsOfWords (plan_of ask)
 plan-of_words None = inl refl
+plan-of_words (Some (Drive config watch program)) = inl refl
 plan-of_words (Some (Check nodes program trace)) = (
   refl,
   plain-trace nodes trace (Err (BadProgram ProgramTooLong)) (λ e. cc, λ e. cc),
@@ -182,10 +184,10 @@ plan-of_words (Some (Roll config watch program script control)) = (
   plain-rolled config watch script control (Err (BadProgram ProgramTooLong)) (λ e. cc, λ e. cc),
   λ bytes. plain-rolled config watch script control (program_of bytes) (program-of_bytes bytes),
 )
-plan-of_words (Some (Run config rules report order watch program)) = (
+plan-of_words (Some (Run config rules report order scope watch program)) = (
   refl,
-  plain-run config rules report order watch (Err (BadProgram ProgramTooLong)) (λ e. cc, λ e. cc),
-  λ bytes. plain-run config rules report order watch (program_of bytes) (program-of_bytes bytes),
+  plain-run config rules report order scope watch (Err (BadProgram ProgramTooLong)) (λ e. cc, λ e. cc),
+  λ bytes. plain-run config rules report order scope watch (program_of bytes) (program-of_bytes bytes),
 )
 plan-of_words (Some (Monitor config rules watch program)) = (
   refl,
@@ -332,14 +334,15 @@ module _ {S : Type 0} (files : S → Option (List ℕ → Option (List ℕ))) (s
   loads-usage (Fetch name limit next) job old new good h e = absurd (no_usage-plain (Fetch name limit next) job old new good h e)
 
 -- only words that are no command's are refused before any file
-pub refused-at_once : (ask : Option Request) → plan_of ask ≡ Due (Err Usage) → ask ≡ None
+pub refused-at_once : (ask : Option Request) → plan_of ask ≡ Due (Err Usage) → AsksNothing ask
 refused-at_once None e = refl
+refused-at_once (Some (Drive config watch program)) e = refl
 refused-at_once (Some (Check nodes program trace)) e = absurd cc
 refused-at_once (Some (Demo size)) e =
     absurd ((plain-generated size (program_of (words_text counting_words)) (program-of_bytes (words_text counting_words))).1 cc)
 refused-at_once (Some (Replay config report watch program script)) e = absurd cc
 refused-at_once (Some (Roll config watch program script control)) e = absurd cc
-refused-at_once (Some (Run config rules report order watch program)) e = absurd cc
+refused-at_once (Some (Run config rules report order scope watch program)) e = absurd cc
 refused-at_once (Some (Monitor config rules watch program)) e = absurd cc
 refused-at_once (Some (Judge accesses)) e = absurd cc
 refused-at_once (Some (Assemble text)) e = absurd cc

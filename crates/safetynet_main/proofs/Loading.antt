@@ -9,6 +9,7 @@ use Rattle.sn_io.specs.Outside.{Found}
 use Rattle.option_values.specs.declared.run.RunRules.{RunRules}
 use Rattle.command_words.specs.declared.request.ReplayReport.{ReplayReport}
 use Rattle.command_words.specs.declared.request.RunOrder.{RunOrder}
+use Rattle.command_words.specs.declared.request.RunScope.{RunScope}
 use Rattle.sn_base.specs.declared.report.RunReport.{RunReport}
 use Rattle.rolling_recovery.specs.declared.controls.Control.{Control}
 use Rattle.safetynet_main.specs.Files.{program_limit, script_limit, program_in, script_in, control_in, trace_in}
@@ -53,14 +54,14 @@ module _ {S : Type 0} (fetches : S → List ℕ → ℕ → Found → S → Type
       (k.0, new, k.1, (ap (check_with nodes image) k.2, refl))))
 
   -- a run's
-  pub loads-run : (config : Config) (rules : RunRules) (report : RunReport) (order : RunOrder) (watch : Option ℕ)
+  pub loads-run : (config : Config) (rules : RunRules) (report : RunReport) (order : RunOrder) (scope : RunScope) (watch : Option ℕ)
       (program asked_program : List ℕ) → program ≡ asked_program
       → (found : Found) × fetches old program program_limit found mid × (Ok image ≡ program_in found)
-      → Loads fetches (run_plan config rules report order watch asked_program) (run_with config rules report order watch (Ok image)) old mid
-  loads-run config rules report order watch program asked_program p h =
-      subst (λ (t : List ℕ). Loads fetches (run_plan config rules report order watch t)
-      (run_with config rules report order watch (Ok image)) old mid) p
-      (h.0, mid, h.1, (ap (run_with config rules report order watch) h.2, refl))
+      → Loads fetches (run_plan config rules report order scope watch asked_program) (run_with config rules report order scope watch (Ok image)) old mid
+  loads-run config rules report order scope watch program asked_program p h =
+      subst (λ (t : List ℕ). Loads fetches (run_plan config rules report order scope watch t)
+      (run_with config rules report order scope watch (Ok image)) old mid) p
+      (h.0, mid, h.1, (ap (run_with config rules report order scope watch) h.2, refl))
 
 -- the files of a recovery node by node, of which the script is refused, or the control file is fetched too
 module _ {S : Type 0} (fetches : S → List ℕ → ℕ → Found → S → Type 0) (image : ImageData) (config : Config) (watch : Option ℕ) (old mid : S) (program script control asked_program asked_script asked_control : List ℕ) (p : program ≡ asked_program) (s : script ≡ asked_script) (c : control ≡ asked_control) (h : (found : Found) × fetches old program program_limit found mid × (Ok image ≡ program_in found)) where

@@ -2,7 +2,7 @@
 use Rattle.std.proofs.Common.{◌≡◌, ℕ, suc, ◌+◌, Bool, true, false, ◌&&◌, nat_lt, nat_le, if◌then◌else◌, List, [], ◌∷◌, All, Option, Some}
 use Rattle.std.proofs.Common.{None, refl, subst, arith}
 use Rattle.std.specs.Prelude.{Result, Ok, Err, codes, bytes_eq, ⊤}
-use Rattle.sn_base.specs.Events.{event_fits}
+use Rattle.sn_base.specs.Events.{event_fits, block_fits}
 use Rattle.sn_base.specs.declared.event.Event.{Event}
 use Rattle.sn_base.specs.declared.event.Event.TheVariants as event
 use Rattle.sn_model.specs.Caches.{block_count}
@@ -14,7 +14,7 @@ use Rattle.sn_text.specs.Items.{most_items, is_skipped, items_and, with_item, it
 use Rattle.sn_text.specs.Script.{event_said, node_in, message_in, switch_in, parts_at_blank, evicted_at, eviction_by, given_to, input_by, begins, after}
 use Rattle.sn_text.specs.Script.{event_of, script_of}
 use Rattle.text_lines.specs.Lines.{lines_of}
-use Rattle.consistent_cuts.specs.Runs.{block_fits, AllFit}
+use Rattle.consistent_cuts.specs.Runs.{AllFit}
 
 -- the event that a line says, if any, names a block of memory
 record IsGood (read : Result Event Fault) : Type 0 where

@@ -16,7 +16,13 @@ use Rattle.command_words.specs.Request.{watch_fits}
 use Rattle.command_words.specs.declared.request.ReplayReport.{ReplayReport}
 use Rattle.command_words.specs.declared.request.ReplayReport.TheVariants as replayed
 use Rattle.script_replay.specs.Played.{IsWord, IsWatchable}
-use Rattle.safetynet_main.specs.Call.{replay_job, IsRead}
+use Rattle.node_run.specs.declared.job.Run.{Run}
+use Rattle.node_run.specs.Shown.{MayBegin as MayRun}
+use Rattle.turn_orders.specs.declared.order.Order.{Order}
+use Rattle.command_words.specs.Request.{scope_fits}
+use Rattle.command_words.specs.declared.request.RunScope.{RunScope}
+use Rattle.command_words.specs.declared.request.RunScope.TheVariants as asked_scope
+use Rattle.safetynet_main.specs.Call.{replay_job, ordered_job, IsRead}
 
 word-is : (address : ℕ) → is_word_address address ≡ true → IsWord address
 word-is address e = record { low = grind (arith, nat_tests); high = grind (arith, nat_tests); aligned = grind (arith, nat_tests) }
@@ -31,6 +37,10 @@ pub replay_may_begin : (config : Config) (report : ReplayReport) (watch : Option
 replay_may_begin config replayed.Events watch image events fits all few watched =
     record { run = record { fits = fits; events_fit = all }; few = few; watched = watched_is watch watched }
 replay_may_begin config replayed.Trace watch image events fits all few watched =
+    record { run = record { fits = fits; events_fit = all }; few = few; watched = watched_is watch watched }
+replay_may_begin config replayed.Statistics watch image events fits all few watched =
+    record { run = record { fits = fits; events_fit = all }; few = few; watched = watched_is watch watched }
+replay_may_begin config replayed.Accesses watch image events fits all few watched =
     record { run = record { fits = fits; events_fit = all }; few = few; watched = watched_is watch watched }
 replay_may_begin config (replayed.States only) watch image events fits all few watched =
     record { run = record { fits = fits; events_fit = all }; few = few; watched = watched_is watch watched }
@@ -54,3 +64,16 @@ rules_are config rules fits ruled = record {
 
 pub budget_is : (nodes : ℕ) (rules : RunRules) → run_rules_fit nodes rules ≡ true → rules.budget ≤ 1000000
 budget_is nodes rules ruled = grind (arith, nat_tests)
+
+-- a run in an order may begin that is read, and so may one for each seed of a range
+pub ordered_may_begin : (order : Order) (scope : RunScope) (r : Run) → MayRun r → scope_fits scope ≡ true → IsRead (ordered_job scope order r)
+ordered_may_begin order asked_scope.One r may fits = may
+ordered_may_begin order asked_scope.Counted r may fits = may
+ordered_may_begin order (asked_scope.Seeds seeds counted) r may fits = record {
+  fits = may.fits;
+  ruled = may.ruled;
+  few = may.few;
+  watched = may.watched;
+  some = grind (arith, nat_tests);
+  most = grind (arith, nat_tests);
+}

@@ -6,20 +6,27 @@ use Rattle.sn_base.specs.Image.{ImageData}
 use Rattle.sn_base.specs.declared.config.Config.{Config}
 use Rattle.sn_base.specs.declared.event.Event.{Event}
 use Rattle.rv_core.specs.declared.step.Record.{Record}
-use Rattle.sn_io.specs.Outside.{Found, File, TooLong, Missing, Rose, found_in}
+use Rattle.sn_io.specs.Outside.{Found, File, TooLong, Missing, Rose, found_in, followed_by}
 use Rattle.option_values.specs.declared.run.RunRules.{RunRules}
+use Rattle.option_values.specs.declared.seeds.Seeds.{Seeds}
 use Rattle.command_words.specs.declared.request.ReplayReport.{ReplayReport}
 use Rattle.command_words.specs.declared.request.ReplayReport.TheVariants as replayed
 use Rattle.command_words.specs.declared.request.RunOrder.{RunOrder}
 use Rattle.command_words.specs.declared.request.RunOrder.TheVariants as order
-use Rattle.command_words.specs.Request.{Request, Replay, Roll as RollRequest, Run as RunRequest, Monitor as MonitorRequest, Check, Demo}
+use Rattle.command_words.specs.declared.request.RunScope.{RunScope}
+use Rattle.command_words.specs.declared.request.RunScope.TheVariants as scope
+use Rattle.command_words.specs.Request.{Request, Replay, Drive, Roll as RollRequest, Run as RunRequest, Monitor as MonitorRequest, Check, Demo}
 use Rattle.command_words.specs.Request.{Judge as JudgeRequest, Assemble, Disassemble}
 use Rattle.sn_probe.specs.Probes.{Meter}
 use Rattle.sink_pieces.specs.Pieces.{Piece, Report, Ends, after, Breaks, console_piece}
+use Rattle.script_replay.specs.declared.job.Replay.{Replay as Replaying}
+use Rattle.script_replay.specs.declared.job.ReportKind.{ReportKind}
 use Rattle.script_replay.specs.declared.job.ReportKind.TheVariants.{Events, Trace as TraceReport, Summary}
 use Rattle.script_replay.specs.Played.{MayBegin}
 use Rattle.script_replay.specs.Probed.{tallies_due}
 use Rattle.script_replay.specs.Shown.{pieces_due, IsShown, IsShownInPart}
+use Rattle.counted_replay.specs.Shown.{pieces_due as counted_pieces, IsShown as IsCountedShown, IsShownInPart as IsCountedShownInPart}
+use Rattle.accesses_replay.specs.Shown.{pieces_due as accesses_pieces, IsShown as AreAccessesShown, IsShownInPart as AreAccessesShownInPart}
 use Rattle.shown_states.specs.Shown.{MayBegin as MayShowStates, pieces_due as states_pieces, IsShown as AreStatesShown}
 use Rattle.shown_states.specs.Shown.{IsShownInPart as AreStatesShownInPart, IsCutShort as AreStatesCutShort}
 use Rattle.rolling_recovery.specs.declared.controls.Control.{Control}
@@ -29,10 +36,14 @@ use Rattle.node_run.specs.declared.job.Run.{Run}
 use Rattle.sn_base.specs.declared.report.RunReport.{RunReport}
 use Rattle.node_run.specs.Endings.{ending_of}
 use Rattle.node_run.specs.Pieces.{begins, run_pieces}
-use Rattle.node_run.specs.Shown.{MayBegin as MayRun, IsJournal, IsShown as IsRunShown, IsShownInPart as IsRunShownInPart, IsStopped}
+use Rattle.node_run.specs.Shown.{MayBegin as MayRun, output_by, IsJournal, IsShown as IsRunShown, IsShownInPart as IsRunShownInPart, IsStopped}
 use Rattle.turn_orders.specs.declared.order.Order.{Order}
 use Rattle.turn_orders.specs.declared.order.Order.TheVariants as turns
 use Rattle.ordered_run.specs.Ordered.{journal_after, ordered_journal}
+use Rattle.seed_runs.specs.declared.job.SeedRuns.{SeedRuns}
+use Rattle.seed_runs.specs.Pieces.{counted_pieces as counted_run_pieces, pieces_due as seeds_pieces}
+use Rattle.seed_runs.specs.Shown.{MayBegin as MayRunSeeds, IsLawfulRun, AreShown as AreSeedsShown, AreBrokenOff as AreSeedsBroken}
+use Rattle.seed_runs.specs.Shown.{AreLeftOff as AreSeedsLeft}
 use Rattle.monitor_run.specs.declared.job.Monitor.{Monitor}
 use Rattle.monitor_run.specs.Shown.{MayBegin as MayMonitor, run_of as watched_as, monitor_pieces, IsWatched, IsShown as IsMonitorShown}
 use Rattle.monitor_run.specs.Shown.{IsCutShort as IsMonitorCutShort}
@@ -50,9 +61,9 @@ use Rattle.safetynet_main.specs.LoadPlan.{LoadPlan, Due, Fetch, due_by, Loads}
 use Rattle.safetynet_main.specs.Outcome.{Outcome, Finished, Judged, JudgedAccesses, Ran, Watched, IsVerdict, verdict_line, status_of}
 use Rattle.safetynet_main.specs.declared.job.Check.{Check as Judging}
 use Rattle.safetynet_main.specs.declared.job.Job.{Job}
-use Rattle.safetynet_main.specs.declared.job.Job.TheVariants.{Replay as ReplayJob, States as StatesJob, Roll as RollJob, Run as RunJob}
+use Rattle.safetynet_main.specs.declared.job.Job.TheVariants.{Replay as ReplayJob, Counted as CountedJob, Accesses as AccessesJob, States as StatesJob, Roll as RollJob, Run as RunJob}
 use Rattle.safetynet_main.specs.declared.job.Job.TheVariants.{Monitor as MonitorJob}
-use Rattle.safetynet_main.specs.declared.job.Job.TheVariants.{OrderedRun as OrderedJob, Check as CheckJob, Judge as JudgeJob, Text}
+use Rattle.safetynet_main.specs.declared.job.Job.TheVariants.{OrderedRun as OrderedJob, CountedRun as CountedRunJob, Seeds as SeedsJob, Check as CheckJob, Judge as JudgeJob, Text}
 use Rattle.safetynet_main.specs.declared.files.Unread.{Unread}
 use Rattle.safetynet_main.specs.declared.files.Unread.TheVariants.{Missing as UnreadMissing, TooLong as UnreadTooLong}
 use Rattle.safetynet_main.specs.declared.files.Unread.TheVariants.{Memory as UnreadMemory}
@@ -76,12 +87,17 @@ pub record Fetches {S : Type 0} (files : S → Option (List ℕ → Option (List
   pub same_files : files new ≡ files old
   pub stays_sure : sure old → sure new
 
+-- the replay of a program and of a script's events, with this report
+abbrev pub replay_with : Config → ReportKind → Option ℕ → ImageData → List Event → Replaying
+replay_with config report watch image events =
+    record { program = image; config = config; showing = record { report = report; watch = watch }; script = events }
+
 -- the job of a program and of a script's events, by what is shown of them
 abbrev pub replay_job : Config → ReplayReport → Option ℕ → ImageData → List Event → Job
-replay_job config replayed.Events watch image events =
-    ReplayJob (record { program = image; config = config; showing = record { report = Events; watch = watch }; script = events })
-replay_job config replayed.Trace watch image events =
-    ReplayJob (record { program = image; config = config; showing = record { report = TraceReport; watch = watch }; script = events })
+replay_job config replayed.Events watch image events = ReplayJob (replay_with config Events watch image events)
+replay_job config replayed.Trace watch image events = ReplayJob (replay_with config TraceReport watch image events)
+replay_job config replayed.Statistics watch image events = CountedJob (replay_with config Events watch image events)
+replay_job config replayed.Accesses watch image events = AccessesJob (replay_with config TraceReport watch image events)
 replay_job config (replayed.States only) watch image events =
     StatesJob (record { program = image; config = config; watch = watch; only = only; script = events })
 
@@ -122,15 +138,35 @@ run_of config rules report watch image = record {
   showing = record { report = report; watch = watch };
 }
 
--- the same by who has the next turn
-abbrev pub run_job : RunOrder → Run → Job
-run_job order.Threads r = RunJob r
-run_job order.Round r = OrderedJob r turns.Round
-run_job order.Drawn r = OrderedJob r turns.Drawn
+-- runs in an order, one for each seed of a range
+abbrev pub seeds_of : Run → Order → Seeds → Bool → SeedRuns
+seeds_of r order seeds counted = record {
+  program = r.program;
+  config = r.config;
+  rules = r.rules;
+  budget = r.budget;
+  order = order;
+  first = seeds.first;
+  last = seeds.last;
+  watch = r.showing.watch;
+  statistics = counted;
+}
 
-abbrev pub run_with : Config → RunRules → RunReport → RunOrder → Option ℕ → Result ImageData Status → Result Job Status
-run_with config rules report order watch (Ok image) = Ok (run_job order (run_of config rules report watch image))
-run_with config rules report order watch (Err status) = Err status
+-- a run in an order, by how many there are, and whether they are counted
+abbrev pub ordered_job : RunScope → Order → Run → Job
+ordered_job scope.One order r = OrderedJob r order
+ordered_job scope.Counted order r = CountedRunJob r order
+ordered_job (scope.Seeds seeds counted) order r = SeedsJob (seeds_of r order seeds counted)
+
+-- a run by who has the next turn; the words have more than one, and what is counted, in an order alone
+abbrev pub run_job : RunOrder → RunScope → Run → Job
+run_job order.Threads scope r = RunJob r
+run_job order.Round scope r = ordered_job scope turns.Round r
+run_job order.Drawn scope r = ordered_job scope turns.Drawn r
+
+abbrev pub run_with : Config → RunRules → RunReport → RunOrder → RunScope → Option ℕ → Result ImageData Status → Result Job Status
+run_with config rules report order scope watch (Ok image) = Ok (run_job order scope (run_of config rules report watch image))
+run_with config rules report order scope watch (Err status) = Err status
 
 -- the job of a run that is watched
 abbrev pub monitor_of : Config → RunRules → Option ℕ → ImageData → Monitor
@@ -177,9 +213,9 @@ abbrev pub roll_plan : Config → Option ℕ → List ℕ → List ℕ → List 
 roll_plan config watch program script control =
     Fetch program program_limit (λ found. rolled_plan config watch script control (program_in found))
 
-abbrev pub run_plan : Config → RunRules → RunReport → RunOrder → Option ℕ → List ℕ → LoadPlan
-run_plan config rules report order watch program =
-    Fetch program program_limit (λ found. Due (run_with config rules report order watch (program_in found)))
+abbrev pub run_plan : Config → RunRules → RunReport → RunOrder → RunScope → Option ℕ → List ℕ → LoadPlan
+run_plan config rules report order scope watch program =
+    Fetch program program_limit (λ found. Due (run_with config rules report order scope watch (program_in found)))
 
 abbrev pub monitor_plan : Config → RunRules → Option ℕ → List ℕ → LoadPlan
 monitor_plan config rules watch program = Fetch program program_limit (λ found. Due (monitor_with config rules watch (program_in found)))
@@ -211,11 +247,12 @@ generated_job size (Err status) = Err status
 abbrev pub demo_plan : ℕ → LoadPlan
 demo_plan size = Due (generated_job size (program_of (words_text counting_words)))
 
--- words that aren't a command's are refused
+-- words that aren't a command's are refused, and so are those of a drive, which has a call of its own
 abbrev pub plan_of : Option Request → LoadPlan
 plan_of (Some (Replay config report watch program script)) = replay_plan config report watch program script
+plan_of (Some (Drive config watch program)) = Due (Err Usage)
 plan_of (Some (RollRequest config watch program script control)) = roll_plan config watch program script control
-plan_of (Some (RunRequest config rules report order watch program)) = run_plan config rules report order watch program
+plan_of (Some (RunRequest config rules report order scope watch program)) = run_plan config rules report order scope watch program
 plan_of (Some (MonitorRequest config rules watch program)) = monitor_plan config rules watch program
 plan_of (Some (Check nodes program trace)) = check_plan nodes program trace
 plan_of (Some (JudgeRequest accesses)) = judge_plan accesses
@@ -224,9 +261,15 @@ plan_of (Some (Assemble text)) = assembly_plan text
 plan_of (Some (Disassemble program)) = listing_plan program
 plan_of None = Due (Err Usage)
 
--- the words are no command's
+-- whether the words are those of a command that this call does
+abbrev pub is_asked : Option Request → Bool
+is_asked None = false
+is_asked (Some (Drive config watch program)) = false
+is_asked (Some _) = true
+
+-- the words are no command's, or a drive's
 abbrev pub AsksNothing : Option Request → Type 0
-AsksNothing ask = ask ≡ None
+AsksNothing ask = is_asked ask ≡ false
 
 -- what is due over these files, by the words
 abbrev pub due_of : (List ℕ → Option (List ℕ)) → Option Request → Result Job Status
@@ -260,10 +303,14 @@ AreJudged said _ = ⊥
 -- what a job comes to: events and a text come to their end, workers to one of a due journal, and a trace and accesses to their verdict
 abbrev pub IsOutcome : Job → Outcome → Type 0
 IsOutcome (ReplayJob r) outcome = outcome ≡ Finished
+IsOutcome (CountedJob r) outcome = outcome ≡ Finished
+IsOutcome (AccessesJob r) outcome = outcome ≡ Finished
 IsOutcome (StatesJob r) outcome = outcome ≡ Finished
 IsOutcome (RollJob r) outcome = outcome ≡ Finished
 IsOutcome (RunJob r) outcome = RunsTo r outcome
 IsOutcome (OrderedJob r order) outcome = RunsInOrderTo r order outcome
+IsOutcome (CountedRunJob r order) outcome = RunsInOrderTo r order outcome
+IsOutcome (SeedsJob r) outcome = outcome ≡ Finished
 IsOutcome (MonitorJob r) outcome = RunsWatchedTo r outcome
 IsOutcome (CheckJob c) outcome = IsJudged c outcome
 IsOutcome (JudgeJob said) outcome = AreJudged said outcome
@@ -273,6 +320,10 @@ IsOutcome (Text text) outcome = outcome ≡ Finished
 abbrev pub journal_pieces : List Meter → Run → Outcome → List Piece
 journal_pieces probes r (Ran journal ending) = run_pieces r probes journal
 journal_pieces probes r _ = []
+
+abbrev pub counted_journal_pieces : List Meter → Run → Outcome → List Piece
+counted_journal_pieces probes r (Ran journal ending) = counted_run_pieces r probes journal
+counted_journal_pieces probes r _ = []
 
 abbrev pub watched_pieces : List Meter → Monitor → Outcome → List Piece
 watched_pieces probes r (Watched journal seen ending) = monitor_pieces r probes journal seen
@@ -289,10 +340,14 @@ access_pieces said _ = []
 -- all that a job puts that comes to this, where these probes are told its events
 abbrev pub pieces_of_job : List Meter → Job → Outcome → List Piece
 pieces_of_job probes (ReplayJob r) outcome = pieces_due r probes
+pieces_of_job probes (CountedJob r) outcome = counted_pieces r probes
+pieces_of_job probes (AccessesJob r) outcome = accesses_pieces r probes
 pieces_of_job probes (StatesJob r) outcome = states_pieces r probes
 pieces_of_job probes (RollJob r) outcome = rolled_pieces r probes
 pieces_of_job probes (RunJob r) outcome = journal_pieces probes r outcome
 pieces_of_job probes (OrderedJob r order) outcome = journal_pieces probes r outcome
+pieces_of_job probes (CountedRunJob r order) outcome = counted_journal_pieces probes r outcome
+pieces_of_job probes (SeedsJob r) outcome = seeds_pieces r
 pieces_of_job probes (MonitorJob r) outcome = watched_pieces probes r outcome
 pieces_of_job probes (CheckJob c) outcome = verdict_pieces c outcome
 pieces_of_job probes (JudgeJob said) outcome = access_pieces said outcome
@@ -323,10 +378,15 @@ ShowsWatchedInPart probes r _ old new = ⊥
 -- what the sinks show of a job that was done, and of one that a sink broke
 abbrev pub Shows : List Meter → Job → Outcome → Ends → Ends → Type 0
 Shows probes (ReplayJob r) outcome old new = IsShown r.program r.config r.showing (tallies_due r probes) r.script old new
+Shows probes (CountedJob r) outcome old new = IsCountedShown r probes old new
+Shows probes (AccessesJob r) outcome old new = AreAccessesShown r probes old new
 Shows probes (StatesJob r) outcome old new = AreStatesShown r probes old new
 Shows probes (RollJob r) outcome old new = IsRolled r probes old new
 Shows probes (RunJob r) outcome old new = ShowsRun probes r outcome old new
 Shows probes (OrderedJob r order) outcome old new = ShowsRun probes r outcome old new
+Shows probes (CountedRunJob r order) outcome old new =
+    IsLawfulRun order r probes × (new.console ≡ followed_by old.console (output_by r (ordered_journal order (begins r))))
+Shows probes (SeedsJob r) outcome old new = AreSeedsShown r old new
 Shows probes (MonitorJob r) outcome old new = ShowsWatched probes r outcome old new
 Shows probes (CheckJob c) outcome old new = ⊤
 Shows probes (JudgeJob said) outcome old new = ⊤
@@ -334,10 +394,14 @@ Shows probes (Text text) outcome old new = ⊤
 
 abbrev pub ShowsInPart : List Meter → Job → Outcome → Ends → Ends → Type 0
 ShowsInPart probes (ReplayJob r) outcome old new = IsShownInPart r.program r.config r.showing (tallies_due r probes) r.script old new
+ShowsInPart probes (CountedJob r) outcome old new = IsCountedShownInPart r probes old new
+ShowsInPart probes (AccessesJob r) outcome old new = AreAccessesShownInPart r probes old new
 ShowsInPart probes (StatesJob r) outcome old new = AreStatesShownInPart r probes old new
 ShowsInPart probes (RollJob r) outcome old new = IsRollBrokenOff r probes old new
 ShowsInPart probes (RunJob r) outcome old new = ShowsRunInPart probes r outcome old new
 ShowsInPart probes (OrderedJob r order) outcome old new = ShowsRunInPart probes r outcome old new
+ShowsInPart probes (CountedRunJob r order) outcome old new = IsLawfulRun order r probes
+ShowsInPart probes (SeedsJob r) outcome old new = AreSeedsBroken r old new
 ShowsInPart probes (MonitorJob r) outcome old new = ShowsWatchedInPart probes r outcome old new
 ShowsInPart probes (CheckJob c) outcome old new = ⊤
 ShowsInPart probes (JudgeJob said) outcome old new = ⊤
@@ -350,9 +414,11 @@ BrokeOff (RunJob r) was is old new = Rose was is × ((journal : List JournalEntr
 BrokeOff (OrderedJob r order) was is old new = Rose was is × ((turn : ℕ) × IsStopped r (journal_after order (begins r) turn) old new)
 BrokeOff _ was is old new = ⊥
 
--- memory was wanted in the middle: the pieces of some first events are put, and no others; it is so of a replay that shows states alone
+-- memory was wanted in the middle: the pieces of some first events are put, and no others, of a replay that shows states; or those of the first
+-- seeds
 abbrev pub IsCutShort : List Meter → Job → Ends → Ends → Type 0
 IsCutShort probes (StatesJob r) old new = (told : List Meter) × AreStatesCutShort r probes old new told
+IsCutShort probes (SeedsJob r) old new = AreSeedsLeft r old new
 IsCutShort probes _ old new = ⊥
 
 -- the job came to this, and all pieces are put, or a sink broke
@@ -382,10 +448,14 @@ EndsInTheMiddle fetches probes ask old new before behind =
 -- a job that may begin
 abbrev pub IsRead : Job → Type 0
 IsRead (ReplayJob r) = MayBegin r
+IsRead (CountedJob r) = MayBegin r
+IsRead (AccessesJob r) = MayBegin r
 IsRead (StatesJob r) = MayShowStates r
 IsRead (RollJob r) = MayRoll r
 IsRead (RunJob r) = MayRun r
 IsRead (OrderedJob r order) = MayRun r
+IsRead (CountedRunJob r order) = MayRun r
+IsRead (SeedsJob r) = MayRunSeeds r
 IsRead (MonitorJob r) = MayMonitor r
 IsRead (CheckJob c) = (1 ≤ c.nodes) × (c.nodes ≤ 16)
 IsRead (JudgeJob said) = All IsFittingWord said.words × All IsFittingAccess said.accesses

@@ -13,7 +13,7 @@ use Rattle.safetynet_main.specs.declared.status.ProgramCause.{ProgramCause}
 use Rattle.safetynet_main.specs.declared.status.ProgramCause.TheVariants.{TooLong, Load}
 use Rattle.safetynet_main.specs.declared.status.Status.{Status}
 use Rattle.safetynet_main.specs.declared.status.Status.TheVariants.{Done, Usage, StoreFault, BadProgram, BadScript, BadAsm, SinkFault}
-use Rattle.safetynet_main.specs.declared.status.Status.TheVariants.{Budget, Memory, CutOff, Refused, Trapped}
+use Rattle.safetynet_main.specs.declared.status.Status.TheVariants.{Budget, Memory, CutOff, Refused, Trapped, InputFault}
 
 abbrev pub number_of : Status → ℕ
 number_of Done = 0
@@ -28,6 +28,7 @@ number_of (CutOff a b) = 8
 number_of (Refused place) = 9
 number_of (Trapped node cause) = 10
 number_of (BadAsm cause) = 13
+number_of InputFault = 14
 
 -- the name of a cause, in lower case and without its fields
 abbrev pub load_name : LoadCause → List ℕ
@@ -75,6 +76,7 @@ word_of Memory = codes "memory"
 word_of (CutOff a b) = codes "cutoff"
 word_of (Refused place) = codes "refused"
 word_of (Trapped node cause) = codes "trapped"
+word_of InputFault = codes "input"
 
 -- the place that follows the word, where one does
 abbrev pub place_of : Status → Option ℕ
@@ -89,4 +91,5 @@ has_written Budget = true
 has_written (CutOff a b) = true
 has_written (Refused place) = true
 has_written (Trapped node cause) = true
+has_written InputFault = true
 has_written _ = false

@@ -13,12 +13,15 @@ use crate::files::load;
 use crate::job::Job;
 use crate::judging::judge;
 use crate::status::{Status, ended_as};
+use accesses_replay::replay_accesses;
 use command_words::{Request, WordsFault, read_words};
+use counted_replay::replay_counted;
 use monitor_run::monitor;
 use node_run::{RunFault, run};
 use ordered_run::run as run_in_order;
 use rolled_replay::{RollFault, roll};
 use script_replay::{ReplayFault, replay};
+use seed_runs::{SeedsFault, run_counted, run_seeds};
 use shown_states::{StatesFault, replay_states};
 use sink_pieces::put_console;
 use sn_io::{Gate, Sink, Store};
@@ -53,6 +56,16 @@ fn perform<T: Threads + Wait + Sync, C: Sink + Send, R: Sink, G: Gate + Sync>(
             Err(ReplayFault::Sink) => Status::SinkFault,
             Err(ReplayFault::Memory) => Status::Memory,
         },
+        Job::Counted(job) => match replay_counted(alloc, job, probes, console, report) {
+            Ok(()) => Status::Done,
+            Err(ReplayFault::Sink) => Status::SinkFault,
+            Err(ReplayFault::Memory) => Status::Memory,
+        },
+        Job::Accesses(job) => match replay_accesses(alloc, job, probes, console, report) {
+            Ok(()) => Status::Done,
+            Err(ReplayFault::Sink) => Status::SinkFault,
+            Err(ReplayFault::Memory) => Status::Memory,
+        },
         Job::States(job) => match replay_states(alloc, job, probes, console, report) {
             Ok(()) => Status::Done,
             Err(StatesFault::Sink) => Status::SinkFault,
@@ -80,6 +93,18 @@ fn perform<T: Threads + Wait + Sync, C: Sink + Send, R: Sink, G: Gate + Sync>(
                 Err(RunFault::Memory) => Status::Memory,
             }
         }
+        Job::CountedRun(job, order) => {
+            match run_counted(alloc, job, order, probes, console, report) {
+                Ok(ending) => ended_as(ending),
+                Err(RunFault::Sink) => Status::SinkFault,
+                Err(RunFault::Memory) => Status::Memory,
+            }
+        }
+        Job::Seeds(job) => match run_seeds(alloc, job, console, report) {
+            Ok(()) => Status::Done,
+            Err(SeedsFault::Sink) => Status::SinkFault,
+            Err(SeedsFault::Memory) => Status::Memory,
+        },
         Job::Check(job) => check(rt, alloc, &job, report, gate),
         Job::Judge(list) => judge(alloc, &list, report),
         Job::Text(text) => match put_console(console, text.bytes()) {

@@ -5,12 +5,13 @@ ghost use Rattle.sn_io.specs.Outside.{Found};
 ghost use Rattle.access_check.specs.Accesses.{IsFittingAccess, IsFittingWord};
 ghost use Rattle.consistent_cuts.specs.Runs.{AllFit};
 ghost use Rattle.rolling_recovery.specs.Controls.{control_fits};
-ghost use Rattle.command_words.specs.Request.{as_request, watch_fits, request_fits};
+ghost use Rattle.node_run.specs.Shown.{MayBegin as MayRun};
+ghost use Rattle.command_words.specs.Request.{as_request, watch_fits, scope_fits, request_fits};
 ghost use Rattle.option_values.specs.Runs.{run_rules_fit};
 ghost use Rattle.safetynet_main.specs.Files.{program_in, script_in, control_in, trace_in, accesses_in, assembly_in};
 ghost use Rattle.safetynet_main.specs.LoadPlan.{Loads};
-ghost use Rattle.safetynet_main.specs.Call.{Fetches, found_by, replay_job, plan_of, replay_plan, roll_plan};
-ghost use Rattle.safetynet_main.specs.Call.{run_plan, monitor_plan, check_plan, judge_plan, assembly_plan, listing_plan, IsRead};
+ghost use Rattle.safetynet_main.specs.Call.{Fetches, found_by, replay_with, replay_job, ordered_job, plan_of, replay_plan, roll_plan};
+ghost use Rattle.safetynet_main.specs.Call.{run_plan, monitor_plan, check_plan, judge_plan, assembly_plan, listing_plan, IsRead, AsksNothing};
 ghost use Rattle.sn_base.specs.declared.limits.TheConstants.{EVENTS};
 
 use crate::job::{Check, Job, Text, Trace};
@@ -20,12 +21,13 @@ use crate::reading::{
 };
 use crate::status::{ProgramCause, Status};
 use access_texts::AccessList;
-use command_words::{ReplayReport, Request, RunOrder};
+use command_words::{ReplayReport, Request, RunOrder, RunScope};
 use monitor_run::Monitor;
 use node_run::{Run, RunShowing};
 use rolled_replay::{Controls, Roll};
 use rv_asm::AsmCause;
 use script_replay::{Replay, ReportKind, Script, Showing};
+use seed_runs::SeedRuns;
 use shown_states::StatesReplay;
 use sn_base::{Config, Image};
 use sn_io::{Fetched, Store, StoreFault};
@@ -60,7 +62,8 @@ fn fetch_file<S: Store>(
     }
 }
 
-fn fetch_program<S: Store>(alloc: Global, store: &mut S, name: &str) -> Result<Image, Status>
+/// Fetches a program, of at most 16 MiB, and reads it. An error is the status that says why there is none.
+pub fn fetch_program<S: Store>(alloc: Global, store: &mut S, name: &str) -> Result<Image, Status>
     ensures found { result ≢ Err Status.Memory → (found : Found)
         × Fetches S.files S.sure S.faults S.gave store.old name.now 16777216 found store.new
         × (result ≡ program_in found) }
@@ -174,6 +177,24 @@ fn fetch_assembly<S: Store>(alloc: Global, store: &mut S, name: &str) -> Result<
     }
 }
 
+// A replay with this report.
+fn replay_with(
+    config: Config,
+    report: ReportKind,
+    watch: Option<u32>,
+    program: Image,
+    script: Script,
+) -> Replay
+    ensures { result ≡ replay_with config report watch program script }
+{
+    Replay {
+        program,
+        config,
+        showing: Showing { report, watch },
+        script,
+    }
+}
+
 // The job of a program and of a script's events.
 fn replay_job(
     config: Config,
@@ -184,28 +205,43 @@ fn replay_job(
 ) -> Job
     ensures { result ≡ replay_job config report watch program script }
 {
-    let kind = match report {
-        ReplayReport::States(only) => {
-            return Job::States(StatesReplay {
-                program,
-                config,
-                watch,
-                only,
-                script,
-            });
-        }
-        ReplayReport::Events => ReportKind::Events,
-        ReplayReport::Trace => ReportKind::Trace,
-    };
-    Job::Replay(Replay {
-        program,
-        config,
-        showing: Showing {
-            report: kind,
+    match report {
+        ReplayReport::Events => Job::Replay(replay_with(
+            config,
+            ReportKind::Events,
             watch,
-        },
-        script,
-    })
+            program,
+            script,
+        )),
+        ReplayReport::Trace => Job::Replay(replay_with(
+            config,
+            ReportKind::Trace,
+            watch,
+            program,
+            script,
+        )),
+        ReplayReport::Statistics => Job::Counted(replay_with(
+            config,
+            ReportKind::Events,
+            watch,
+            program,
+            script,
+        )),
+        ReplayReport::Accesses => Job::Accesses(replay_with(
+            config,
+            ReportKind::Trace,
+            watch,
+            program,
+            script,
+        )),
+        ReplayReport::States(only) => Job::States(StatesReplay {
+            program,
+            config,
+            watch,
+            only,
+            script,
+        }),
+    }
 }
 
 // The program and the script of a replay, in this order.
@@ -275,6 +311,31 @@ fn load_roll<S: Store>(
     }
 }
 
+// The job of a run in an order, or of one for each seed of a range.
+#[tactic(auto, using(crate::proofs::Watched::ordered_may_begin))]
+fn ordered_job(scope: RunScope, order: Order, run: Run) -> Job
+    requires may { MayRun run }
+    requires scoped { scope_fits scope ≡ true }
+    ensures same { result ≡ ordered_job scope order run }
+    ensures read { IsRead result }
+{
+    match scope {
+        RunScope::One => Job::OrderedRun(run, order),
+        RunScope::Counted => Job::CountedRun(run, order),
+        RunScope::Seeds(seeds, statistics) => Job::Seeds(SeedRuns {
+            program: run.program,
+            config: run.config,
+            rules: run.rules,
+            budget: run.budget,
+            order,
+            first: seeds.first,
+            last: seeds.last,
+            watch: run.showing.watch,
+            statistics,
+        }),
+    }
+}
+
 // The program of a run.
 #[tactic(auto, using(crate::proofs::Watched::watched_is, crate::proofs::Watched::rules_are, crate::proofs::Watched::budget_is))]
 fn load_run<S: Store>(
@@ -284,9 +345,11 @@ fn load_run<S: Store>(
 ) -> Result<Job, Status>
     requires sizes { config_fits asked.now.config ≡ true }
     requires ruled { run_rules_fit asked.now.config.nodes asked.now.rules ≡ true }
+    requires scoped { scope_fits asked.now.scope ≡ true }
     requires watched { watch_fits asked.now.watch ≡ true }
     ensures loads { result ≢ Err Status.Memory → Loads (Fetches S.files S.sure S.faults S.gave)
-        (run_plan asked.now.config asked.now.rules asked.now.report asked.now.order asked.now.watch (string_bytes asked.now.program))
+        (run_plan asked.now.config asked.now.rules asked.now.report asked.now.order asked.now.scope asked.now.watch
+        (string_bytes asked.now.program))
         result store.old store.new }
     ensures read { IfOk result IsRead }
     ensures files { S.files store.new ≡ S.files store.old }
@@ -313,11 +376,11 @@ fn load_run<S: Store>(
         budget,
         showing,
     };
-    let order = asked.order;
+    let (order, scope) = (asked.order, asked.scope);
     match order {
         RunOrder::Threads => Ok(Job::Run(run)),
-        RunOrder::Round => Ok(Job::OrderedRun(run, Order::Round)),
-        RunOrder::Drawn => Ok(Job::OrderedRun(run, Order::Drawn)),
+        RunOrder::Round => Ok(ordered_job(scope, Order::Round, run)),
+        RunOrder::Drawn => Ok(ordered_job(scope, Order::Drawn, run)),
     }
 }
 
@@ -431,6 +494,7 @@ pub fn load<S: Store>(alloc: Global, store: &mut S, request: &Request) -> Result
     ensures loads { result ≢ Err Status.Memory →
         Loads (Fetches S.files S.sure S.faults S.gave) (plan_of (Some (as_request request.now))) result store.old store.new }
     ensures read { IfOk result IsRead }
+    ensures no_command { AsksNothing (Some (as_request request.now)) → (result ≡ Err Status.Usage) × (store.new ≡ store.old) }
     ensures files { S.files store.new ≡ S.files store.old }
     ensures stays_sure { S.sure store.old → S.sure store.new }
 {
@@ -443,6 +507,8 @@ pub fn load<S: Store>(alloc: Global, store: &mut S, request: &Request) -> Result
         Request::Judge(accesses) => load_judge(alloc, store, accesses.as_str()),
         Request::Assemble(text) => load_assembly(alloc, store, text.as_str()),
         Request::Disassemble(program) => load_listing(alloc, store, program.as_str()),
+        // Its lines come one by one, and for that there is a call beside this one.
+        Request::Drive(_) => Err(Status::Usage),
         Request::Demo(_) => unreachable!(),
     }
 }

@@ -9,6 +9,7 @@ use node_run::Run;
 use rolled_replay::Roll;
 use rv_core::Record;
 use script_replay::Replay;
+use seed_runs::SeedRuns;
 use shown_states::StatesReplay;
 use sn_base::Image;
 use std::marker::Model;
@@ -84,6 +85,10 @@ pub struct Check {
 pub enum Job {
     /// Events are applied.
     Replay(Replay),
+    /// Events are applied, and what was counted of the run is shown.
+    Counted(Replay),
+    /// Events are applied, and the accesses of the committed trace are shown.
+    Accesses(Replay),
     /// Events are applied, and states are shown.
     States(StatesReplay),
     /// Events are applied, and then controls lead a recovery.
@@ -92,6 +97,10 @@ pub enum Job {
     Run(Run),
     /// Workers have their turns of a run in an order, all on one thread.
     OrderedRun(Run, Order),
+    /// The same, and what was counted of the run is shown.
+    CountedRun(Run, Order),
+    /// The same once for each seed of a range.
+    Seeds(SeedRuns),
     /// Workers run a machine in turn, and a watcher looks at it beside them.
     Monitor(Monitor),
     /// A trace is judged, and the verdict is put to the report.

@@ -36,10 +36,10 @@ pub enum Status {
     BadAsm(AsmCause),
     /// A sink failed: what was written is a prefix of the text.
     SinkFault,
-    /// A run has as many events as its budget. All text is written.
+    /// A run has as many events as its budget, or a drive as many as there is room for. All text is written.
     Budget,
-    /// Memory was wanted and not given. Nothing is written, but by a replay that shows states: it may have put the pieces of
-    /// some first events.
+    /// Memory was wanted and not given. Nothing is written, but by a replay that shows states, which may have put the pieces of
+    /// some first events, and by runs for a range of seeds, which may have put the blocks of the first.
     Memory,
     /// In a run a recovery found these two nodes cut off from each other by switches that are dead. All text is written.
     CutOff(NodeId, NodeId),
@@ -48,6 +48,8 @@ pub enum Status {
     Refused(u64),
     /// In a run all cores have ended at the recovery point, and this is the least that trapped, and why. All text is written.
     Trapped(NodeId, Cause),
+    /// In a drive the source of lines failed. All lines that were read before are answered, and nothing stands behind the answers.
+    InputFault,
 }
 
 // The word `program`, and the name of the loader's cause.
@@ -136,6 +138,7 @@ impl Status {
             Status::Refused(_) => 9,
             Status::Trapped(_, _) => 10,
             Status::BadAsm(_) => 13,
+            Status::InputFault => 14,
         }
     }
 
@@ -156,6 +159,7 @@ impl Status {
             Status::CutOff(_, _) => "cutoff",
             Status::Refused(_) => "refused",
             Status::Trapped(_, _) => "trapped",
+            Status::InputFault => "input",
         }
     }
 

@@ -2,7 +2,7 @@
 //!
 //! It makes a store over the system's files and a sink over each standard stream, the console on standard output and
 //! the report on standard error, calls `safetynet` with the words that it was given, and exits with the status's
-//! number. One probe is told the events, a tally of how often each kind came. Where the status isn't Done a line on standard
+//! number. A drive's lines come from standard input, by `safetynet_drive`; nothing else reads it. One probe is told the events, a tally of how often each kind came. Where the status isn't Done a line on standard
 //! error says why, and the last one names it; of a replay that is done a terminal gets notes. Calls for help or the version are
 //! its own to answer. On a terminal that shows both streams no line of the console runs into the report's.
 #![tactic(auto)]
@@ -21,15 +21,17 @@ ghost use Rattle.sn_io.specs.Outside.{Rose, followed_by};
 use crate::terminal::{Console, Report};
 use crate::why::{write_notes_on, write_why};
 use help_pages::{Page, page_of, show};
+use line_source::ReaderLines;
 use reasons::{Lack, Reason, write_lack};
+use safetynet_drive::{is_drive, safetynet_drive};
 use safetynet_main::{Status, safetynet};
 use sn_base::Memory;
-use sn_io::{FileStore, OpenGate, Sink, StdSink};
+use sn_io::{FileStore, OpenGate, Sink, StdSink, Store};
 use sn_probe::{EventTally, Probe};
 use sn_text::trap_name;
 use std::alloc::Global;
 use std::env;
-use std::io::{BufWriter, ErrorKind, IsTerminal, Write};
+use std::io::{BufReader, BufWriter, ErrorKind, IsTerminal, Read, Write};
 use std::process::ExitCode;
 use std::rt::Files;
 use std::sync::Wait;
@@ -70,27 +72,29 @@ fn finished<R: Write + Drop>(report: &mut StdSink<R>, status: Status) -> Status
         | Status::Budget
         | Status::CutOff(_, _)
         | Status::Trapped(_, _)
+        | Status::InputFault
             if report.finish().is_err() => { Status::SinkFault }
         _ => status,
     }
 }
 
-// Does a command over the system's files and streams. The report goes out in large pieces, which spares a call of the
-// system for each event, but at once where it goes to a terminal. Where one terminal shows both, the report, and what is said
-// after it, begin on a line of their own.
-fn perform<T, C, R>(rt: &T, alloc: Global, words: &[String], console: C, report: R) -> Status
+// Does what the words ask: a drive by its own call, and all else by the top call. One probe is told the events.
+fn call<T, I, S, C, R>(
+    rt: &T,
+    alloc: Global,
+    words: &[String],
+    input: I,
+    store: &mut S,
+    console: &mut C,
+    report: &mut R,
+) -> Status
 where
-    T: Files + Threads + Wait + Sync,
-    C: Write + IsTerminal + Drop + Send,
-    R: Write + IsTerminal + Drop,
+    T: Threads + Wait + Sync,
+    I: Read + Drop,
+    S: Store,
+    C: Sink + Send,
+    R: Sink,
 {
-    let is_open = AtomicBool::new(false);
-    let is_shared = console.is_terminal() && report.is_terminal();
-    let held_back = if report.is_terminal() { 0 } else { HELD_BACK };
-    let report = Report::new(report, &is_open);
-    let Ok(writer) = BufWriter::with_capacity(alloc, held_back, report) else {
-        return Status::Memory;
-    };
     let mut probes: Vec<Box<dyn Probe + Send>> = Vec::new(alloc);
     let Ok(tally) = Box::new(alloc, EventTally::new()) else {
         return Status::Memory;
@@ -98,19 +102,55 @@ where
     if probes.push(tally).is_err() {
         return Status::Memory;
     }
+    if !is_drive(words) {
+        let gate = OpenGate::new();
+        return safetynet(rt, alloc, words, store, console, report, probes, &gate);
+    }
+    match BufReader::new(alloc, input) {
+        Ok(reader) => {
+            let mut lines = ReaderLines::new(reader);
+            safetynet_drive(alloc, words, store, &mut lines, console, report, probes)
+        }
+        Err(_) => Status::Memory,
+    }
+}
+
+// Does a command over the system's files and streams. The report goes out in large pieces, which spares a call of the
+// system for each event, but at once where it goes to a terminal, or to whoever drives the machine. Where one terminal shows
+// both, the report, and what is said after it, begin on a line of their own.
+fn perform<T, I, C, R>(
+    rt: &T,
+    alloc: Global,
+    words: &[String],
+    input: I,
+    console: C,
+    report: R,
+) -> Status
+where
+    T: Files + Threads + Wait + Sync,
+    I: Read + Drop,
+    C: Write + IsTerminal + Drop + Send,
+    R: Write + IsTerminal + Drop,
+{
+    let is_open = AtomicBool::new(false);
+    let is_shared = console.is_terminal() && report.is_terminal();
+    let is_awaited = report.is_terminal() || is_drive(words);
+    let held_back = if is_awaited { 0 } else { HELD_BACK };
+    let report = Report::new(report, &is_open);
+    let Ok(writer) = BufWriter::with_capacity(alloc, held_back, report) else {
+        return Status::Memory;
+    };
     let mut report = StdSink::new(writer);
     let mut console = StdSink::new(Console::new(console, is_shared, &is_open));
     let mut store = FileStore::new(rt);
-    let gate = OpenGate::new();
-    let status = safetynet(
+    let status = call(
         rt,
         alloc,
         words,
+        input,
         &mut store,
         &mut console,
         &mut report,
-        probes,
-        &gate,
     );
     let status = finished(&mut report, status);
     if is_open.load(Ordering::Relaxed) {
@@ -209,7 +249,14 @@ fn main(rt: HostRuntime) -> ExitCode {
                     &rt,
                     alloc,
                     words.as_slice(),
-                    perform(&rt, alloc, words.as_slice(), rt.stdout(), rt.stderr()),
+                    perform(
+                        &rt,
+                        alloc,
+                        words.as_slice(),
+                        rt.stdin(),
+                        rt.stdout(),
+                        rt.stderr(),
+                    ),
                 ),
             },
             Err(_) => wordless(&rt, alloc, ErrorKind::OutOfMemory),

@@ -72,6 +72,8 @@ pub fn replay_on<S: Schedule, C: Sink, R: Sink>(
         (meters_in first tally step probes.new.probes.items) }
     ensures memory { result ≡ Err ReplayFault.Memory →
         (console.new ≡ console.old) × (report.new ≡ report.old) × (probes.new ≡ probes.old) }
+    ensures console_later { C.faults console.old ≤ C.faults console.new }
+    ensures report_later { R.faults report.old ≤ R.faults report.new }
     ensures cause { result ≡ Err ReplayFault.Sink
         → Rose (C.faults console.old) (C.faults console.new) ⊎ Rose (R.faults report.old) (R.faults report.new) }
 {
@@ -115,6 +117,8 @@ pub fn replay<C: Sink, R: Sink>(
     // Memory was lacking, and nothing is done.
     ensures memory { result ≡ Err ReplayFault.Memory →
         (console.new ≡ console.old) × (report.new ≡ report.old) × (probes.new ≡ probes.old) }
+    ensures console_later { C.faults console.old ≤ C.faults console.new }
+    ensures report_later { R.faults report.old ≤ R.faults report.new }
     ensures cause { result ≡ Err ReplayFault.Sink
         → Rose (C.faults console.old) (C.faults console.new) ⊎ Rose (R.faults report.old) (R.faults report.new) }
 {

@@ -1,10 +1,9 @@
 //! The parts of a machine together, and what an event does to them.
 ghost use Rattle.std.specs.Prelude.{◌≡◌, ℕ, ◌<◌, ◌≤◌, true, length, IfOk, OnOk, OnErr};
 ghost use Rattle.sn_base.specs.Config.{config_fits};
-ghost use Rattle.sn_base.specs.Events.{event_fits};
+ghost use Rattle.sn_base.specs.Events.{event_fits, block_fits};
 ghost use Rattle.sn_model.specs.Step.{step_of};
 ghost use Rattle.sn_model.specs.Machine.{start_of};
-ghost use Rattle.consistent_cuts.specs.Runs.{block_fits};
 ghost use Rattle.sn_machine.specs.Parts.{state_of, sent_of, IsWhole, HasRoom, Does};
 ghost use Rattle.sn_machine.specs.Sound.{IsSound};
 

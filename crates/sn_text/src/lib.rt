@@ -24,6 +24,6 @@ pub use laws::{scripts_are_read_back, traces_are_read_back};
 pub use line::{LINE_ROOM, Line};
 pub use numbers::number_in;
 pub use operands::{byte_in, message_in, node_in, parted};
-pub use script::{read_script, rest_after};
+pub use script::{event_in, read_script, rest_after};
 pub use state_text::trap_name;
 pub use trace::{read_trace, word_in};

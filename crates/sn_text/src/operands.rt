@@ -2,7 +2,7 @@
 ghost use Rattle.std.specs.Prelude.{◌≡◌, ◌*◌, ◌<◌, ◌≤◌, nat_eq, nat_lt, if◌then◌else◌, IfOk, IfSome, MatchOption, Ok, Err, Some, None};
 ghost use Rattle.std.specs.Prelude.{length, true};
 ghost use Rattle.std.specs.List.{position};
-ghost use Rattle.sn_base.specs.Events.{event_fits};
+ghost use Rattle.sn_base.specs.Events.{event_fits, block_fits};
 ghost use Rattle.sn_model.specs.Caches.{block_count};
 ghost use Rattle.sn_text.specs.Script.{node_in, message_in, switch_in, parts_at_blank, evicted_at, eviction_in, hex_value, byte_of, given_to};
 ghost use Rattle.sn_text.specs.Script.{input_in};
@@ -70,7 +70,8 @@ pub fn parted(text: &[u8]) -> Option<(&[u8], &[u8])>
 }
 
 fn block_by(node: NodeId, block: u64) -> Result<Event, Fault>
-    ensures { result ≡ if nat_lt block block_count then Ok (Event.Evict node block) else Err Fault.NotThere }
+    ensures same { result ≡ if nat_lt block block_count then Ok (Event.Evict node block) else Err Fault.NotThere }
+    ensures block { IfOk result (λ event. block_fits event ≡ true) }
 {
     if block >= BLOCKS as u64 {
         return Err(Fault::NotThere);
@@ -83,6 +84,7 @@ fn evicted_at(nodes: u8, node: Option<u64>, block: Option<u64>) -> Result<Event,
     requires few { nodes ≤ 16 }
     ensures same { result ≡ evicted_at nodes node block }
     ensures fits { IfOk result (λ event. event_fits nodes event ≡ true) }
+    ensures block { IfOk result (λ event. block_fits event ≡ true) }
 {
     match (node, block) {
         (Some(node), Some(block)) => {
@@ -97,6 +99,7 @@ pub(crate) fn eviction_in(nodes: u8, text: &[u8]) -> Result<Event, Fault>
     requires few { nodes ≤ 16 }
     ensures same { result ≡ eviction_in nodes text.now }
     ensures fits { IfOk result (λ event. event_fits nodes event ≡ true) }
+    ensures block { IfOk result (λ event. block_fits event ≡ true) }
 {
     match parted(text) {
         Some((node, block)) => evicted_at(nodes, number_in(node), number_in(block)),
@@ -133,6 +136,7 @@ fn given_to(nodes: u8, node: Option<u64>, byte: Option<u8>) -> Result<Event, Fau
     requires few { nodes ≤ 16 }
     ensures same { result ≡ given_to nodes node byte }
     ensures fits { IfOk result (λ event. event_fits nodes event ≡ true) }
+    ensures block { IfOk result (λ event. block_fits event ≡ true) }
 {
     match (node, byte) {
         (Some(node), Some(byte)) => {
@@ -147,6 +151,7 @@ pub(crate) fn input_in(nodes: u8, text: &[u8]) -> Result<Event, Fault>
     requires few { nodes ≤ 16 }
     ensures same { result ≡ input_in nodes text.now }
     ensures fits { IfOk result (λ event. event_fits nodes event ≡ true) }
+    ensures block { IfOk result (λ event. block_fits event ≡ true) }
 {
     match parted(text) {
         Some((node, byte)) => given_to(nodes, number_in(node), byte_in(byte)),

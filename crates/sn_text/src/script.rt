@@ -1,6 +1,6 @@
 //! Reads scripts: one event a line.
 ghost use Rattle.std.specs.Prelude.{◌≡◌, ◌<◌, ◌≤◌, ◌^◌, true, false, All, IfOk, IfErr, MatchOption, length, Ok};
-ghost use Rattle.sn_base.specs.Events.{event_fits};
+ghost use Rattle.sn_base.specs.Events.{event_fits, block_fits};
 ghost use Rattle.sn_text.specs.Script.{begins, after, event_of, script_of};
 ghost use Rattle.sn_text.specs.Items.{IsRefusedAs};
 ghost use Rattle.sn_base.specs.declared.limits.TheConstants.{EVENTS};
@@ -20,12 +20,14 @@ pub fn rest_after<'a>(line: &'a [u8], word: &str) -> Option<&'a [u8]>
     line.strip_prefix(word.as_bytes())
 }
 
-/// The event that a line says.
+/// The event that a line of a script says, on a machine of so many nodes. A line of no such form is refused before one that
+/// names what isn't there; whether a message is in flight isn't asked.
 #[tactic(auto, unfolding(crate::specs::Script::event_of))]
-fn event_in(nodes: u8, line: &[u8]) -> Result<Event, Fault>
+pub fn event_in(nodes: u8, line: &[u8]) -> Result<Event, Fault>
     requires few { nodes ≤ 16 }
     ensures same { result ≡ event_of nodes line.now }
     ensures fits { IfOk result (λ event. event_fits nodes event ≡ true) }
+    ensures block { IfOk result (λ event. block_fits event ≡ true) }
 {
     if line == b"validate".as_slice() {
         Ok(Event::Validate)

@@ -4,19 +4,21 @@ use Rattle.std.specs.Prelude.{Result, Ok, Err}
 use Rattle.option_values.specs.Values.{Text, nodes_rule, number_by, watch_by, demo_size}
 use Rattle.option_values.specs.Runs.{kill_in}
 use Rattle.option_values.specs.Places.{places_by}
+use Rattle.option_values.specs.Seeds.{seeds_by}
 use Rattle.usage_reasons.specs.declared.table.Command.{Command}
-use Rattle.usage_reasons.specs.declared.table.Command.TheVariants.{Demo}
+use Rattle.usage_reasons.specs.declared.table.Command.TheVariants.{Run, Demo}
 use Rattle.usage_reasons.specs.declared.table.Quantity.{Quantity}
-use Rattle.usage_reasons.specs.declared.table.Quantity.TheVariants.{Nodes}
+use Rattle.usage_reasons.specs.declared.table.Quantity.TheVariants.{Nodes, Seed}
 use Rattle.usage_reasons.specs.declared.table.Key.{Key}
-use Rattle.usage_reasons.specs.declared.table.Key.TheVariants.{Number, Watch, Kill, Order, Only}
+use Rattle.usage_reasons.specs.declared.table.Key.TheVariants.{Number, Watch, Kill, Order, Only, Seeds}
 use Rattle.usage_reasons.specs.Table.{command_by, files_of, flags_of, order_names, rule_of}
-use Rattle.usage_reasons.specs.Words.{begins, is_short, is_help, is_among, option_in, value_in, key_in, is_given, is_any_given}
+use Rattle.usage_reasons.specs.Words.{begins, is_short, is_help, is_among, option_in, value_in, key_in, is_given, first_given}
 
 -- what is wrong: no word is there; the first is no command; a word asks for help among others; the command has no such option; an option
 -- has no value, or a flag has one; an option stands twice; the value isn't the option's number, no address, no switch that dies on so
--- many nodes, no size of a demonstration, no order of turns, or no places of events; a word that must be there is lacking; a word is one too
--- many; two flags of one report; places without the states that are shown of them; or nothing that is looked for here
+-- many nodes, no size of a demonstration, no order of turns, no places of events, or no range of seeds; a word that must be there is lacking; a word is one
+-- too many; two options that don't stand together; places without the states that are shown of them; an option that stands only with an
+-- order of turns; or nothing that is looked for here
 pub data Fault : Type 0 where
   NoCommand : Fault
   UnknownCommand : Text → Fault
@@ -31,14 +33,17 @@ pub data Fault : Type 0 where
   BadSize : Text → Fault
   BadOrder : Text → Fault
   BadPlaces : Text → Fault
+  BadSeeds : Text → Fault
   Lacking : Command → Text → Fault
   OneTooMany : Command → Text → Fault
-  Together : Command → Fault
+  Together : Text → Text → Fault
   PlacesAlone : Fault
+  OrderLacking : Text → Fault
   Other : Fault
 
 -- what has been read of a command's words: the option whose value the next word is, the files that are still to come, whether `--` was
--- met, behind which all words are files, the texts of the nodes and of the switch that dies, and whether places and states are asked for
+-- met, behind which all words are files, the texts of the nodes and of the switch that dies, whether places and states are asked for, which trace
+-- or journal is, and whether statistics are, a range of seeds, one seed, and an order of turns
 pub record Read : Type 0 where
   pub waiting : Option Key
   pub wanted : List Text
@@ -47,6 +52,11 @@ pub record Read : Type 0 where
   pub kill : Option Text
   pub places : Bool
   pub states : Bool
+  pub shown : Option Text
+  pub counted : Bool
+  pub seeds : Bool
+  pub seeded : Bool
+  pub ordered : Bool
 
 abbrev pub first_read : Command → Read
 first_read command = record {
@@ -57,6 +67,11 @@ first_read command = record {
   kill = None;
   places = false;
   states = false;
+  shown = None;
+  counted = false;
+  seeds = false;
+  seeded = false;
+  ordered = false;
 }
 
 abbrev pub no_such_command : Text → Fault
@@ -80,6 +95,7 @@ with_file command r word = file_by r.wanted command r word
 
 abbrev pub read_with : Quantity → Read → Text → Read
 read_with Nodes r value = record r { nodes = Some value }
+read_with Seed r value = record r { seeded = true }
 read_with _ r value = r
 
 unfoldable pub with_number : Quantity → Read → Text → Result Read Fault
@@ -90,10 +106,14 @@ unfoldable pub with_address : Read → Text → Result Read Fault
 with_address r value = if is_some (watch_by (Some value)) then Ok r else Err (BadAddress value)
 
 unfoldable pub with_order : Read → Text → Result Read Fault
-with_order r value = if is_among order_names value then Ok r else Err (BadOrder value)
+with_order r value =
+    if is_among order_names value then Ok (record r { ordered = not (bytes_eq value (codes "threads")) }) else Err (BadOrder value)
 
 unfoldable pub with_places : Read → Text → Result Read Fault
 with_places r value = if is_some (places_by (Some value)) then Ok (record r { places = true }) else Err (BadPlaces value)
+
+unfoldable pub with_seeds : Read → Text → Result Read Fault
+with_seeds r value = if is_some (seeds_by (Some value)) then Ok (record r { seeds = true }) else Err (BadSeeds value)
 
 -- what an option's value does; a switch that dies is looked at when the number of nodes is known
 abbrev pub with_value : Key → Read → Text → Result Read Fault
@@ -102,10 +122,25 @@ with_value Watch r value = with_address r value
 with_value Kill r value = Ok (record r { kill = Some value })
 with_value Order r value = with_order r value
 with_value Only r value = with_places r value
+with_value Seeds r value = with_seeds r value
 
 abbrev pub with_key : Key → Read → Option Text → Result Read Fault
 with_key key r None = Ok (record r { waiting = Some key })
 with_key key r (Some value) = with_value key r value
+
+-- what is noted of a flag
+abbrev pub report_read : Read → Text → Read
+report_read r option =
+    if bytes_eq option (codes "--states") then record r { states = true }
+    else if bytes_eq option (codes "--statistics") then record r { counted = true }
+    else if bytes_eq option (codes "--trace") then record r { shown = Some option }
+    else if bytes_eq option (codes "--journal") then record r { shown = Some option }
+    else r
+
+-- what a flag does beside another of the command's, if one was given: only one report is had
+abbrev pub flag_beside : Option Text → Read → Text → Result Read Fault
+flag_beside (Some other) r option = Err (Together other option)
+flag_beside None r option = Ok (report_read r option)
 
 -- what an option does that takes no value, if it is the command's
 unfoldable pub with_flag : Command → List Text → Read → Text → Result Read Fault
@@ -113,8 +148,7 @@ with_flag command earlier r word =
     if not (is_among (flags_of command) (option_in word)) then Err (no_such_option command (option_in word))
     else if is_some (value_in word) then Err (ValueUnwanted word)
     else if is_given (option_in word) earlier then Err (Twice (option_in word))
-    else if is_any_given (flags_of command) earlier then Err (Together command)
-    else Ok (record r { states = r.states || bytes_eq (option_in word) (codes "--states") })
+    else flag_beside (first_given (flags_of command) earlier) r (option_in word)
 
 abbrev pub option_by : Option Key → Command → List Text → Read → Text → Result Read Fault
 option_by None command earlier r word = with_flag command earlier r word
@@ -162,8 +196,28 @@ end_by_kill (Some kill) r = kill_fault r.nodes kill
 abbrev pub end_by_places : Read → Fault
 end_by_places r = if r.places && not r.states then PlacesAlone else end_by_kill r.kill r
 
+-- a range of seeds, and what is counted, are had in an order
+abbrev pub end_by_order : Read → Fault
+end_by_order r =
+    if r.seeds && not r.ordered then OrderLacking (codes "--seeds")
+    else if r.counted && not r.ordered then OrderLacking (codes "--statistics") else end_by_places r
+
+-- and a range of seeds beside the summary alone, and not beside one seed
+abbrev pub shown_beside : Option Text → Read → Fault
+shown_beside (Some flag) r = Together flag (codes "--seeds")
+shown_beside None r = end_by_order r
+
+abbrev pub end_of_run : Read → Fault
+end_of_run r =
+    if r.seeds && r.seeded then Together (codes "--seed") (codes "--seeds")
+    else if r.seeds then shown_beside r.shown r else end_by_order r
+
+abbrev pub end_by_command : Command → Read → Fault
+end_by_command Run r = end_of_run r
+end_by_command command r = end_by_places r
+
 abbrev pub end_by_files : List Text → Command → Read → Fault
-end_by_files [] command r = end_by_places r
+end_by_files [] command r = end_by_command command r
 end_by_files (file ∷ rest) command r = Lacking command file
 
 abbrev pub end_by : Option Key → Command → Read → Fault

@@ -1,8 +1,8 @@
 -- The code's readings and faults as the definitions' ones.
 use Rattle.std.specs.Prelude.{map, option_map, Result, Ok, Err}
 use Rattle.usage_reasons.specs.Faults.{Fault, Read, NoCommand, UnknownCommand, HelpAmong, UnknownOption, ValueLacking, ValueUnwanted, Twice}
-use Rattle.usage_reasons.specs.Faults.{BadNumber, BadAddress, BadKill, BadSize, BadOrder, BadPlaces, Lacking, OneTooMany, Together, PlacesAlone}
-use Rattle.usage_reasons.specs.Faults.{Other}
+use Rattle.usage_reasons.specs.Faults.{BadNumber, BadAddress, BadKill, BadSize, BadOrder, BadPlaces, BadSeeds, Lacking, OneTooMany, Together, PlacesAlone}
+use Rattle.usage_reasons.specs.Faults.{OrderLacking, Other}
 use Rattle.usage_reasons.specs.declared.reading.Reading.{Reading}
 use Rattle.usage_reasons.specs.declared.fault.Fault as code
 use Rattle.usage_reasons.specs.declared.fault.Fault.TheVariants as found
@@ -16,6 +16,11 @@ read_seen r = record {
   kill = option_map (λ text. text.now) r.kill;
   places = r.places;
   states = r.states;
+  shown = option_map (λ flag. flag.now) r.shown;
+  counted = r.counted;
+  seeds = r.seeds;
+  seeded = r.seeded;
+  ordered = r.ordered;
 }
 
 abbrev pub fault_seen : code.Fault → Fault
@@ -32,10 +37,12 @@ fault_seen (found.BadKill nodes value) = BadKill nodes value.now
 fault_seen (found.BadSize word) = BadSize word.now
 fault_seen (found.BadOrder value) = BadOrder value.now
 fault_seen (found.BadPlaces value) = BadPlaces value.now
+fault_seen (found.BadSeeds value) = BadSeeds value.now
 fault_seen (found.Lacking command file) = Lacking command file.now
 fault_seen (found.OneTooMany command word) = OneTooMany command word.now
-fault_seen (found.Together command) = Together command
+fault_seen (found.Together one other) = Together one.now other.now
 fault_seen found.PlacesAlone = PlacesAlone
+fault_seen (found.OrderLacking option) = OrderLacking option.now
 fault_seen found.Other = Other
 
 abbrev pub step_seen : Result Reading code.Fault → Result Read Fault

@@ -4,21 +4,22 @@ use Rattle.option_values.specs.Values.{Text, nodes_rule, sets_rule, ways_rule, l
 use Rattle.option_values.specs.Runs.{interval_rule, wait_rule, budget_rule, lose_rule, seed_rule}
 use Rattle.option_values.specs.declared.number.NumberRule.{NumberRule}
 use Rattle.usage_reasons.specs.declared.table.Command.{Command}
-use Rattle.usage_reasons.specs.declared.table.Command.TheVariants.{Replay, Roll, Run, Monitor, Check, Judge, Demo, Asm, Dis}
+use Rattle.usage_reasons.specs.declared.table.Command.TheVariants.{Replay, Drive, Roll, Run, Monitor, Check, Judge, Demo, Asm, Dis}
 use Rattle.usage_reasons.specs.declared.table.Quantity.{Quantity}
 use Rattle.usage_reasons.specs.declared.table.Quantity.TheVariants.{Nodes, Sets, Ways, Log, Interval, Wait, LoseEvery, Budget, Seed}
 use Rattle.usage_reasons.specs.declared.table.Key.{Key}
-use Rattle.usage_reasons.specs.declared.table.Key.TheVariants.{Number, Watch, Kill, Order, Only}
+use Rattle.usage_reasons.specs.declared.table.Key.TheVariants.{Number, Watch, Kill, Order, Only, Seeds}
 
 abbrev pub command_names : List Text
 command_names =
-    codes "replay" ∷ codes "roll" ∷ codes "run" ∷ codes "monitor" ∷ codes "check" ∷ codes "judge" ∷ codes "demo" ∷ codes "asm"
+    codes "replay" ∷ codes "drive" ∷ codes "roll" ∷ codes "run" ∷ codes "monitor" ∷ codes "check" ∷ codes "judge" ∷ codes "demo" ∷ codes "asm"
     ∷ codes "dis" ∷ []
 
 -- the command of a word, where it is one's name
 abbrev pub command_by : Text → Option Command
 command_by word =
     if bytes_eq word (codes "replay") then Some Replay else
+    if bytes_eq word (codes "drive") then Some Drive else
     if bytes_eq word (codes "roll") then Some Roll else
     if bytes_eq word (codes "run") then Some Run else
     if bytes_eq word (codes "monitor") then Some Monitor else
@@ -30,6 +31,7 @@ command_by word =
 
 unfoldable pub name_of : Command → Text
 name_of Replay = codes "replay"
+name_of Drive = codes "drive"
 name_of Roll = codes "roll"
 name_of Run = codes "run"
 name_of Monitor = codes "monitor"
@@ -42,6 +44,7 @@ name_of Dis = codes "dis"
 -- the words that must be there, in their order
 abbrev pub files_of : Command → List Text
 files_of Replay = codes "PROGRAM" ∷ codes "SCRIPT" ∷ []
+files_of Drive = codes "PROGRAM" ∷ []
 files_of Roll = codes "PROGRAM" ∷ codes "SCRIPT" ∷ codes "CONTROL" ∷ []
 files_of Run = codes "PROGRAM" ∷ []
 files_of Monitor = codes "PROGRAM" ∷ []
@@ -67,8 +70,9 @@ order_names = codes "threads" ∷ codes "round" ∷ codes "drawn" ∷ []
 -- the options that take a value
 abbrev pub options_of : Command → List Text
 options_of Replay = codes "--nodes" ∷ codes "--sets" ∷ codes "--ways" ∷ codes "--log" ∷ codes "--watch" ∷ codes "--only" ∷ []
+options_of Drive = sizes
 options_of Roll = sizes
-options_of Run = codes "--order" ∷ run_options
+options_of Run = codes "--order" ∷ codes "--seeds" ∷ run_options
 options_of Monitor = run_options
 options_of Check = codes "--nodes" ∷ []
 options_of Judge = []
@@ -78,9 +82,10 @@ options_of Dis = []
 
 -- the options that take none
 abbrev pub flags_of : Command → List Text
-flags_of Replay = codes "--trace" ∷ codes "--states" ∷ []
+flags_of Replay = codes "--trace" ∷ codes "--states" ∷ codes "--statistics" ∷ codes "--accesses" ∷ []
+flags_of Drive = []
 flags_of Roll = []
-flags_of Run = codes "--trace" ∷ codes "--journal" ∷ []
+flags_of Run = codes "--trace" ∷ codes "--journal" ∷ codes "--statistics" ∷ []
 flags_of Monitor = []
 flags_of Check = []
 flags_of Judge = []
@@ -88,7 +93,7 @@ flags_of Demo = []
 flags_of Asm = []
 flags_of Dis = []
 
--- what an option's value is: a number, the address of a word, a switch that dies, an order of turns or places of events
+-- what an option's value is: a number, the address of a word, a switch that dies, an order of turns, places of events or a range of seeds
 abbrev pub quantity_by : Text → Option Quantity
 quantity_by option =
     if bytes_eq option (codes "--nodes") then Some Nodes else
@@ -106,7 +111,8 @@ key_of option =
     if bytes_eq option (codes "--watch") then Some Watch else
     if bytes_eq option (codes "--kill") then Some Kill else
     if bytes_eq option (codes "--order") then Some Order else
-    if bytes_eq option (codes "--only") then Some Only else option_map (λ quantity. Number quantity) (quantity_by option)
+    if bytes_eq option (codes "--only") then Some Only else
+    if bytes_eq option (codes "--seeds") then Some Seeds else option_map (λ quantity. Number quantity) (quantity_by option)
 
 unfoldable pub quantity_name : Quantity → Text
 quantity_name Nodes = codes "--nodes"
@@ -125,6 +131,7 @@ key_name Watch = codes "--watch"
 key_name Kill = codes "--kill"
 key_name Order = codes "--order"
 key_name Only = codes "--only"
+key_name Seeds = codes "--seeds"
 
 -- the range of a number, by the rules of the options' values
 abbrev pub rule_of : Quantity → NumberRule

@@ -14,8 +14,8 @@ use Rattle.usage_reasons.specs.declared.table.Key.{Key}
 use Rattle.usage_reasons.specs.Table.{command_names, name_of, options_of, flags_of, quantity_name, key_name, rule_of}
 use Rattle.usage_reasons.specs.Words.{begins}
 use Rattle.usage_reasons.specs.Faults.{Fault, NoCommand, UnknownCommand, HelpAmong, UnknownOption, ValueLacking, ValueUnwanted, Twice}
-use Rattle.usage_reasons.specs.Faults.{BadNumber, BadAddress, BadKill, BadSize, BadOrder, BadPlaces, Lacking, OneTooMany, Together}
-use Rattle.usage_reasons.specs.Faults.{PlacesAlone, Other, fault_of}
+use Rattle.usage_reasons.specs.Faults.{BadNumber, BadAddress, BadKill, BadSize, BadOrder, BadPlaces, BadSeeds, Lacking, OneTooMany, Together}
+use Rattle.usage_reasons.specs.Faults.{PlacesAlone, OrderLacking, Other, fault_of}
 
 -- a word as one can see it: its first 60 bytes, with two dots behind them where there are more, and quotation marks where it is empty
 unfoldable pub quoted_word : Text → Text
@@ -115,10 +115,17 @@ unfoldable pub bad_places : Text → Text → Text
 bad_places text value =
     given_as text (codes "--only") value ++ codes "places are two numbers of events from 1 to 1000000, as 3-9, the second not below the first"
 
--- the first two of a command's flags, of which one report has one
-abbrev pub together : Text → List Text → Text
-together text (one ∷ other ∷ more) = text ++ one ++ codes " and " ++ other ++ codes " don't stand together"
-together text _ = text
+unfoldable pub bad_seeds : Text → Text → Text
+bad_seeds text value =
+    given_as text (codes "--seeds") value ++ codes "a range is two seeds, as 1-100, the second not below the first, and at most 1000000 of them"
+
+-- two options, of which one stands
+unfoldable pub together : Text → Text → Text → Text
+together text one other = text ++ one ++ codes " and " ++ other ++ codes " don't stand together"
+
+-- an option that stands only with an order
+unfoldable pub order_lacking : Text → Text → Text
+order_lacking text option = text ++ option ++ codes " stands with --order round or --order drawn alone"
 
 unfoldable pub lacking : Text → Command → Text → Text
 lacking text command file = see (text ++ name_of command ++ codes ": " ++ file ++ codes " is lacking") (Some command)
@@ -141,9 +148,11 @@ fault_text text (BadKill nodes value) = bad_kill text nodes value
 fault_text text (BadSize word) = bad_size text word
 fault_text text (BadOrder value) = bad_order text value
 fault_text text (BadPlaces value) = bad_places text value
+fault_text text (BadSeeds value) = bad_seeds text value
 fault_text text (Lacking command file) = lacking text command file
 fault_text text (OneTooMany command word) = one_too_many text command word
-fault_text text (Together command) = together text (flags_of command)
+fault_text text (Together one other) = together text one other
+fault_text text (OrderLacking option) = order_lacking text option
 fault_text text PlacesAlone = text ++ codes "--only stands with --states alone"
 fault_text text Other = see (text ++ codes "the words are no command's") None
 

@@ -1,5 +1,5 @@
 -- What a word of a call looks like.
-use Rattle.std.specs.Prelude.{◌==◌, Bool, ◌&&◌, ◌||◌, nat_lt, bytes_eq, if◌then◌else◌, List, length, take, codes, Option, Some, None}
+use Rattle.std.specs.Prelude.{◌==◌, Bool, ◌&&◌, ◌||◌, nat_lt, bytes_eq, if◌then◌else◌, List, length, take, find, codes, Option, Some, None}
 use Rattle.std.specs.List.{list_any, position_or_len, before_first, after_first}
 use Rattle.option_values.specs.Values.{Text}
 use Rattle.usage_reasons.specs.declared.table.Command.{Command}
@@ -37,6 +37,6 @@ key_in command option = if is_among (options_of command) option then key_of opti
 abbrev pub is_given : Text → List Text → Bool
 is_given option words = list_any (λ word. bytes_eq (option_in word) option) words
 
--- whether one of the words is one of the options
-abbrev pub is_any_given : List Text → List Text → Bool
-is_any_given options words = list_any (λ option. is_given option words) options
+-- the first of the options that one of the words is
+abbrev pub first_given : List Text → List Text → Option Text
+first_given options words = find (λ option. is_given option words) options

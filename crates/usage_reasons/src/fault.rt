@@ -21,13 +21,16 @@ pub(crate) enum Fault<'a> {
     BadSize(&'a str),
     BadOrder(&'a str),
     BadPlaces(&'a str),
+    BadSeeds(&'a str),
     /// A word that must be there, as the command's page names it.
     Lacking(Command, &'static str),
     OneTooMany(Command, &'a str),
-    /// Two flags of one report.
-    Together(Command),
+    /// Two options that don't stand together, as two flags of one report: the earlier, and the later.
+    Together(&'a str, &'a str),
     /// Places without the states that are shown of them.
     PlacesAlone,
+    /// An option that stands only with an order of turns.
+    OrderLacking(&'static str),
     /// Nothing is wrong that is looked for here.
     Other,
 }

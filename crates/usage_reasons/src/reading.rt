@@ -1,15 +1,15 @@
 //! The words of a call, read from left to right.
 ghost use Rattle.std.specs.Prelude.{◌≡◌, ◌≤◌, [], map, option_map, string_bytes};
 ghost use Rattle.usage_reasons.specs.Faults.{first_read, no_such_command, no_such_option, is_bad_size, with_file, read_with, with_number};
-ghost use Rattle.usage_reasons.specs.Faults.{with_address, with_order, with_places, with_value, with_key, with_flag, with_option, with_word, step, kill_on, kill_fault};
-ghost use Rattle.usage_reasons.specs.Faults.{at_end, fault_from, fault_behind, fault_of};
+ghost use Rattle.usage_reasons.specs.Faults.{with_address, with_order, with_places, with_seeds, with_value, with_key, with_flag, with_option, with_word, step, kill_on, kill_fault};
+ghost use Rattle.usage_reasons.specs.Faults.{report_read, end_by_places, end_by_order, end_of_run, at_end, fault_from, fault_behind, fault_of};
 ghost use Rattle.usage_reasons.specs.Seen.{read_seen, fault_seen, step_seen};
 
 use crate::fault::Fault;
 use crate::table::{Command, Key, Quantity, command_by, files_of, flags_of, order_names};
-use crate::values::{are_places, is_address, is_kill, is_number, is_size};
+use crate::values::{are_places, are_seeds, is_address, is_kill, is_number, is_size};
 use crate::words::{
-    begins, has_value, is_among, is_any_given, is_given, is_help, is_short, key_in, option_in,
+    begins, first_given, has_value, is_among, is_given, is_help, is_short, key_in, option_in,
     value_in,
 };
 use option_values::read_nodes;
@@ -27,6 +27,14 @@ pub(crate) struct Reading<'a> {
     kill: Option<&'a str>,
     places: bool,
     states: bool,
+    /// The flag for the trace or the journal.
+    shown: Option<&'a str>,
+    counted: bool,
+    seeds: bool,
+    /// Whether one seed is given.
+    seeded: bool,
+    /// Whether the turns come in an order, and no threads decide them.
+    ordered: bool,
 }
 
 // What is read is lent from the words.
@@ -41,6 +49,11 @@ fn first_read<'a>(command: Command, _words: &'a [String]) -> Reading<'a>
         kill: None,
         places: false,
         states: false,
+        shown: None,
+        counted: false,
+        seeds: false,
+        seeded: false,
+        ordered: false,
     }
 }
 
@@ -105,6 +118,10 @@ fn noted<'a>(quantity: Quantity, reading: Reading<'a>, value: &'a str) -> Readin
             nodes: Some(value),
             ..reading
         },
+        Quantity::Seed => Reading {
+            seeded: true,
+            ..reading
+        },
         _ => reading,
     }
 }
@@ -140,7 +157,10 @@ fn with_order<'a>(reading: Reading<'a>, value: &'a str) -> Result<Reading<'a>, F
     ensures { step_seen result ≡ with_order (read_seen reading.entry) value.entry.now }
 {
     if is_among(order_names(), value) {
-        Ok(reading)
+        Ok(Reading {
+            ordered: value != "threads",
+            ..reading
+        })
     } else {
         Err(Fault::BadOrder(value))
     }
@@ -160,6 +180,20 @@ fn with_places<'a>(reading: Reading<'a>, value: &'a str) -> Result<Reading<'a>, 
     }
 }
 
+#[tactic(auto, unfolding(crate::specs::Faults::with_seeds))]
+fn with_seeds<'a>(reading: Reading<'a>, value: &'a str) -> Result<Reading<'a>, Fault<'a>>
+    ensures { step_seen result ≡ with_seeds (read_seen reading.entry) value.entry.now }
+{
+    if are_seeds(value) {
+        Ok(Reading {
+            seeds: true,
+            ..reading
+        })
+    } else {
+        Err(Fault::BadSeeds(value))
+    }
+}
+
 fn with_value<'a>(key: Key, reading: Reading<'a>, value: &'a str) -> Result<Reading<'a>, Fault<'a>>
     ensures { step_seen result ≡ with_value key (read_seen reading.entry) value.entry.now }
 {
@@ -172,6 +206,7 @@ fn with_value<'a>(key: Key, reading: Reading<'a>, value: &'a str) -> Result<Read
         }),
         Key::Order => with_order(reading, value),
         Key::Only => with_places(reading, value),
+        Key::Seeds => with_seeds(reading, value),
     }
 }
 
@@ -188,6 +223,27 @@ fn with_key<'a>(
             waiting: Some(key),
             ..reading
         }),
+    }
+}
+
+// A flag that may stand.
+fn with_report<'a>(reading: Reading<'a>, option: &'a str) -> Reading<'a>
+    ensures { read_seen result ≡ report_read (read_seen reading.entry) option.entry.now }
+{
+    match option {
+        "--states" => Reading {
+            states: true,
+            ..reading
+        },
+        "--statistics" => Reading {
+            counted: true,
+            ..reading
+        },
+        "--trace" | "--journal" => Reading {
+            shown: Some(option),
+            ..reading
+        },
+        _ => reading,
     }
 }
 
@@ -210,13 +266,10 @@ fn with_flag<'a>(
     if is_given(option, earlier) {
         return Err(Fault::Twice(option));
     }
-    if is_any_given(flags_of(command), earlier) {
-        return Err(Fault::Together(command));
+    if let Some(other) = first_given(flags_of(command), earlier) {
+        return Err(Fault::Together(other, option));
     }
-    Ok(Reading {
-        states: reading.states || option == "--states",
-        ..reading
-    })
+    Ok(with_report(reading, option))
 }
 
 /// `--name` or `--name=value`.
@@ -310,6 +363,42 @@ fn kill_fault<'a>(nodes: Option<&str>, kill: &'a str) -> Fault<'a>
     }
 }
 
+fn end_by_places<'a>(reading: Reading<'a>) -> Fault<'a>
+    ensures { fault_seen result ≡ end_by_places (read_seen reading.entry) }
+{
+    if reading.places && !reading.states {
+        return Fault::PlacesAlone;
+    }
+    match reading.kill {
+        Some(kill) => kill_fault(reading.nodes, kill),
+        None => Fault::Other,
+    }
+}
+
+fn end_by_order<'a>(reading: Reading<'a>) -> Fault<'a>
+    ensures { fault_seen result ≡ end_by_order (read_seen reading.entry) }
+{
+    if reading.seeds && !reading.ordered {
+        return Fault::OrderLacking("--seeds");
+    }
+    if reading.counted && !reading.ordered {
+        return Fault::OrderLacking("--statistics");
+    }
+    end_by_places(reading)
+}
+
+fn end_of_run<'a>(reading: Reading<'a>) -> Fault<'a>
+    ensures { fault_seen result ≡ end_of_run (read_seen reading.entry) }
+{
+    if reading.seeds && reading.seeded {
+        return Fault::Together("--seed", "--seeds");
+    }
+    match reading.shown {
+        Some(flag) if reading.seeds => Fault::Together(flag, "--seeds"),
+        _ => end_by_order(reading),
+    }
+}
+
 /// What is wrong behind the last word.
 #[tactic(auto, unfolding(crate::specs::Faults::at_end))]
 fn at_end<'a>(command: Command, reading: Reading<'a>) -> Fault<'a>
@@ -321,12 +410,9 @@ fn at_end<'a>(command: Command, reading: Reading<'a>) -> Fault<'a>
     if let [file, ..] = reading.wanted {
         return Fault::Lacking(command, *file);
     }
-    if reading.places && !reading.states {
-        return Fault::PlacesAlone;
-    }
-    match reading.kill {
-        Some(kill) => kill_fault(reading.nodes, kill),
-        None => Fault::Other,
+    match command {
+        Command::Run => end_of_run(reading),
+        _ => end_by_places(reading),
     }
 }
 

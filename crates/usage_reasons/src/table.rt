@@ -11,6 +11,7 @@ use option_values::{BUDGET, INTERVAL, LOG, LOSE_EVERY, NODES, NumberRule, SEED, 
 #[derive(Clone, Copy, PartialEq, Eq, Debug)]
 pub(crate) enum Command {
     Replay,
+    Drive,
     Roll,
     Run,
     Monitor,
@@ -47,12 +48,14 @@ pub(crate) enum Key {
     Order,
     /// Places of events.
     Only,
+    /// A range of seeds.
+    Seeds,
 }
 
 const NONE: &[&str] = &[];
 
 const COMMANDS: &[&str] = &[
-    "replay", "roll", "run", "monitor", "check", "judge", "demo", "asm", "dis",
+    "replay", "drive", "roll", "run", "monitor", "check", "judge", "demo", "asm", "dis",
 ];
 
 const PROGRAM: &[&str] = &["PROGRAM"];
@@ -75,14 +78,15 @@ const SIZES: &[&str] = &["--nodes", "--sets", "--ways", "--log", "--watch"];
 
 const REPLAY_OPTIONS: &[&str] = &["--nodes", "--sets", "--ways", "--log", "--watch", "--only"];
 
-const TRACE_OR_STATES: &[&str] = &["--trace", "--states"];
+const REPLAY_FLAGS: &[&str] = &["--trace", "--states", "--statistics", "--accesses"];
 
-const TRACE_OR_JOURNAL: &[&str] = &["--trace", "--journal"];
+const RUN_FLAGS: &[&str] = &["--trace", "--journal", "--statistics"];
 
 const ORDERS: &[&str] = &["threads", "round", "drawn"];
 
 const RUN_OPTIONS: &[&str] = &[
     "--order",
+    "--seeds",
     "--nodes",
     "--sets",
     "--ways",
@@ -121,6 +125,7 @@ pub(crate) fn command_by(word: &str) -> Option<Command>
 {
     match word {
         "replay" => Some(Command::Replay),
+        "drive" => Some(Command::Drive),
         "roll" => Some(Command::Roll),
         "run" => Some(Command::Run),
         "monitor" => Some(Command::Monitor),
@@ -139,6 +144,7 @@ pub(crate) fn name_of(command: Command) -> &'static str
 {
     match command {
         Command::Replay => "replay",
+        Command::Drive => "drive",
         Command::Roll => "roll",
         Command::Run => "run",
         Command::Monitor => "monitor",
@@ -157,7 +163,7 @@ pub(crate) fn files_of(command: Command) -> &'static [&'static str]
     match command {
         Command::Replay => PROGRAM_AND_SCRIPT,
         Command::Roll => PROGRAM_AND_CONTROL,
-        Command::Run | Command::Monitor | Command::Dis => PROGRAM,
+        Command::Drive | Command::Run | Command::Monitor | Command::Dis => PROGRAM,
         Command::Check => PROGRAM_AND_TRACE,
         Command::Judge => ACCESSES,
         Command::Demo => SIZE,
@@ -178,7 +184,7 @@ pub(crate) fn options_of(command: Command) -> &'static [&'static str]
 {
     match command {
         Command::Replay => REPLAY_OPTIONS,
-        Command::Roll => SIZES,
+        Command::Drive | Command::Roll => SIZES,
         Command::Run => RUN_OPTIONS,
         Command::Monitor => MONITOR_OPTIONS,
         Command::Check => NODES_ALONE,
@@ -191,9 +197,10 @@ pub(crate) fn flags_of(command: Command) -> &'static [&'static str]
     ensures { map (λ name. name.now) result.now ≡ flags_of command }
 {
     match command {
-        Command::Replay => TRACE_OR_STATES,
-        Command::Run => TRACE_OR_JOURNAL,
-        Command::Roll
+        Command::Replay => REPLAY_FLAGS,
+        Command::Run => RUN_FLAGS,
+        Command::Drive
+        | Command::Roll
         | Command::Monitor
         | Command::Check
         | Command::Judge
@@ -228,6 +235,7 @@ pub(crate) fn key_of(option: &str) -> Option<Key>
         "--kill" => Some(Key::Kill),
         "--order" => Some(Key::Order),
         "--only" => Some(Key::Only),
+        "--seeds" => Some(Key::Seeds),
         _ => Some(Key::Number(quantity_by(option)?)),
     }
 }
@@ -259,6 +267,7 @@ pub(crate) fn key_name(key: Key) -> &'static str
         Key::Kill => "--kill",
         Key::Order => "--order",
         Key::Only => "--only",
+        Key::Seeds => "--seeds",
     }
 }
 

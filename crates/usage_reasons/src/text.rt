@@ -3,7 +3,7 @@ ghost use Rattle.std.specs.Prelude.{◌≡◌, ◌++◌, None, map, option_map, 
 ghost use Rattle.reasons.specs.Reason.{begun, line_of_reason};
 ghost use Rattle.usage_reasons.specs.Texts.{quoted_word, see, near_or, unknown_command, help_among, nearest_option, unknown_option};
 ghost use Rattle.usage_reasons.specs.Texts.{value_lacking, value_unwanted, twice, given_as, range_front, range_back, range_text, bad_number};
-ghost use Rattle.usage_reasons.specs.Texts.{bad_address, bad_kill, bad_size, bad_order, bad_places, together, lacking, one_too_many};
+ghost use Rattle.usage_reasons.specs.Texts.{bad_address, bad_kill, bad_size, bad_order, bad_places, bad_seeds, together, order_lacking, lacking, one_too_many};
 ghost use Rattle.usage_reasons.specs.Texts.{fault_text, usage_reason};
 ghost use Rattle.usage_reasons.specs.Seen.{fault_seen};
 
@@ -243,19 +243,33 @@ fn write_bad_places(reason: &mut Reason, value: &str) -> Result<(), Memory>
     )
 }
 
-// The first two of a command's flags, of which one report has one.
-fn write_together(reason: &mut Reason, flags: &[&'static str]) -> Result<(), Memory>
-    ensures { OnOk result (reason.new ≡ together reason.old (map (λ flag. flag.now) flags.now)) }
+#[tactic(auto, unfolding(crate::specs::Texts::bad_seeds))]
+fn write_bad_seeds(reason: &mut Reason, value: &str) -> Result<(), Memory>
+    ensures { OnOk result (reason.new ≡ bad_seeds reason.old value.now) }
 {
-    match flags {
-        [one, other, ..] => {
-            reason.text(one)?;
-            reason.text(" and ")?;
-            reason.text(other)?;
-            reason.text(" don't stand together")
-        }
-        _ => Ok(()),
-    }
+    write_given(reason, "--seeds", value)?;
+    reason.text(
+        "a range is two seeds, as 1-100, the second not below the first, and at most 1000000 of them",
+    )
+}
+
+#[tactic(auto, unfolding(crate::specs::Texts::order_lacking))]
+fn write_order_lacking(reason: &mut Reason, option: &str) -> Result<(), Memory>
+    ensures { OnOk result (reason.new ≡ order_lacking reason.old option.now) }
+{
+    reason.text(option)?;
+    reason.text(" stands with --order round or --order drawn alone")
+}
+
+// Two options, of which one stands.
+#[tactic(auto, unfolding(crate::specs::Texts::together))]
+fn write_together(reason: &mut Reason, one: &str, other: &str) -> Result<(), Memory>
+    ensures { OnOk result (reason.new ≡ together reason.old one.now other.now) }
+{
+    reason.text(one)?;
+    reason.text(" and ")?;
+    reason.text(other)?;
+    reason.text(" don't stand together")
 }
 
 #[tactic(auto, unfolding(crate::specs::Texts::lacking))]
@@ -305,9 +319,11 @@ fn write_fault(reason: &mut Reason, fault: Fault<'_>) -> Result<(), Memory>
         Fault::BadSize(word) => write_bad_size(reason, word),
         Fault::BadOrder(value) => write_bad_order(reason, value),
         Fault::BadPlaces(value) => write_bad_places(reason, value),
+        Fault::BadSeeds(value) => write_bad_seeds(reason, value),
         Fault::Lacking(command, file) => write_lacking(reason, command, file),
         Fault::OneTooMany(command, word) => write_one_too_many(reason, command, word),
-        Fault::Together(command) => write_together(reason, flags_of(command)),
+        Fault::Together(one, other) => write_together(reason, one, other),
+        Fault::OrderLacking(option) => write_order_lacking(reason, option),
         Fault::PlacesAlone => reason.text("--only stands with --states alone"),
         Fault::Other => write_with_overview(reason, "the words are no command's"),
     }

@@ -3,10 +3,11 @@ ghost use Rattle.std.specs.Prelude.{◌≡◌, ◌≤◌, Some, is_some};
 ghost use Rattle.option_values.specs.Values.{number_by, watch_by, demo_size};
 ghost use Rattle.option_values.specs.Runs.{kill_in};
 ghost use Rattle.option_values.specs.Places.{places_by};
+ghost use Rattle.option_values.specs.Seeds.{seeds_by};
 ghost use Rattle.usage_reasons.specs.Table.{rule_of};
 
 use crate::table::{Quantity, rule_of};
-use option_values::{RunWords, read_demo_size, read_places, read_watch};
+use option_values::{RunWords, read_demo_size, read_places, read_seeds, read_watch};
 
 pub(crate) fn is_number(quantity: Quantity, value: &str) -> bool
     ensures { result ≡ is_some (number_by (rule_of quantity) (Some value.now)) }
@@ -25,6 +26,12 @@ pub(crate) fn are_places(value: &str) -> bool
     ensures { result ≡ is_some (places_by (Some value.now)) }
 {
     read_places(Some(value)).is_some()
+}
+
+pub(crate) fn are_seeds(value: &str) -> bool
+    ensures { result ≡ is_some (seeds_by (Some value.now)) }
+{
+    read_seeds(Some(value)).is_some()
 }
 
 pub(crate) fn is_size(word: &str) -> bool

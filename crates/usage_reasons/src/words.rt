@@ -1,7 +1,7 @@
 //! What a word of a call looks like.
 ghost use Rattle.std.specs.Prelude.{◌≡◌, map, option_map, is_some, string_bytes};
 ghost use Rattle.usage_reasons.specs.Words.{begins, is_short, is_help, is_among, option_in, value_in, key_in, is_given};
-ghost use Rattle.usage_reasons.specs.Words.{is_any_given};
+ghost use Rattle.usage_reasons.specs.Words.{first_given};
 
 use crate::table::{Command, Key, key_of, options_of};
 
@@ -90,14 +90,14 @@ pub(crate) fn is_given(option: &str, words: &[String]) -> bool
     false
 }
 
-/// Whether one of the words is one of the options.
-pub(crate) fn is_any_given(options: &[&'static str], words: &[String]) -> bool
-    ensures { result ≡ is_any_given (map (λ option. option.now) options.now) (map string_bytes words.now) }
+/// The first of the options that one of the words is.
+pub(crate) fn first_given(options: &[&'static str], words: &[String]) -> Option<&'static str>
+    ensures { option_map (λ option. option.now) result ≡ first_given (map (λ option. option.now) options.now) (map string_bytes words.now) }
 {
     'options: for option in options {
         if is_given(option, words) {
-            return true;
+            return Some(option);
         }
     }
-    false
+    None
 }

@@ -341,7 +341,27 @@ const OPTIONS: &[(&str, &str)] = &[
     ("run p --journal --journal", "--journal: it stands twice"),
     (
         "replay --states p --trace s",
-        "--trace and --states don't stand together",
+        "--states and --trace don't stand together",
+    ),
+    (
+        "replay p s --trace --statistics",
+        "--trace and --statistics don't stand together",
+    ),
+    (
+        "replay p s --statistics --only 1-2",
+        "--only stands with --states alone",
+    ),
+    (
+        "drive p --statistics",
+        "--statistics: drive has no such option; see safetynet drive --help",
+    ),
+    (
+        "drive p s",
+        "s: drive takes no more files; see safetynet drive --help",
+    ),
+    (
+        "drive",
+        "drive: PROGRAM is lacking; see safetynet drive --help",
     ),
     ("replay p s --only 1-2", "--only stands with --states alone"),
     (
@@ -363,12 +383,44 @@ const OPTIONS: &[(&str, &str)] = &[
     ),
     ("replay p s --states --states", "--states: it stands twice"),
     (
+        "run p --statistics",
+        "--statistics stands with --order round or --order drawn alone",
+    ),
+    (
+        "run p --statistics --order threads",
+        "--statistics stands with --order round or --order drawn alone",
+    ),
+    (
+        "run p --seeds 1-2",
+        "--seeds stands with --order round or --order drawn alone",
+    ),
+    (
+        "run p --seeds 2-1 --order round",
+        "--seeds 2-1: a range is two seeds, as 1-100, the second not below the first, and at most 1000000 of them",
+    ),
+    (
+        "run p --seeds=0-1000000 --order round",
+        "--seeds 0-1000000: a range is two seeds, as 1-100, the second not below the first, and at most 1000000 of them",
+    ),
+    (
+        "run p --seeds 1-2 --order round --journal",
+        "--journal and --seeds don't stand together",
+    ),
+    (
+        "run p --seeds 1-2 --order round --seed 1",
+        "--seed and --seeds don't stand together",
+    ),
+    (
+        "run p --trace --statistics",
+        "--trace and --statistics don't stand together",
+    ),
+    (
         "run --trace --journal p",
         "--trace and --journal don't stand together",
     ),
     (
         "run --journal p --trace",
-        "--trace and --journal don't stand together",
+        "--journal and --trace don't stand together",
     ),
 ];
 
@@ -639,7 +691,7 @@ fn something_is_said_of_all_words_that_are_refused_and_of_no_others(
     rt: HostRuntime,
 ) -> Result<(), Fail> {
     for command in [
-        "replay", "roll", "run", "monitor", "check", "judge", "demo", "asm", "dis",
+        "replay", "drive", "roll", "run", "monitor", "check", "judge", "demo", "asm", "dis",
     ] {
         all_agree(&rt, rt.alloc(), command)?;
     }

@@ -11,6 +11,7 @@ usage: safetynet COMMAND [OPTIONS] FILES
 
 commands:
   replay PROGRAM SCRIPT        applies the events of a script, one after another
+  drive PROGRAM                does the same line by line, from standard input
   roll PROGRAM SCRIPT CONTROL  recovers node by node, by orders that may be lost
   run PROGRAM                  lets a worker for each node pick the events
   monitor PROGRAM              the same, turn by turn, with a watcher beside it

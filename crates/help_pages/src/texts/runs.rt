@@ -32,6 +32,11 @@ options, before or after the file, each at most once, as --nodes 2 or --nodes=2:
   --journal        report each event as a line of a script, after a comment that
                    names the worker, and then the summary with \"# \" before each
                    line; not together with --trace
+  --statistics     with --order round or drawn: report the summary, and behind
+                   it what was counted of the run: lines \"stat NAME VALUE\"
+  --seeds A-B      with --order round or drawn: a run for each seed from A to B,
+                   at most 1000000, in place of --seed; a line \"seed S\", the
+                   run's report and how it ended, one seed after another
 
 reads:
   PROGRAM  an ELF file or a text of words, at most 16 MiB (help formats)

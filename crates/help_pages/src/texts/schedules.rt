@@ -17,9 +17,16 @@ options, before or after the files, each at most once, as --nodes 2 or --nodes=2
                    a line, and then the summary with \"# \" before each line
   --states         report the machine's states in place of the events: a JSON
                    object a line, the start, each event with what it touched,
-                   and the summary; not together with --trace
+                   and the summary
   --only A-B       with --states: only the events from place A to place B, from
                    1 to 1000000, and the state before them
+  --statistics     report the events, and behind the summary what was counted of
+                   the run: lines \"stat NAME VALUE\" (help formats)
+  --accesses       report the committed trace in place of the events as a table:
+                   CSV, an instruction a line with what it did in memory, and
+                   then the summary with \"# \" before each line
+
+Of --trace, --states, --statistics and --accesses at most one stands.
 
 reads:
   PROGRAM  an ELF file or a text of words, at most 16 MiB (help formats)

@@ -60,6 +60,8 @@ REPORT: a group for each event, and then the summary:
   its kind. After a recovery each core has a line `core N PC END` with the
   registers that aren't 0. The summary has the number of events, the recovery
   point, the lengths of committed trace and output, and each core there.
+  Behind it --statistics has lines `stat NAME VALUE`, `stat NODE NAME VALUE`
+  and one for each recovery; docs/FORMATS.md says what each name counts.
 
 Numbers are decimal; words and addresses are eight hexadecimal digits.
 docs/FORMATS.md has every format, with an example and each refusal.
@@ -78,7 +80,8 @@ standard error names it (`# safetynet: WORD`). The line above it says why
                      toomany), has a line of another form (badline), or names a
                      node, a block or a switch that isn't there (outofrange)
    5  sink           not all of the output could be written
-   6  budget         a run has as many events as its budget
+   6  budget         a run has as many events as its budget, or a drive as many
+                     as there is room for
    7  memory         there was not enough of it
    8  cutoff A B     in a run nodes A and B were found cut off from each other
    9  refused P      TRACE is no execution, or ACCESSES aren't legal; the P-th
@@ -90,8 +93,10 @@ standard error names it (`# safetynet: WORD`). The line above it says why
                      no statement (badline), a number that doesn't fit
                      (outofrange), a label twice (labeltwice) or one that stands
                      nowhere (nolabel)
+  14  input          in a drive standard input can't be read to its end
 
 Where the words or a file are refused (1 to 4, 13), or memory is lacking (7),
-nothing was written before these two lines; but `replay --states` takes memory
-as it goes on, so it may have told some first events.
+nothing was written before these two lines; but `replay --states` and
+`run --seeds` take memory as they go on, so some first events may have been
+told, or some first seeds done.
 ";

@@ -7,7 +7,7 @@ use sn_base::NodeId;
 use sn_text::{ScriptCause, trap_name};
 use std::process::Abort;
 
-const STATUSES: [(Status, u8, &str); 10] = [
+const STATUSES: [(Status, u8, &str); 11] = [
     (Status::Done, 0, "done"),
     (Status::Usage, 1, "usage"),
     (Status::StoreFault, 2, "store"),
@@ -30,6 +30,7 @@ const STATUSES: [(Status, u8, &str); 10] = [
         13,
         "asm labeltwice",
     ),
+    (Status::InputFault, 14, "input"),
 ];
 
 const TRAPS: &[(Cause, &str)] = &[

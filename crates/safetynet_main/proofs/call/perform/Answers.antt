@@ -1,7 +1,8 @@
 use Rattle.std.proofs.Common.{refl, ap}
 use Rattle.std.specs.Prelude.{Err}
 use Rattle.safetynet_main.proofs.CallLaws.{follows-check, follows-judge, follows-run_done, follows-run_broken, follows-watch_done, follows-watch_broken}
-use Rattle.safetynet_main.proofs.CallLaws.{follows-order_done, follows-order_broken}
+use Rattle.safetynet_main.proofs.CallLaws.{follows-order_done, follows-order_broken, follows-counted_done, follows-counted_broken}
+use Rattle.safetynet_main.proofs.CallLaws.{follows-seeds_done, follows-seeds_broken}
 use Rattle.safetynet_main.proofs.call.perform.Goals as goal
 
 pub returns-in-Check-clause-follows : goal.returns-in-Check-clause-follows
@@ -44,3 +45,22 @@ pub returns-in-Err-Sink-run_in_order-clause-follows : goal.returns-in-Err-Sink-r
 returns-in-Err-Sink-run_in_order-clause-follows g c = λ m.
     follows-order_broken _ _ c.args.job c.in-OrderedRun.job c.in-OrderedRun.order _ _ _ _ _ c.in-OrderedRun.is refl
     (c.in-Err-Sink-run_in_order.ensures.sink (ap (λ t. Err t) c.in-Err-Sink-run_in_order.field-0-is))
+
+pub returns-in-Ok-run_counted-clause-follows : goal.returns-in-Ok-run_counted-clause-follows
+returns-in-Ok-run_counted-clause-follows g c = λ m.
+    follows-counted_done _ _ c.args.job c.in-CountedRun.job c.in-CountedRun.order c.in-Ok-run_counted.ending
+    c.ended_as-in-Ok-run_counted.result _ _ _ _ c.in-CountedRun.is c.ended_as-in-Ok-run_counted.ensures c.in-Ok-run_counted.ensures.ok
+
+pub returns-in-Err-Sink-run_counted-clause-follows : goal.returns-in-Err-Sink-run_counted-clause-follows
+returns-in-Err-Sink-run_counted-clause-follows g c = λ m.
+    follows-counted_broken _ _ c.args.job c.in-CountedRun.job c.in-CountedRun.order _ _ _ _ _ c.in-CountedRun.is refl
+    (c.in-Err-Sink-run_counted.ensures.sink (ap (λ t. Err t) c.in-Err-Sink-run_counted.field-0-is))
+
+pub returns-in-Ok-run_seeds-clause-follows : goal.returns-in-Ok-run_seeds-clause-follows
+returns-in-Ok-run_seeds-clause-follows g c = λ m.
+    follows-seeds_done _ c.args.job c.in-Seeds.job _ _ _ _ _ c.in-Seeds.is refl c.in-Ok-run_seeds.ensures.ok
+
+pub returns-in-Err-Sink-run_seeds-clause-follows : goal.returns-in-Err-Sink-run_seeds-clause-follows
+returns-in-Err-Sink-run_seeds-clause-follows g c = λ m.
+    follows-seeds_broken _ c.args.job c.in-Seeds.job _ _ _ _ _ c.in-Seeds.is refl
+    (c.in-Err-Sink-run_seeds.ensures.sink (ap (λ t. Err t) c.in-Err-Sink-run_seeds.field-0-is))

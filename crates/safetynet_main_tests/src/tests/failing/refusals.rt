@@ -22,6 +22,7 @@ const NO_COMMANDS: &[&str] = &[
     "safetynet run --kill a0@0 --kill b0@0 a.hex",
     "safetynet run --nodes 2 --kill a2@0 a.hex",
     "safetynet run --order slow a.hex",
+    "safetynet drive a.hex",
     "safetynet monitor --trace a.hex",
     "safetynet check --nodes 17 a.hex a.script",
     "safetynet judge --nodes 2 a.script",

@@ -1,0 +1,31 @@
+use Rattle.std.proofs.Common.{ap}
+use Rattle.std.proofs.lemmas.Result.{err_from_is_err_and}
+use Rattle.sn_base.specs.declared.config.Config.{Config}
+use Rattle.accesses_replay.proofs.Ended.{committed-executes, end-put, rows-broken, summary-broken}
+use Rattle.accesses_replay.proofs.events.put_end.Goals as goal
+
+pub put-requires-clause-execution : goal.put-requires-clause-execution
+put-requires-clause-execution g c =
+    committed-executes c.recovered-view.result c.args.machine.now c.image.result.now _ c.committed.result.now c.recovered-view.ensures.consistent
+    c.recovered-view.ensures.shown c.image.ensures (ap (λ (t : Config). t.nodes) c.config.ensures.same) c.committed.ensures
+
+pub returns-in_err-put-clause-err : goal.returns-in_err-put-clause-err
+returns-in_err-put-clause-err g c =
+    let p = err_from_is_err_and c.from_residual.result c.from_residual.ensures.1 in
+    rw p.1
+    (λ r. rows-broken c.recovered-view.result c.args.machine.now c.image.result.now _ c.committed.result.now c.recovered-view.ensures.shown
+    c.image.ensures (ap (λ (t : Config). t.nodes) c.config.ensures.same) c.committed.ensures c.args.watch _ _ _ (c.in_err-put.ensures.err r))
+
+pub returns-in_err-put_summary-clause-err : goal.returns-in_err-put_summary-clause-err
+returns-in_err-put_summary-clause-err g c =
+    let p = err_from_is_err_and c.from_residual-in_err-put_summary.result c.from_residual-in_err-put_summary.ensures.1 in
+    rw p.1
+    (λ r. summary-broken c.recovered-view.result c.args.machine.now c.image.result.now _ c.committed.result.now c.recovered-view.ensures.shown
+    c.image.ensures (ap (λ (t : Config). t.nodes) c.config.ensures.same) c.committed.ensures c.args.watch _ _ _ _
+    (c.in_ok-put.ensures.ok r) (c.in_err-put_summary.ensures.err r))
+
+pub returns-clause-ok : goal.returns-clause-ok
+returns-clause-ok g c = λ r.
+    end-put c.recovered-view.result c.args.machine.now c.image.result.now _ c.committed.result.now c.recovered-view.ensures.shown
+    c.image.ensures (ap (λ (t : Config). t.nodes) c.config.ensures.same) c.committed.ensures c.args.watch _ _ _ _
+    (c.in_ok-put.ensures.ok r) (c.in_ok-put_summary.ensures.ok r)

@@ -1,0 +1,4 @@
+pub mod Mnemonics
+pub mod Attempts
+pub mod Stepping
+pub mod RowPieces

@@ -1,0 +1,97 @@
+//! What a counted replay puts is what the replay puts, and then the statistics.
+ghost use Rattle.std.specs.Prelude.{IfOk};
+ghost use Rattle.script_replay.specs.Played.{MayBegin};
+
+use counted_replay::replay_counted;
+use elf_load::load;
+use run_statistics::statistics_text;
+use script_replay::{Replay, ReplayFault, ReportKind, Script, Showing, replay};
+use sn_base::{Config, Event};
+use sn_io::MemSink;
+use sn_probe::ProbeSet;
+use std::alloc::Global;
+use std::process::Abort;
+use std::test::Fail;
+
+/// Puts `A` and exits.
+const PUTS_A: &str = "04100513\n00100893\n00000073\n05d00893\n00000073\n";
+
+/// A recovery of the program on one node, to its start.
+fn recovers(rt: &impl Abort, alloc: Global) -> Result<Replay, Fail>
+    ensures { IfOk result (λ r. MayBegin r) }
+{
+    let config = Config {
+        nodes: 1,
+        sets: 16,
+        ways: 4,
+        log: 256,
+    };
+    assert!(rt; config.fits());
+    let mut events = Vec::new(alloc);
+    events.push(Event::Recover)?;
+    Ok(Replay {
+        program: load(alloc, PUTS_A.as_bytes())?,
+        config,
+        showing: Showing {
+            report: ReportKind::Events,
+            watch: None,
+        },
+        script: Script::new(events),
+    })
+}
+
+/// What the replay puts, and then the statistics, each by itself.
+fn wanted(rt: &impl Abort, alloc: Global) -> Result<Vec<u8>, Fail> {
+    let job = recovers(rt, alloc)?;
+    let lines = statistics_text(alloc, &job.program, job.config, job.script.events())?;
+    let mut console = MemSink::with_room(alloc, 8)?;
+    let mut report = MemSink::with_room(alloc, 4_096)?;
+    let mut probes = ProbeSet::new(Vec::new(alloc));
+    let ended = replay(alloc, job, &mut probes, &mut console, &mut report);
+    assert!(rt; ended.is_ok());
+    let mut text = Vec::new(alloc);
+    text.extend_from_slice(report.bytes())?;
+    text.extend_from_slice(lines.as_slice())?;
+    Ok(text)
+}
+
+/// A counted replay whose report fails at this call, or at none.
+fn counted(
+    rt: &impl Abort,
+    alloc: Global,
+    failing: u64,
+    report: &mut MemSink,
+) -> Result<Result<(), ReplayFault>, Fail> {
+    let job = recovers(rt, alloc)?;
+    let mut console = MemSink::with_room(alloc, 8)?;
+    report.fail_call(failing)?;
+    let mut probes = ProbeSet::new(Vec::new(alloc));
+    Ok(replay_counted(alloc, job, &mut probes, &mut console, report))
+}
+
+#[test]
+fn the_statistics_stand_behind_the_summary(rt: HostRuntime) -> Result<(), Fail> {
+    let alloc = rt.alloc();
+    let mut report = MemSink::with_room(alloc, 8_192)?;
+    let ended = counted(&rt, alloc, 0, &mut report)?;
+    assert!(rt; ended.is_ok());
+    let wanted = wanted(&rt, alloc)?;
+    assert!(rt; report.bytes() == wanted.as_slice());
+    Ok(())
+}
+
+#[test]
+fn a_report_that_breaks_in_the_statistics_has_all_before_them(rt: HostRuntime) -> Result<(), Fail> {
+    let alloc = rt.alloc();
+    let mut report = MemSink::with_room(alloc, 8_192)?;
+    let ended = counted(&rt, alloc, 3, &mut report)?;
+    assert!(rt; ended == Err(ReplayFault::Sink));
+    let wanted = wanted(&rt, alloc)?;
+    assert!(rt; wanted.as_slice().starts_with(report.bytes()));
+    assert!(rt;
+        report
+            .bytes()
+            .starts_with(b"1 recover: recovered 0 undone 0 dropped 0\n".as_slice())
+    );
+    Ok(())
+}

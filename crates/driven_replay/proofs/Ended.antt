@@ -1,0 +1,188 @@
+-- What holds of a drive that has ended.
+use Rattle.std.proofs.Common.{◌≡◌, ℕ, zero, suc, ◌+◌, ◌≤◌, List, [], ◌∷◌, ◌++◌, length, take, ◌⊎◌, refl, ap, sym, subst, ◌∙◌}
+use Rattle.std.proofs.Common.{append-nil, length-append, arith}
+use Rattle.sn_base.specs.Image.{ImageData}
+use Rattle.sn_base.specs.declared.config.Config.{Config}
+use Rattle.sn_base.specs.declared.event.Event.{Event}
+use Rattle.sn_model.specs.Machine.{State}
+use Rattle.sn_io.specs.Outside.{followed_by}
+use Rattle.sn_machine.specs.Machine.{MachineData}
+use Rattle.consistent_cuts.specs.Headline.{IsRun, state_of_run}
+use Rattle.consistent_cuts.specs.Runs.{AllFit}
+use Rattle.line_source.specs.Lines.{LineRead}
+use Rattle.sn_probe.specs.Probes.{Meter, tallies_of}
+use Rattle.sink_pieces.specs.Pieces.{Piece, Ends, after, Breaks, console_text}
+use Rattle.sink_pieces.proofs.PieceLaws.{after-append, console_text-append}
+use Rattle.sink_pieces.proofs.Begun.{console-after}
+use Rattle.script_replay.specs.declared.job.Showing.{Showing}
+use Rattle.script_replay.specs.Pieces.{end_pieces, turns_from, pieces_from}
+use Rattle.script_replay.specs.Played.{IsAtStart, end_now, told_left}
+use Rattle.script_replay.specs.Probed.{told_of_run}
+use Rattle.script_replay.specs.Scheduled.{replay_of}
+use Rattle.script_replay.specs.Shown.{output_of}
+use Rattle.script_replay.proofs.Lawful.{run-lawful}
+use Rattle.script_replay.proofs.Performed.{performed-told}
+use Rattle.script_replay.proofs.Shown.{console_text-turns}
+use Rattle.driven_replay.specs.declared.driving.DriveEnd.{DriveEnd}
+use Rattle.driven_replay.specs.declared.driving.DriveEnd.TheVariants.{Whole, TooMany}
+use Rattle.driven_replay.specs.Said.{said_by, event_in, events_of, IsLook}
+use Rattle.driven_replay.specs.Answers.{over_pieces, answers_to, last_of_drive, driven_pieces}
+use Rattle.driven_replay.specs.Answered.{IsFresh, HasAnswered, BreaksOff}
+use Rattle.driven_replay.specs.declared.job.Drive.{Drive}
+use Rattle.driven_replay.specs.Driven.{SourceData, AreRead, IsAtEnd, drive_on, told_in, last_in, AreAnswered, IsDriven, IsLeftOff, LacksMemory, BreaksInAnswer, BreaksAtEnd}
+use Rattle.driven_replay.proofs.Lines.{fit-take}
+use Rattle.driven_replay.proofs.Turns.{replayed, answers-output}
+use Rattle.sn_base.specs.declared.limits.TheConstants.{EVENTS}
+
+few-take : (nodes : ℕ) (lines : List LineRead) (i : ℕ) → length (events_of nodes (take i lines)) ≤ length (events_of nodes lines)
+few-take nodes lines zero = omega arith
+few-take nodes [] (suc i) = omega arith
+few-take nodes (line ∷ lines) (suc i) =
+    omega (
+      arith,
+      few-take nodes lines i,
+      length-append (event_in (said_by nodes line)) (events_of nodes (take i lines)),
+      length-append (event_in (said_by nodes line)) (events_of nodes lines),
+    )
+
+-- the end puts nothing to the console
+console-over : (how : DriveEnd) → console_text (over_pieces how) ≡ []
+console-over Whole = refl
+console-over TooMany = refl
+
+console-end : (image : ImageData) (config : Config) (showing : Showing) (tallies : List (List ℕ)) (done : ℕ) (s : State) →
+    console_text (end_pieces image config showing tallies done s) ≡ []
+unfolding turns_from pieces_from
+console-end image config showing tallies done s = console_text-turns image config showing tallies done s []
+
+module _ (start : MachineData) (showing : Showing) (fresh : IsFresh start) where
+  told-is : (events : List Event) (probes now_ : List Meter) → now_ ≡ told_left start events probes →
+      now_ ≡ told_of_run start.image start.config events probes
+  told-is events probes now_ told =
+      performed-told start (replay_of start showing events) events 0 probes
+      (record { program = refl; sizes = refl; start = fresh.start; new = fresh.new; room = omega arith })
+      refl now_ told
+
+  module _ (lines : List LineRead) (fit : AllFit start.config.nodes (events_of start.config.nodes lines)) (few : length (events_of start.config.nodes lines) ≤ EVENTS) where
+    abbrev events : List Event
+    events = events_of start.config.nodes lines
+
+    run : IsRun start.config events
+    run = record { fits = fresh.sizes; events_fit = fit }
+
+    run-take : (i : ℕ) → IsRun start.config (events_of start.config.nodes (take i lines))
+    run-take i = record { fits = fresh.sizes; events_fit = fit-take start.config.nodes lines i fit }
+
+    pub are-answered : AreAnswered (drive_on start showing) lines
+    are-answered = record {
+      few = few;
+      lawful = run-lawful start.image start.config events run;
+      in_step = λ i. answers-output start.image start.config showing (take i lines) (run-take i)
+          (omega (arith, few, few-take start.config.nodes lines i));
+      replayed = λ tallies. replayed start.image start.config showing tallies lines;
+    }
+
+  module _ (lines : List LineRead) (probes : List Meter) (before : Ends) (m : MachineData) (now_ : List Meter) (middle : Ends) (h : HasAnswered start showing lines probes before m now_ middle) where
+    abbrev all : List Event
+    all = events_of start.config.nodes lines
+
+    few-all : length all ≤ EVENTS
+    few-all = omega (arith, h.at.count, h.at.room)
+
+    answered : AreAnswered (drive_on start showing) lines
+    answered = are-answered lines h.at.fit few-all
+
+    told-all : now_ ≡ told_in (drive_on start showing) lines probes
+    told-all = told-is all probes now_ h.knows
+
+    pub left-off : IsLeftOff (drive_on start showing) lines probes before middle now_
+    left-off = record { answered = answered; put = h.put; knows = told-all }
+
+    pub lacking : (last : LineRead) → IsLook start.config.nodes last → LacksMemory (drive_on start showing) lines last probes before middle now_
+    lacking last asks = record { asks = asks; others = left-off }
+
+    end-is : end_now m showing (tallies_of now_)
+        ≡ end_pieces start.image start.config showing (tallies_of (told_in (drive_on start showing) lines probes)) (length all)
+        (state_of_run start.image start.config all)
+    end-is =
+        ap (λ (t : List Meter). end_now m showing (tallies_of t)) told-all
+        ∙ ap (λ (t : State). end_pieces m.image m.config showing due m.applied t) h.at.state
+        ∙ ap (λ n. end_pieces m.image m.config showing due n (state_of_run start.image start.config all)) h.at.count
+        ∙ ap (λ (t : Config). end_pieces m.image t showing due (length all) (state_of_run start.image start.config all)) h.at.sizes
+        ∙ ap (λ (t : ImageData). end_pieces t start.config showing due (length all) (state_of_run start.image start.config all)) h.at.program where
+          due : List (List ℕ)
+          due = tallies_of (told_in (drive_on start showing) lines probes)
+
+    module _ (how : DriveEnd) (behind : Ends) where
+      last-is : over_pieces how ++ end_now m showing (tallies_of now_) ≡ last_in (drive_on start showing) probes how lines
+      last-is = ap (λ t. over_pieces how ++ t) end-is
+
+      pub broken-at_end : Breaks (over_pieces how ++ end_now m showing (tallies_of now_)) middle behind →
+          BreaksAtEnd (drive_on start showing) how lines probes before behind now_
+      broken-at_end broken = record {
+        answered = answered;
+        broken = subst (λ (t : Ends). Breaks (last_in (drive_on start showing) probes how lines) t behind) h.put
+            (subst (λ (t : List Piece). Breaks t middle behind) last-is broken);
+        knows = told-all;
+      }
+
+      module _ (put : behind ≡ after middle (over_pieces how ++ end_now m showing (tallies_of now_))) where
+        abbrev tallies : List (List ℕ)
+        tallies = tallies_of (told_in (drive_on start showing) lines probes)
+
+        whole-put : behind ≡ after before (driven_pieces start.image start.config showing tallies how lines)
+        whole-put =
+            put ∙ ap (after middle) last-is
+            ∙ ap (λ (t : Ends). after t (last_in (drive_on start showing) probes how lines)) h.put
+            ∙ after-append before (answers_to start.image start.config showing lines) (last_in (drive_on start showing) probes how lines)
+
+        console-last : console_text (last_in (drive_on start showing) probes how lines) ≡ []
+        console-last =
+            console_text-append (over_pieces how)
+            (end_pieces start.image start.config showing tallies (length all) (state_of_run start.image start.config all))
+            ∙ ap (λ t. t ++ console_text (end_pieces start.image start.config showing tallies (length all)
+            (state_of_run start.image start.config all))) (console-over how)
+            ∙ console-end start.image start.config showing tallies (length all) (state_of_run start.image start.config all)
+
+        console-whole : console_text (driven_pieces start.image start.config showing tallies how lines) ≡ output_of start.image start.config all
+        console-whole =
+            console_text-append (answers_to start.image start.config showing lines) (last_in (drive_on start showing) probes how lines)
+            ∙ ap (λ t. console_text (answers_to start.image start.config showing lines) ++ t) console-last
+            ∙ append-nil (console_text (answers_to start.image start.config showing lines))
+            ∙ answers-output start.image start.config showing lines (run lines h.at.fit few-all) few-all
+
+        pub driven : IsDriven (drive_on start showing) how lines probes before behind now_
+        driven = record {
+          answered = answered;
+          put = whole-put;
+          output = console-after before behind (driven_pieces start.image start.config showing tallies how lines) whole-put
+              ∙ ap (followed_by before.console) console-whole;
+          knows = told-all;
+        }
+
+  pub broken-in_answer : (lines : List LineRead) (last : LineRead) (probes : List Meter) (before : Ends) (told : List Meter) (behind : Ends) →
+      BreaksOff start showing lines last probes before told behind →
+      BreaksInAnswer (drive_on start showing) lines last probes before behind told
+  broken-in_answer lines last probes before told behind h = record {
+    answered = are-answered lines h.fit h.few;
+    broken = h.broken;
+    knows = told-is (events_of start.config.nodes (lines ++ last ∷ [])) probes told h.knows;
+  }
+
+-- a drive of the machine that was made for a job is that job's
+abbrev pub BrokeSo : Drive → List Meter → Ends → Ends → List Meter → SourceData → SourceData → Type 0
+BrokeSo d probes before behind told from to =
+    ((read : List LineRead) × (last : LineRead) × BreaksInAnswer d read last probes before behind told × AreRead (read ++ last ∷ []) from to)
+    ⊎ ((how : DriveEnd) × (read : List LineRead) × BreaksAtEnd d how read probes before behind told × IsAtEnd d read how from to)
+
+pub of-job : (a b : Drive) (probes : List Meter) (before behind : Ends) (told : List Meter) (from to : SourceData) → a ≡ b →
+    BrokeSo a probes before behind told from to → BrokeSo b probes before behind told from to
+of-job a b probes before behind told from to is broken = subst (λ (d : Drive). BrokeSo d probes before behind told from to) is broken
+
+abbrev pub LackedSo : Drive → List Meter → Ends → Ends → List Meter → SourceData → SourceData → Type 0
+LackedSo d probes before behind told from to =
+    (read : List LineRead) × (last : LineRead) × LacksMemory d read last probes before behind told × AreRead (read ++ last ∷ []) from to
+
+pub of-lack : (a b : Drive) (probes : List Meter) (before behind : Ends) (told : List Meter) (from to : SourceData) → a ≡ b →
+    LackedSo a probes before behind told from to → LackedSo b probes before behind told from to
+of-lack a b probes before behind told from to is lacked = subst (λ (d : Drive). LackedSo d probes before behind told from to) is lacked

@@ -1,0 +1,175 @@
+-- The answers to lines beside the pieces of a replay of their events.
+use Rattle.std.proofs.Common.{◌≡◌, ℕ, ◌+◌, ◌≤◌, Bool, cond, List, [], ◌∷◌, ◌++◌, length, take, refl, ap, sym, subst, ◌∙◌}
+use Rattle.std.proofs.Common.{append_assoc, append-nil, length-append, arith}
+use Rattle.std.proofs.lemmas.List.{take_all}
+use Rattle.std.specs.Prelude.{Option, None}
+use Rattle.sn_base.specs.Image.{ImageData}
+use Rattle.sn_base.specs.declared.config.Config.{Config}
+use Rattle.sn_base.specs.declared.event.Event.{Event}
+use Rattle.sn_model.specs.Machine.{State, start_of}
+use Rattle.sn_model.specs.Step.{step_of, state_after}
+use Rattle.consistent_cuts.specs.Headline.{IsRun, state_of_run}
+use Rattle.line_source.specs.Lines.{LineRead}
+use Rattle.sink_pieces.specs.Pieces.{Piece, ends, after, console_text}
+use Rattle.sink_pieces.proofs.PieceLaws.{console_text-append}
+use Rattle.script_replay.specs.declared.job.Showing.{Showing}
+use Rattle.script_replay.specs.declared.job.ReportKind.TheVariants.{Trace, Summary}
+use Rattle.script_replay.specs.Pieces.{turn_pieces, turns_from, turns_of, pieces_from, pieces_of, end_pieces}
+use Rattle.script_replay.specs.Shown.{output_of, IsShown}
+use Rattle.script_replay.proofs.Shown.{console_text-turn, shown-all}
+use Rattle.driven_replay.specs.declared.job.Said.{Said}
+use Rattle.driven_replay.specs.declared.job.Said.TheVariants.{Nothing, Does, Foresees, Looks, Refused}
+use Rattle.driven_replay.specs.Said.{said_by, event_in, events_of}
+use Rattle.driven_replay.specs.Answers.{answer_of, answer_to, answers_after}
+use Rattle.driven_replay.specs.Driven.{is_event, good_lines}
+use Rattle.driven_replay.proofs.Lines.{events-last}
+use Rattle.driven_replay.proofs.After.{state-last}
+use Rattle.sn_base.specs.declared.limits.TheConstants.{EVENTS}
+
+module _ (image : ImageData) (config : Config) (showing : Showing) where
+  -- the turns of these events, which come after those
+  abbrev turns-after : List Event → List Event → List Piece
+  turns-after done events = turns_from image config showing (length done) (state_of_run image config done) events
+
+  abbrev said-pieces : List Event → ℕ → Said → List Piece
+  said-pieces done number said = answer_of image config showing (length done) (state_of_run image config done) number said
+
+  -- an event more
+  turns-event : (done rest : List Event) (event : Event) →
+      turns-after done (event ∷ rest)
+      ≡ turn_pieces image config showing (length done + 1) (state_of_run image config done) event ++ turns-after (done ++ event ∷ []) rest
+  unfolding turns_from
+  turns-event done rest event =
+      let count : length done + 1 ≡ length (done ++ event ∷ []) = sym (length-append done (event ∷ [])) in
+      ap (λ n. turn_pieces image config showing (length done + 1) (state_of_run image config done) event
+      ++ turns_from image config showing n (step_of image config (state_of_run image config done) event).state rest) count
+      ∙ ap (λ (s : State). turn_pieces image config showing (length done + 1) (state_of_run image config done) event
+      ++ turns_from image config showing (length (done ++ event ∷ [])) s rest)
+      (sym (state-last image config (start_of image config.nodes) done event))
+
+  -- what a line puts to the console, and then the turns of the events after it
+  console-said : (done rest : List Event) (number : ℕ) (said : Said) →
+      console_text (said-pieces done number said) ++ console_text (turns-after (done ++ event_in said) rest)
+      ≡ console_text (turns-after done (event_in said ++ rest))
+  console-said done rest number (Does event) =
+      sym (ap (λ t. console_text t) (turns-event done rest event)
+      ∙ console_text-append (turn_pieces image config showing (length done + 1) (state_of_run image config done) event)
+      (turns-after (done ++ event ∷ []) rest))
+  console-said done rest number Nothing = ap (λ (t : List Event). console_text (turns-after t rest)) (append-nil done)
+  console-said done rest number (Foresees event) = ap (λ (t : List Event). console_text (turns-after t rest)) (append-nil done)
+  console-said done rest number (Looks asked) = ap (λ (t : List Event). console_text (turns-after t rest)) (append-nil done)
+  console-said done rest number (Refused fault) = ap (λ (t : List Event). console_text (turns-after t rest)) (append-nil done)
+
+  -- answers put to the console what the turns of their events do
+  console-answers : (before lines : List LineRead) →
+      console_text (answers_after image config showing before lines)
+      ≡ console_text (turns-after (events_of config.nodes before) (events_of config.nodes lines))
+  unfolding answers_after turns_from
+  console-answers before [] = refl
+  console-answers before (line ∷ lines) =
+      let done : List Event = events_of config.nodes before in
+      let said : Said = said_by config.nodes line in
+      console_text-append (answer_to image config showing before line) (answers_after image config showing (before ++ line ∷ []) lines)
+      ∙ ap (λ t. console_text (answer_to image config showing before line) ++ t) (console-answers (before ++ line ∷ []) lines)
+      ∙ ap (λ (t : List Event). console_text (answer_to image config showing before line) ++ console_text (turns-after t (events_of config.nodes lines)))
+      (events-last config.nodes before line)
+      ∙ console-said done (events_of config.nodes lines) (length before + 1) said
+
+  -- a line that does an event is answered as in a replay, and others are left out
+  good-said : (before lines : List LineRead) (line : LineRead) (said : Said) → said_by config.nodes line ≡ said →
+      ((first : List LineRead) → answers_after image config showing first (good_lines config.nodes lines)
+      ≡ turns-after (events_of config.nodes first) (events_of config.nodes lines)) →
+      answers_after image config showing before (cond (is_event said) (line ∷ good_lines config.nodes lines) (good_lines config.nodes lines))
+      ≡ turns-after (events_of config.nodes before) (event_in said ++ events_of config.nodes lines)
+  unfolding answers_after
+  good-said before lines line (Does event) is others =
+      let done : List Event = events_of config.nodes before in
+      let rest : List Event = events_of config.nodes lines in
+      ap (λ (t : Said). said-pieces done (length before + 1) t
+      ++ answers_after image config showing (before ++ line ∷ []) (good_lines config.nodes lines)) is
+      ∙ ap (λ t. turn_pieces image config showing (length done + 1) (state_of_run image config done) event ++ t)
+      (others (before ++ line ∷ [])
+      ∙ ap (λ (t : List Event). turns-after t rest) (events-last config.nodes before line ∙ ap (λ (t : Said). done ++ event_in t) is))
+      ∙ sym (turns-event done rest event)
+  good-said before lines line Nothing is others = others before
+  good-said before lines line (Foresees event) is others = others before
+  good-said before lines line (Looks asked) is others = others before
+  good-said before lines line (Refused fault) is others = others before
+
+  good-answers : (lines before : List LineRead) →
+      answers_after image config showing before (good_lines config.nodes lines)
+      ≡ turns-after (events_of config.nodes before) (events_of config.nodes lines)
+  unfolding answers_after turns_from
+  good-answers [] before = refl
+  good-answers (line ∷ lines) before =
+      good-said before lines line (said_by config.nodes line) refl (λ first. good-answers lines first)
+
+  -- the pieces of a replay are its turns and its end
+  pieces-split : (tallies : List (List ℕ)) (done : ℕ) (s : State) (events : List Event) →
+      pieces_from image config showing tallies done s events
+      ≡ turns_from image config showing done s events
+      ++ end_pieces image config showing tallies (done + length events) (state_after image config s events)
+  unfolding turns_from pieces_from
+  pieces-split tallies done s [] =
+      let same : done ≡ done + 0 = omega arith in
+      ap (λ n. end_pieces image config showing tallies n s) same
+  pieces-split tallies done s (event ∷ events) =
+      let next : State = (step_of image config s event).state in
+      let same : done + 1 + length events ≡ done + length (event ∷ events) = omega arith in
+      ap (λ t. turn_pieces image config showing (done + 1) s event ++ t) (pieces-split tallies (done + 1) next events)
+      ∙ sym (append_assoc (turn_pieces image config showing (done + 1) s event) (turns_from image config showing (done + 1) next events)
+      (end_pieces image config showing tallies (done + 1 + length events) (state_after image config next events)))
+      ∙ ap (λ n. (turn_pieces image config showing (done + 1) s event ++ turns_from image config showing (done + 1) next events)
+      ++ end_pieces image config showing tallies n (state_after image config next events)) same
+
+  pub replayed : (tallies : List (List ℕ)) (lines : List LineRead) → let events = events_of config.nodes lines in
+      pieces_of image config showing tallies events
+      ≡ answers_after image config showing [] (good_lines config.nodes lines)
+      ++ end_pieces image config showing tallies (length events) (state_of_run image config events)
+  unfolding pieces_of
+  replayed tallies lines =
+      let events : List Event = events_of config.nodes lines in
+      let same : 0 + length events ≡ length events = omega arith in
+      pieces-split tallies 0 (start_of image config.nodes) events
+      ∙ ap (λ n. turns_from image config showing 0 (start_of image config.nodes) events
+      ++ end_pieces image config showing tallies n (state_of_run image config events)) same
+      ∙ ap (λ t. t ++ end_pieces image config showing tallies (length events) (state_of_run image config events)) (sym (good-answers lines []))
+
+-- which report is shown makes no difference to the console
+
+abbrev quiet : Showing
+quiet = record { report = Summary; watch = None }
+
+console-quiet : (image : ImageData) (config : Config) (showing : Showing) (done : ℕ) (s : State) (events : List Event) →
+    console_text (turns_from image config showing done s events) ≡ console_text (turns_from image config quiet done s events)
+unfolding turns_from
+console-quiet image config showing done s [] = refl
+console-quiet image config showing done s (event ∷ events) =
+    let next : State = (step_of image config s event).state in
+    console_text-append (turn_pieces image config showing (done + 1) s event) (turns_from image config showing (done + 1) next events)
+    ∙ ap (λ t. t ++ console_text (turns_from image config showing (done + 1) next events))
+    (console_text-turn image config showing (done + 1) s event ∙ sym (console_text-turn image config quiet (done + 1) s event))
+    ∙ ap (λ t. console_text (turn_pieces image config quiet (done + 1) s event) ++ t) (console-quiet image config showing (done + 1) next events)
+    ∙ sym (console_text-append (turn_pieces image config quiet (done + 1) s event) (turns_from image config quiet (done + 1) next events))
+
+no-trace : Summary ≡ Trace → ⊥
+no-trace is = cc
+
+module _ (image : ImageData) (config : Config) (events : List Event) (run : IsRun config events) (few : length events ≤ EVENTS) where
+  shown : IsShown image config quiet [] events (ends None None) (after (ends None None) (pieces_of image config quiet [] events))
+  shown = shown-all image config quiet [] events (ends None None) _ run few (λ is. absurd (no-trace is)) refl
+
+  quiet-output : console_text (turns_of image config quiet events) ≡ output_of image config events
+  quiet-output =
+      subst (λ (t : List Event). console_text (turns_of image config quiet t) ≡ output_of image config t)
+      (take_all (length events) events (omega arith)) (shown.in_step (length events)).output
+
+-- so answers put the output of the committed trace to the console
+pub answers-output : (image : ImageData) (config : Config) (showing : Showing) (lines : List LineRead) →
+    IsRun config (events_of config.nodes lines) → length (events_of config.nodes lines) ≤ EVENTS →
+    console_text (answers_after image config showing [] lines) ≡ output_of image config (events_of config.nodes lines)
+unfolding turns_of
+answers-output image config showing lines run few =
+    console-answers image config showing [] lines
+    ∙ console-quiet image config showing 0 (start_of image config.nodes) (events_of config.nodes lines)
+    ∙ quiet-output image config (events_of config.nodes lines) run few

@@ -1,0 +1,43 @@
+//! What is driven, and what a line may say.
+
+use script_replay::Showing;
+use sn_base::{BlockNo, Config, Event, Image, NodeId};
+use sn_text::Fault;
+
+/// A program, the sizes of the machine that it runs on, and what to show.
+#[derive(Drop)]
+pub struct Drive {
+    pub program: Image,
+    pub config: Config,
+    pub showing: Showing,
+}
+
+/// What may be asked to be shown of the machine's state.
+#[derive(Clone, Copy, PartialEq, Eq, Debug)]
+pub enum Look {
+    /// The whole of it.
+    State,
+    /// A node.
+    Node(NodeId),
+    /// A node's core alone.
+    Core(NodeId),
+    /// A block's home.
+    Block(BlockNo),
+    /// The messages in flight.
+    Flights,
+}
+
+/// What a line says.
+#[derive(Clone, Copy, PartialEq, Eq, Debug)]
+pub enum Said {
+    /// Nothing: it is empty, or a comment.
+    Nothing,
+    /// An event is to be applied.
+    Does(Event),
+    /// An event's answer is asked for, and nothing is to be applied.
+    Foresees(Event),
+    /// A part of the state is to be shown, and nothing is to be applied.
+    Looks(Look),
+    /// It is none of these.
+    Refused(Fault),
+}

@@ -1,0 +1,81 @@
+//! A part of the state is shown.
+ghost use Rattle.std.specs.Prelude.{◌≡◌, ◌++◌, false, map, OnOk};
+ghost use Rattle.sn_model.specs.Net.{is_there};
+ghost use Rattle.sn_fabric.specs.Nets.{net_as};
+ghost use Rattle.state_json.specs.Json.{with_commas};
+ghost use Rattle.driven_replay.specs.Looks.{HasItsNode, arrival_text, flights_text, look_text, look_line};
+
+use crate::job::Look;
+use machine_states::{add_node, add_other_home, add_state};
+use sn_base::{Memory, SwitchId};
+use sn_machine::Machine;
+use sn_msg::Message;
+use state_texts::{add, add_comma, add_core, add_flag, add_flight, add_member, add_opening};
+use switch_net::Net;
+
+// Whether a message stands in a switch of its receiver.
+fn is_there(message: &Message, switch: SwitchId) -> bool
+    ensures { result ≡ is_there (record { message = message.now; place = switch }) }
+{
+    switch.number() / 2 == message.to.number()
+}
+
+// A message in flight, and whether it has arrived.
+#[tactic(auto, unfolding(crate::specs::Looks::arrival_text))]
+fn add_arrival(text: &mut Vec<u8>, message: &Message, switch: SwitchId) -> Result<(), Memory>
+    ensures { OnOk result (text.new.items ≡ text.old.items ++ arrival_text (record { message = message.now; place = switch })) }
+{
+    add_opening(text, "flight")?;
+    add_flight(text, message, switch)?;
+    add_member(text, "arrived")?;
+    add_flag(text, is_there(message, switch))?;
+    add(text, "}")
+}
+
+fn add_each_arrival(text: &mut Vec<u8>, net: &Net) -> Result<(), Memory>
+    ensures { OnOk result (text.new.items ≡ text.old.items ++ with_commas false (map arrival_text (net_as net.now).flights)) }
+{
+    let mut others = false;
+    'messages: for place in 0..net.count() {
+        let (message, switch) = net.message(place);
+        add_comma(text, others)?;
+        add_arrival(text, message, switch)?;
+        others = true;
+    }
+    Ok(())
+}
+
+#[tactic(auto, unfolding(crate::specs::Looks::flights_text))]
+fn add_arrivals(text: &mut Vec<u8>, net: &Net) -> Result<(), Memory>
+    ensures { OnOk result (text.new.items ≡ text.old.items ++ flights_text (net_as net.now).flights) }
+{
+    add_opening(text, "flights")?;
+    add(text, "[")?;
+    add_each_arrival(text, net)?;
+    add(text, "]")?;
+    add(text, "}")
+}
+
+#[tactic(auto, unfolding(crate::specs::Looks::look_text))]
+fn add_look(text: &mut Vec<u8>, machine: &Machine, look: &Look) -> Result<(), Memory>
+    requires { HasItsNode machine.now.config.nodes look.now }
+    ensures { OnOk result (text.new.items ≡ text.old.items ++ look_text machine.now.image machine.now.state look.now) }
+{
+    match look {
+        Look::State => add_state(text, machine),
+        Look::Node(node) => add_node(text, machine, *node),
+        Look::Core(node) => add_core(text, machine.core(*node)),
+        Look::Block(block) => add_other_home(text, machine, *block),
+        Look::Flights => add_arrivals(text, machine.net()),
+    }
+}
+
+/// Writes the line that has the part of the state that is asked for. Where memory is lacking, some of it may stand there.
+pub(crate) fn write_look(text: &mut Vec<u8>, machine: &Machine, look: &Look) -> Result<(), Memory>
+    requires { HasItsNode machine.now.config.nodes look.now }
+    ensures { OnOk result (text.new.items ≡ look_line machine.now.image machine.now.state look.now) }
+{
+    text.clear();
+    add_look(text, machine, look)?;
+    add(text, "\n")
+}

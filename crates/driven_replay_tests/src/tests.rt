@@ -1,0 +1,194 @@
+//! Machines that are driven by lines in memory, beside replays of the same scripts.
+ghost use Rattle.std.specs.Prelude.{IfOk};
+ghost use Rattle.driven_replay.specs.Driven.{MayDrive};
+
+use driven_replay::{Drive, DriveEnd, DriveFault, drive};
+use elf_load::load;
+use line_source::MemLines;
+use script_replay::{ReportKind, Showing};
+use sn_base::Config;
+use sn_io::MemSink;
+use sn_probe::ProbeSet;
+use std::alloc::Global;
+use std::process::Abort;
+use std::test::Fail;
+
+/// Puts `A` and exits.
+const PUTS_A: &str = "04100513\n00100893\n00000073\n05d00893\n00000073\n";
+
+/// Each core adds 1 to the word at 0x80001000, in block 64.
+const ADDS: &str = "800012b7\n00100313\n0062a3af\n05d00893\n00000073\n";
+
+/// The first program on one node.
+fn job(rt: &impl Abort, alloc: Global) -> Result<Drive, Fail>
+    ensures { IfOk result (λ d. MayDrive d) }
+{
+    job_of(rt, alloc, 1, PUTS_A, ReportKind::Events)
+}
+
+/// A program on so many nodes.
+fn job_of(
+    rt: &impl Abort,
+    alloc: Global,
+    nodes: u8,
+    program: &str,
+    report: ReportKind,
+) -> Result<Drive, Fail>
+    ensures { IfOk result (λ d. MayDrive d) }
+{
+    let config = Config {
+        nodes,
+        sets: 16,
+        ways: 4,
+        log: 256,
+    };
+    assert!(rt; config.fits());
+    Ok(Drive {
+        program: load(alloc, program.as_bytes())?,
+        config,
+        showing: Showing {
+            report,
+            watch: None,
+        },
+    })
+}
+
+/// Drives it, where no probe is attached.
+fn driven(
+    alloc: Global,
+    job: Drive,
+    lines: &mut MemLines<'_>,
+    console: &mut MemSink,
+    report: &mut MemSink,
+) -> Result<DriveEnd, DriveFault>
+    requires { MayDrive job }
+{
+    let mut probes = ProbeSet::new(Vec::new(alloc));
+    drive(alloc, job, lines, &mut probes, console, report)
+}
+
+#[test]
+fn lines_that_are_no_events_are_refused_with_their_numbers_and_change_nothing(
+    rt: HostRuntime,
+) -> Result<(), Fail> {
+    let alloc = rt.alloc();
+    let mut console = MemSink::with_room(alloc, 8)?;
+    let mut report = MemSink::with_room(alloc, 4_096)?;
+    let mut lines = MemLines::new(b"# no event\n\nstep\nstep 1\nfall 0\n");
+    let job = job(&rt, alloc)?;
+    let ended = driven(alloc, job, &mut lines, &mut console, &mut report);
+    assert!(rt; ended == Ok(DriveEnd::Whole));
+    assert!(rt;
+        report
+            .bytes()
+            .starts_with(b"badline 3\noutofrange 4\nbadline 5\nevents 0\n")
+    );
+    Ok(())
+}
+
+#[test]
+fn what_is_foreseen_of_an_event_is_what_it_then_comes_to(rt: HostRuntime) -> Result<(), Fail> {
+    let alloc = rt.alloc();
+    let mut console = MemSink::with_room(alloc, 8)?;
+    let mut report = MemSink::with_room(alloc, 4_096)?;
+    let mut lines = MemLines::new(b"foresee validate\nforesee edge 0\nvalidate\nedge 0");
+    let job = job(&rt, alloc)?;
+    let ended = driven(alloc, job, &mut lines, &mut console, &mut report);
+    assert!(rt; ended == Ok(DriveEnd::Whole));
+    let wanted: &[u8] =
+        b"1 validate: notready 0\n1 edge 0: edged 1\n1 validate: notready 0\n2 edge 0: edged 1\n";
+    assert!(rt; report.bytes().starts_with(wanted));
+    Ok(())
+}
+
+#[test]
+fn a_source_that_fails_ends_it_once_what_was_read_is_answered(rt: HostRuntime) -> Result<(), Fail> {
+    let alloc = rt.alloc();
+    let mut console = MemSink::with_room(alloc, 8)?;
+    let mut report = MemSink::with_room(alloc, 4_096)?;
+    let mut lines = MemLines::new(b"validate\nvalidate\n");
+    lines.fail_call(2);
+    let job = job(&rt, alloc)?;
+    let ended = driven(alloc, job, &mut lines, &mut console, &mut report);
+    assert!(rt; ended == Err(DriveFault::Input));
+    assert!(rt; report.bytes() == b"1 validate: notready 0\n".as_slice());
+    Ok(())
+}
+
+#[test]
+fn a_report_that_fails_ends_it_before_another_line_is_read(rt: HostRuntime) -> Result<(), Fail> {
+    let alloc = rt.alloc();
+    let mut console = MemSink::with_room(alloc, 8)?;
+    let mut report = MemSink::with_room(alloc, 4_096)?;
+    report.fail_call(2)?;
+    let mut lines = MemLines::new(b"validate\nfall\nvalidate\n");
+    let first = job(&rt, alloc)?;
+    let ended = driven(alloc, first, &mut lines, &mut console, &mut report);
+    assert!(rt; ended == Err(DriveFault::Sink));
+    assert!(rt; report.bytes() == b"1 validate: notready 0\n".as_slice());
+    let second = job(&rt, alloc)?;
+    let ended = driven(alloc, second, &mut lines, &mut console, &mut report);
+    assert!(rt; ended == Ok(DriveEnd::Whole));
+    Ok(())
+}
+
+/// A look at each part of the machine at its program's start.
+const LOOKS_AT_START: &str =
+    "{\"pc\":\"80000000\",\"end\":\"running\",\"registers\":{},\"reservation\":null}\n\
+{\"block\":0,\"owner\":null,\"content\":\"1305100493081000730000009308d00573000000\
+0000000000000000000000000000000000000000000000000000000000000000000000000000000000000000\",\
+\"sharers\":[],\"transaction\":null}\n\
+{\"flights\":[]}\n\
+{\"nodes\":[{\"node\":0,\"now\":0,\"known\":0,\
+\"core\":{\"pc\":\"80000000\",\"end\":\"running\",\"registers\":{},\"reservation\":null},\
+\"lines\":[],\"miss\":null,\"put\":null,\"log\":[],\"given\":\"\",\"taken\":0,\"waiting\":[]}],\
+\"homes\":[],\"net\":{\"messages\":[],\"dead\":[],\"next\":\"1\"},\
+\"controller\":{\"point\":0,\"reported\":[0],\"committed\":0,\"held\":[],\"released\":0}}\n\
+events 0\n";
+
+#[test]
+fn looks_show_parts_of_the_state_and_change_nothing(rt: HostRuntime) -> Result<(), Fail> {
+    let alloc = rt.alloc();
+    let mut console = MemSink::with_room(alloc, 8)?;
+    let mut report = MemSink::with_room(alloc, 4_096)?;
+    let mut lines = MemLines::new(b"core 0\nblock 0\nflights\nshow\n");
+    let job = job(&rt, alloc)?;
+    let ended = driven(alloc, job, &mut lines, &mut console, &mut report);
+    assert!(rt; ended == Ok(DriveEnd::Whole));
+    assert!(rt; report.bytes().starts_with(LOOKS_AT_START.as_bytes()));
+    Ok(())
+}
+
+#[test]
+fn a_look_at_what_is_not_there_is_refused(rt: HostRuntime) -> Result<(), Fail> {
+    let alloc = rt.alloc();
+    let mut console = MemSink::with_room(alloc, 8)?;
+    let mut report = MemSink::with_room(alloc, 4_096)?;
+    let mut lines = MemLines::new(b"node 1\ncore\nblock 65536\nshow \ncore 00\n");
+    let job = job(&rt, alloc)?;
+    let ended = driven(alloc, job, &mut lines, &mut console, &mut report);
+    assert!(rt; ended == Ok(DriveEnd::Whole));
+    let wanted: &[u8] = b"outofrange 1\nbadline 2\noutofrange 3\nbadline 4\nbadline 5\nevents 0\n";
+    assert!(rt; report.bytes().starts_with(wanted));
+    Ok(())
+}
+
+/// A message from node 1 to node 0, before and after its hop.
+const ON_ITS_WAY: &str = "{\"flights\":[{\"flight\":{\"message\":{\"id\":\"1\",\"kind\":\"getm\",\
+\"from\":1,\"to\":0,\"tag\":0,\"block\":64},\"switch\":\"a1\"},\"arrived\":false}]}\n\
+{\"flights\":[{\"flight\":{\"message\":{\"id\":\"1\",\"kind\":\"getm\",\
+\"from\":1,\"to\":0,\"tag\":0,\"block\":64},\"switch\":\"a0\"},\"arrived\":true}]}\n\
+events 4\n";
+
+#[test]
+fn a_message_has_arrived_once_it_stands_at_its_receiver(rt: HostRuntime) -> Result<(), Fail> {
+    let alloc = rt.alloc();
+    let mut console = MemSink::with_room(alloc, 8)?;
+    let mut report = MemSink::with_room(alloc, 4_096)?;
+    let mut lines = MemLines::new(b"step 1\nstep 1\nstep 1\nflights\nhop 1\nflights");
+    let job = job_of(&rt, alloc, 2, ADDS, ReportKind::Summary)?;
+    let ended = driven(alloc, job, &mut lines, &mut console, &mut report);
+    assert!(rt; ended == Ok(DriveEnd::Whole));
+    assert!(rt; report.bytes().starts_with(ON_ITS_WAY.as_bytes()));
+    Ok(())
+}

@@ -1,0 +1,46 @@
+//! The command that holds a machine line by line.
+
+pub const DRIVE: &str = "\
+Holds a machine that runs a program, and answers the lines of standard input,
+each before it reads the next.
+
+usage: safetynet drive [OPTIONS] PROGRAM
+
+options, before or after the file, each at most once, as --nodes 2 or --nodes=2:
+  --nodes N        how many nodes, 1 to 16 [default: 4]
+  --sets N         sets of each cache, 1 to 256 [default: 16]
+  --ways N         lines of each set, 1 to 16 [default: 4]
+  --log N          entries of each node's log, 4 to 4096 [default: 256]
+  --watch ADDRESS  also show the word at ADDRESS wherever cores are shown: eight
+                   hexadecimal digits, 80000000 to 803ffffc, a multiple of 4
+
+reads:
+  PROGRAM         an ELF file or a text of words, at most 16 MiB (help formats)
+  standard input  lines of a script (help events); \"foresee EVENT\"; and \"show\",
+                  \"node N\", \"core N\", \"block B\" or \"flights\"
+
+writes:
+  standard output  the bytes that the program puts out, once validated
+  standard error   for an event what replay puts: its answer and the messages
+                   that it sent, after a recovery each core; for \"foresee EVENT\"
+                   the line that the event would get; for the last five the
+                   state, a node, its core, a block's home or the messages in
+                   flight, a JSON object in the words of replay --states. These
+                   change nothing. For a line that is none of them \"badline\" and
+                   its number, and for one that names a node, block or switch that
+                   isn't there \"outofrange\" and its number. At the end the summary
+
+Each answer goes out at once, so another program can hold the machine at the end
+of two pipes. An empty line, and one that begins with #, has no answer. The end
+of the input ends the drive; so does the event after the 1,000,000th, with the
+line \"toomany\" before the summary.
+
+exit status: 0 done, 1 usage, 2 store, 3 program, 5 sink, 6 budget (1,000,000
+             events), 7 memory, 14 input (help statuses)
+
+examples:
+  safetynet drive --nodes 2 examples/shared/count.hex \\
+      < examples/shared/shared_word.script
+  printf 'foresee step 0\\nstep 0\\n' \\
+      | safetynet drive examples/shared/count.hex
+";

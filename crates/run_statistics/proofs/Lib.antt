@@ -1,0 +1,9 @@
+pub mod Pending
+pub mod Waiting
+pub mod CountBelow
+pub mod Owners
+pub mod OwnersAfter
+pub mod OwnedCounts
+pub mod TakenLines
+pub mod CountedSoFar
+pub mod Written

@@ -1,0 +1,15 @@
+pub mod Numbers
+pub mod Spreads
+pub mod Places
+pub mod Messages
+pub mod Records
+pub mod Instructions
+pub mod Logs
+pub mod Owned
+pub mod Intervals
+pub mod Puts
+pub mod Bytes
+pub mod Recoveries
+pub mod Statistics
+pub mod Counted
+pub mod Lines

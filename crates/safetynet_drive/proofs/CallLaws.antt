@@ -1,0 +1,164 @@
+-- What follows of a call from how its program was found.
+use Rattle.std.proofs.Common.{◌≡◌, ℕ, List, [], ◌∷◌, ◌++◌, refl, ap, sym, subst, ◌∙◌, inl, inr}
+use Rattle.std.specs.Prelude.{Option, Some, None, IfSome, Result, Ok, Err, ◌⊎◌}
+use Rattle.sn_base.specs.Image.{ImageData}
+use Rattle.sn_base.specs.declared.config.Config.{Config}
+use Rattle.sn_io.specs.Outside.{Found, File, TooLong as FileTooLong, Missing, Rose, found_in}
+use Rattle.sn_probe.specs.Probes.{Meter}
+use Rattle.command_words.specs.Request.{Request, Drive as DriveRequest}
+use Rattle.sink_pieces.specs.Pieces.{Ends}
+use Rattle.driven_replay.specs.declared.job.Drive.{Drive}
+use Rattle.driven_replay.specs.declared.driving.DriveEnd.TheVariants.{Whole, TooMany}
+use Rattle.driven_replay.specs.declared.driving.DriveEnd.{DriveEnd}
+use Rattle.driven_replay.specs.Driven.{SourceData, AreRead, IsAtEnd, IsLeftOff, LacksMemory, BreaksInAnswer, BreaksAtEnd}
+use Rattle.line_source.specs.Lines.{LineRead}
+use Rattle.safetynet_main.specs.Call.{Fetches}
+use Rattle.safetynet_main.specs.Files.{program_limit, program_in}
+use Rattle.safetynet_main.specs.declared.status.Status.{Status}
+use Rattle.safetynet_main.specs.declared.status.Status.TheVariants.{StoreFault, Usage, Memory, SinkFault, InputFault}
+use Rattle.safetynet_main.proofs.LoadPlans.{program-of_bytes, if_some-intro}
+use Rattle.safetynet_drive.specs.Call.{Asked, asked_in, drive_of, ComesTo, Follows, Comes, FollowsOver, IsCutShort, EndsInTheMiddle}
+
+-- a drive that began ends in no refusal
+not-refused : (d : Drive) (probes : List Meter) (status refusal : Status) (from to : SourceData) (before behind : Ends) →
+    ComesTo d probes status from to before behind → (refusal ≡ StoreFault) ⊎ (refusal ≡ Usage) → status ≡ refusal → ⊥
+not-refused d probes status refusal from to before behind (inl (Whole, lines, told, is, driven, end)) (inl w) e = cc
+not-refused d probes status refusal from to before behind (inl (Whole, lines, told, is, driven, end)) (inr w) e = cc
+not-refused d probes status refusal from to before behind (inl (TooMany, lines, told, is, driven, end)) (inl w) e = cc
+not-refused d probes status refusal from to before behind (inl (TooMany, lines, told, is, driven, end)) (inr w) e = cc
+not-refused d probes status refusal from to before behind (inr (inl (is, broken))) (inl w) e = cc
+not-refused d probes status refusal from to before behind (inr (inl (is, broken))) (inr w) e = cc
+not-refused d probes status refusal from to before behind (inr (inr (is, left))) (inl w) e = cc
+not-refused d probes status refusal from to before behind (inr (inr (is, left))) (inr w) e = cc
+
+-- a call that ends in one had no program
+refused-program : (config : Config) (watch : Option ℕ) (probes : List Meter) (program : Result ImageData Status) (status refusal : Status)
+    (from to : SourceData) (before behind : Ends) → Follows config watch probes program status from to before behind →
+    (refusal ≡ StoreFault) ⊎ (refusal ≡ Usage) → status ≡ refusal → program ≡ Err refusal
+refused-program config watch probes (Err s) status refusal from to before behind h which e = ap (λ t. Err t) (sym h.0 ∙ e)
+refused-program config watch probes (Ok image) status refusal from to before behind h which e =
+    absurd (not-refused _ probes status refusal from to before behind h which e)
+
+-- a program that is refused as one of the store's faults is missing
+missing : (found : Found) → program_in found ≡ Err StoreFault → found ≡ Missing
+missing Missing e = refl
+missing FileTooLong e = absurd cc
+missing (File bytes) e = absurd ((program-of_bytes bytes).0 e)
+
+-- and none is refused as a fault of the words
+not-usage : (found : Found) → program_in found ≡ Err Usage → ⊥
+not-usage Missing e = cc
+not-usage FileTooLong e = cc
+not-usage (File bytes) e = (program-of_bytes bytes).1 e
+
+module _ {S : Type 0} (files : S → Option (List ℕ → Option (List ℕ))) (sure : S → Type 0) (faults : S → ℕ) (gave : S → List ℕ → Found → S → Type 0) (old new : S) (probes : List Meter) (status : Status) (from to : SourceData) (before behind : Ends) where
+  rose-by : (asked : Option Asked) → Comes (Fetches files sure faults gave) probes asked status old new from to before behind →
+      status ≡ StoreFault → Rose (faults old) (faults new)
+  rose-by None h e = absurd cc
+  rose-by (Some asked) h e =
+      h.1.0.rose (missing h.0 (refused-program asked.config asked.watch probes (program_in h.0) status StoreFault from to before behind h.1.1 (inl refl) e))
+
+  usage-by : (asked : Option Asked) → Comes (Fetches files sure faults gave) probes asked status old new from to before behind →
+      status ≡ Usage → asked ≡ None
+  usage-by None h e = refl
+  usage-by (Some asked) h e =
+      absurd (not-usage h.0 (refused-program asked.config asked.watch probes (program_in h.0) status Usage from to before behind h.1.1 (inr refl) e))
+
+  -- over a sure store the file that it holds says what is done
+  sure-by : (asked : Option Asked) (held : List ℕ → Option (List ℕ)) →
+      Comes (Fetches files sure faults gave) probes asked status old new from to before behind → sure old → files old ≡ Some held →
+      FollowsOver held probes asked status from to before behind
+  sure-by None held (usage, (files, (read, put))) s e = (usage, (read, put))
+  sure-by (Some asked) held h s e =
+      subst (λ f. Follows asked.config asked.watch probes (program_in f) status from to before behind)
+      (found-held h.0 (held asked.program) (subst (λ o. IfSome o (λ files. (h.0 ≡ Missing → ⊥) → h.0 ≡ found_in (files asked.program) program_limit)) e h.1.0.told)
+      (subst (λ o. IfSome o (λ files. h.0 ≡ Missing → files asked.program ≡ None)) e (h.1.0.lacking s)))
+      h.1.1
+    where
+      found-held : (found : Found) (bytes : Option (List ℕ)) → ((found ≡ Missing → ⊥) → found ≡ found_in bytes program_limit) →
+          (found ≡ Missing → bytes ≡ None) → found ≡ found_in bytes program_limit
+      found-held Missing bytes told lacking = sym (ap (λ b. found_in b program_limit) (lacking refl))
+      found-held FileTooLong bytes told lacking = told (λ e. cc)
+      found-held (File content) bytes told lacking = told (λ e. cc)
+
+  pub clause-sure : (given : List Meter) (asked : Option Asked) →
+      ((status ≡ Memory → ⊥) → Comes (Fetches files sure faults gave) given asked status old new from to before behind) → given ≡ probes →
+      sure old → IfSome (files old) (λ held. (status ≡ Memory → ⊥) → FollowsOver held probes asked status from to before behind)
+  clause-sure given asked h same s =
+      if_some-intro (files old) (λ held. (status ≡ Memory → ⊥) → FollowsOver held probes asked status from to before behind)
+      (λ held e m. sure-by asked held
+      (subst (λ (p : List Meter). Comes (Fetches files sure faults gave) p asked status old new from to before behind) same (h m)) s e)
+
+  pub clause-rose : (asked : Option Asked) →
+      ((status ≡ Memory → ⊥) → Comes (Fetches files sure faults gave) probes asked status old new from to before behind) → status ≡ StoreFault →
+      Rose (faults old) (faults new)
+  clause-rose asked h e = rose-by asked (h (λ m. cc)) e
+
+  pub clause-usage : (asked : Option Asked) →
+      ((status ≡ Memory → ⊥) → Comes (Fetches files sure faults gave) probes asked status old new from to before behind) → status ≡ Usage →
+      asked ≡ None
+  clause-usage asked h e = usage-by asked (h (λ m. cc)) e
+
+  pub clause-comes : (given : List Meter) (asked : Option Asked) →
+      ((status ≡ Memory → ⊥) → Comes (Fetches files sure faults gave) given asked status old new from to before behind) → given ≡ probes →
+      (status ≡ Memory → ⊥) → Comes (Fetches files sure faults gave) probes asked status old new from to before behind
+  clause-comes given asked h same m =
+      subst (λ (p : List Meter). Comes (Fetches files sure faults gave) p asked status old new from to before behind) same (h m)
+
+-- a drive of which the program was fetched
+pub comes-of : {S : Type 0} (fetches : S → List ℕ → ℕ → Found → S → Type 0) (probes : List Meter) (ask : Option Request) (config : Config)
+    (watch : Option ℕ) (program name : List ℕ) (image : ImageData) (status : Status) (old new : S) (from to : SourceData) (before behind : Ends) →
+    ask ≡ Some (DriveRequest config watch program) → name ≡ program →
+    (found : Found) × fetches old name program_limit found new × (Ok image ≡ program_in found) →
+    ComesTo (drive_of config watch image) probes status from to before behind →
+    Comes fetches probes (asked_in ask) status old new from to before behind
+comes-of fetches probes ask config watch program name image status old new from to before behind e n (found, fetched, is) h =
+    subst (λ (a : Option Request). Comes fetches probes (asked_in a) status old new from to before behind) (sym e) (
+      found,
+      (
+        subst (λ (t : List ℕ). fetches old t program_limit found new) n fetched,
+        subst (λ (p : Result ImageData Status). Follows config watch probes p status from to before behind) is h,
+      ),
+    )
+
+-- what a drive comes to whose sink broke, or whose source failed
+pub broken-off : (d : Drive) (probes told : List Meter) (from to : SourceData) (before behind : Ends) →
+    ((lines : List LineRead) × (last : LineRead) × BreaksInAnswer d lines last probes before behind told × AreRead (lines ++ last ∷ []) from to)
+    ⊎ ((how : DriveEnd) × (lines : List LineRead) × BreaksAtEnd d how lines probes before behind told × IsAtEnd d lines how from to) →
+    ComesTo d probes SinkFault from to before behind
+broken-off d probes told from to before behind (inl (lines, last, breaks, read)) = inr (inl (refl, inl (lines, last, told, breaks, read)))
+broken-off d probes told from to before behind (inr (how, lines, breaks, end)) = inr (inl (refl, inr (how, lines, told, breaks, end)))
+
+pub left-off : (d : Drive) (probes told : List Meter) (from to : SourceData) (before behind : Ends) (A : List LineRead → Type 0) →
+    (lines : List LineRead) × IsLeftOff d lines probes before behind told × AreRead lines from to × A lines →
+    ComesTo d probes InputFault from to before behind
+left-off d probes told from to before behind A (lines, left, read, why) = inr (inr (refl, (lines, told, left, read)))
+
+-- memory was lacking before a line was read, or for a look
+pub cut-short : (d : Drive) (probes told : List Meter) (from to : SourceData) (before behind : Ends) (L C R P : Type 0) →
+    (L × C × R × P) ⊎ ((lines : List LineRead) × (last : LineRead)
+    × LacksMemory d lines last probes before behind told × AreRead (lines ++ last ∷ []) from to) →
+    (C × (R × L)) ⊎ ((Memory ≡ Memory) × IsCutShort d probes from to before behind)
+cut-short d probes told from to before behind L C R P (inl (l, c, r, p)) = inl (c, (r, l))
+cut-short d probes told from to before behind L C R P (inr (lines, last, lacks, read)) = inr (refl, (lines, last, told, lacks, read))
+
+pub in-the-middle : {S : Type 0} (fetches : S → List ℕ → ℕ → Found → S → Type 0) (probes : List Meter) (ask : Option Request) (config : Config)
+    (watch : Option ℕ) (program name : List ℕ) (image : ImageData) (status : Status) (old new : S) (from to : SourceData) (before behind : Ends)
+    (A : Type 0) → ask ≡ Some (DriveRequest config watch program) → name ≡ program →
+    (found : Found) × fetches old name program_limit found new × (Ok image ≡ program_in found) →
+    A ⊎ ((status ≡ Memory) × IsCutShort (drive_of config watch image) probes from to before behind) →
+    A ⊎ ((status ≡ Memory) × EndsInTheMiddle fetches probes (asked_in ask) old new from to before behind)
+in-the-middle fetches probes ask config watch program name image status old new from to before behind A e n fetched (inl same) = inl same
+in-the-middle fetches probes ask config watch program name image status old new from to before behind A e n (found, fetched, is) (inr (m, cut)) =
+    inr (
+      m,
+      subst (λ (a : Option Request). EndsInTheMiddle fetches probes (asked_in a) old new from to before behind) (sym e)
+          (found, image, subst (λ (t : List ℕ). fetches old t program_limit found new) n fetched, sym is, cut),
+    )
+
+pub middle-same : {S : Type 0} (fetches : S → List ℕ → ℕ → Found → S → Type 0) (probes given : List Meter) (asked : Option Asked) (status : Status)
+    (old new : S) (from to : SourceData) (before behind : Ends) (A : Type 0) → given ≡ probes →
+    A ⊎ ((status ≡ Memory) × EndsInTheMiddle fetches given asked old new from to before behind) →
+    A ⊎ ((status ≡ Memory) × EndsInTheMiddle fetches probes asked old new from to before behind)
+middle-same fetches probes given asked status old new from to before behind A e h =
+    subst (λ (p : List Meter). A ⊎ ((status ≡ Memory) × EndsInTheMiddle fetches p asked old new from to before behind)) e h

@@ -1,0 +1,29 @@
+use Rattle.safetynet_main.specs.Call.{Fetches}
+use Rattle.safetynet_main.proofs.CallLaws.{meters-same}
+use Rattle.safetynet_drive.proofs.CallLaws.{clause-comes, clause-sure, clause-usage, clause-rose, middle-same}
+use Rattle.safetynet_drive.proofs.call.safetynet_drive.Given as given
+use Rattle.safetynet_drive.proofs.call.safetynet_drive.Goals as goal
+
+pub returns-clause-comes : goal.returns-clause-comes
+returns-clause-comes g c =
+    clause-comes _ _ _ _ _ _ _ _ _ _ _ _ _ _ c.answer.ensures.comes
+    (meters-same (λ z. (given.Probe-dyn g z).first z.1) (λ z. (given.Probe-dyn g z).tally z.1)
+    (λ z. (given.Probe-dyn g z).step z.1) _ _ c.new-probes.ensures)
+
+pub returns-clause-sure : goal.returns-clause-sure
+returns-clause-sure g c =
+    clause-sure _ _ _ _ _ _ _ _ _ _ _ _ _ _ c.answer.ensures.comes
+    (meters-same (λ z. (given.Probe-dyn g z).first z.1) (λ z. (given.Probe-dyn g z).tally z.1)
+    (λ z. (given.Probe-dyn g z).step z.1) _ _ c.new-probes.ensures)
+
+pub returns-clause-usage : goal.returns-clause-usage
+returns-clause-usage g c = clause-usage _ _ _ _ _ _ _ _ _ _ _ _ _ c.answer.ensures.comes
+
+pub returns-clause-store_fault : goal.returns-clause-store_fault
+returns-clause-store_fault g c = clause-rose _ _ _ _ _ _ _ _ _ _ _ _ _ c.answer.ensures.comes
+
+pub returns-clause-nothing : goal.returns-clause-nothing
+returns-clause-nothing g c = λ w.
+    middle-same (Fetches g.S.Store.files g.S.Store.sure g.S.Store.faults g.S.Store.gave) _ _ _ _ _ _ _ _ _ _ _
+    (meters-same (λ z. (given.Probe-dyn g z).first z.1) (λ z. (given.Probe-dyn g z).tally z.1)
+    (λ z. (given.Probe-dyn g z).step z.1) _ _ c.new-probes.ensures) (c.answer.ensures.nothing w)

@@ -1,0 +1,5 @@
+pub mod LawfulRuns
+pub mod Blocks
+pub mod Ranges
+pub mod Playing
+pub mod Puts
