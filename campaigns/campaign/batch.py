@@ -12,7 +12,7 @@ from pathlib import Path
 from typing import Dict, Iterator
 
 from safetynet import SafetyNetError
-from safetynet.errors import ProgramMissing
+from safetynet.errors import ProgramMissing, ReportError
 from safetynet.program import Called, call
 
 from .plan import Batch, Plan
@@ -40,14 +40,30 @@ def _called(plan: Plan, settings: Settings, *options: str) -> Called:
     return call(words, command=plan.program, timeout=plan.campaign.timeout)
 
 
-def _kept_journal(plan: Plan, settings: Settings, row: Row, report: str) -> Row:
-    """The row, with the file of its journal where the campaign wants that: the report, or that of the same run once more."""
+def _journal(plan: Plan, settings: Settings, called: Called) -> str:
+    """The journal of a run: its report, or that of the same run once more where it was counted.
+
+    Raises
+    ------
+    safetynet.ReportError
+        The second call ended otherwise than the first.
+    """
+    if not plan.counts(settings):
+        return called.report
+    again = _called(plan, settings, "--journal")
+    if (again.status, again.words, again.console) != (called.status, called.words, called.console):
+        raise ReportError(f"its second call, for the journal, ended with {again.words} and not with {called.words}", status=again.status)
+    return again.report
+
+
+def _kept_journal(plan: Plan, row: Row, called: Called) -> Row:
+    """The row, with the file of its journal where the campaign wants that."""
     wanted = plan.campaign.journals
     if not row.is_result or wanted == "none" or (wanted == "unfinished" and row.status == 0):
         return row
+    journal = _journal(plan, row.settings, called)
     file = plan.folder / "journals" / f"{row.run}.script"
     file.parent.mkdir(exist_ok=True)
-    journal = _called(plan, settings, "--journal").report if plan.counts(settings) else report
     file.write_text(journal, encoding="ascii")
     return replace(row, journal=f"journals/{file.name}")
 
@@ -66,16 +82,15 @@ def row_of_run(plan: Plan, run: int, settings: Settings) -> Row:
         try:
             options = plan.options(settings)
             called = _called(plan, settings, *options)
-            row = row_of_call(run, settings, image, called, "--journal" in options)
+            row = replace(row_of_call(run, settings, image, called, "--journal" in options), tries=tries)
+            # A counted run is made once more for its journal, and may die then as well.
+            row = _kept_journal(plan, row, called)
         except ProgramMissing:
             raise
         except SafetyNetError as error:
             row = Row(run, settings, image, error.status or 127, DIED, str(error), tries)
             continue
-        row = replace(row, tries=tries)
-        if row.is_result:
-            return _kept_journal(plan, settings, row, called.report)
-        if row.status in REFUSAL_STATUSES:
+        if row.is_result or row.status in REFUSAL_STATUSES:
             return row
     return row if row.words == DIED else replace(row, words=DIED, why=f"{row.words}: {row.why}")
 

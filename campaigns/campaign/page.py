@@ -33,16 +33,16 @@ code { font: 12px "DejaVu Sans Mono", monospace; white-space: pre-wrap; word-bre
 """
 
 
-def command(row: Mapping[str, str], folder: Path) -> str:
-    """The words that make a run again, from the top of the checkout."""
-    image = shown(image_path(folder, row["program"], row["image"]))
-    return shlex.join([LAUNCHER, *settings_of(row).words(image)])
+def command(row: Mapping[str, str], plan: Plan) -> str:
+    """The words that make a run again, from the top of the checkout, with its statistics where it was counted."""
+    image, settings = shown(image_path(plan.folder, row["program"], row["image"])), settings_of(row)
+    return shlex.join([LAUNCHER, *settings.words(image, *(["--statistics"] if plan.counts(settings) else []))])
 
 
-def replay_command(row: Mapping[str, str], folder: Path) -> str:
+def replay_command(row: Mapping[str, str], plan: Plan) -> str:
     """The words that replay the journal of a run that has one."""
-    image = shown(image_path(folder, row["program"], row["image"]))
-    return shlex.join([LAUNCHER, *settings_of(row).replay_words(image, shown(folder / row["journal"]))])
+    image = shown(image_path(plan.folder, row["program"], row["image"]))
+    return shlex.join([LAUNCHER, *settings_of(row).replay_words(image, shown(plan.folder / row["journal"]))])
 
 
 def _table(head: Sequence[str], lines: Iterator[str]) -> Iterator[str]:
@@ -56,11 +56,11 @@ def _cell(text: str) -> str:
     return f"<td>{escape(text)}</td>" if is_number else f'<td class="text">{escape(text)}</td>'
 
 
-def _made_again(row: Mapping[str, str], folder: Path) -> str:
+def _made_again(row: Mapping[str, str], plan: Plan) -> str:
     """The words of a run, and of its journal's replay, behind one that opens them."""
-    words = f"<code>{escape(command(row, folder))}</code>"
+    words = f"<code>{escape(command(row, plan))}</code>"
     if row["journal"]:
-        words += f"<br><code>{escape(replay_command(row, folder))}</code>"
+        words += f"<br><code>{escape(replay_command(row, plan))}</code>"
     return f'<td class="text"><details><summary>words</summary>{words}</details></td>'
 
 
@@ -70,13 +70,13 @@ def _rounded(value: float) -> str:
     return f"{int(value):,}" if value == int(value) else f"{value:,.4g}"
 
 
-def _point_line(figure: Figure, point: Point, rows: Mapping[int, Mapping[str, str]], folder: Path) -> str:
+def _point_line(figure: Figure, point: Point, rows: Mapping[int, Mapping[str, str]], plan: Plan) -> str:
     """A point's line, with the words of its middle run."""
     head = [shown_value(name, value) for name, value in ((figure.panel, point.panel), (figure.series, point.series), (figure.x, point.x)) if name]
     ends = ", ".join(f"{count} {end}" for end, count in sorted(point.ends.items()))
     numbers = [_rounded(one.value) for one in (point.least, point.middle, point.greatest)]
     cells = [*head, ends, *numbers, f"{point.least.run}, {point.middle.run}, {point.greatest.run}"]
-    return "<tr>" + "".join(map(_cell, cells)) + _made_again(rows[point.middle.run], folder) + "</tr>"
+    return "<tr>" + "".join(map(_cell, cells)) + _made_again(rows[point.middle.run], plan) + "</tr>"
 
 
 def _figure_part(plan: Plan, figure: Figure) -> Iterator[str]:
@@ -98,7 +98,7 @@ def _figure_part(plan: Plan, figure: Figure) -> Iterator[str]:
     head = [name for name in (figure.panel, figure.series, figure.x) if name]
     titles = [*head, "runs that ended", "least", "middle", "greatest", "these runs", "the middle run again"]
     yield f"<details><summary>The {len(points)} points, and how each is made again</summary>"
-    yield from _table(titles, (_point_line(figure, point, rows, plan.folder) for point in points))
+    yield from _table(titles, (_point_line(figure, point, rows, plan) for point in points))
     yield "</details>"
 
 
@@ -118,7 +118,7 @@ def _run_lines(plan: Plan, columns: Sequence[str], most: int) -> Iterator[str]:
             return
         mark = "" if row["end"] in RESULTS else ' class="died"'
         cells = "".join(_cell(row.get(name) or "") for name in columns)
-        yield f'<tr id="run-{row["run"]}"{mark}>{cells}{_made_again(row, plan.folder)}</tr>'
+        yield f'<tr id="run-{row["run"]}"{mark}>{cells}{_made_again(row, plan)}</tr>'
 
 
 def _runs_part(plan: Plan) -> Iterator[str]:
@@ -142,7 +142,7 @@ def _ends_part(plan: Plan) -> Iterator[str]:
     if failed:
         yield f"<p>{len(failed):,} runs gave no result, though each that died was tried {plan.campaign.tries} times."
         yield f"The next call of the campaign tries those again that died. Shown are {min(len(failed), MOST_REPORTED)}.</p>"
-        cells = ((row["run"], row["words"], row["status"], row["why"], command(row, plan.folder)) for row in failed[:MOST_REPORTED])
+        cells = ((row["run"], row["words"], row["status"], row["why"], command(row, plan)) for row in failed[:MOST_REPORTED])
         yield from _table(["run", "end", "status", "why", "words"], ("<tr>" + "".join(map(_cell, one)) + "</tr>" for one in cells))
 
 

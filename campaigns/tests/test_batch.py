@@ -67,6 +67,32 @@ def test_a_counted_run_has_its_statistics_and_its_journal(program: Path, plan: P
             assert f"\nstat {name} {row.numbers[name]}\n" in report
 
 
+@pytest.mark.parametrize("ends, why", [("kill -9 $$", "SIGKILL"), ("exit 0", "ended with done and not with budget")])
+def test_a_run_whose_second_call_for_its_journal_fails_is_tried_again(
+    ends: str, why: str, program: Path, plan: PlanMaker, made: Callable[[str], Path], tmp_path: Path
+) -> None:
+    mark = tmp_path / "mark"
+    command = made(f'case "$*" in *--journal*) [ -e {shlex.quote(str(mark))} ] || {{ {ends}; }} ;; esac\nexec {shlex.quote(str(program))} "$@"')
+    found = replace(plan(command, journals="all", product={"program": COUNT, "wait": 500, "budget": 20}), statistics=True)
+    row = row_of_run(found, 1, found.campaign[0])
+    assert (row.words, row.tries, row.journal) == ("died", 3, "") and why in row.why
+    mark.touch()
+    row = row_of_run(found, 1, found.campaign[0])
+    assert (row.words, row.tries, row.journal) == ("budget", 1, "journals/1.script")
+
+
+def test_a_counted_run_that_keeps_no_journal_is_one_call(program: Path, plan: PlanMaker, made: Callable[[str], Path], tmp_path: Path) -> None:
+    calls, proved = (shlex.quote(str(file)) for file in (tmp_path / "calls", program))
+    command = made(f'echo "$*" >>{calls}\nexec {proved} "$@"')
+    found = replace(plan(command, journals="unfinished", product={"program": COUNT, "wait": 500, "budget": [20, 100000]}), statistics=True)
+    run_batch(found, found.batches[0])
+    assert [("--statistics" in words, "--journal" in words) for words in (tmp_path / "calls").read_text().splitlines()] == [
+        (True, False),
+        (False, True),
+        (True, False),
+    ]
+
+
 def test_what_threads_decide_is_not_counted(plan: PlanMaker) -> None:
     made = replace(plan(journals="all"), statistics=True)
     assert made.options(replace(made.campaign[0], order="threads")) == ["--journal"]

@@ -76,11 +76,19 @@ def test_the_page_has_the_words_of_each_run(plan: PlanMaker) -> None:
     page = (found.folder / "report.html").read_text()
     said = [shlex.split(unescape(text)) for text in re.findall(r"<code>([^<]*)</code>", page)]
     for row in read_runs(found.folder):
-        words = shlex.split(command(row, found.folder))
+        words = shlex.split(command(row, found))
         assert words in said and words[1:] == settings_of(row).words("examples/shared/count.hex")
     replayed = [words for words in said if words[1:2] == ["replay"]]
     assert len(replayed) == 1 and replayed[0][-1].endswith("journals/2.script")
     assert 'id="run-4" class="died"' in page and 'id="run-3">' in page
+
+
+def test_the_words_of_a_counted_run_ask_for_its_statistics(plan: PlanMaker) -> None:
+    found = made_page(plan)
+    (row, *_) = read_runs(found.folder)
+    counted = replace(found, statistics=True)
+    assert shlex.split(command(row, counted))[1:] == settings_of(row).words("examples/shared/count.hex", "--statistics")
+    assert command({**row, "order": "threads"}, counted) == command({**row, "order": "threads"}, found)
 
 
 def test_runs_by_threads_are_said_to_differ(plan: PlanMaker) -> None:
@@ -92,4 +100,4 @@ def test_runs_by_threads_are_said_to_differ(plan: PlanMaker) -> None:
 def test_an_image_that_was_made_is_named_where_it_stands(plan: PlanMaker) -> None:
     found = made_page(plan, product={**CONTENT["product"], "program": "examples/c/ring.hex"})
     (row, *_) = read_runs(found.folder)
-    assert row["image"] == "images/ring-1.hex" and Path(shlex.split(command(row, found.folder))[-1]) == found.folder / "images/ring-1.hex"
+    assert row["image"] == "images/ring-1.hex" and Path(shlex.split(command(row, found))[-1]) == found.folder / "images/ring-1.hex"

@@ -13,7 +13,7 @@ fi
 # Each stored picture is what the tool draws today, and what it drew a moment ago.
 mkdir "$work/once" "$work/twice"
 is_so "all pictures are drawn" tools/pictures "$work/once"
-is_so "docs/pictures are these (tools/pictures draws them)" diff -r "$work/once" docs/pictures
+is_so "docs/pictures are these (tools/pictures draws them)" diff -r -x "tour_*.png" "$work/once" docs/pictures
 (cd / && "$OLDPWD/tools/pictures" "$work/twice") || failed=$((failed + 1))
 is_so "the same bytes come a second time, from another folder" diff -r "$work/once" "$work/twice"
 

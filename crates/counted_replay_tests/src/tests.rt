@@ -9,6 +9,7 @@ use script_replay::{Replay, ReplayFault, ReportKind, Script, Showing, replay};
 use sn_base::{Config, Event};
 use sn_io::MemSink;
 use sn_probe::ProbeSet;
+use sn_text::read_script;
 use std::alloc::Global;
 use std::process::Abort;
 use std::test::Fail;
@@ -16,16 +17,24 @@ use std::test::Fail;
 /// Puts `A` and exits.
 const PUTS_A: &str = "04100513\n00100893\n00000073\n05d00893\n00000073\n";
 
-/// A recovery of the program on one node, to its start.
-fn recovers(rt: &impl Abort, alloc: Global) -> Result<Replay, Fail>
-    ensures { IfOk result (λ r. MayBegin r) }
-{
-    let config = Config {
+/// The script of `recovers`.
+const RECOVERS: &str = "recover\n";
+
+/// One node, with the sizes that a replay has where none is given.
+fn sizes() -> Config {
+    Config {
         nodes: 1,
         sets: 16,
         ways: 4,
         log: 256,
-    };
+    }
+}
+
+/// A recovery of the program on one node, to its start.
+fn recovers(rt: &impl Abort, alloc: Global) -> Result<Replay, Fail>
+    ensures { IfOk result (λ r. MayBegin r) }
+{
+    let config = sizes();
     assert!(rt; config.fits());
     let mut events = Vec::new(alloc);
     events.push(Event::Recover)?;
@@ -42,8 +51,12 @@ fn recovers(rt: &impl Abort, alloc: Global) -> Result<Replay, Fail>
 
 /// What the replay puts, and then the statistics, each by itself.
 fn wanted(rt: &impl Abort, alloc: Global) -> Result<Vec<u8>, Fail> {
+    let image = load(alloc, PUTS_A.as_bytes())?;
+    let config = sizes();
+    assert!(rt; config.fits());
+    let events = read_script(alloc, RECOVERS.as_bytes(), config.nodes)?;
+    let lines = statistics_text(alloc, &image, config, events.as_slice())?;
     let job = recovers(rt, alloc)?;
-    let lines = statistics_text(alloc, &job.program, job.config, job.script.events())?;
     let mut console = MemSink::with_room(alloc, 8)?;
     let mut report = MemSink::with_room(alloc, 4_096)?;
     let mut probes = ProbeSet::new(Vec::new(alloc));

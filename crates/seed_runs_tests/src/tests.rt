@@ -114,13 +114,25 @@ fn counted_in_part(alloc: Global, job: Run, console: &mut MemSink, report: &mut 
     )
 }
 
+/// What a range comes to. A test that calls this has less to hold in mind than by the call itself, whose clauses are long.
+fn put_all(
+    alloc: Global,
+    job: SeedRuns,
+    console: &mut MemSink,
+    report: &mut MemSink,
+) -> Result<(), SeedsFault>
+    requires { MayBeginAll job }
+{
+    run_seeds(alloc, job, console, report)
+}
+
 #[test]
 fn a_range_puts_a_block_a_seed(rt: HostRuntime) -> Result<(), Fail> {
     let alloc = rt.alloc();
     let mut console = MemSink::with_room(alloc, 8)?;
     let mut report = MemSink::with_room(alloc, 4_096)?;
     let job = seeds(&rt, alloc, PUTS_A, 10_000, 3, 4, false)?;
-    assert!(rt; run_seeds(alloc, job, &mut console, &mut report) == Ok(()));
+    assert!(rt; put_all(alloc, job, &mut console, &mut report) == Ok(()));
     let mut output = MemSink::with_room(alloc, 8)?;
     let mut blocks = MemSink::with_room(alloc, 4_096)?;
     for seed in [3u64, 4] {
@@ -148,10 +160,20 @@ fn statistics_stand_behind_the_summary(rt: HostRuntime) -> Result<(), Fail> {
     assert_eq!(rt; console.bytes(), b"AA".as_slice());
     assert!(rt; summary.put(b"stat events ".as_slice()).is_ok());
     assert!(rt; counted.bytes().starts_with(summary.bytes()));
+    Ok(())
+}
+
+#[test]
+fn a_block_of_a_seed_has_its_statistics(rt: HostRuntime) -> Result<(), Fail> {
+    let alloc = rt.alloc();
+    let mut console = MemSink::with_room(alloc, 8)?;
+    let mut counted = MemSink::with_room(alloc, 8_192)?;
+    let alone = one(&rt, alloc, PUTS_A, 10_000, 7)?;
+    assert!(rt; ran_counted(alloc, alone, &mut console, &mut counted));
     let mut report = MemSink::with_room(alloc, 8_192)?;
     let mut block = MemSink::with_room(alloc, 8_192)?;
     let job = seeds(&rt, alloc, PUTS_A, 10_000, 7, 7, true)?;
-    assert!(rt; run_seeds(alloc, job, &mut console, &mut report) == Ok(()));
+    assert!(rt; put_all(alloc, job, &mut console, &mut report) == Ok(()));
     assert!(rt; block.put(b"seed 7\n".as_slice()).is_ok());
     assert!(rt; block.put(counted.bytes()).is_ok());
     assert!(rt; block.put(b"end done\n".as_slice()).is_ok());
@@ -172,7 +194,7 @@ fn ends_with(rt: &impl Abort, alloc: Global, program: &str, line: &[u8]) -> Resu
     let mut console = MemSink::with_room(alloc, 8)?;
     let mut report = MemSink::with_room(alloc, 4_096)?;
     let job = seeds(rt, alloc, program, 500, 1, 1, false)?;
-    assert!(rt; run_seeds(alloc, job, &mut console, &mut report) == Ok(()));
+    assert!(rt; put_all(alloc, job, &mut console, &mut report) == Ok(()));
     assert!(rt; report.bytes().ends_with(line));
     Ok(())
 }
@@ -193,7 +215,7 @@ fn a_report_that_fails_ends_the_range(rt: HostRuntime) -> Result<(), Fail> {
     // A block without statistics has three pieces.
     report.fail_call(4)?;
     let job = seeds(&rt, alloc, PUTS_A, 10_000, 1, 9, false)?;
-    assert!(rt; run_seeds(alloc, job, &mut console, &mut report) == Err(SeedsFault::Sink));
+    assert!(rt; put_all(alloc, job, &mut console, &mut report) == Err(SeedsFault::Sink));
     assert_eq!(rt; console.bytes(), b"A".as_slice());
     assert!(rt; report.bytes().starts_with(b"seed 1\nevents ".as_slice()));
     assert!(rt; report.bytes().ends_with(b"\nend done\n".as_slice()));
@@ -207,7 +229,7 @@ fn a_console_that_fails_ends_the_range_in_its_block(rt: HostRuntime) -> Result<(
     let mut report = MemSink::with_room(alloc, 4_096)?;
     console.fail_call(2)?;
     let job = seeds(&rt, alloc, PUTS_A, 10_000, 1, 9, false)?;
-    assert!(rt; run_seeds(alloc, job, &mut console, &mut report) == Err(SeedsFault::Sink));
+    assert!(rt; put_all(alloc, job, &mut console, &mut report) == Err(SeedsFault::Sink));
     assert_eq!(rt; console.bytes(), b"A".as_slice());
     assert!(rt; report.bytes().ends_with(b"\nend done\nseed 2\n".as_slice()));
     Ok(())
