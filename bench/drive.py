@@ -9,8 +9,9 @@ bytes. They take turns, three times each; the least time of each is told, by the
 
 A round trip is from the writing of a line to the end of its answer, which the kernel's pipes are a part of: so that of `cat`, which gives the line back, is
 told too. The line is an event of one answer line, then one that foresees. Then the package in python/ does the same: `Machine.validate`, whose answer
-has its end found by a second line, and is read into a value, and `Machine.foresee`. Of each the median, the 90th and the 99th in a hundred, in
-microseconds; 20,000 times each. And once 200,000 events by one question, `Machine.apply_all`.
+has its end found by a second line, and is read into a value, `Machine.foresee` and `Machine.due`. Of each the median, the 90th and the 99th in a hundred, in
+microseconds; 20,000 times each. Then 2,000 times an event behind 1,000 others, and back to those. And once 200,000 events by one question,
+`Machine.apply_all`.
 
 A run on processors that are otherwise idle is the one that counts: the two processes wait for each other, and other work stands between.
 """
@@ -29,6 +30,7 @@ WORDS = "800012b7 00100313 0062a3af 03f3f513 03050513 00100893 00000073 fedff06f
 TIMES = 3
 TRIPS = 20_000
 MANY = 200_000
+BEFORE = 1_000
 PIECE = 1 << 16
 
 
@@ -81,10 +83,10 @@ def compare(program: str, image: Path, folder: Path, events: int) -> None:
     print(f"drive takes {least['drive'].clock / least['replay'].clock:.2f} times as long, {least['drive'].processors / least['replay'].processors:.2f} times of the processors")
 
 
-def trips(ask: Callable[[], object]) -> str:
+def trips(ask: Callable[[], object], times: int = TRIPS) -> str:
     """How long a question takes, in microseconds."""
     found = []
-    for _ in range(TRIPS):
+    for _ in range(times):
         begun = time.perf_counter_ns()
         ask()
         found.append(time.perf_counter_ns() - begun)
@@ -97,6 +99,20 @@ def many(machine: Machine) -> float:
     begun = time.monotonic()
     machine.apply_all(["step 0"] * MANY)
     return (time.monotonic() - begun) / MANY * 1e6
+
+
+def there_and_back(machine: Machine) -> str:
+    """How long an event and the way back take, behind many events."""
+    machine.back(0)
+    machine.apply_all(["step 0"] * BEFORE)
+
+    def ask() -> None:
+        machine.step(0)
+        machine.back(BEFORE)
+        # what goes back is the next question
+        machine.due(0, 0)
+
+    return trips(ask, TRIPS // 10)
 
 
 def by_pipes(words: Sequence[str], line: bytes, is_report: bool) -> str:
@@ -132,9 +148,12 @@ def main() -> int:
         print(f"cat             {by_pipes(['cat'], b'validate' + bytes([10]), False)}")
         print(f"drive: event    {by_pipes(drive, b'validate' + bytes([10]), True)}")
         print(f"drive: foresee  {by_pipes(drive, b'foresee step 0' + bytes([10]), True)}")
+        print(f"drive: due      {by_pipes(drive, b'due 0 7' + bytes([10]), True)}")
         with Machine(image, nodes=1, command=program) as machine:
             print(f"Machine.validate{trips(machine.validate)}")
             print(f"Machine.foresee {trips(lambda: machine.foresee('step 0'))}")
+            print(f"Machine.due     {trips(lambda: machine.due(0, 7))}")
+            print(f"step, back, due {there_and_back(machine)}")
             print(f"Machine.apply_all, an event of {MANY}: {many(machine):.1f}")
     return 0
 

@@ -20,7 +20,7 @@ declare -gA _safetynet_options=(
   [replay]='--nodes= --sets= --ways= --log= --watch= --only= --trace --states --statistics --accesses'
   [drive]='--nodes= --sets= --ways= --log= --watch='
   [roll]='--nodes= --sets= --ways= --log= --watch='
-  [run]='--nodes= --sets= --ways= --log= --interval= --wait= --budget= --lose-every= --kill= --seed= --order= --watch= --trace --journal --statistics --seeds='
+  [run]='--nodes= --sets= --ways= --log= --interval= --wait= --budget= --lose-every= --kill= --seed= --order= --watch= --trace --journal --accesses --statistics --seeds='
   [monitor]='--nodes= --sets= --ways= --log= --interval= --wait= --budget= --lose-every= --kill= --seed= --watch='
   [check]='--nodes='
   [judge]=''

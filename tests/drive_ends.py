@@ -1,5 +1,6 @@
 """How `drive` ends, and what it is given at its limits: lines, ends of the input, pipes that close, signals, and too many events."""
 import os
+import re
 import signal
 import subprocess
 import time
@@ -174,6 +175,29 @@ def interrupted(built: str, folder: Path) -> None:
             assert found.report.startswith(b"1 step 0: retired\n")
 
 
+def shared_input(built: str, folder: Path) -> None:
+    """Two on one input: each answers what it gets of that, and both end."""
+    words = [built, "drive", *put_program(folder)]
+    inside, outside = os.pipe()
+    both = [subprocess.Popen(words, cwd=folder, stdin=inside, stdout=subprocess.PIPE, stderr=subprocess.PIPE) for _ in range(2)]
+    os.close(inside)
+    try:
+        with open(outside, "wb", buffering=0) as text:
+            for _ in range(500):
+                text.write(b"step 0\n")
+        reports = [it.communicate(timeout=LONGEST)[1] for it in both]
+    finally:
+        for it in both:
+            it.kill()
+    told = [re.search(rb"^events (\d+)$", report, re.M) for report in reports]
+    events = [int(it[1]) for it in told if it]
+    assert [it.returncode for it in both] == [0, 0] and len(events) == 2 and sum(events) <= 500, (events, reports[0][-300:])
+    for count, report in zip(events, reports):
+        # a line that came in two parts may have gone to both
+        own = b"".join(line for line in report.splitlines(keepends=True) if not line.startswith(b"badline "))
+        assert own == report_of(built, folder, b"step 0\n" * count), own[-300:]
+
+
 def refused_words(built: str, folder: Path) -> None:
     """What is refused is so before a line is read: nothing waits for the input."""
     put_program(folder)
@@ -213,6 +237,7 @@ ENDS: List[Tuple[str, Must]] = [
     ("outputs that nobody reads", outputs_that_nobody_reads),
     ("an input that can't be read", input_that_cannot_be_read),
     ("signals", interrupted),
+    ("two on one input", shared_input),
     ("words and files that are refused", refused_words),
     ("nothing is left unflushed", nothing_is_left_unflushed),
 ]

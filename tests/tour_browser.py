@@ -2,7 +2,8 @@
 """Walks through pages of tools/tour in a browser: `tour_browser.py PAGE STATES [PAGE STATES ..]`, STATES being what `replay --states` wrote of the same
 replay. Needs Debian's chromium, chromium-driver and python3-selenium.
 
-After each event what the page shows, read from its own elements, is the folded state; each event has a sentence; keys, buttons, slider, fields and
+After each event what the page shows, read from its own elements, is the folded state; each event has a sentence, and a recovery's says why it goes
+back so far; keys, buttons, slider, fields and
 links come to the same place; the browser writes nothing to its console and asks for nothing else. Each answer and each kind of message has its
 words. What isn't so is a line on standard error, and the status is 1 then; it is 77 where the browser or what drives it isn't there."""
 import json
@@ -74,6 +75,18 @@ def and_list(words: List[str]) -> str:
     return words[0] if len(words) < 2 else f"{', '.join(words[:-1])} and {words[-1]}"
 
 
+def recovery_words(before: State) -> List[str]:
+    """What the sentence of a recovery from this state must have: which checkpoint it goes back to, which one isn't there, and what holds that back."""
+    point, words = before["controller"]["point"], []
+    for node, reported in zip(before["nodes"], before["controller"]["reported"]):
+        if reported > point:
+            continue
+        words += [f"its {name} o{'n' if name == 'miss' else 'f'} block {node[name]['block']} since" for name in ("miss", "put") if node[name] and node[name]["issued"] <= point]
+        own = [home for home in before["homes"] if home["block"] % len(before["nodes"]) == node["node"] and home["transaction"]]
+        words += [f"its home's open transaction on block {home['block']} since" for home in own if home["transaction"]["begun"] <= point]
+    return [f"All nodes go back to checkpoint {point}, the {'last one' if point else 'start'}", f"reported checkpoint {point + 1}"] + words
+
+
 def state_faults(shown: Dict[str, Any], state: State) -> List[str]:
     """Where the page doesn't show this state."""
     faults = [f"{name}: shown {shown[name]}, and it is {value}" for name, value in wanted(state).items() if shown[name] != value]
@@ -109,6 +122,8 @@ def walked(browser: Any, lines: List[Dict[str, Any]], states: List[State]) -> Li
         faults += [f"event {begin + number}: {fault}" for fault in state_faults(shown, state)]
         if not shown["sentence"] or "undefined" in shown["sentence"] or (told and shown["report"] != told[0]):
             faults.append(f"event {begin + number}: it says \"{shown['sentence']}\" of {shown['report']}")
+        due = recovery_words(states[number - 1]) if told and lines[number]["answer"].startswith("recovered") else []
+        faults += [f"event {begin + number}: \"{words}\" isn't in \"{shown['sentence']}\"" for words in due if words not in shown["sentence"]]
     return faults
 
 

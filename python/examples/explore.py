@@ -1,11 +1,12 @@
 #!/usr/bin/env python3
-"""Walks every interleaving of a small program to a depth, and counts what a watched word holds in the end.
+"""Walks every interleaving of a small program to a depth, and prints what came out as a litmus log.
 
-Without a program it is store buffering: each of two cores stores to a word of its own, reads the other's, and writes down 1 for a zero and 2 for a one,
-as a byte of the watched word. On one memory 0101 can't come out: one of the stores is first.
+The program is a litmus test; without one it is store buffering: each of two threads stores to a word of its own, and then reads the other's. On one memory they
+can't both read 0, since one of the stores is first.
 
-At each point of the walk each core may do its next instruction, and each message may go on or be taken. What is left after the depth is done
-in an order that the seed draws. With --losses each message in flight at each point is lost too, and all go back to the last checkpoint.
+At each point of the walk each core may do its next instruction, and each message may go on or be taken; one machine goes there and back again. What is
+left after the depth is done in an order that the seed draws. With --losses each message in flight at each point is lost too, and all go back to the last
+checkpoint: what comes out then is a log of its own.
 
     PYTHONPATH=python python3 python/examples/explore.py --losses
 """
@@ -15,41 +16,33 @@ import argparse
 import random
 import sys
 import time
-from collections import Counter
-from typing import Iterator, Optional
+from dataclasses import replace
+from typing import List, Optional
 
-from safetynet import Deliver, Event, Hop, Lose, Machine, Recover, SafetyNetError, Step, assemble
+from safetynet import Deliver, Event, Hop, Lose, Machine, Recover, SafetyNetError, Step
+from safetynet.litmus import LitmusError, Runner, Tally, TrapError, log_text, parse_litmus, read_litmus
 
-from schedules import InFlight, address, checkpoint, finish, parser
-
-STORE_BUFFERING = """
-        lui     s0, 524289          # 80001000: the word of core 0; that of core 1 is a block further
-        slli    t0, a0, 6
-        add     s1, s0, t0          # this core's word
-        xori    t0, t0, 64
-        add     s2, s0, t0          # the other's
-        addi    t1, zero, 1
-        add     s3, s0, a0
-        sw      t1, 0(s1)
-        lw      t2, 0(s2)
-        addi    t2, t2, 1
-        sb      t2, 128(s3)         # what was read, plus 1
-        addi    a7, zero, 93
-        ecall
+STORE_BUFFERING = """RISCV SB
+{ 0:x6=x; 0:x8=y; 1:x6=y; 1:x8=x; }
+ P0          | P1          ;
+ li x5,1     | li x5,1     ;
+ sw x5,0(x6) | sw x5,0(x6) ;
+ lw x7,0(x8) | lw x7,0(x8) ;
+exists (0:x7=0 /\\ 1:x7=0)
 """
-WORDS_BEFORE = 7
 
 
 class Walk:
-    """A walk over the interleavings of a machine, up to a time of the monotonic clock."""
+    """A walk over the interleavings of a test, up to a time of the monotonic clock."""
 
-    def __init__(self, words: argparse.Namespace, ends: float) -> None:
-        self.words = words
-        self.drawn = random.Random(words.seed)
-        self.outcomes: "Counter[str]" = Counter()
-        self.after_loss: "Counter[str]" = Counter()
+    def __init__(self, runner: Runner, seed: int, ends: float) -> None:
+        self.runner = runner
+        self.machine: Machine = runner.start()
+        self.drawn = random.Random(seed)
         self.ends = ends
         self.is_whole = True
+        self.outcomes = Tally(runner.test)
+        self.after_loss = Tally(replace(runner.test, name=f"{runner.test.name}+losses"))
 
     def is_late(self) -> bool:
         """Whether the seconds are over; then the walk isn't whole."""
@@ -57,77 +50,74 @@ class Walk:
             self.is_whole = False
         return not self.is_whole
 
-    def choices(self, machine: Machine) -> Iterator[Event]:
+    def choices(self) -> List[Event]:
         """What can happen next, as far as it changes the machine."""
-        for node in range(machine.nodes):
-            if not self.is_late() and machine.foresee(Step(node)).name in ("retired", "missed"):
-                yield Step(node)
-        for id in sorted(InFlight.of(machine).messages):
-            if not self.is_late():
-                name = machine.foresee(Deliver(id)).name
-                if name in ("delivered", "notarrived"):
-                    yield Deliver(id) if name == "delivered" else Hop(id)
+        events: List[Event] = [Step(node) for node in range(self.machine.nodes)]
+        events += [(Deliver if flight.has_arrived else Hop)(flight.message.id) for flight in self.machine.flights()]
+        return [event for event in events if self.machine.foresee(event).name in ("retired", "missed", "delivered", "hopped")]
 
-    def walk(self, machine: Machine, depth: int) -> None:
+    def walk(self, depth: int, losses: bool) -> None:
         """Count the outcomes of all that can follow; the machine stays."""
-        if self.words.losses:
-            self.lose_each(machine)
-        choices = list(self.choices(machine)) if depth > 0 else []
-        if not choices and not self.is_late():
-            self.outcomes[self.outcome(machine)] += 1
+        mark = self.machine.mark()
+        if losses:
+            self.lose_each(mark)
+        choices = self.choices() if depth > 0 and not self.is_late() else []
+        if not choices:
+            self.count(self.outcomes, mark)
         for event in choices:
-            with machine.fork() as next_one:
-                next_one.apply(event)
-                self.walk(next_one, depth - 1)
+            self.machine.apply(event)
+            self.walk(depth - 1, losses)
+            self.machine.back(mark)
 
-    def lose_each(self, machine: Machine) -> None:
+    def lose_each(self, mark: int) -> None:
         """Lose each message in flight, one at a time, go back to the recovery point, and count what comes out then."""
-        for id in sorted(InFlight.of(machine).messages):
+        for flight in self.machine.flights():
             if not self.is_late():
-                with machine.fork() as other:
-                    other.apply_all([Lose(id), Recover()])
-                    self.after_loss[self.outcome(other)] += 1
+                self.machine.apply_all([Lose(flight.message.id), Recover()])
+                self.count(self.after_loss, mark)
 
-    def outcome(self, machine: Machine) -> str:
-        """The watched word once all is done and validated; the machine stays."""
-        with machine.fork() as other:
-            is_validated = finish(other, self.drawn)
-            return f"{other.watch(self.words.watch):08x}" if is_validated else "not validated"
+    def count(self, tally: Tally, mark: int) -> None:
+        """Count the final state, once all threads have ended, and come back."""
+        if not self.is_late():
+            state = self.runner.finish(self.machine, self.drawn)
+            if state is None:
+                tally.unfinished += 1
+            else:
+                tally.states[state] += 1
+        self.machine.back(mark)
 
 
-def put(name: str, outcomes: "Counter[str]") -> None:
-    """Print a histogram, the most frequent outcome first."""
-    print(f"{name}: {sum(outcomes.values())}")
-    most = max(outcomes.values(), default=1)
-    for outcome, count in sorted(outcomes.items(), key=lambda it: (-it[1], it[0])):
-        print(f"  {outcome}  {count:6}  {'#' * (40 * count // most)}")
+def parser() -> argparse.ArgumentParser:
+    found = argparse.ArgumentParser(
+        description="Walks every interleaving of a litmus test to a depth, and prints what came out as a litmus log.",
+        formatter_class=argparse.ArgumentDefaultsHelpFormatter,
+    )
+    found.add_argument("test", nargs="?", help="a litmus test, in place of store buffering")
+    found.add_argument("--seed", type=int, default=1, help="of the order in which a run is finished")
+    found.add_argument("--depth", type=int, default=5, help="events that are walked in every order")
+    found.add_argument("--losses", action="store_true", help="at each point lose each message in flight, and recover")
+    found.add_argument("--seconds", type=float, default=12, help="after which the walk stops")
+    return found
 
 
 def main() -> Optional[int]:
-    words = parser("Walks every interleaving of a small program to a depth, and counts what a watched word holds.")
-    words.add_argument("program", nargs="?", help="a program, in place of store buffering")
-    words.add_argument("--head", type=int, default=WORDS_BEFORE, help="instructions of each core before the walk")
-    words.add_argument("--depth", type=int, default=5, help="events that are walked in every order")
-    words.add_argument("--watch", type=address, default=0x80001080, help="the word, as eight hexadecimal digits")
-    words.add_argument("--losses", action="store_true", help="at each point lose each message in flight, and recover")
-    words.add_argument("--seconds", type=float, default=12, help="after which the walk stops")
-    chosen = words.parse_args()
-    ends = time.monotonic() + chosen.seconds
-    with Machine(chosen.program or assemble(STORE_BUFFERING), nodes=chosen.nodes) as machine:
-        machine.apply_all([Step(node) for node in range(chosen.nodes)] * chosen.head)
-        checkpoint(machine)
-        walk = Walk(chosen, ends)
-        walk.walk(machine, chosen.depth)
-    put("interleavings", walk.outcomes)
-    if chosen.losses:
-        put("with a loss and a recovery", walk.after_loss)
+    chosen = parser().parse_args()
+    begun = time.monotonic()
+    test = read_litmus(chosen.test) if chosen.test else parse_litmus(STORE_BUFFERING)
+    walk = Walk(Runner(test, chosen.test or "explore.py"), chosen.seed, begun + chosen.seconds)
+    walk.walk(chosen.depth, chosen.losses)
+    for tally in [walk.outcomes, *([walk.after_loss] if chosen.losses else [])]:
+        tally.seconds = time.monotonic() - begun
+        print(log_text(tally), end="")
+        if tally.unfinished:
+            print(f"{tally.test.name}: {tally.unfinished} runs aren't finished", file=sys.stderr)
     if not walk.is_whole:
-        print(f"stopped after {chosen.seconds:g} seconds; there are more")
+        print(f"stopped after {chosen.seconds:g} seconds; there are more interleavings", file=sys.stderr)
     return None
 
 
 if __name__ == "__main__":
     try:
         sys.exit(main())
-    except (SafetyNetError, OSError, ValueError) as error:
+    except (LitmusError, TrapError, SafetyNetError, OSError) as error:
         sys.exit(f"explore: {error}")

@@ -5,14 +5,12 @@ An event that can't happen is answered and changes nothing. So a schedule may na
 from __future__ import annotations
 
 import argparse
-import random
-from typing import Dict, Iterable, List
+from typing import Dict, List
 
 from safetynet import Answer, Deliver, Edge, Event, Hop, Machine, Message, Report, Step, Validate
 
-# Enough guesses for what two to four nodes send until they have nothing more to do, and for the hops of a message.
+# Enough guesses for what two to four nodes send until they have nothing more to do.
 AHEAD = 32
-ROUNDS = 8
 
 
 class InFlight:
@@ -62,34 +60,10 @@ def checkpoint_events(flight: InFlight, nodes: int) -> List[Event]:
     return [*events, Validate(), *moves(flight, AHEAD)]
 
 
-def has_risen(answers: Iterable[Answer]) -> bool:
-    """Whether the recovery point rose."""
-    return any(answer.name == "validated" for answer in answers)
-
-
 def checkpoint(machine: Machine) -> bool:
     """Let every node take a checkpoint and validate it, by one call; whether the recovery point rose."""
-    return has_risen(machine.apply_all(checkpoint_events(InFlight.of(machine), machine.nodes)))
-
-
-def finish(machine: Machine, drawn: random.Random) -> bool:
-    """Step every core and move every message, in an order that is drawn, until nothing more can happen; then a checkpoint.
-
-    Mostly one call. Whether the recovery point rose.
-    """
-    while True:
-        flight = InFlight.of(machine)
-        events: List[Event] = []
-        for _ in range(ROUNDS):
-            turn = [Step(node) for node in range(machine.nodes)] * 2
-            drawn.shuffle(turn)
-            events += turn
-            events += moves(flight, AHEAD)
-        whole = events + checkpoint_events(flight, machine.nodes)
-        answers = machine.apply_all(whole)
-        last_round = answers[len(events) - len(events) // ROUNDS : len(events)]
-        if all(answer.name not in ("retired", "missed", "delivered", "hopped") for answer in last_round):
-            return has_risen(answers)
+    answers = machine.apply_all(checkpoint_events(InFlight.of(machine), machine.nodes))
+    return any(answer.name == "validated" for answer in answers)
 
 
 def address(text: str) -> int:

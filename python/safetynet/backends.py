@@ -1,10 +1,11 @@
 """How a machine is asked: by a process of `drive` that keeps it, or, where the program has no such command, by replays.
 
 Each of the two does the same questions for `safetynet.machine`. Both are told the machine's past with each question, so that what they keep of it is
-never more than an advantage: a process that has gone, or stands elsewhere, is begun anew with the events of the past.
+never more than an advantage: a process that has gone on beyond the past goes back, and one that has ended, or can't go back, is begun anew with its events.
 """
 from __future__ import annotations
 
+import bisect
 import itertools
 import os
 import re
@@ -20,7 +21,7 @@ from .errors import ReportError, SafetyNetError
 from .events import Event
 from .program import Called, call
 from .report import Answer, Foreseen, Summary, parse_answers, parse_foreseen, parse_report, parse_summary
-from .states import read_json
+from .states import read_json, state
 
 # So many processes at once keep machines; the one that was asked longest ago is ended for one more.
 MOST_PROCESSES = 16
@@ -146,15 +147,19 @@ class Backend(ABC):
 
     @abstractmethod
     def look(self, past: Past, line: str) -> Optional[Any]:
-        """What a line that asks for a look at the state shows, as JSON; None where the program has no looks. ValueError: it names what isn't there."""
+        """What a line is answered in JSON that changes nothing; None where the program has no such line. ValueError: it names what isn't there."""
 
     @abstractmethod
     def fork(self) -> "Backend":
         """Another one for the same past."""
 
     @abstractmethod
+    def back(self) -> None:
+        """The machine goes back to a part of its past."""
+
+    @abstractmethod
     def leave(self) -> None:
-        """The machine goes to another past, and what is kept of this one isn't wanted any more."""
+        """What is kept of the machine isn't wanted any more."""
 
     def last(self, past: Past) -> Optional[Now]:
         """How the machine stands as it ends, where no call is needed to know it."""
@@ -212,8 +217,36 @@ class Replayed(Backend):
         other._foreseen = dict(self._foreseen)
         return other
 
+    def back(self) -> None:
+        self.leave()
+
     def leave(self) -> None:
         self._foreseen = {}
+
+
+class Released:
+    """After how many events how many bytes were put out, as far as somebody looked: more events never have fewer bytes."""
+
+    def __init__(self) -> None:
+        self._known: List[Tuple[int, int]] = [(0, 0)]
+
+    def note(self, events: int, size: int) -> None:
+        """Somebody looked, after more events than ever before."""
+        # between two looks at the same size there is nothing to know
+        if len(self._known) > 1 and self._known[-2][1] == self._known[-1][1] == size:
+            self._known.pop()
+        self._known.append((events, size))
+
+    def at(self, events: int) -> Optional[int]:
+        """How many bytes there were after so many events, none of them after the last look; None where it isn't known."""
+        place = bisect.bisect_left(self._known, (events, 0))
+        after, size = self._known[place]
+        return size if after == events or self._known[place - 1][1] == size else None
+
+    def back(self, events: int, size: int) -> None:
+        """Forget what came after so many events, which had put so many bytes out."""
+        del self._known[bisect.bisect_left(self._known, (events, 0)) :]
+        self.note(events, size)
 
 
 class Driven(Backend):
@@ -226,9 +259,11 @@ class Driven(Backend):
     def __init__(self, loaded: Loaded) -> None:
         super().__init__(loaded)
         self._drive: Optional[Drive] = None
-        # how many events the process has applied
+        # how many events the process has applied: more than the past has, where the machine went back or an event was refused among others
         self._events = 0
-        self._has_looks = True
+        self._released = Released()
+        # the words of lines that the program is too old for
+        self._lacking: Set[str] = set()
         # when it was asked last, and whether it is asked now: another thread may want to end the process in favour of its own
         self._asked_at = 0
         self.lock = threading.RLock()
@@ -243,8 +278,9 @@ class Driven(Backend):
     def standing(self, past: Past) -> Drive:
         """A process that stands behind the past's events."""
         self._asked_at = next(self._clock)
-        if self._drive is not None and self._drive.is_ours and self._events == len(past):
-            return self._drive
+        drive = self._drive
+        if drive is not None and drive.is_ours and self._goes_back(drive, len(past)):
+            return drive
         self.leave()
         self._make_room()
         loaded = self.loaded
@@ -252,8 +288,55 @@ class Driven(Backend):
         self._all.add(self)
         if len(past) > 0 and drive.answers(past.lines()) != past.report():
             _raise_other_past()
-        self._events = len(past)
+        self._released = Released()
+        self._stands(drive, len(past))
         return drive
+
+    def _stands(self, drive: Drive, events: int) -> None:
+        """The process has gone on to so many events."""
+        self._events = events
+        self._released.note(events, len(drive.console))
+
+    def _goes_back(self, drive: Drive, events: int) -> bool:
+        """Has the process stand behind its first events, so many, if it can."""
+        if self._events <= events:
+            return self._events == events
+        try:
+            told = self._told(drive, f"back {events}")
+        except ValueError:
+            raise ReportError(f"it has fewer than {events} events, and was given {self._events}") from None
+        if told is None:
+            return False
+        if told != {"back": events}:
+            raise ReportError(f"it doesn't say that it went back to {events} events", 1, str(told))
+        released = self._released.at(events)
+        if released is None:
+            # these events were asked together with later ones, and bytes came of them all
+            shown = self._told(drive, "show")
+            if shown is None:
+                return False
+            released = state(shown).controller.released
+        if released > len(drive.console):
+            raise ReportError(f"{len(drive.console)} bytes were put out, and it tells {released} after fewer events")
+        self._events = events
+        self._released.back(events, released)
+        # those of later events come again
+        del drive.console[released:]
+        return True
+
+    def _told(self, drive: Drive, line: str) -> Optional[Any]:
+        """What a line is answered in JSON; None where the program is too old for it. ValueError: it names what isn't there."""
+        word = line.split(" ")[0]
+        if word in self._lacking:
+            return None
+        text = drive.line(line)
+        refusal = _refusal_in(text)
+        if refusal is None:
+            return read_json(text)
+        if refusal.word == "outofrange":
+            raise ValueError(f"{line}: {refusal.word}")
+        self._lacking.add(word)
+        return None
 
     def _make_room(self) -> None:
         """Ends the processes that were asked longest ago, as far as there are too many."""
@@ -279,10 +362,10 @@ class Driven(Backend):
             refusal = _refusal_in(text)
             if refusal is None:
                 answers = checked_answers(parse_answers(text, len(past) + 1), events)
-                self._events = len(past) + len(events)
-            elif len(events) > 1:
-                # those before it were applied
-                self.leave()
+                self._stands(drive, len(past) + len(events))
+            else:
+                # the others were applied, and the next question takes them back
+                self._events = len(past) + len(events) - len(_REFUSED.findall(text))
         if refusal is not None:
             place = refusal.line - first
             if not 0 <= place < len(events):
@@ -303,17 +386,8 @@ class Driven(Backend):
         raise ValueError(f"{event}: script {refusal.word}")
 
     def look(self, past: Past, line: str) -> Optional[Any]:
-        if not self._has_looks:
-            return None
         with _Question(self, past) as drive:
-            text = drive.line(line)
-            refusal = _refusal_in(text)
-            if refusal is None:
-                return read_json(text)
-        if refusal.word == "outofrange":
-            raise ValueError(f"{line}: {refusal.word}")
-        self._has_looks = False
-        return None
+            return self._told(drive, line)
 
     def now(self, past: Past) -> Now:
         """How the machine stands. The process tells it as it ends; so the next question begins another, which costs what a replay would."""
@@ -328,8 +402,11 @@ class Driven(Backend):
 
     def fork(self) -> "Driven":
         other = Driven(self.loaded)
-        other._has_looks = self._has_looks
+        other._lacking = set(self._lacking)
         return other
+
+    def back(self) -> None:
+        """The process stays where it is: the next question brings it back."""
 
     def leave(self) -> None:
         drive, self._drive = self._drive, None

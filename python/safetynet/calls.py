@@ -8,16 +8,18 @@ from __future__ import annotations
 
 import os
 import re
-from dataclasses import dataclass
+from dataclasses import replace
 from typing import List, Optional, Sequence, Tuple, Union
 
 from .access import Access, parse_accesses
+from .backends import Loaded
 from .errors import ReportError
-from .files import Files, ProgramLike, ScriptLike, TraceLike, options, watch_option
+from .files import Files, ProgramLike, ScriptLike, TraceLike, options, program_bytes, watch_option
 from .journal import Journal
-from .program import DEFAULT_TIMEOUT, Called, PathLike, call
-from .report import Answer, Summary, parse_report, parse_summary, parted_summary
-from .statistics import Statistics, parted_statistics
+from .program import DEFAULT_TIMEOUT, Called, PathLike, call, find_program
+from .report import Summary, parse_report, parse_summary, parted_summary
+from .results import Replay, Run, Verdict
+from .statistics import parted_statistics
 from .trace import Trace
 
 _LEGAL = re.compile(r"legal (0|[1-9][0-9]*)\n")
@@ -30,93 +32,6 @@ _SWITCH_AT = re.compile(r"[ab](0|[1-9][0-9]*)@(0|[1-9][0-9]*)")
 _RUN_ENDS = (0, 6, 8, 10)
 _ENDS = {"done": 0, "budget": 6, "cutoff": 8, "trapped": 10}
 _ORDERS = ("threads", "round", "drawn")
-
-
-@dataclass(frozen=True)
-class Replay:
-    """What a replay gave.
-
-    Attributes
-    ----------
-    answers : tuple of Answer
-        One an event; none where the trace was asked for.
-    summary : Summary
-        The machine at its recovery point, at the end.
-    console : bytes
-        What the program put out and was validated.
-    trace : Trace or None
-        The committed trace, where it was asked for.
-    statistics : Statistics or None
-        What the events come to, counted, where it was asked for.
-    """
-
-    answers: Tuple[Answer, ...]
-    summary: Summary
-    console: bytes
-    trace: Optional[Trace] = None
-    statistics: Optional[Statistics] = None
-
-
-@dataclass(frozen=True)
-class Run:
-    """What a run, or the demo, gave.
-
-    Attributes
-    ----------
-    status : int
-        0, or 6 where its budget was spent, 8 where two nodes were cut off, 10 where a core trapped.
-    words : str
-        How it ended: ``"done"``, ``"budget"``, ``"cutoff 0 1"``, ``"trapped 0 illegal"``.
-    summary : Summary
-        The machine at its recovery point, at the end.
-    console : bytes
-        What the program put out and was validated.
-    journal : Journal or None
-        Each event with its worker, where it was asked for.
-    trace : Trace or None
-        The committed trace, where it was asked for.
-    why : str or None
-        More on how it ended, where the program says it.
-    statistics : Statistics or None
-        What its events come to, counted, where it was asked for.
-    seed : int or None
-        Of one of several runs its seed.
-    """
-
-    status: int
-    words: str
-    summary: Summary
-    console: bytes
-    journal: Optional[Journal] = None
-    trace: Optional[Trace] = None
-    why: Optional[str] = None
-    statistics: Optional[Statistics] = None
-    seed: Optional[int] = None
-
-
-@dataclass(frozen=True)
-class Verdict:
-    """A verdict on a trace or on a list of accesses; true where it is legal.
-
-    Attributes
-    ----------
-    legal : bool
-        Whether the trace is an execution of the program, or each access is legal after those before it.
-    records : int or None
-        Of a legal one how many records or accesses it has.
-    place : int or None
-        Of another the place, from 1, of the first record or access that can't come after those before it.
-    why : str or None
-        What was expected there, where the program says it.
-    """
-
-    legal: bool
-    records: Optional[int] = None
-    place: Optional[int] = None
-    why: Optional[str] = None
-
-    def __bool__(self) -> bool:
-        return self.legal
 
 
 def read_traced(text: str) -> Tuple[Trace, Summary]:
@@ -193,7 +108,8 @@ def replay(
     if trace and statistics:
         raise ValueError("a replay gives its trace or its statistics, and not both")
     files = Files()
-    words = ["replay", *options(nodes=nodes, sets=sets, ways=ways, log=log)]
+    sizes = options(nodes=nodes, sets=sets, ways=ways, log=log)
+    words = ["replay", *sizes]
     words += [watch_option(watch)] if watch is not None else []
     words += ["--trace"] if trace else []
     words += ["--statistics"] if statistics else []
@@ -206,7 +122,15 @@ def replay(
         return Replay((), summary, called.console, committed)
     text, counted = parted_statistics(called.report) if statistics else (called.report, None)
     report = parse_report(text)
-    return Replay(report.answers, report.summary, called.console, None, counted)
+    return Replay(report.answers, report.summary, called.console, None, counted, _origin(program, sizes, command, timeout))
+
+
+def _origin(program: ProgramLike, sizes: Tuple[str, ...], command: Optional[PathLike], timeout: float) -> Optional[Loaded]:
+    """The machine that was called, to draw what it did; None where its program has gone since."""
+    try:
+        return Loaded(program_bytes(program), sizes, find_program(command), timeout)
+    except OSError:
+        return None
 
 
 def accesses(
@@ -259,6 +183,7 @@ def run(
     watch: Optional[int] = None,
     trace: bool = False,
     journal: bool = False,
+    accesses: bool = False,
     statistics: bool = False,
     command: Optional[PathLike] = None,
     timeout: float = DEFAULT_TIMEOUT,
@@ -288,29 +213,31 @@ def run(
         run.
     watch : int, optional
         The address of a word that the summary shows.
-    trace, journal : bool
-        Whether to give the committed trace, or the journal; not both.
+    trace, journal, accesses : bool
+        Whether to give the committed trace, the journal, or the accesses of that trace; one of them at most.
     statistics : bool
-        Whether to count what the events come to, where turns are round or drawn.
+        Whether to count what the events come to: events, instructions and messages.
 
     Raises
     ------
     ValueError
-        An option has another form, or both trace and journal are asked for.
+        An option has another form, or more than one of trace, journal and accesses is asked for.
     SafetyNetError
         The program or an option is refused. That the budget is spent, nodes are cut off or a core traps is no error: see `Run`.
     """
-    if trace and journal:
-        raise ValueError("a run gives its trace or its journal, and not both")
+    given = [name for name, is_asked in (("trace", trace), ("journal", journal), ("accesses", accesses)) if is_asked]
+    if len(given) > 1:
+        raise ValueError(f"a run gives one of {' and '.join(given)}, and not more")
     files = Files()
     sizes = options(nodes=nodes, sets=sets, ways=ways, log=log)
     rules = options(interval=interval, wait=wait, budget=budget, lose_every=lose_every, seed=seed)
     words = ["run", *sizes, *rules, *_run_options(order, kill, watch, statistics)]
-    words += ["--trace"] if trace else ["--journal"] if journal else []
+    words += [f"--{name}" for name in given]
     called = call([*words, files.program(program)], files.contents, command=command, timeout=timeout)
     if called.status not in _RUN_ENDS:
         called.raise_refusal()
-    return _run_of(called, trace, journal, statistics)
+    found = _run_of(called, given[0] if given else "", statistics)
+    return replace(found, origin=_origin(program, sizes, command, timeout)) if journal else found
 
 
 def _run_options(order: str, kill: Optional[str], watch: Optional[int], statistics: bool) -> List[str]:
@@ -325,12 +252,15 @@ def _run_options(order: str, kill: Optional[str], watch: Optional[int], statisti
     return words + (["--statistics"] if statistics else [])
 
 
-def _run_of(called: Called, trace: bool, journal: bool, statistics: bool) -> Run:
+def _run_of(called: Called, given: str, statistics: bool) -> Run:
+    """The run of a call that was asked for its trace, its journal or its accesses, or for none of them."""
     text, counted = parted_statistics(called.report) if statistics else (called.report, None)
-    committed, turns = None, None
-    if trace:
+    committed, turns, found = None, None, None
+    if given == "trace":
         committed, summary = read_traced(text)
-    elif journal:
+    elif given == "accesses":
+        found, summary = read_accesses(text)
+    elif given == "journal":
         above, summary = parted_summary(text)
         try:
             turns = Journal.parse(above)
@@ -338,7 +268,7 @@ def _run_of(called: Called, trace: bool, journal: bool, statistics: bool) -> Run
             raise ReportError(str(error)) from None
     else:
         summary = parse_summary(text)
-    return Run(called.status, called.words, summary, called.console, turns, committed, called.why, counted)
+    return Run(called.status, called.words, summary, called.console, turns, committed, called.why, counted, accesses=found)
 
 
 def runs(
@@ -540,4 +470,4 @@ def demo(size: int, *, command: Optional[PathLike] = None, timeout: float = DEFA
     called = call(["demo", str(size)], command=command, timeout=timeout)
     if called.status != 0:
         called.raise_refusal()
-    return _run_of(called, False, False, False)
+    return _run_of(called, "", False)

@@ -53,19 +53,19 @@ class Drive:
     timeout : float
         The time limit of each question, in seconds.
 
+    Attributes
+    ----------
+    console : bytearray
+        What the machine has put out; whoever has it go back takes away what later events had put there, since it comes again.
+    lines : int
+        How many lines it was given.
+
     Raises
     ------
     ProgramMissing
         It can't be started.
     SafetyNetError
         It refuses its words or its file, or ends otherwise.
-
-    Attributes
-    ----------
-    console : bytearray
-        What the machine has put out.
-    lines : int
-        How many lines it was given.
 
     Notes
     -----
@@ -131,7 +131,7 @@ class Drive:
         return answer[: -len(last)]
 
     def line(self, line: str) -> str:
-        """What a line is answered whose answer is always one line: one that foresees, or asks for a look. It raises what `answers` raises."""
+        """What a line is answered whose answer is always one line: one that is no event. It raises what `answers` raises."""
         self.lines += 1
         return self._exchange([line], lambda report: report.endswith(b"\n"))
 

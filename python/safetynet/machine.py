@@ -14,11 +14,12 @@ from . import states
 from .access import Access
 from .backends import Backend, Loaded, Now, Past, begun
 from .calls import read_accesses, read_traced
-from .errors import ReportError
+from .errors import ReportError, SafetyNetError
 from .events import Deliver, Edge, Event, EventLike, Evict, Hop, Input, Kill, Lose, Recover, Report, Step, Validate, event_of
 from .files import ProgramLike, options, program_bytes, watch_option
+from .notebook import table_of
 from .program import DEFAULT_TIMEOUT, Called, PathLike, find_program
-from .report import Answer, Core, Foreseen, Summary, parse_summary
+from .report import Answer, Foreseen, Summary, parse_summary
 from .states import CoreState, Flight, Home, NodeState, State
 from .statistics import Statistics, parted_statistics
 from .trace import Trace
@@ -127,6 +128,33 @@ class Machine:
         """The answer that an event would get, its name and numbers. The machine stays. What the event would send, ``fork().apply(event)`` tells."""
         return self._asked.foreseen(self._past, event_of(event))
 
+    def due(self, worker: int, pick: int) -> Optional[Event]:
+        """The event that `run` would apply as the next one, by its rules' defaults and after the events so far. The machine stays.
+
+        Parameters
+        ----------
+        worker : int
+            The worker whose turn it is: the number of its node.
+        pick : int
+            The number that it draws for this turn, from 0 to 2**32 - 1, which chooses among the events that are due.
+
+        Returns
+        -------
+        Event or None
+            None where a run has come to its end.
+
+        Raises
+        ------
+        ValueError
+            There is no such worker, or the number is none.
+        SafetyNetError
+            The program is older than this question.
+        """
+        told = self._asked.look(self._past, f"due {_checked(worker, self._nodes, 'worker')} {_checked(pick, 2**32, 'pick')}")
+        if told is None:
+            raise SafetyNetError(1, "usage", "due: this program is older than the question")
+        return states.due_event(told)
+
     def step(self, node: int) -> Answer:
         """Let the core of a node do one instruction."""
         return self.apply(Step(node))
@@ -178,7 +206,15 @@ class Machine:
         return len(self._past)
 
     def back(self, mark: int) -> None:
-        """Go back to the machine after its first events, so many as `mark` said. It asks nothing; the next question applies these again.
+        """Go back to the machine after its first events, so many as `mark` said; what later events put out is no part of `console` any more.
+
+        It asks nothing: the process goes back with the next question, in at most the time that a replay of these events takes. Where the program
+        can't go back, the next question begins another process.
+
+        Parameters
+        ----------
+        mark : int
+            A number of events, from 0 to as many as there were.
 
         Raises
         ------
@@ -189,11 +225,20 @@ class Machine:
             raise ValueError(f"a mark is a number from 0 to {len(self._past)}, and not {mark!r}")
         if mark < len(self._past):
             self._past.cut(mark)
-            self._backend.leave()
+            self._backend.back()
             self._forget()
 
     def fork(self) -> "Machine":
-        """Another machine that stands where this one does; neither changes the other. It asks nothing; its first question applies the events again."""
+        """Another machine that stands where this one does, by a process of its own; neither changes the other.
+
+        It asks nothing. The other's first question begins its process, about 20 ms, and gives it the events of `script`, which takes what a replay
+        of them does and is compared with the answers that are known. To look ahead and come back, `mark` and `back` cost less.
+
+        Returns
+        -------
+        Machine
+            It is closed by itself.
+        """
         backend = self._asked.fork()
         other = type(self).__new__(type(self))
         other.__dict__.update(self.__dict__)
@@ -228,7 +273,8 @@ class Machine:
     def summary(self) -> Summary:
         """The machine at its recovery point.
 
-        A process that keeps the machine tells it as it ends, so that the next question begins another and applies the events again.
+        A process that keeps the machine tells it as it ends, so that the next question begins another and applies the events again. The probes
+        of a process that went back have counted the events that were taken back, too; ``replay`` of :meth:`script` has the tallies of the history alone.
         """
         if self._now is None:
             self._now = self._asked.now(self._past)
@@ -317,12 +363,12 @@ class Machine:
 
     def core(self, node: int) -> CoreState:
         """The core of a node as it stands now. ValueError: there is no such node."""
-        shown = self._look(f"core {self._checked(node, self._nodes, 'node')}")
+        shown = self._look(f"core {_checked(node, self._nodes, 'node')}")
         return self.state.nodes[node].core if shown is None else states.core_state(node)(shown)
 
     def node(self, node: int) -> NodeState:
         """A node as it stands now: its core, its cache, what it waits for, its log. ValueError: there is no such node."""
-        shown = self._look(f"node {self._checked(node, self._nodes, 'node')}")
+        shown = self._look(f"node {_checked(node, self._nodes, 'node')}")
         return self.state.nodes[node] if shown is None else states.node_state(shown)
 
     def block(self, block: int) -> Home:
@@ -330,14 +376,8 @@ class Machine:
 
         A program whose `drive` has no looks doesn't tell the content of a home that is as at the program's start: its `content` is None then.
         """
-        shown = self._look(f"block {self._checked(block, _BLOCKS, 'block')}")
+        shown = self._look(f"block {_checked(block, _BLOCKS, 'block')}")
         return self.state.home(block) if shown is None else states.home(shown)
-
-    @staticmethod
-    def _checked(number: int, below: int, what: str) -> int:
-        if isinstance(number, bool) or not isinstance(number, int) or not 0 <= number < below:
-            raise ValueError(f"a {what} is a number from 0 to {below - 1}, and not {number!r}")
-        return number
 
     # As a context manager, and in a notebook.
 
@@ -361,17 +401,10 @@ class Machine:
         """A small table of the machine at its recovery point, for a notebook."""
         if self._now is None and self._is_closed:
             return f"<p>{html.escape(repr(self))}</p>"
-        summary = self.summary()
-        caption = (
-            f"{summary.events} events, recovery point {summary.point}, {summary.committed} instructions committed, "
-            f"{summary.released} bytes released"
-        )
-        head = "<tr><th>core</th><th>pc</th><th>state</th><th>registers</th></tr>"
-        return f"<table><caption>{caption}</caption>{head}{''.join(map(_row, summary.cores))}</table>"
+        return table_of(self.summary())
 
 
-def _row(core: Core) -> str:
-    end = core.state if core.state == "running" else f"{core.state} {core.code if core.cause is None else core.cause}"
-    held = " ".join(f"x{number}={value:08x}" for number, value in enumerate(core.registers) if value)
-    cells = (str(core.node), f"{core.pc:08x}", end, held)
-    return "<tr>" + "".join(f"<td>{html.escape(cell)}</td>" for cell in cells) + "</tr>"
+def _checked(number: int, below: int, what: str) -> int:
+    if isinstance(number, bool) or not isinstance(number, int) or not 0 <= number < below:
+        raise ValueError(f"a {what} is a number from 0 to {below - 1}, and not {number!r}")
+    return number

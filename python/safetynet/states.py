@@ -11,6 +11,7 @@ from dataclasses import dataclass
 from typing import Any, Callable, Dict, List, Mapping, Optional, Pattern, Tuple, TypeVar
 
 from .errors import ReportError
+from .events import Event, parse_event
 from .report import MESSAGES, Core, Message, parse_core, parse_message
 from .trace import Record
 
@@ -515,6 +516,21 @@ def state(value: Any) -> State:
         The value is none.
     """
     return State(**_members(value, "a state", nodes=_each(node_state), homes=_each(home), net=_net, controller=_controller))
+
+
+def due_event(value: Any) -> Optional[Event]:
+    """The event that is due, or None where none is.
+
+    Raises
+    ------
+    ReportError
+        The value is neither.
+    """
+    line = _members(value, "what is due", event=_maybe(str))["event"]
+    try:
+        return None if line is None else parse_event(line)
+    except ValueError:
+        raise _bad("an event that is due", value) from None
 
 
 def read_json(text: str) -> Any:

@@ -87,19 +87,19 @@ def older(tmp_path_factory: pytest.TempPathFactory) -> str:
 
 
 @pytest.fixture(scope="session")
-def without_looks(tmp_path_factory: pytest.TempPathFactory) -> str:
-    """The real program whose `drive` takes no look for one."""
-    file = tmp_path_factory.mktemp("without_looks") / "safetynet"
-    looks = "sed -uE 's/^(show|flights|core .*|node .*|block .*)$/!&/'"
-    file.write_text(f'#!/bin/sh\ncase $1 in drive) {looks} | {shlex.quote(PROGRAM)} "$@"; exit;; esac\nexec {shlex.quote(PROGRAM)} "$@"\n')
+def older_drive(tmp_path_factory: pytest.TempPathFactory) -> str:
+    """The real program whose `drive` knows events alone, and what they would be answered."""
+    file = tmp_path_factory.mktemp("older_drive") / "safetynet"
+    lines = "sed -uE 's/^(show|flights|core .*|node .*|block .*|mark|back .*|due .*)$/!&/'"
+    file.write_text(f'#!/bin/sh\ncase $1 in drive) {lines} | {shlex.quote(PROGRAM)} "$@"; exit;; esac\nexec {shlex.quote(PROGRAM)} "$@"\n')
     file.chmod(0o755)
     return str(file)
 
 
-@pytest.fixture(params=["driven", "without looks", "replayed"])
-def command(request: pytest.FixtureRequest, older: str, without_looks: str) -> str:
-    """The real program: as it is, with a `drive` without looks, and without `drive`."""
-    return {"driven": PROGRAM, "without looks": without_looks, "replayed": older}[request.param]
+@pytest.fixture(params=["driven", "older drive", "replayed"])
+def command(request: pytest.FixtureRequest, older: str, older_drive: str) -> str:
+    """The real program: as it is, with a `drive` of events alone, and without `drive`."""
+    return {"driven": PROGRAM, "older drive": older_drive, "replayed": older}[request.param]
 
 
 @pytest.fixture(autouse=True)

@@ -80,6 +80,14 @@ def test_another_form_is_told(old: str, new: str) -> None:
         parse_accesses(TEXT.replace(old, new, 1))
 
 
+def test_a_run_has_its_accesses(made: Callable[[str], str]) -> None:
+    said = TEXT + SUMMARY
+    given = run([0x73], accesses=True, command=made(f"[ \"$*\" = \"run --nodes=4 --sets=16 --ways=4 --log=256 --interval=100 --wait=20000 --budget=1000000 --lose-every=0 --seed=1 --accesses program\" ] && cat >&2 <<'END'\n{said}END"))
+    assert given.accesses == parse_accesses(TEXT) and given.trace is given.journal is None and given.summary.committed == 7
+    with pytest.raises(ReportError):
+        run([0x73], accesses=True, command=made(f"cat >&2 <<'END'\n{SUMMARY}END"))
+
+
 def test_each_run_has_its_block_and_its_bytes(made: Callable[[str], str]) -> None:
     blocks = BLOCKS.replace("stat events 9\n", "")
     first, second = runs([0x73], range(7, 9), command=made(f"printf ABC; printf '{blocks}' >&2"))
@@ -130,6 +138,17 @@ def test_the_accesses_of_a_stored_run() -> None:
     with Machine(COUNT, nodes=2) as machine:
         machine.apply_all(answer.event for answer in replay(COUNT, SCRIPT, nodes=2).answers)
         assert machine.accesses() == found and machine.summary().committed == len(found)
+
+
+@pytest.mark.parametrize("order", ["threads", "drawn"])
+def test_the_accesses_of_a_run(order: str) -> None:
+    small: Dict[str, Any] = {"nodes": 2, "interval": 10, "wait": 200, "budget": 2000, "order": order}
+    given = known(lambda: run(COUNT, accesses=True, **small))
+    assert given.accesses is not None and len(given.accesses) == given.summary.committed == 10
+    trace = run(COUNT, trace=True, **small).trace
+    assert trace is not None and sorted(one.core for one in given.accesses) == sorted(record.core for record in trace)
+    if order == "drawn":
+        assert [one.core for one in given.accesses] == [record.core for record in trace]
 
 
 @pytest.mark.parametrize("order", ["round", "drawn"])

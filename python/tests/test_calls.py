@@ -1,16 +1,17 @@
 """The program's commands as functions, over the real program."""
 from __future__ import annotations
 
+import base64
 import inspect
 import re
 from pathlib import Path
-from typing import Any, Callable, Dict, List, Tuple
+from typing import Any, Callable, Dict, List, Tuple, Union
 
 import pytest
 
 import safetynet
 from conftest import Counted
-from safetynet import ReportError, SafetyNetError, Step, Trace, assemble, check, demo, disassemble, judge, replay, run
+from safetynet import ProgramMissing, Replay, ReportError, Run, SafetyNetError, Step, Trace, assemble, check, demo, disassemble, judge, replay, run
 from safetynet.files import ProgramLike
 from stored import CHECKOUT, EXAMPLES, SHARED, options_of, words_of
 
@@ -75,6 +76,44 @@ def test_a_run_with_its_trace_and_one_without() -> None:
     assert run(COUNT, **SMALL).summary.committed == 10
 
 
+def test_a_run_is_shown_as_its_picture() -> None:
+    given = run(COUNT, journal=True, **SMALL)
+    assert given.journal is not None
+    again = replay(COUNT, given.journal.events, nodes=2)
+    both: List[Tuple[Union[Run, Replay], str]] = [(given, "run"), (again, "replay")]
+    for one, what in both:
+        svg = one.picture()
+        assert svg.startswith("<svg ") and f">A {what} of {given.summary.events} events</title>" in svg
+        assert f'src="data:image/svg+xml;base64,{base64.b64encode(svg.encode()).decode()}"' in one._repr_html_()
+    assert again.picture().count(' id="event-') == given.summary.events
+
+
+def test_what_has_no_picture_is_shown_as_a_table(monkeypatch: pytest.MonkeyPatch) -> None:
+    without: List[Union[Run, Replay]] = [run(COUNT, **SMALL), demo(10)]
+    without += [replay(COUNT, ["step 0"], nodes=2, trace=True), replay(COUNT, ["step 0"] * 2001, nodes=2)]
+    monkeypatch.setattr("safetynet.notebook.find_diagram", find_none)
+    for one in [*without, replay(COUNT, ["step 0"], nodes=2)]:
+        with pytest.raises(SafetyNetError):
+            one.picture()
+        assert f"<caption>{one.summary.events} events" in one._repr_html_()
+    monkeypatch.undo()
+    with pytest.raises(SafetyNetError, match="2001 events are more than 2000 rows"):
+        without[3].picture()
+
+
+def find_none(program: Path) -> Path:
+    raise ProgramMissing("it isn't there")
+
+
+def test_a_picture_is_drawn_of_the_program_as_it_was(tmp_path: Path) -> None:
+    file = tmp_path / "program"
+    file.write_bytes(COUNT.read_bytes())
+    given = replay(file, ["step 0", "step 0"], nodes=2)
+    before = given.picture()
+    file.write_text("00000073\n")
+    assert given.picture() == before and replay(file, ["step 0", "step 0"], nodes=2).picture() != before
+
+
 def test_how_a_run_may_end() -> None:
     assert run(COUNT, nodes=2, budget=10).words == "budget"
     assert re.fullmatch("cutoff [01] [01]", run(COUNT, nodes=2, kill="a1@5", journal=True).words)
@@ -133,6 +172,8 @@ BAD: "list[Callable[[Any], Any]]" = [
     lambda it: replay(COUNT, b"", nodes="2", command=it),  # type: ignore[arg-type]
     lambda it: replay(COUNT, b"", watch=-4, command=it),
     lambda it: run(COUNT, journal=True, trace=True, command=it),
+    lambda it: run(COUNT, journal=True, accesses=True, command=it),
+    lambda it: run(COUNT, trace=True, accesses=True, command=it),
     lambda it: replay(COUNT, [], statistics=True, trace=True, command=it),
     lambda it: run(COUNT, kill="c1@3", command=it),
     lambda it: run(COUNT, kill="a1", command=it),

@@ -26,9 +26,12 @@ from stored import CHECKOUT, NAMES, PROGRAM, SHARED, STORED, Stored
 COUNT = SHARED / "count.hex"
 Make = Callable[[str], str]
 
-# Answers an event by its line alone, as the place says.
+# Answers an event by its line alone, as the place says, and goes back.
 RETIRES = """
 def answer(number, line):
+    if line.startswith("back "):
+        answer.done = int(line[5:])
+        return b'{"back":%d}\\n' % answer.done
     place = answer.done = getattr(answer, "done", 0) + (not line.startswith("foresee "))
     return f"{place + line.startswith('foresee ')} {line.replace('foresee ', '')}: retired\\n".encode()
 """
@@ -234,6 +237,8 @@ def test_a_process_ends_with_its_machine() -> None:
     second = process_of(machine)
     machine.step(0)
     machine.back(0)
+    assert alive(second) and machine.step(1).place == 1 and process_of(machine) == second
+    machine.summary()
     assert not alive(second)
     machine.step(0)
     third = process_of(machine)

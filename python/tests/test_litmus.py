@@ -323,20 +323,34 @@ def test_every_outcome_is_one_of_one_memory(name: str) -> None:
     assert (len(allowed), *seen) == row[1:]
 
 
+@pytest.mark.parametrize("name", ["SB", "2+2W", "IRIW", "AMO-lock"])
+def test_runs_by_workers_have_outcomes_of_one_memory(name: str, counted: Counted) -> None:
+    test = read_litmus(str(LITMUS / f"{name}.litmus"))
+    runner = Runner(test, command=counted.command)
+    begun = counted.calls()
+    variables = sum(isinstance(location, Variable) for location in test.observed)
+    for losses in (False, True):
+        states = runner.by_workers(range(3, 3 + RUNS), losses)
+        assert len(states) == RUNS and None not in states and set(states) <= sequential_states(test)
+        assert states == runner.by_workers(range(3, 3 + RUNS), losses)
+    assert counted.calls() == begun + 4 * max(1, variables)
+    tally = run_test(runner, 2, 3, workers=RUNS)
+    assert sum(tally.states.values()) == RUNS + 2 and tally.observation == ROWS[name].observation
+
+
+def test_a_run_by_workers_that_traps_or_does_not_end() -> None:
+    assert Runner(parse_litmus(one("again: bne x6,x0,again"))).by_workers(range(2)) == (None, None)
+    with pytest.raises(TrapError, match=r"one: P0 trapped \(misaligned\)"):
+        Runner(parse_litmus(one("lw x5,2(x6)"))).by_workers([7])
+
+
 def test_losses_are_lost_and_undone() -> None:
     runner = Runner(parse_litmus(SB))
     names: "Counter[str]" = Counter()
-    with_losses = runner.start
-    machines = []
-
-    def noted() -> object:
-        machines.append(with_losses())
-        return machines[-1]
-
-    runner.start = noted  # type: ignore[method-assign, assignment]
     for number in range(6):
         assert runner.run(random.Random(number), losses=True) is not None
-    for machine in machines:
+        machine = runner._machine
+        assert machine is not None
         names.update(answer.name for answer in machine.answers)
     assert names["lost"] >= 4 and names["recovered"] >= 6 and names["validated"] >= 12
 
@@ -383,7 +397,7 @@ def test_a_run_that_does_not_end_is_not_counted(tmp_path: Path, capsys: pytest.C
 
 
 def test_a_run_has_a_limit_of_its_own(monkeypatch: pytest.MonkeyPatch) -> None:
-    monkeypatch.setattr("safetynet.litmus.schedules.MOST_CALLS", 4)
+    monkeypatch.setattr("safetynet.litmus.schedules.MOST_QUESTIONS", 4)
     assert run_test(Runner(parse_litmus(one("again: bne x6,x0,again"))), 2, 1).unfinished == 2
 
 
@@ -405,7 +419,7 @@ def test_a_program_that_is_not_there_is_told(monkeypatch: pytest.MonkeyPatch, ca
         Runner(parse_litmus(SB))
 
 
-@pytest.mark.parametrize("words", [["--runs", "0"], ["--runs", "x"], ["--limit", "-1"], ["--limit", "nan"], ["--seed", "x"], ["--node", "2"], []])
+@pytest.mark.parametrize("words", [["--runs", "0"], ["--runs", "x"], ["--workers", "-1"], ["--limit", "-1"], ["--limit", "nan"], ["--seed", "x"], ["--node", "2"], []])
 def test_words_that_are_no_command(words: List[str]) -> None:
     with pytest.raises(SystemExit) as ended:
         main([*words, *([str(LITMUS / "SB.litmus")] if words else [])])

@@ -3,6 +3,7 @@ from __future__ import annotations
 
 import os
 import random
+from dataclasses import replace
 from pathlib import Path
 from typing import Callable, List
 
@@ -82,7 +83,9 @@ def test_a_machine_is_the_replay_of_its_script(seed: int, older: str) -> None:
     # a quarter of them by a program without `drive`
     machine = use(random.Random(seed), older if seed % 4 == 3 else PROGRAM)
     whole = replay(machine._loaded.program, machine.script().encode(), nodes=machine.nodes)
-    assert (machine.answers, machine.console, machine.summary()) == (whole.answers, whole.console, whole.summary)
+    assert (machine.answers, machine.console) == (whole.answers, whole.console)
+    # The probes of a process were told the events that it took back, too.
+    assert replace(machine.summary(), probes=()) == replace(whole.summary, probes=())
     if seed % 8 == 0:
         assert len(machine.committed()) == whole.summary.committed
         assert check(machine._loaded.program, machine.committed(), nodes=machine.nodes)
@@ -163,8 +166,9 @@ def test_a_process_keeps_the_machine(counted: Counted) -> None:
         machine.back(1)
         other = machine.fork()
         assert counted.calls() == 3
-        assert machine.step(0).place == other.step(0).place == 2 and counted.calls() == 5
-    assert machine.summary().events == 2 and counted.calls() == 5
+        assert machine.step(0).place == 2 and counted.calls() == 3
+        assert other.step(0).place == 2 and counted.calls() == 4
+    assert machine.summary().events == 2 and counted.calls() == 4
 
 
 def test_a_refused_event_leaves_the_machine_as_it_was(command: str) -> None:
@@ -262,8 +266,9 @@ def test_a_program_that_answers_otherwise_is_told(made: Callable[[str], str], tm
     lines = f"{without}'{PROGRAM}' \"$@\" 2>report; s=$?; [ -e {turn} ] && sed -i s/retired/waits/ report; cat report >&2; exit $s"
     driven = f"[ -e {turn} ] || exec '{PROGRAM}' \"$@\"; '{PROGRAM}' \"$@\" 2>&1 >&3 3>&- | sed -u s/retired/waits/ >&2"
     machine = Machine(COUNT, nodes=2, command=made(lines if without else f"exec 3>&1; {driven}"))
-    machine.step(0)
-    machine.step(0)
+    machine.apply_all(["step 0", "step 0"])
+    # what keeps it ends, so that another is begun
+    machine.summary()
     turn.touch()
     machine.back(1)
     with pytest.raises(ReportError, match="other answers"):
@@ -277,6 +282,7 @@ def test_a_call_that_fails_leaves_the_machine_as_it_was(made: Callable[[str], st
     turn = tmp_path / "turn"
     machine = Machine(COUNT, nodes=2, command=made(f"{without}[ ! -e {turn} ] || kill -KILL $$; exec '{PROGRAM}' \"$@\""))
     machine.apply_all(["step 0", "step 0"])
+    machine.summary()
     machine.back(1)
     turn.touch()
     with pytest.raises(SafetyNetError, match="SIGKILL"):

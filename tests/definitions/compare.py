@@ -12,10 +12,14 @@ import subprocess
 import sys
 import tempfile
 from pathlib import Path
+from typing import Any, Callable, Dict, Iterable, Iterator, List, Tuple
 
 import instructions
 import schedules
-from evaluate import Con, Rec, World, curried, in_deep_stack, repository
+from evaluate import World, in_deep_stack, repository
+from translation import Con, Rec
+
+Shape = Tuple[int, int, int, int]
 
 BLOCKS = 72
 PROGRAMS = {
@@ -33,30 +37,31 @@ PROGRAMS = {
 CAUSES = {"Illegal": "illegal", "FetchFault": "fetch", "MisalignedTarget": "target", "MisalignedAccess": "misaligned", "AccessFault": "access", "UnknownCall": "call", "Break": "break"}
 
 
-def load_definitions():
+def load_definitions() -> World:
     world = World(repository(), ["sn_base", "sn_msg", "rv_core", "log_buffer", "route_plan", "sn_model"])
     # Memory's first blocks stand for all of it, and the core's step is left out.
-    world.modules["sn_model", "Caches"].overrides["block_count"] = BLOCKS
+    world.modules["sn_model", "Caches"].override("block_count", BLOCKS)
     # Distances are recursions that branch at each switch, and are evaluated once for each argument.
-    world.modules["route_plan", "Distances"].remembered |= {"comes", "distance"}
-    world.modules["route_plan", "Routes"].remembered |= {"next_of", "enter_of", "first_cut_off"}
+    world.modules["route_plan", "Grid"].remember("row_count", "column_count", "is_linked", for_good=True)
+    world.modules["route_plan", "Distances"].remember("comes", "distance", depth=2, for_good=True)
+    world.modules["route_plan", "Routes"].remember("next_of", "enter_of", "first_cut_off", depth=2, for_good=True)
     steps = world.modules["sn_model", "Instructions"]
-    steps.overrides["want_of"] = curried(instructions.want_of, 2)
-    steps.overrides["next_of"] = curried(instructions.next_of, 5)
+    steps.override("want_of", instructions.want_of, 2)
+    steps.override("next_of", instructions.next_of, 5)
     return world
 
 
-def image_of(words):
+def image_of(words: str) -> Rec:
     data = b"".join(int(word, 16).to_bytes(4, "little") for word in words.split())
     segment = Rec(start=0x80000000, size=len(data), bytes=tuple(data), write=False, exec=True)
     return Rec(segments=(segment,), entry=0x80000000)
 
 
-def switch_text(number):
+def switch_text(number: int) -> str:
     return ("a" if number % 2 == 0 else "b") + str(number // 2)
 
 
-def event_text(event):
+def event_text(event: Con) -> str:
     name, parts = event[0].split(".")[1].lower(), [str(part) for part in event[1:]]
     if name == "kill":
         parts = [switch_text(event[1])]
@@ -65,7 +70,7 @@ def event_text(event):
     return " ".join([name] + parts)
 
 
-def answer_text(answer):
+def answer_text(answer: Con) -> str:
     name = answer[0].split(".")[1].lower()
     if name == "recovered":
         undo = answer[1]
@@ -73,7 +78,7 @@ def answer_text(answer):
     return " ".join([name] + [str(part) for part in answer[1:]])
 
 
-def sent_text(sent):
+def sent_text(sent: Rec) -> str:
     m = sent["message"]
     body = m["body"]
     name, carried = body[0].split(".")[1].lower(), [part for part in body[1:] if isinstance(part, int)]
@@ -88,7 +93,7 @@ def sent_text(sent):
     return text + (" lost" if sent["lost"] else "")
 
 
-def core_text(number, core):
+def core_text(number: int, core: Rec) -> str:
     kind = core["end"][0].split(".")[1].lower()
     end = kind
     if kind == "exited":
@@ -102,13 +107,13 @@ def core_text(number, core):
 class Machine:
     """A machine by its definitions."""
 
-    def __init__(self, world, words, nodes, sets, ways, log, watch):
+    def __init__(self, world: World, words: str, nodes: int, sets: int, ways: int, log: int, watch: int) -> None:
         self.get = lambda file, name: world.get("sn_model", file, name)
         self.image, self.watch = image_of(words), watch
         self.config = Rec(nodes=nodes, sets=sets, ways=ways, log=log)
         self.state = self.get("Machine", "start_of")(self.image)(nodes)
 
-    def cut_lines(self):
+    def cut_lines(self) -> List[str]:
         fabric, processors = self.state["fabric"], self.state["processors"]
         point = fabric["point"]
         checkpoint = self.get("MachineEvents", "checkpoint_of")
@@ -122,17 +127,22 @@ class Machine:
         word = int.from_bytes(bytes(content[place:place + 4]), "little")
         return lines + [f"watch {self.watch:08x} {word:08x}"]
 
-    def apply(self, event):
+    def foreseen(self, event: Con) -> Con:
+        """The answer that an event would have."""
+        answer: Con = self.get("Step", "step_of")(self.image)(self.config)(self.state)(event)["answer"]
+        return answer
+
+    def apply(self, event: Con) -> Tuple[Con, Tuple[Rec, ...]]:
         stepped = self.get("Step", "step_of")(self.image)(self.config)(self.state)(event)
         self.state = stepped["state"]
         return stepped["answer"], stepped["sent"]
 
-    def summary(self, events):
+    def summary(self, events: int) -> List[str]:
         s = self.state
         return [f"events {events}", f"point {s['fabric']['point']}", f"committed {len(s['committed'])}", f"released {len(s['released'])}"] + self.cut_lines()
 
 
-def candidates(machine, choose):
+def candidates(machine: Machine, choose: random.Random) -> Con:
     """An event that is likely to do something."""
     nodes = machine.config["nodes"]
     node = choose.randrange(nodes)
@@ -157,14 +167,14 @@ def candidates(machine, choose):
     return Con((f"Event.{kind}",)) if kind in ("Validate", "Recover") else Con((f"Event.{kind}", node))
 
 
-def event_of(line):
+def event_of(line: str) -> Con:
     """The event of a line of a script."""
     name, *words = line.split()
     numbers = [int(word[1:]) * 2 + (word[0] == "b") if name == "kill" else int(word, 16 if name == "input" and place else 10) for place, word in enumerate(words)]
     return Con((f"Event.{name.capitalize()}", *numbers))
 
 
-def evaluated(machine, events):
+def evaluated(machine: Machine, events: Iterable[Con]) -> Tuple[str, str, bytes]:
     """The script and the report of a run by the definitions; each event may be chosen by the state before it."""
     script, report, number = [], [], 0
     for number, event in enumerate(events, 1):
@@ -178,7 +188,7 @@ def evaluated(machine, events):
     return "\n".join(script) + "\n", "\n".join(report) + "\n", bytes(machine.state["released"])
 
 
-def replayed(simulator, folder, words, script, config, watch):
+def replayed(simulator: str, folder: Path, words: str, script: str, config: Rec, watch: int) -> Tuple[str, bytes]:
     (folder / "program.hex").write_text("\n".join(words.split()) + "\n")
     (folder / "events.script").write_text(script)
     options = [f"--{name}={config[name]}" for name in ("nodes", "sets", "ways", "log")] + [f"--watch={watch:08x}"]
@@ -186,14 +196,14 @@ def replayed(simulator, folder, words, script, config, watch):
     return done.stderr.decode(), done.stdout
 
 
-def first_difference(expected, found):
+def first_difference(expected: str, found: str) -> str:
     for number, (a, b) in enumerate(zip(expected.split("\n"), found.split("\n")), 1):
         if a != b:
             return f"line {number}: the simulator has {a!r}, the definitions {b!r}"
     return "one report is longer"
 
 
-def cases(count, seed):
+def cases(count: int, seed: str) -> Iterator[Tuple[str, str, Shape, Callable[[Machine], Iterable[Con]]]]:
     """Name, program, shape and events of each case; the events are a function of the machine."""
     for name, (program, shape, script) in schedules.SCHEDULES.items():
         yield name, program, shape, lambda machine, script=script: map(event_of, script)
@@ -204,15 +214,16 @@ def cases(count, seed):
         yield f"case {case}", choose.choice(sorted(PROGRAMS)), shape, lambda machine, choose=choose, length=length: (candidates(machine, choose) for _ in range(length))
 
 
-def count_answers(report, answers):
+def count_answers(report: str, answers: Dict[str, int]) -> None:
     for line in report.split("\n"):
         if ": " in line:
             answer = line.split(": ")[1].split()[0]
             answers[answer] = answers.get(answer, 0) + 1
 
 
-def compare(simulator, count, seed):
-    world, answers, done = load_definitions(), {}, 0
+def compare(simulator: str, count: int, seed: str) -> int:
+    world, done = load_definitions(), 0
+    answers: Dict[str, int] = {}
     with tempfile.TemporaryDirectory() as folder:
         for name, program, shape, events in cases(count, seed):
             machine = Machine(world, PROGRAMS[program], *shape, 0x80001000)
@@ -227,7 +238,7 @@ def compare(simulator, count, seed):
     return 0
 
 
-def main():
+def main() -> int:
     if len(sys.argv) < 2:
         print(__doc__)
         return 2

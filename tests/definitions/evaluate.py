@@ -1,13 +1,19 @@
 """Evaluates the definitions in crates/*/specs as they stand, for tests that compare them with other programs.
 
 It reads the part of the definitions' language that the machine's definitions use: functions by clauses, records, variants,
-lists, `if`, `let` and λ. Statements (definitions whose value is a type) are read over: nothing here proves anything.
+lists, `if`, `let` and λ. Each definition is written as a Python function (translation.py) when it is first asked for. Statements (definitions
+whose value is a type) are read over: nothing here proves anything.
 """
 import json
 import re
 import sys
 import threading
 from pathlib import Path
+from typing import Any, Callable, Dict, List, Optional, Sequence, Tuple
+
+from translation import RUNTIME, Con, Meaning, Tree, Writer, curried, joined, remembering, same
+
+Key = Tuple[str, str]
 
 sys.setrecursionlimit(100_000)
 threading.stack_size(512 * 1024 * 1024)
@@ -17,19 +23,9 @@ BINARY = [["||"], ["&&"], ["==", "≡", "≤", "<", "≢"], ["++", "∷"], ["+",
 RIGHT = {"++", "∷"}
 
 
-class Con(tuple):
-    """A variant: its name with its type's, and what it carries."""
-
-
-class Rec(dict):
-    """A record, by its fields."""
-
-    def __hash__(self):
-        return hash(tuple(sorted(self.items())))
-
-
-def tokens_of(text):
-    found, at = [], 0
+def tokens_of(text: str) -> List[str]:
+    found: List[str] = []
+    at = 0
     while at < len(text):
         match = TOKEN.match(text, at)
         if not match:
@@ -45,20 +41,20 @@ def tokens_of(text):
 class Parser:
     """Reads an expression into nested tuples."""
 
-    def __init__(self, tokens):
+    def __init__(self, tokens: List[str]) -> None:
         self.tokens, self.at = tokens, 0
 
-    def peek(self):
+    def peek(self) -> Optional[str]:
         return self.tokens[self.at] if self.at < len(self.tokens) else None
 
-    def take(self, wanted=None):
-        token = self.peek()
+    def take(self, wanted: Optional[str] = None) -> str:
+        token = self.peek() or ""
         if wanted is not None and token != wanted:
             raise SyntaxError(f"expected {wanted}, found {token} in {' '.join(map(str, self.tokens[:40]))}")
         self.at += 1
         return token
 
-    def expression(self):
+    def expression(self) -> Tree:
         token = self.peek()
         if token == "if":
             self.take()
@@ -96,7 +92,7 @@ class Parser:
             return body
         return self.binary(0)
 
-    def binary(self, level):
+    def binary(self, level: int) -> Tree:
         if level == len(BINARY):
             return self.application()
         left = self.binary(level + 1)
@@ -108,18 +104,19 @@ class Parser:
             left = ("op", operator, left, self.binary(level + 1))
         return left
 
-    def application(self):
+    def application(self) -> Tree:
         head = self.atom()
         while self.starts_atom():
             head = ("app", head, self.atom())
         return head
 
-    def starts_atom(self):
+    def starts_atom(self) -> bool:
         token = self.peek()
-        return token is not None and (token in ("(", "[", "record") or re.match(r"[A-Za-z_«\"]|\d", token)) and token not in ("then", "else", "in", "where")
+        return token is not None and bool(token in ("(", "[", "record") or re.match(r"[A-Za-z_«\"]|\d", token)) and token not in ("then", "else", "in", "where")
 
-    def atom(self):
+    def atom(self) -> Tree:
         token = self.take()
+        found: Tree
         if token == "(":
             parts = [self.expression()]
             while self.peek() == ",":
@@ -156,33 +153,27 @@ class Parser:
         return found
 
 
-def option(value):
+def option(value: Any) -> Con:
     return Con(("None",)) if value is None else Con(("Some", value))
 
 
-def find(test, values):
+def find(test: Callable[[Any], bool], values: Sequence[Any]) -> Con:
     return option(next((v for v in values if test(v)), None))
 
 
-def position(test, values):
+def position(test: Callable[[Any], bool], values: Sequence[Any]) -> Con:
     return option(next((i for i, v in enumerate(values) if test(v)), None))
 
 
-def filter_map(f, values):
+def filter_map(f: Callable[[Any], Con], values: Sequence[Any]) -> Tuple[Any, ...]:
     return tuple(got[1] for got in map(f, values) if got[0] == "Some")
 
 
-def little_number(count, bytes_):
+def little_number(count: int, bytes_: Sequence[int]) -> int:
     return sum((bytes_[k] if k < len(bytes_) else 0) << (8 * k) for k in range(count))
 
 
-def curried(function, arity):
-    def collect(done):
-        return function(*done) if len(done) == arity else lambda x: collect(done + (x,))
-    return collect(())
-
-
-BUILTINS = {
+BUILTINS: Dict[str, Tuple[Callable[..., Any], int]] = {
     "nat_eq": (lambda a, b: a == b, 2), "nat_lt": (lambda a, b: a < b, 2), "nat_le": (lambda a, b: a <= b, 2),
     "not": (lambda a: not a, 1), "min": (min, 2), "max": (max, 2), "suc": (lambda a: a + 1, 1),
     "map": (lambda f, xs: tuple(map(f, xs)), 2), "filter": (lambda f, xs: tuple(filter(f, xs)), 2),
@@ -196,34 +187,35 @@ BUILTINS = {
     "is_some": (lambda o: o[0] == "Some", 1), "is_none": (lambda o: o[0] == "None", 1),
     "count_by": (lambda f, xs: sum(1 for x in xs if f(x)), 2), "sum_by": (lambda f, xs: sum(map(f, xs)), 2),
     "list_any": (lambda f, xs: any(map(f, xs)), 2), "cond": (lambda t, a, b: a if t else b, 3),
-    "codes": (lambda text: tuple(text.encode()), 1), "decimal": (lambda n: tuple(str(n).encode()), 1), "bytes_eq": (lambda a, b: a == b, 2),
-    "flat_map": (lambda f, xs: tuple(y for x in xs for y in f(x)), 2),
+    "codes": (str.encode, 1), "decimal": (lambda n: str(n).encode(), 1), "bytes_eq": (same, 2),
+    "flat_map": (lambda f, xs: joined(tuple(map(f, xs))), 2),
     "little_number": (little_number, 2), "little_bytes": (lambda n, x: tuple((x >> (8 * k)) & 255 for k in range(n)), 2),
 }
-CONSTANTS = {"true": True, "false": False, "zero": 0, "None": Con(("None",)), "Some": lambda x: Con(("Some", x))}
-OPERATORS = {
-    "+": lambda a, b: a + b, "-": lambda a, b: max(0, a - b), "*": lambda a, b: a * b, "/": lambda a, b: a // b if b else 0,
-    "%": lambda a, b: a % b if b else a, "^": lambda a, b: a ** b, "++": lambda a, b: a + b, "∷": lambda a, b: (a,) + b, "==": lambda a, b: a == b,
-}
+RUNTIME["none"], RUNTIME["some"] = Con(("None",)), lambda x: Con(("Some", x))
+CONSTANTS = {"true": Meaning("True", -1), "false": Meaning("False", -1), "zero": Meaning("0", -1), "None": Meaning("none", -1), "Some": Meaning("some", 1)}
 
 
 class Module:
     """One file of definitions: what it names, and its functions by their clauses."""
 
-    def __init__(self, world, key, text):
-        self.world, self.key = world, key
-        self.names, self.clauses, self.arity, self.cache = {}, {}, {}, {}
-        self.overrides, self.remembered = {}, set()
+    def __init__(self, world: "World", key: Key, text: str) -> None:
+        self.world, self.key, self.place = world, key, len(world.modules)
+        self.names: Dict[str, Tuple[Any, ...]] = {}
+        self.clauses: Dict[str, List[str]] = {}
+        self.meanings: Dict[str, Meaning] = {}
+        self.overrides: Dict[str, Meaning] = {}
+        self.remembered: Dict[str, Tuple[int, bool]] = {}
         self.read(text)
 
-    def read(self, text):
+    def read(self, text: str) -> None:
         text = re.sub(r"--[^\n]*", "", text)
         # variants under a name for all of them, as `told.Ready`, get plain names of their own
         for type_name, local in re.findall(r"^use Rattle\.[\w.]+\.(\w+)\.TheVariants as (\w+)$", text, re.M):
             for name in set(re.findall(rf"\b{local}\.(\w+)", text)):
                 self.names[f"{local}_{name}"] = ("variant", type_name, name)
             text = re.sub(rf"\b{local}\.(\w+)", rf"{local}_\1", text)
-        entries, current = [], []
+        entries: List[List[str]] = []
+        current: List[str] = []
         for line in text.split("\n"):
             if line and not line[0].isspace() and line[0] not in ")}":
                 entries.append(current)
@@ -233,7 +225,7 @@ class Module:
         for entry in entries:
             self.entry("\n".join(entry))
 
-    def entry(self, text):
+    def entry(self, text: str) -> None:
         if text.startswith(("use ", "pub use ")):
             self.use(re.sub(r"^(pub )?use ", "", text.strip()))
         elif re.match(r"(pub )?data ", text):
@@ -245,7 +237,7 @@ class Module:
             if name:
                 self.clauses.setdefault(name.group(0), []).append(text)
 
-    def use(self, text):
+    def use(self, text: str) -> None:
         match = re.match(r"Rattle\.(\w+)\.(?:specs|proofs)\.([\w.]+?)\.\{(.*)\}$", text, re.S)
         if not match:
             return
@@ -262,17 +254,17 @@ class Module:
             elif (crate, path) != self.key:
                 self.names[local] = ("import", (crate, path), name)
 
-    def data(self, text):
+    def data(self, text: str) -> None:
         type_name = re.search(r"data (\w+)", text).group(1)
         for name, rest in re.findall(r"^\s+(\w+) :(.*)$", text, re.M):
             self.names[name] = ("variant", type_name, name)
             named = sum(len(group.split()) for group in re.findall(r"\(([\w ]+) :", rest))
             self.world.carried[type_name, name] = named or rest.count("→")
 
-    def variant_of(self, name):
+    def variant_of(self, name: str) -> Optional[Tuple[Any, ...]]:
         entry = self.names.get(name)
         seen = 0
-        module = self
+        module: Optional[Module] = self
         while entry and entry[0] == "import" and seen < 9:
             module = self.world.modules.get(entry[1])
             if not module:
@@ -280,13 +272,30 @@ class Module:
             entry, seen = module.names.get(entry[2]), seen + 1
         return entry if entry and entry[0] == "variant" else None
 
-    def lookup(self, name):
-        if name in self.cache:
-            return self.cache[name]
-        self.cache[name] = value = self.find(name)
-        return value
+    def override(self, name: str, function: Any, arity: int = 0) -> None:
+        """Another function (or with no arguments a value) stands for what this file means by a name."""
+        self.overrides[name] = meaning = Meaning(f"o_{self.place}_{len(self.overrides)}" if name not in self.overrides else self.overrides[name].code, arity)
+        self.world.space[meaning.code] = function if arity else lambda: function
 
-    def find(self, name):
+    def remember(self, *names: str, depth: int = 0, for_good: bool = False) -> None:
+        """These functions are evaluated once for each argument, until the world forgets, or for good. An argument is told from others by its
+        parts as deep as this, and then by which objects they are."""
+        self.remembered.update({name: (depth, for_good) for name in names})
+
+    def lookup(self, name: str) -> Any:
+        """What a name of this file stands for, as a value."""
+        meaning = self.meaning_of(name)
+        if meaning.arity < 0:
+            return eval(meaning.code, self.world.space)
+        function = self.world.space[meaning.code]
+        return function() if meaning.arity == 0 else curried(lambda *values: self.world.space[meaning.code](*values), meaning.arity)
+
+    def meaning_of(self, name: str) -> Meaning:
+        if name not in self.meanings:
+            self.meanings[name] = self.find(name)
+        return self.meanings[name]
+
+    def find(self, name: str) -> Meaning:
         if name in self.overrides:
             return self.overrides[name]
         variant = self.variant_of(name)
@@ -296,56 +305,57 @@ class Module:
             return self.function(name)
         entry = self.names.get(name)
         if entry and entry[0] == "constant":
-            return self.world.constants[entry[1], entry[2]]
+            return Meaning(repr(self.world.constants[entry[1], entry[2]]), -1)
         if entry and entry[0] == "import" and entry[1] in self.world.modules:
-            return self.world.modules[entry[1]].lookup(entry[2])
+            return self.world.modules[entry[1]].meaning_of(entry[2])
         original = entry[2] if entry else name
         if original in CONSTANTS:
             return CONSTANTS[original]
         if original in BUILTINS:
-            return curried(*BUILTINS[original])
+            return Meaning(f"b_{original}", BUILTINS[original][1])
         raise NameError(f"{name} in {self.key}")
 
-    def function(self, name):
+    def split(self, text: str) -> Tuple[List[str], List[str]]:
+        """A clause's patterns and its body, unread."""
+        tokens = tokens_of(text)
+        depth = 0
+        for place, token in enumerate(tokens):
+            depth += (token in ("(", "{", "[")) - (token in (")", "}", "]"))
+            if token == "=" and depth == 0:
+                return tokens[1:place], tokens[place + 1:]
+        raise SyntaxError(f"no clause: {text}")
+
+    def function(self, name: str) -> Meaning:
+        """A definition of this file; it is written when it is called first."""
+        code = f"d_{self.place}_{len(self.meanings)}"
+        arity = len(self.patterns(self.split(self.clauses[name][0])[0]))
+
+        def first_call(*values: Any) -> Any:
+            self.write(name, code, arity)
+            return self.world.space[code](*values)
+
+        self.world.space[code] = first_call
+        return Meaning(code, arity)
+
+    def write(self, name: str, code: str, arity: int) -> None:
+        """Puts the function that evaluates a definition into the world's space."""
         clauses = []
         for text in self.clauses[name]:
-            tokens = tokens_of(text)
-            equals, depth = 0, 0
-            for place, token in enumerate(tokens):
-                depth += token in "({[" if token in ("(", "{", "[") else 0
-                depth -= 1 if token in (")", "}", "]") else 0
-                if token == "=" and depth == 0:
-                    equals = place
-                    break
-            patterns = self.patterns(tokens[1:equals])
-            parser = Parser(tokens[equals + 1:])
+            left, right = self.split(text)
+            parser = Parser(right)
             body = parser.expression()
             if parser.peek() is not None:
                 raise SyntaxError(f"{name}: {parser.tokens[parser.at:parser.at + 9]} is left over")
-            clauses.append((patterns, self.compile(body)))
-        arity = len(clauses[0][0])
-        if arity == 0:
-            return clauses[0][1]({})
+            clauses.append((self.patterns(left), body))
+        exec(Writer(self.meaning_of).definition(code, clauses), self.world.space)
+        if arity == 0 or name in self.remembered:
+            depth, for_good = self.remembered.get(name, (0, True))
+            known = {} if for_good else self.world.told_apart.setdefault(code, {})
+            self.world.space[code] = remembering(self.world.space[code], depth, known)
 
-        known = {} if name in self.remembered else None
-
-        def apply(*values):
-            if known is None:
-                return evaluated(*values)
-            if values not in known:
-                known[values] = evaluated(*values)
-            return known[values]
-
-        def evaluated(*values):
-            for patterns, body in clauses:
-                bound = {}
-                if all(matches(p, v, bound) for p, v in zip(patterns, values)):
-                    return body(bound)
-            raise ValueError(f"{name}: no clause for {str(values)[:200]}")
-        return curried(apply, arity)
-
-    def patterns(self, tokens):
-        parser, found = Parser(tokens), []
+    def patterns(self, tokens: List[str]) -> List[Tree]:
+        parser = Parser(tokens)
+        found: List[Tree] = []
         while parser.peek() is not None:
             if parser.peek() == "{":
                 while parser.take() != "}":
@@ -354,7 +364,7 @@ class Module:
             found.append(self.pattern(parser.atom()))
         return found
 
-    def pattern(self, tree):
+    def pattern(self, tree: Tree) -> Tree:
         kind = tree[0]
         if kind == "name":
             name = tree[1]
@@ -375,7 +385,7 @@ class Module:
         if kind == "op" and tree[1] == "∷":
             return ("cons", self.pattern(tree[2]), self.pattern(tree[3]))
         if kind == "app":
-            parts = []
+            parts: List[Tree] = []
             while tree[0] == "app":
                 parts.insert(0, tree[2])
                 tree = tree[1]
@@ -386,73 +396,16 @@ class Module:
             return ("con", f"{variant[1]}.{variant[2]}" if variant else name, [self.pattern(p) for p in parts])
         raise SyntaxError(f"no pattern: {tree}")
 
-    def compile(self, tree):
-        kind = tree[0]
-        if kind == "name":
-            name = tree[1]
-            return lambda bound: bound[name] if name in bound else self.lookup(name)
-        if kind == "number":
-            return lambda bound: tree[1]
-        if kind == "text":
-            return lambda bound: tree[1]
-        if kind == "list":
-            return lambda bound: ()
-        if kind == "pair":
-            parts = [self.compile(part) for part in tree[1]]
-            return lambda bound: Rec({str(k): part(bound) for k, part in enumerate(parts)})
-        if kind == "if":
-            test, yes, no = map(self.compile, tree[1:])
-            return lambda bound: yes(bound) if test(bound) else no(bound)
-        if kind == "let":
-            value, body = self.compile(tree[2]), self.compile(tree[3])
-            return lambda bound: body({**bound, tree[1]: value(bound)})
-        if kind == "fun":
-            body = self.compile(tree[2])
-            return lambda bound: lambda x: body({**bound, tree[1]: x})
-        if kind == "app":
-            function, argument = self.compile(tree[1]), self.compile(tree[2])
-            return lambda bound: function(bound)(argument(bound))
-        if kind == "field":
-            base = self.compile(tree[1])
-            return lambda bound: base(bound)[tree[2]]
-        if kind == "record":
-            base = self.compile(tree[1]) if tree[1] else None
-            fields = [(name, self.compile(value)) for name, value in tree[2]]
-            return lambda bound: Rec({**(base(bound) if base else {}), **{name: value(bound) for name, value in fields}})
-        if kind == "op":
-            left, right = self.compile(tree[2]), self.compile(tree[3])
-            if tree[1] == "&&":
-                return lambda bound: left(bound) and right(bound)
-            if tree[1] == "||":
-                return lambda bound: left(bound) or right(bound)
-            operator = OPERATORS[tree[1]]
-            return lambda bound: operator(left(bound), right(bound))
-        raise SyntaxError(f"no value: {tree}")
-
-
-def matches(pattern, value, bound):
-    kind = pattern[0]
-    if kind == "any":
-        return True
-    if kind == "bind":
-        bound[pattern[1]] = value
-        return True
-    if kind == "value":
-        return value == pattern[1]
-    if kind == "nil":
-        return value == ()
-    if kind == "cons":
-        return value != () and matches(pattern[1], value[0], bound) and matches(pattern[2], value[1:], bound)
-    if kind == "suc":
-        return value > 0 and matches(pattern[1], value - 1, bound)
-    return value[0] == pattern[1] and all(matches(p, v, bound) for p, v in zip(pattern[2], value[1:]))
-
 
 class World:
     """All definitions of the crates."""
 
-    def __init__(self, root, crates):
-        self.modules, self.carried, self.constants = {}, {}, {}
+    def __init__(self, root: Path, crates: List[str]) -> None:
+        self.modules: Dict[Key, Module] = {}
+        self.carried: Dict[Tuple[str, str], int] = {}
+        self.constants: Dict[Tuple[str, str], int] = {}
+        self.space: Dict[str, Any] = {**RUNTIME, **{f"b_{name}": function for name, (function, _) in BUILTINS.items()}}
+        self.told_apart: Dict[str, Dict[Any, Any]] = {}
         for crate in crates:
             for source in sorted((root / "crates" / crate / "src").glob("*.rt")):
                 self.enums(source.read_text())
@@ -461,42 +414,49 @@ class World:
                 key = (crate, source.stem)
                 self.modules[key] = Module(self, key, source.read_text())
 
-    def enums(self, text):
+    def enums(self, text: str) -> None:
         text = re.sub(r"//[^\n]*", "", text)
         for name, body in re.findall(r"enum (\w+) \{(.*?)\n\}", text, re.S):
             for variant, parts in re.findall(r"(\w+)(\([^)]*\)|\s*\{[^}]*\})?,", body):
                 count = 0 if not parts else parts.count(",") + 1 if parts.startswith("(") else parts.count(":")
                 self.carried[name, variant] = count
 
-    def numbers(self, crate, text):
+    def numbers(self, crate: str, text: str) -> None:
         """The constants of a source file: numbers, and sums and products of earlier ones."""
         for name, value in re.findall(r"^pub const (\w+): [iu]\w+ = ([\w +*-]+);", text, re.M):
             parts = [part if part in "+-*" else self.number(crate, part) for part in value.split()]
             if None not in parts:
                 self.constants[crate, name] = eval(" ".join(map(str, parts)))
 
-    def number(self, crate, word):
+    def number(self, crate: str, word: str) -> Optional[int]:
         """The number that a word of such a constant is, or None."""
         digits = word.replace("_", "")
         return int(digits, 0) if re.fullmatch(r"0x[0-9a-fA-F]+|\d+", digits) else self.constants.get((crate, word))
 
-    def variant(self, type_name, name):
+    def variant(self, type_name: str, name: str) -> Meaning:
         full = f"{type_name}.{name}"
+        code = "v_" + re.sub(r"\W", "_", full)
         count = self.carried[type_name, name]
-        return Con((full,)) if count == 0 else curried(lambda *xs: Con((full,) + xs), count)
+        self.space[code] = Con((full,)) if count == 0 else lambda *values: Con((full, *values))
+        return Meaning(code, count or -1)
 
-    def get(self, crate, file, name):
+    def forget(self) -> None:
+        """What was remembered of values that may be gone."""
+        for known in self.told_apart.values():
+            known.clear()
+
+    def get(self, crate: str, file: str, name: str) -> Any:
         return self.modules[crate, file].lookup(name)
 
 
-def in_deep_stack(function):
+def in_deep_stack(function: Callable[[], int]) -> int:
     """Runs a function in a thread whose stack is deep enough for recursions over the definitions' lists."""
-    result = []
+    result: List[int] = []
     thread = threading.Thread(target=lambda: result.append(function()))
     thread.start()
     thread.join()
     return result[0] if result else 1
 
 
-def repository():
+def repository() -> Path:
     return Path(__file__).resolve().parents[2]

@@ -3,7 +3,7 @@
 The definitions of the core's step are compared with other programs elsewhere; here they are left out, so that the machine's
 definitions are evaluated alone.
 """
-from evaluate import Con, Rec
+from translation import Con, Rec
 
 MASK = 0xFFFFFFFF
 RAM, RAM_END = 0x80000000, 0x80400000

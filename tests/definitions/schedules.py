@@ -1,11 +1,12 @@
 """Schedules that are worth a look, each with its program and shape (nodes, sets, ways, log entries)."""
+from typing import List
 
 
-def steps(node, count):
+def steps(node: int, count: int) -> List[str]:
     return [f"step {node}"] * count
 
 
-def delivered(*numbers):
+def delivered(*numbers: int) -> List[str]:
     return [f"deliver {number}" for number in numbers]
 
 

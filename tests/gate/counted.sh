@@ -34,6 +34,20 @@ counted_run() { # order, seed, options.. program
   "$program" replay --statistics --nodes 4 "${@: -1}" "$work/journal" >/dev/null 2>"$work/replayed"
   diff <(grep '^stat ' "$work/report") <(grep '^stat ' "$work/replayed")
 }
+# A run by threads has another schedule each time, so its numbers are held against its own summary; on one node its journal is the one of a run in rounds.
+counted_threads() { # options.. program
+  "$program" run --statistics "$@" >"$work/console" 2>"$work/report"
+  [ "$?" -le 10 ] && [ "$(sed -n 's/^stat events //p' "$work/report")" = "$(sed -n 's/^events //p' "$work/report")" ] &&
+    [ "$(awk '/^stat [0-9]+ committed / { sum += $4 } END { print sum }' "$work/report")" = "$(sed -n 's/^committed //p' "$work/report")" ] &&
+    [ "$(grep -v '^stat ' "$work/report" | grep -c .)" -gt 4 ]
+}
+is_so "a run by threads is counted" counted_threads --nodes 4 --lose-every 60 --wait 500 --budget 5000 $count
+one_node() {
+  "$program" run --statistics --nodes 1 --interval 10 examples/first/a.hex >"$work/console" 2>"$work/report" &&
+    "$program" run --statistics --order round --nodes 1 --interval 10 examples/first/a.hex >"$work/again" 2>"$work/rounds" &&
+    cmp "$work/console" "$work/again" && diff "$work/report" "$work/rounds" && grep -q '^stat events ' "$work/report"
+}
+is_so "a run by one thread is counted as one in rounds" one_node
 for seed in 1 2 3; do
   for order in round drawn; do
     is_so "a run in order $order by seed $seed is counted as its journal" counted_run $order $seed --nodes 4 --lose-every 60 --wait 500 --budget 5000 $count
@@ -107,7 +121,19 @@ for script in examples/shared/*.script; do
   is_so "its accesses are legal" judged $count "$script" 2
 done
 "$program" run --nodes 4 --order drawn --seed 5 --lose-every 60 --journal $count >/dev/null 2>"$work/long"
-is_so "the rows of a run" rows $count "$work/long" 4
+is_so "the rows of a replay of a run's journal" rows $count "$work/long" 4
+run_rows() { # a run has the rows of its journal's replay, and its own summary
+  "$program" run --nodes 4 --order drawn --seed 5 --lose-every 60 --accesses $count >"$work/console" 2>"$work/rows"
+  "$program" replay --accesses --nodes 4 $count "$work/long" >"$work/again" 2>"$work/replayed"
+  cmp "$work/console" "$work/again" && diff "$work/rows" "$work/replayed" && [ "$(grep -c ',"amoadd' "$work/rows")" -gt 1 ]
+}
+is_so "the rows of a run in an order" run_rows
+thread_rows() { # by threads: the header, rows that are legal by themselves, and the marked summary
+  "$program" run --nodes 4 --accesses --lose-every 60 $count >/dev/null 2>"$work/rows"
+  [ "$(head -n 1 "$work/rows")" = 'core,pc,instruction,address,size,read,written,done' ] &&
+    [ "$(grep -vc '^#' "$work/rows")" -eq $(($(sed -n 's/^# committed //p' "$work/rows") + 1)) ]
+}
+is_so "the rows of a run by threads" thread_rows
 is_so "its accesses are legal" judged $count "$work/long" 4
 
 if has shellcheck "looking through this script"; then

@@ -41,7 +41,8 @@ fi
 
 if command -v mypy >/dev/null; then
   is_so "the package is typed" typed python safetynet
-  is_so "the examples are typed" typed python/examples schedules.py explore.py adversary.py fuzz.py
+  mapfile -t examples < <(cd python/examples && printf '%s\n' *.py)
+  is_so "the examples are typed" typed python/examples "${examples[@]}"
   mapfile -t tests < <(cd python/tests && printf '%s\n' *.py)
   is_so "the tests are typed" typed python/tests "${tests[@]}"
 else
@@ -72,9 +73,11 @@ shows() { # example, what it prints, its words..
   false
 }
 if python=$(python_with); then
-  is_so "explore counts outcomes" shows explore "^interleavings: [1-9]" --seconds 300
-  is_so "and none that one memory hasn't" [ "$(grep -Ec '^  (........|not validated)  ' "$work/shown")" = "$(grep -Ec '^  00000(102|201|202)  ' "$work/shown")" ]
-  is_so "the adversary's trace is legal" shows adversary "the committed trace is legal"
+  is_so "explore counts outcomes" shows explore "^Observation SB Never 0 [1-9]" --seconds 300
+  is_so "and none that one memory hasn't" [ "$(grep -c '[:*]>' "$work/shown")" = "$(grep -Ec ':>0:x7=(0; 1:x7=1|1; 1:x7=0|1; 1:x7=1);$' "$work/shown")" ]
+  is_so "the scheduler's trace is legal" shows scheduler "the committed trace is legal"
+  printf '%s\n' core,op,address,size,value 0,store,0x80001000,4,7 1,load,0x80001002,2,0 >"$work/table.csv"
+  is_so "a table is judged" shows judge "^legal: 2 accesses" "$work/table.csv"
 else
   skipped "Python 3.9"
 fi

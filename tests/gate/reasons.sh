@@ -34,6 +34,11 @@ says 1 usage '--node: replay has no such option; did you mean --nodes?' replay -
 says 1 usage '--order slow: an order is threads, round or drawn' run --order slow "$first"
 says 1 usage '--trace and --journal don'\''t stand together' run --trace --journal "$first"
 says 1 usage '--statistics and --states don'\''t stand together' replay --statistics --states "$first" a.script
+says 1 usage '--accesses and --statistics don'\''t stand together' run --accesses --statistics "$first"
+says 1 usage '--seeds stands with --order round or --order drawn alone' run --seeds 1-2 "$first"
+printf 'step 0\nstep 0\n' >two.script
+says 1 usage '--only 2-3: the script has 2 events' replay --states --only 2-3 "$first" two.script
+says 1 usage '--only 1-1: the script has 0 events' replay --states --only 1-1 "$first" /dev/null
 says 1 usage 'a.script: drive takes no more files; see safetynet drive --help' drive "$first" a.script
 says 1 usage 'replay: SCRIPT is lacking; see safetynet replay --help' replay "$first"
 says 1 usage 'a word isn'\''t UTF-8' replay $'\xff'

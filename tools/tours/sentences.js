@@ -9,6 +9,9 @@ const byteWords = (byte) => {
   return code > 32 && code < 127 ? `${byte} (${String.fromCharCode(code)})` : byte;
 };
 
+/** A message by its kind. */
+const kindWords = (message) => `${/^[aeiou]/.test(message.kind) ? "an" : "a"} ${message.kind}`;
+
 /** What a log's new entries keep, as the end of a sentence. */
 function notedWords({ before, after }) {
   const fresh = after.log.slice(before.log.length);
@@ -33,6 +36,25 @@ function holdingWords(unready) {
       return `node ${one.node} (${causes.length ? list(causes) : `it has reported ${one.reported}`})`;
     }),
   );
+}
+
+/** A node with what is open at it and at its home since this interval or an earlier one, as the lines of a refused validation have it. */
+function openSince(state, node, interval) {
+  const { miss, put } = state.nodes[node];
+  const began = (one) => (one && one.issued <= interval ? one : null);
+  const homes = [...state.homes.values()].filter((home) => home.block % state.nodes.length === node && home.transaction && home.transaction.begun <= interval);
+  return { node, reported: state.controller.reported[node], miss: began(miss), put: began(put), transactions: homes };
+}
+
+/** Why a recovery goes back to its checkpoint and to no later one: who hasn't reported the next, and what holds them back. */
+function pointWords(state) {
+  const { point, reported } = state.controller;
+  const late = reported.flatMap((number, node) => (number > point ? [] : [openSince(state, node, point)]));
+  const held = late.filter((one) => one.miss || one.put || one.transactions.length > 0);
+  const who = late.length > 4 ? `${late.length} nodes` : list(late.map((one) => `node ${one.node}`));
+  const next = late.length === 0 ? `all nodes have reported checkpoint ${point + 1}, and it isn't validated yet` : `${who} ${late.length === 1 ? "hasn't" : "haven't"} reported checkpoint ${point + 1}`;
+  const back = held.length === 0 ? "" : `. Held back: ${holdingWords(held)}`;
+  return `${point === 0 ? "the start, because no later one is validated" : "the last one that is validated"}: ${next}${back}`;
 }
 
 /** An instruction that is done. */
@@ -78,8 +100,8 @@ const SENTENCES = {
   "evict netfull": NO_ROOM,
   "edge edged": ({ node, numbers }) => `Node ${node} takes checkpoint ${numbers[0]}: its registers are kept, and its next interval begins.`,
   "edge checkpointsfull": ({ node }) => `Node ${node} has as many checkpoints as it may that aren't validated. It takes no more.`,
-  "hop hopped": ({ operands, message, next }) => `Message ${operands[0]}, a ${message.kind}, moves on to switch ${switchOf(next, operands[0])}.`,
-  "hop lostindead": ({ operands, message }) => `Message ${operands[0]}, a ${message.kind}, comes to a dead switch and is lost.`,
+  "hop hopped": ({ operands, message, next }) => `Message ${operands[0]}, ${kindWords(message)}, moves on to switch ${switchOf(next, operands[0])}.`,
+  "hop lostindead": ({ operands, message }) => `Message ${operands[0]}, ${kindWords(message)}, comes to a dead switch and is lost.`,
   "hop arrived": ({ operands, message }) => `Message ${operands[0]} stands at node ${message.to} already.`,
   "hop nomessage": NO_MESSAGE,
   "deliver held": ({ message, after }) =>
@@ -90,7 +112,7 @@ const SENTENCES = {
   "deliver notarrived": ({ message }) => `Message ${message.id} hasn't come to node ${message.to} yet.`,
   "deliver nomessage": NO_MESSAGE,
   "lose lost": ({ operands, message }) =>
-    `Message ${operands[0]}, a ${message.kind}, is lost.${message.kind === "ready" || message.kind === "advance" ? "" : ` Whoever waits for it waits for ever, and no later checkpoint can be validated: only a recovery helps.`}`,
+    `Message ${operands[0]}, ${kindWords(message)} to node ${message.to}${message.kind === "ready" || message.kind === "advance" ? ", is lost." : ` about block ${message.block}, is lost. Whoever waits for it waits for ever, and no later checkpoint can be validated: only a recovery helps.`}`,
   "lose nomessage": NO_MESSAGE,
   "kill killed": ({ operands }) => `Switch ${operands[0]} is dead: what is in it and what reaches it is lost.`,
   "kill alreadydead": ({ operands }) => `Switch ${operands[0]} is dead already.`,
@@ -104,9 +126,10 @@ const SENTENCES = {
   "validate notready": ({ line, numbers }) =>
     `The next checkpoint can't be validated: node ${numbers[0]} hasn't reported it. Held back: ${holdingWords(line.unready)}.`,
   "validate netfull": NO_ROOM,
-  "recover recovered": ({ numbers, line }) =>
-    `All nodes go back to checkpoint ${numbers[0]}: ${count(Number(numbers[2]), "log entry is", "log entries are")} undone, ${count(Number(numbers[4]), "message is", "messages are")} dropped${takenBackWords(line.recovery.taken_back)}.`,
-  "recover cutoff": ({ numbers }) => `No living switches join node ${numbers[0]} and node ${numbers[1]}: the machine can't recover.`,
+  "recover recovered": ({ numbers, line, state }) =>
+    `All nodes go back to checkpoint ${numbers[0]}, ${pointWords(state)}. ${count(Number(numbers[2]), "log entry is", "log entries are")} undone, ${count(Number(numbers[4]), "message is", "messages are")} dropped${takenBackWords(line.recovery.taken_back)}.`,
+  "recover cutoff": ({ numbers }) =>
+    numbers[0] === numbers[1] ? `Both switches of node ${numbers[0]} are dead: the machine can't recover.` : `No living switches join node ${numbers[0]} and node ${numbers[1]}: the machine can't recover.`,
   "input given": ({ node, operands }) => `Node ${node} is given the byte ${byteWords(operands[1])}.`,
 };
 
@@ -163,8 +186,9 @@ function releasedWords(state, next) {
 }
 
 function takenBackWords(taken) {
-  const words = taken.map((many, node) => (many === 0 ? "" : `core ${node} takes back ${count(many, "instruction")}`)).filter((word) => word !== "");
-  return words.length === 0 ? "" : `, and ${list(words)}`;
+  const cores = taken.flatMap((many, node) => (many === 0 ? [] : [node]));
+  if (cores.length > 4) return `, and ${cores.length} cores take back ${count(taken.reduce((one, other) => one + other), "instruction")}`;
+  return cores.length === 0 ? "" : `, and ${list(cores.map((node) => `core ${node} takes back ${count(taken[node], "instruction")}`))}`;
 }
 
 /** What a sentence may speak of. */

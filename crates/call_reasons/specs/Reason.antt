@@ -1,5 +1,5 @@
 -- The line that says why a call ended as it did, over the files that are there.
-use Rattle.std.specs.Prelude.{◌≡◌, ℕ, List, ◌++◌, codes, Option, Some, None}
+use Rattle.std.specs.Prelude.{◌≡◌, ℕ, List, ◌++◌, codes, decimal, Option, Some, None}
 use Rattle.sn_io.specs.Outside.{found_in}
 use Rattle.reasons.specs.Reason.{of_file, too_long, begun, line_of_reason}
 use Rattle.reasons.specs.Ends.{lack_reason, spent_reason, cut_off, trap_reason}
@@ -12,12 +12,15 @@ use Rattle.reasons.specs.Verdicts.{record_place, verdict_reason}
 use Rattle.rv_asm.specs.declared.fault.AsmCause.{AsmCause}
 use Rattle.sn_text.specs.declared.cause.ScriptCause.{ScriptCause}
 use Rattle.access_texts.specs.Lists.{said_by}
-use Rattle.command_words.specs.Request.{Request, Drive, Check, Judge}
-use Rattle.safetynet_main.specs.declared.status.ProgramCause.{ProgramCause}
-use Rattle.safetynet_main.specs.declared.status.ProgramCause.TheVariants.{TooLong, Load}
-use Rattle.safetynet_main.specs.declared.status.Status.{Status}
-use Rattle.safetynet_main.specs.declared.status.Status.TheVariants.{Done, Usage, StoreFault, BadProgram, BadScript, BadAsm, SinkFault, Budget}
-use Rattle.safetynet_main.specs.declared.status.Status.TheVariants.{Memory, CutOff, Refused, Trapped, InputFault}
+use Rattle.option_values.specs.declared.places.Places.{Places}
+use Rattle.command_words.specs.declared.request.ReplayReport.{ReplayReport}
+use Rattle.command_words.specs.declared.request.ReplayReport.TheVariants.{States}
+use Rattle.command_words.specs.Request.{Request, Replay, Drive, Check, Judge}
+use Rattle.call_status.specs.declared.status.ProgramCause.{ProgramCause}
+use Rattle.call_status.specs.declared.status.ProgramCause.TheVariants.{TooLong, Load}
+use Rattle.call_status.specs.declared.status.Status.{Status}
+use Rattle.call_status.specs.declared.status.Status.TheVariants.{Done, Usage, BadPlaces, StoreFault, BadProgram, BadScript, BadAsm, SinkFault, Budget}
+use Rattle.call_status.specs.declared.status.Status.TheVariants.{Memory, CutOff, Refused, Trapped, InputFault}
 use Rattle.call_reasons.specs.Files.{bytes_in, records_in}
 use Rattle.call_reasons.specs.Blame.{Files, Blamed, program_of, assembly_of, budget_of, blamed_of}
 use Rattle.call_reasons.specs.Verdict.{record_at, IsFound}
@@ -57,6 +60,19 @@ abbrev pub of_spent : List ℕ → Request → List ℕ
 of_spent text (Drive config watch program) = of_full text
 of_spent text ask = of_budget text (budget_of ask)
 
+-- a text, and then why places aren't shown: the script has only so many events
+unfoldable pub places_beyond : List ℕ → Places → ℕ → List ℕ
+places_beyond text only events = line_of_reason
+    (begun text ++ codes "--only " ++ decimal only.from ++ codes "-" ++ decimal only.to ++ codes ": the script has " ++ decimal events ++ codes " events")
+
+abbrev pub of_report : List ℕ → ReplayReport → ℕ → List ℕ
+of_report text (States (Some only)) events = places_beyond text only events
+of_report text _ events = text
+
+abbrev pub of_places : List ℕ → Request → ℕ → List ℕ
+of_places text (Replay config report watch program script) events = of_report text report events
+of_places text ask events = text
+
 -- a text, and then why a drive ended before its lines did
 unfoldable pub of_input : List ℕ → List ℕ
 of_input text = line_of_reason (begun text ++ codes "standard input can't be read to its end")
@@ -81,6 +97,7 @@ IsOfRecord held ask place text new = new ≡ text
 abbrev pub IsReason : Files → Request → Status → List ℕ → List ℕ → Type 0
 IsReason held ask Done text new = new ≡ text
 IsReason held ask Usage text new = new ≡ text
+IsReason held ask (BadPlaces events) text new = new ≡ of_places text ask events
 IsReason held ask StoreFault text new = new ≡ text
 IsReason held ask (BadProgram cause) text new = new ≡ of_program text held (program_of ask) cause
 IsReason held ask (BadScript cause) text new = new ≡ of_lines text held (blamed_of held ask) cause

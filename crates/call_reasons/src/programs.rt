@@ -6,10 +6,10 @@ ghost use Rattle.call_reasons.specs.Reason.{of_program, of_assembly};
 
 use crate::blame::{assembly_of, program_of};
 use crate::content::{PROGRAM_LIMIT, fetch};
+use call_status::ProgramCause;
 use command_words::Request;
 use reasons::{Reason, write_assembly, write_longer, write_program};
 use rv_asm::AsmCause;
-use safetynet_main::ProgramCause;
 use sn_base::Memory;
 use sn_io::Store;
 use std::alloc::Global;

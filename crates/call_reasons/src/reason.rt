@@ -2,19 +2,48 @@
 ghost use Rattle.std.specs.Prelude.{◌≡◌, ℕ, List, Option, Some, OnOk, true};
 ghost use Rattle.command_words.specs.Request.{as_request, request_fits};
 ghost use Rattle.call_reasons.specs.Blame.{budget_of};
-ghost use Rattle.call_reasons.specs.Reason.{of_budget, of_full, of_spent, of_input, IsOfRecord, IsReason};
+ghost use Rattle.call_reasons.specs.Reason.{places_beyond, of_places, of_budget, of_full, of_spent, of_input, IsOfRecord, IsReason};
 
 use crate::accesses::write_accesses;
 use crate::blame::budget_of;
 use crate::lines::write_lines;
 use crate::programs::{write_assembly_of, write_program_of};
 use crate::verdict::write_verdict;
-use command_words::Request;
+use call_status::Status;
+use command_words::{ReplayReport, Request};
+use option_values::Places;
 use reasons::{Lack, Reason, write_cut_off, write_lack, write_spent, write_trapped};
-use safetynet_main::Status;
 use sn_base::Memory;
 use sn_io::Store;
 use std::alloc::Global;
+
+#[tactic(auto, unfolding(crate::specs::Reason::places_beyond))]
+fn write_beyond(reason: &mut Reason, only: &Places, events: u32) -> Result<(), Memory>
+    ensures { OnOk result (reason.new ≡ places_beyond reason.old only.now events) }
+{
+    reason.begin()?;
+    reason.text("--only ")?;
+    reason.number(u64::from(only.from))?;
+    reason.text("-")?;
+    reason.number(u64::from(only.to))?;
+    reason.text(": the script has ")?;
+    reason.number(u64::from(events))?;
+    reason.text(" events")?;
+    reason.end()
+}
+
+// Why places aren't shown, of which a script with so many events hasn't the last.
+fn write_places(reason: &mut Reason, request: &Request, events: u32) -> Result<(), Memory>
+    ensures { OnOk result (reason.new ≡ of_places reason.old (as_request request.now) events) }
+{
+    let Request::Replay(asked) = request else {
+        return Ok(());
+    };
+    match &asked.report {
+        ReplayReport::States(Some(only)) => write_beyond(reason, only, events),
+        _ => Ok(()),
+    }
+}
 
 // Why a drive ended at an event.
 #[tactic(auto, unfolding(crate::specs::Reason::of_full))]
@@ -95,6 +124,7 @@ pub fn write_reason<S: Store>(
 {
     match status {
         Status::Done | Status::Usage | Status::StoreFault => Ok(()),
+        Status::BadPlaces(events) => write_places(reason, request, events),
         Status::BadProgram(cause) => write_program_of(alloc, store, reason, request, cause),
         Status::BadScript(cause) => write_lines(alloc, store, reason, request, cause),
         Status::BadAsm(cause) => write_assembly_of(alloc, store, reason, request, cause),

@@ -3,12 +3,12 @@ ghost use Rattle.std.specs.Prelude.{◌≡◌, IfOk, true};
 ghost use Rattle.command_words.specs.Request.{as_request, request_fits};
 
 use call_reasons::{file_of, write_notes, write_reason};
+use call_status::{ProgramCause, Status};
 use command_words::{Request, read_words};
 use elf_load::LoadCause;
 use reasons::Reason;
 use rv_asm::AsmCause;
 use rv_core::Cause;
-use safetynet_main::{ProgramCause, Status};
 use sn_base::{Memory, NodeId};
 use sn_io::MemStore;
 use sn_text::ScriptCause;
@@ -91,8 +91,14 @@ fn program_rows() -> [Row; 4] {
 
 const SCRIPT: &[u8] = b"step 0\nstepp 0\n";
 
-fn line_rows() -> [Row; 5] {
+fn line_rows() -> [Row; 6] {
     [
+        Row {
+            words: "safetynet replay --states --only 5-9 a.hex a.script",
+            files: &[("a.script", SCRIPT)],
+            status: Status::BadPlaces(7),
+            line: "# why: --only 5-9: the script has 7 events\n",
+        },
         Row {
             words: "safetynet replay a.hex a.script",
             files: &[("a.script", SCRIPT)],

@@ -2,7 +2,8 @@
 ghost use Rattle.std.specs.Prelude.{◌≢◌, IfOk};
 
 use crate::given::Given;
-use safetynet_main::{Status, safetynet};
+use call_status::Status;
+use safetynet_main::safetynet;
 use sn_base::Memory;
 use sn_io::{MemSink, MemStore, OpenGate};
 use sn_probe::Probe;

@@ -37,7 +37,7 @@ run_options =
     ∷ codes "interval" ∷ codes "wait" ∷ codes "lose-every" ∷ codes "kill" ∷ codes "budget" ∷ codes "seed" ∷ []
 
 abbrev pub run_app : App
-run_app = command_app (codes "run") (codes "program" ∷ []) (codes "order" ∷ codes "seeds" ∷ run_options) (codes "trace" ∷ codes "journal" ∷ codes "statistics" ∷ [])
+run_app = command_app (codes "run") (codes "program" ∷ []) (codes "order" ∷ codes "seeds" ∷ run_options) (codes "trace" ∷ codes "journal" ∷ codes "accesses" ∷ codes "statistics" ∷ [])
 
 abbrev pub monitor_app : App
 monitor_app = command_app (codes "monitor") (codes "program" ∷ []) run_options []

@@ -94,15 +94,17 @@ run_rules_of nodes entries =
     run_rules_by nodes (first_of (codes "interval") entries) (first_of (codes "wait") entries) (first_of (codes "lose-every") entries)
     (first_of (codes "kill") entries) (first_of (codes "budget") entries) (first_of (codes "seed") entries)
 
--- what a run shows by its two flags, which don't stand together
-abbrev pub run_report_by : Bool → Bool → Option RunReport
-run_report_by true true = None
-run_report_by true false = Some shown.Trace
-run_report_by false true = Some shown.Journal
-run_report_by false false = Some shown.Summary
+-- what a run shows by its three flags, no two of which stand together
+abbrev pub run_report_by : Bool → Bool → Bool → Option RunReport
+run_report_by false false false = Some shown.Summary
+run_report_by true false false = Some shown.Trace
+run_report_by false true false = Some shown.Journal
+run_report_by false false true = Some shown.Accesses
+run_report_by trace journal accesses = None
 
 abbrev pub run_report_of : List Row → Option RunReport
-run_report_of entries = run_report_by (flag_of (codes "trace") entries) (flag_of (codes "journal") entries)
+run_report_of entries =
+    run_report_by (flag_of (codes "trace") entries) (flag_of (codes "journal") entries) (flag_of (codes "accesses") entries)
 
 -- who has the next turn of a run: the threads decide it where no option says another
 abbrev pub run_order_by : Option Text → Option RunOrder
@@ -115,25 +117,28 @@ run_order_by (Some text) =
 abbrev pub run_order_of : List Row → Option RunOrder
 run_order_of entries = run_order_by (first_of (codes "order") entries)
 
--- whether the workers have their turns in an order, and nothing is shown beside the summary
-abbrev pub is_plain : RunOrder → RunReport → Bool
-is_plain order.Threads report = false
-is_plain order shown.Trace = false
-is_plain order shown.Journal = false
-is_plain order shown.Summary = true
+-- whether the workers have their turns in an order, and whether nothing is shown beside the summary
+abbrev pub is_ordered : RunOrder → Bool
+is_ordered order.Threads = false
+is_ordered order.Round = true
+is_ordered order.Drawn = true
 
--- how many runs there are, and whether they are counted: by the flag for statistics, a range of seeds, whether the run is plain, and whether one
--- seed is given
-abbrev pub run_scope_by : Bool → Option Seeds → Bool → Bool → Option RunScope
-run_scope_by false None plain seed = Some scope.One
-run_scope_by true None true seed = Some scope.Counted
-run_scope_by counted (Some seeds) true false = Some (scope.Seeds seeds counted)
-run_scope_by counted seeds plain seed = None
+abbrev pub is_summary : RunReport → Bool
+is_summary shown.Summary = true
+is_summary _ = false
+
+-- how many runs there are, and whether they are counted: by the flag for statistics, a range of seeds, whether the summary alone is shown, whether
+-- the turns come in an order, and whether one seed is given
+abbrev pub run_scope_by : Bool → Option Seeds → Bool → Bool → Bool → Option RunScope
+run_scope_by false None summary ordered seed = Some scope.One
+run_scope_by true None true ordered seed = Some scope.Counted
+run_scope_by counted (Some seeds) true true false = Some (scope.Seeds seeds counted)
+run_scope_by counted seeds summary ordered seed = None
 
 abbrev pub run_scope_of : RunOrder → RunReport → List Row → Option RunScope
 run_scope_of order report entries =
     option_and_then (λ seeds. run_scope_by
-    (flag_of (codes "statistics") entries) seeds (is_plain order report) (is_some (first_of (codes "seed") entries)))
+    (flag_of (codes "statistics") entries) seeds (is_summary report) (is_ordered order) (is_some (first_of (codes "seed") entries)))
     (seeds_by (first_of (codes "seeds") entries))
 
 abbrev pub run_of : List Row → Option Request

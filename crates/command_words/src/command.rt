@@ -133,7 +133,7 @@ fn run<'a>(alloc: Global) -> Result<Command<'a>, AllocError>
         "run",
         &["program"],
         &options,
-        &["trace", "journal", "statistics"],
+        &["trace", "journal", "accesses", "statistics"],
     )
 }
 

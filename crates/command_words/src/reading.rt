@@ -5,7 +5,7 @@ ghost use Rattle.option_values.specs.Runs.{run_rules_fit};
 ghost use Rattle.clap.specs.Words.{found_of, rows_of, first_of};
 ghost use Rattle.command_words.specs.Request.{ask_of, as_request, request_of, config_of, replay_of, drive_of, roll_of, run_rules_of, run_report_of};
 ghost use Rattle.command_words.specs.Request.{replay_report_of, report_fits};
-ghost use Rattle.command_words.specs.Request.{run_order_of, is_plain, run_scope_by, run_scope_of, scope_fits};
+ghost use Rattle.command_words.specs.Request.{run_order_of, is_ordered, is_summary, run_scope_by, run_scope_of, scope_fits};
 ghost use Rattle.command_words.specs.Request.{run_of, monitor_of, check_of, demo_of, as_replay, as_drive, as_roll, as_run, as_monitor, as_check};
 ghost use Rattle.command_words.specs.Request.{watch_fits, request_fits};
 ghost use Rattle.sn_base.specs.declared.limits.TheConstants.{EVENTS};
@@ -137,11 +137,16 @@ fn run_report(entries: &ArgMatches<'_>) -> Result<RunReport, WordsFault>
     ensures ok { IfOk result (λ report. run_report_of (rows_of (found_of entries.now)) ≡ Some report) }
     ensures usage { IfErr result (λ fault. (fault ≡ WordsFault.Usage) × (run_report_of (rows_of (found_of entries.now)) ≡ None)) }
 {
-    match (has_flag(entries, "trace"), has_flag(entries, "journal")) {
-        (true, true) => Err(WordsFault::Usage),
-        (true, false) => Ok(RunReport::Trace),
-        (false, true) => Ok(RunReport::Journal),
-        (false, false) => Ok(RunReport::Summary),
+    match (
+        has_flag(entries, "trace"),
+        has_flag(entries, "journal"),
+        has_flag(entries, "accesses"),
+    ) {
+        (false, false, false) => Ok(RunReport::Summary),
+        (true, false, false) => Ok(RunReport::Trace),
+        (false, true, false) => Ok(RunReport::Journal),
+        (false, false, true) => Ok(RunReport::Accesses),
+        _ => Err(WordsFault::Usage),
     }
 }
 
@@ -160,28 +165,36 @@ fn run_order(entries: &ArgMatches<'_>) -> Result<RunOrder, WordsFault>
     }
 }
 
-// Whether the workers have their turns in an order, and nothing is shown beside the summary.
-fn is_plain(order: &RunOrder, report: &RunReport) -> bool
-    ensures { result ≡ is_plain order.now report.now }
+// Whether the workers have their turns in an order.
+fn is_ordered(order: &RunOrder) -> bool
+    ensures { result ≡ is_ordered order.now }
 {
     match order {
         RunOrder::Threads => false,
-        RunOrder::Round | RunOrder::Drawn => match report {
-            RunReport::Summary => true,
-            RunReport::Trace | RunReport::Journal => false,
-        },
+        RunOrder::Round | RunOrder::Drawn => true,
+    }
+}
+
+// Whether nothing is shown beside the summary.
+fn is_summary(report: &RunReport) -> bool
+    ensures { result ≡ is_summary report.now }
+{
+    match report {
+        RunReport::Summary => true,
+        RunReport::Trace | RunReport::Accesses | RunReport::Journal => false,
     }
 }
 
 // One run, which is counted or isn't.
-fn one_run(is_counted: bool, is_plain: bool) -> Result<RunScope, WordsFault>
-    ensures ok { IfOk result (λ scope. (seed : Bool) → run_scope_by is_counted None is_plain seed ≡ Some scope) }
-    ensures usage { IfErr result (λ fault. (fault ≡ WordsFault.Usage) × ((seed : Bool) → run_scope_by is_counted None is_plain seed ≡ None)) }
+fn one_run(is_counted: bool, is_summary: bool) -> Result<RunScope, WordsFault>
+    ensures ok { IfOk result (λ scope. (ordered seed : Bool) → run_scope_by is_counted None is_summary ordered seed ≡ Some scope) }
+    ensures usage { IfErr result (λ fault. (fault ≡ WordsFault.Usage)
+        × ((ordered seed : Bool) → run_scope_by is_counted None is_summary ordered seed ≡ None)) }
     ensures fits { IfOk result (λ scope. scope_fits scope ≡ true) }
 {
     if !is_counted {
         Ok(RunScope::One)
-    } else if is_plain {
+    } else if is_summary {
         Ok(RunScope::Counted)
     } else {
         Err(WordsFault::Usage)
@@ -198,12 +211,13 @@ fn run_scope(
     ensures fits { IfOk result (λ scope. scope_fits scope ≡ true) }
 {
     let is_counted = has_flag(entries, "statistics");
-    let is_plain = is_plain(order, report);
+    let is_summary = is_summary(report);
+    let is_ordered = is_ordered(order);
     let has_seed = text_of(entries, "seed").is_some();
     match read_seeds(text_of(entries, "seeds")) {
-        Some(None) => one_run(is_counted, is_plain),
+        Some(None) => one_run(is_counted, is_summary),
         Some(Some(seeds)) => {
-            if is_plain && !has_seed {
+            if is_summary && is_ordered && !has_seed {
                 Ok(RunScope::Seeds(seeds, is_counted))
             } else {
                 Err(WordsFault::Usage)

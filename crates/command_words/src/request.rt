@@ -81,7 +81,7 @@ pub struct Run {
     pub rules: RunRules,
     pub report: RunReport,
     pub order: RunOrder,
-    /// More than one, and what is counted, are had in an order and beside the summary alone.
+    /// More than one are had in an order, and both these and what is counted beside the summary alone.
     pub scope: RunScope,
     /// The address of the word that is shown in the summary.
     pub watch: Option<u32>,

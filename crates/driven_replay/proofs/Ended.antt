@@ -1,6 +1,7 @@
 -- What holds of a drive that has ended.
-use Rattle.std.proofs.Common.{◌≡◌, ℕ, zero, suc, ◌+◌, ◌≤◌, List, [], ◌∷◌, ◌++◌, length, take, ◌⊎◌, refl, ap, sym, subst, ◌∙◌}
-use Rattle.std.proofs.Common.{append-nil, length-append, arith}
+use Rattle.std.proofs.Common.{◌≡◌, ℕ, ◌≤◌, List, [], ◌∷◌, ◌++◌, length, take, ◌⊎◌, refl, ap, subst, ◌∙◌}
+use Rattle.std.proofs.Common.{append-nil, arith}
+use Rattle.std.specs.Prelude.{IfOk, Result}
 use Rattle.sn_base.specs.Image.{ImageData}
 use Rattle.sn_base.specs.declared.config.Config.{Config}
 use Rattle.sn_base.specs.declared.event.Event.{Event}
@@ -8,7 +9,6 @@ use Rattle.sn_model.specs.Machine.{State}
 use Rattle.sn_io.specs.Outside.{followed_by}
 use Rattle.sn_machine.specs.Machine.{MachineData}
 use Rattle.consistent_cuts.specs.Headline.{IsRun, state_of_run}
-use Rattle.consistent_cuts.specs.Runs.{AllFit}
 use Rattle.line_source.specs.Lines.{LineRead}
 use Rattle.sn_probe.specs.Probes.{Meter, tallies_of}
 use Rattle.sink_pieces.specs.Pieces.{Piece, Ends, after, Breaks, console_text}
@@ -16,34 +16,20 @@ use Rattle.sink_pieces.proofs.PieceLaws.{after-append, console_text-append}
 use Rattle.sink_pieces.proofs.Begun.{console-after}
 use Rattle.script_replay.specs.declared.job.Showing.{Showing}
 use Rattle.script_replay.specs.Pieces.{end_pieces, turns_from, pieces_from}
-use Rattle.script_replay.specs.Played.{IsAtStart, end_now, told_left}
-use Rattle.script_replay.specs.Probed.{told_of_run}
-use Rattle.script_replay.specs.Scheduled.{replay_of}
+use Rattle.script_replay.specs.Played.{end_now}
 use Rattle.script_replay.specs.Shown.{output_of}
 use Rattle.script_replay.proofs.Lawful.{run-lawful}
-use Rattle.script_replay.proofs.Performed.{performed-told}
 use Rattle.script_replay.proofs.Shown.{console_text-turns}
 use Rattle.driven_replay.specs.declared.driving.DriveEnd.{DriveEnd}
+use Rattle.driven_replay.specs.declared.driving.DriveFault.{DriveFault}
 use Rattle.driven_replay.specs.declared.driving.DriveEnd.TheVariants.{Whole, TooMany}
-use Rattle.driven_replay.specs.Said.{said_by, event_in, events_of, IsLook}
-use Rattle.driven_replay.specs.Answers.{over_pieces, answers_to, last_of_drive, driven_pieces}
-use Rattle.driven_replay.specs.Answered.{IsFresh, HasAnswered, BreaksOff}
+use Rattle.driven_replay.specs.Said.{said_by, events_of, NeverBack, WantsMemory}
+use Rattle.driven_replay.specs.Answers.{over_pieces, answers_to, driven_pieces}
+use Rattle.driven_replay.specs.Answered.{IsFresh, MayBeDoneAlong, HasAnswered, BreaksOff}
 use Rattle.driven_replay.specs.declared.job.Drive.{Drive}
 use Rattle.driven_replay.specs.Driven.{SourceData, AreRead, IsAtEnd, drive_on, told_in, last_in, AreAnswered, IsDriven, IsLeftOff, LacksMemory, BreaksInAnswer, BreaksAtEnd}
-use Rattle.driven_replay.proofs.Lines.{fit-take}
-use Rattle.driven_replay.proofs.Turns.{replayed, answers-output}
+use Rattle.driven_replay.proofs.Turns.{replayed, told-run, answers-output}
 use Rattle.sn_base.specs.declared.limits.TheConstants.{EVENTS}
-
-few-take : (nodes : ℕ) (lines : List LineRead) (i : ℕ) → length (events_of nodes (take i lines)) ≤ length (events_of nodes lines)
-few-take nodes lines zero = omega arith
-few-take nodes [] (suc i) = omega arith
-few-take nodes (line ∷ lines) (suc i) =
-    omega (
-      arith,
-      few-take nodes lines i,
-      length-append (event_in (said_by nodes line)) (events_of nodes (take i lines)),
-      length-append (event_in (said_by nodes line)) (events_of nodes lines),
-    )
 
 -- the end puts nothing to the console
 console-over : (how : DriveEnd) → console_text (over_pieces how) ≡ []
@@ -56,30 +42,17 @@ unfolding turns_from pieces_from
 console-end image config showing tallies done s = console_text-turns image config showing tallies done s []
 
 module _ (start : MachineData) (showing : Showing) (fresh : IsFresh start) where
-  told-is : (events : List Event) (probes now_ : List Meter) → now_ ≡ told_left start events probes →
-      now_ ≡ told_of_run start.image start.config events probes
-  told-is events probes now_ told =
-      performed-told start (replay_of start showing events) events 0 probes
-      (record { program = refl; sizes = refl; start = fresh.start; new = fresh.new; room = omega arith })
-      refl now_ told
-
-  module _ (lines : List LineRead) (fit : AllFit start.config.nodes (events_of start.config.nodes lines)) (few : length (events_of start.config.nodes lines) ≤ EVENTS) where
-    abbrev events : List Event
-    events = events_of start.config.nodes lines
-
-    run : IsRun start.config events
-    run = record { fits = fresh.sizes; events_fit = fit }
-
+  module _ (lines : List LineRead) (moments : MayBeDoneAlong start.config.nodes lines) where
     run-take : (i : ℕ) → IsRun start.config (events_of start.config.nodes (take i lines))
-    run-take i = record { fits = fresh.sizes; events_fit = fit-take start.config.nodes lines i fit }
+    run-take i = record { fits = fresh.sizes; events_fit = (moments i).fit }
 
     pub are-answered : AreAnswered (drive_on start showing) lines
     are-answered = record {
-      few = few;
-      lawful = run-lawful start.image start.config events run;
-      in_step = λ i. answers-output start.image start.config showing (take i lines) (run-take i)
-          (omega (arith, few, few-take start.config.nodes lines i));
-      replayed = λ tallies. replayed start.image start.config showing tallies lines;
+      few = λ i. (moments i).few;
+      lawful = λ i. run-lawful start.image start.config (events_of start.config.nodes (take i lines)) (run-take i);
+      in_step = λ i on. answers-output start.image start.config showing (take i lines) on (run-take i) (moments i).few;
+      replayed = λ on tallies. replayed start.image start.config showing tallies lines on;
+      told = λ on probes. told-run start.image start.config lines probes on;
     }
 
   module _ (lines : List LineRead) (probes : List Meter) (before : Ends) (m : MachineData) (now_ : List Meter) (middle : Ends) (h : HasAnswered start showing lines probes before m now_ middle) where
@@ -90,22 +63,22 @@ module _ (start : MachineData) (showing : Showing) (fresh : IsFresh start) where
     few-all = omega (arith, h.at.count, h.at.room)
 
     answered : AreAnswered (drive_on start showing) lines
-    answered = are-answered lines h.at.fit few-all
+    answered = are-answered lines h.moments
 
-    told-all : now_ ≡ told_in (drive_on start showing) lines probes
-    told-all = told-is all probes now_ h.knows
+    run-all : IsRun start.config all
+    run-all = record { fits = fresh.sizes; events_fit = h.at.fit }
 
     pub left-off : IsLeftOff (drive_on start showing) lines probes before middle now_
-    left-off = record { answered = answered; put = h.put; knows = told-all }
+    left-off = record { answered = answered; put = h.put; knows = h.knows }
 
-    pub lacking : (last : LineRead) → IsLook start.config.nodes last → LacksMemory (drive_on start showing) lines last probes before middle now_
+    pub lacking : (last : LineRead) → WantsMemory all (said_by start.config.nodes last) → LacksMemory (drive_on start showing) lines last probes before middle now_
     lacking last asks = record { asks = asks; others = left-off }
 
     end-is : end_now m showing (tallies_of now_)
         ≡ end_pieces start.image start.config showing (tallies_of (told_in (drive_on start showing) lines probes)) (length all)
         (state_of_run start.image start.config all)
     end-is =
-        ap (λ (t : List Meter). end_now m showing (tallies_of t)) told-all
+        ap (λ (t : List Meter). end_now m showing (tallies_of t)) h.knows
         ∙ ap (λ (t : State). end_pieces m.image m.config showing due m.applied t) h.at.state
         ∙ ap (λ n. end_pieces m.image m.config showing due n (state_of_run start.image start.config all)) h.at.count
         ∙ ap (λ (t : Config). end_pieces m.image t showing due (length all) (state_of_run start.image start.config all)) h.at.sizes
@@ -123,7 +96,7 @@ module _ (start : MachineData) (showing : Showing) (fresh : IsFresh start) where
         answered = answered;
         broken = subst (λ (t : Ends). Breaks (last_in (drive_on start showing) probes how lines) t behind) h.put
             (subst (λ (t : List Piece). Breaks t middle behind) last-is broken);
-        knows = told-all;
+        knows = h.knows;
       }
 
       module _ (put : behind ≡ after middle (over_pieces how ++ end_now m showing (tallies_of now_))) where
@@ -144,29 +117,30 @@ module _ (start : MachineData) (showing : Showing) (fresh : IsFresh start) where
             (state_of_run start.image start.config all))) (console-over how)
             ∙ console-end start.image start.config showing tallies (length all) (state_of_run start.image start.config all)
 
-        console-whole : console_text (driven_pieces start.image start.config showing tallies how lines) ≡ output_of start.image start.config all
-        console-whole =
+        console-whole : NeverBack start.config.nodes lines →
+            console_text (driven_pieces start.image start.config showing tallies how lines) ≡ output_of start.image start.config all
+        console-whole on =
             console_text-append (answers_to start.image start.config showing lines) (last_in (drive_on start showing) probes how lines)
             ∙ ap (λ t. console_text (answers_to start.image start.config showing lines) ++ t) console-last
             ∙ append-nil (console_text (answers_to start.image start.config showing lines))
-            ∙ answers-output start.image start.config showing lines (run lines h.at.fit few-all) few-all
+            ∙ answers-output start.image start.config showing lines on run-all few-all
 
         pub driven : IsDriven (drive_on start showing) how lines probes before behind now_
         driven = record {
           answered = answered;
           put = whole-put;
-          output = console-after before behind (driven_pieces start.image start.config showing tallies how lines) whole-put
-              ∙ ap (followed_by before.console) console-whole;
-          knows = told-all;
+          output = λ on. console-after before behind (driven_pieces start.image start.config showing tallies how lines) whole-put
+              ∙ ap (followed_by before.console) (console-whole on);
+          knows = h.knows;
         }
 
   pub broken-in_answer : (lines : List LineRead) (last : LineRead) (probes : List Meter) (before : Ends) (told : List Meter) (behind : Ends) →
       BreaksOff start showing lines last probes before told behind →
       BreaksInAnswer (drive_on start showing) lines last probes before behind told
   broken-in_answer lines last probes before told behind h = record {
-    answered = are-answered lines h.fit h.few;
+    answered = are-answered lines h.moments;
     broken = h.broken;
-    knows = told-is (events_of start.config.nodes (lines ++ last ∷ [])) probes told h.knows;
+    knows = h.knows;
   }
 
 -- a drive of the machine that was made for a job is that job's
@@ -186,3 +160,19 @@ LackedSo d probes before behind told from to =
 pub of-lack : (a b : Drive) (probes : List Meter) (before behind : Ends) (told : List Meter) (from to : SourceData) → a ≡ b →
     LackedSo a probes before behind told from to → LackedSo b probes before behind told from to
 of-lack a b probes before behind told from to is lacked = subst (λ (d : Drive). LackedSo d probes before behind told from to) is lacked
+
+abbrev pub DoneSo : Drive → List Meter → Ends → Ends → List Meter → SourceData → SourceData → DriveEnd → Type 0
+DoneSo d probes before behind told from to how =
+    (read : List LineRead) × IsDriven d how read probes before behind told × IsAtEnd d read how from to
+
+pub of-end : (a b : Drive) (probes : List Meter) (before behind : Ends) (told : List Meter) (from to : SourceData) (r : Result DriveEnd DriveFault) → a ≡ b →
+    IfOk r (DoneSo a probes before behind told from to) → IfOk r (DoneSo b probes before behind told from to)
+of-end a b probes before behind told from to r is done = subst (λ (d : Drive). IfOk r (DoneSo d probes before behind told from to)) is done
+
+abbrev pub LeftSo : Drive → List Meter → Ends → Ends → List Meter → SourceData → SourceData → (List LineRead → Type 0) → Type 0
+LeftSo d probes before behind told from to why =
+    (read : List LineRead) × IsLeftOff d read probes before behind told × AreRead read from to × why read
+
+pub of-left : (a b : Drive) (probes : List Meter) (before behind : Ends) (told : List Meter) (from to : SourceData) (why : List LineRead → Type 0) → a ≡ b →
+    LeftSo a probes before behind told from to why → LeftSo b probes before behind told from to why
+of-left a b probes before behind told from to why is left = subst (λ (d : Drive). LeftSo d probes before behind told from to why) is left

@@ -1,50 +1,60 @@
 -- How far a drive has come, between two of its lines.
-use Rattle.std.proofs.Common.{◌≡◌, ℕ, ◌+◌, ◌≤◌, List, [], ◌∷◌, ◌++◌, length, refl, ap, sym, subst, ◌∙◌}
+use Rattle.std.proofs.Common.{◌≡◌, ℕ, ◌+◌, ◌<◌, ◌≤◌, List, [], ◌∷◌, ◌++◌, length, refl, ap, sym, subst, ◌∙◌}
 use Rattle.std.proofs.Common.{append-nil, length-append, arith}
 use Rattle.std.specs.Prelude.{IfSome, Option, Some, None, Ok}
 use Rattle.sn_base.specs.declared.config.Config.{Config}
 use Rattle.sn_base.specs.declared.event.Event.{Event}
 use Rattle.sn_machine.specs.Machine.{MachineData}
 use Rattle.consistent_cuts.specs.Headline.{state_of_run}
+use Rattle.consistent_cuts.specs.Runs.{AllFit}
 use Rattle.line_source.specs.declared.source.Taken.{Taken}
 use Rattle.line_source.specs.declared.source.Taken.TheVariants as taken
 use Rattle.line_source.specs.Lines.{LineRead, Line, TooLong, taken_by, lines_and, first_of_lines}
+use Rattle.due_events.specs.Numbers.{Numbers}
+use Rattle.sn_driver.specs.Driver.{DriverData}
 use Rattle.sn_probe.specs.Probes.{Meter}
 use Rattle.sink_pieces.specs.Pieces.{Piece, Ends, after, Breaks}
 use Rattle.sink_pieces.proofs.PieceLaws.{after-append, after-nil, Breaks-more, Breaks-after}
 use Rattle.script_replay.specs.declared.job.Showing.{Showing}
-use Rattle.script_replay.proofs.ToldSoFar.{IsToldSoFar, told-done}
 use Rattle.driven_replay.specs.declared.job.Said.{Said}
-use Rattle.driven_replay.specs.declared.job.Said.TheVariants.{Nothing, Does, Looks}
+use Rattle.driven_replay.specs.declared.job.Said.TheVariants.{Nothing, Does}
 use Rattle.driven_replay.specs.declared.driving.DriveEnd.{DriveEnd}
 use Rattle.driven_replay.specs.declared.driving.DriveEnd.TheVariants.{Whole, TooMany}
-use Rattle.driven_replay.specs.declared.job.Look.{Look}
-use Rattle.driven_replay.specs.Said.{said_by, event_in, events_of, SaidFits, IsLook}
+use Rattle.driven_replay.specs.Said.{said_by, done_after, events_of, event_in, SaidFits, WantsMemory}
+use Rattle.driven_replay.specs.Dues.{usual_rules, numbers_of}
 use Rattle.driven_replay.specs.Answers.{over_pieces, answer_of, answer_to, answers_to, answers_after}
-use Rattle.driven_replay.specs.Answered.{IsFresh, IsAfter, HasAnswered, BreaksOff, NextIs, answer_now, machine_after, told_after}
+use Rattle.driven_replay.specs.Told.{told_by, told_along}
+use Rattle.driven_replay.specs.Answered.{IsFresh, MayBeDoneAlong, IsAfter, HasAnswered, BreaksOff, NextIs, answer_now, machine_after, driver_after, driver_of, told_after}
 use Rattle.driven_replay.specs.Driven.{SourceData, AreRead, IsAtEnd, drive_on}
-use Rattle.driven_replay.proofs.Lines.{events-last, answers-last, none-read, read-and}
-use Rattle.driven_replay.proofs.After.{after-start, answer-is, after-next, told-more}
+use Rattle.driven_replay.proofs.Lines.{events-last, told-last, moments-none, moments-last, answers-last, none-read, read-and}
+use Rattle.driven_replay.proofs.After.{after-start, answer-is, told-is, after-next, counted-more}
+use Rattle.driven_replay.proofs.Counted.{numbers-done}
 use Rattle.sn_base.specs.declared.limits.TheConstants.{EVENTS}
 
 -- so many lines were read and answered
-pub record IsDriving (start : MachineData) (showing : Showing) (probes : List Meter) (before : Ends) (source : SourceData) (count : ℕ) (m : MachineData) (now_ : List Meter) (behind : Ends) (left : SourceData) : Type 0 where
+pub record IsDriving (start : MachineData) (showing : Showing) (probes : List Meter) (before : Ends) (source : SourceData) (count : ℕ) (m : MachineData) (driver : DriverData) (kept : List Event) (now_ : List Meter) (behind : Ends) (left : SourceData) : Type 0 where
   pub lines : List LineRead
   pub many : length lines ≡ count
   pub at : IsAfter start (events_of start.config.nodes lines) m
+  pub moments : MayBeDoneAlong start.config.nodes lines
   pub put : behind ≡ after before (answers_to start.image start.config showing lines)
-  pub told : IsToldSoFar start (events_of start.config.nodes lines) probes m now_
+  pub counted : driver ≡ driver_of start (events_of start.config.nodes lines)
+  pub kept_is : kept ≡ events_of start.config.nodes lines
+  pub told : now_ ≡ told_along start.image start.config [] lines probes
   pub read : AreRead lines source left
 
-pub driving-starts : (m : MachineData) (showing : Showing) (probes : List Meter) (e : Ends) (source : SourceData) → IsFresh m →
-    IsDriving m showing probes e source 0 m probes e source
+pub driving-starts : (m : MachineData) (showing : Showing) (probes : List Meter) (e : Ends) (source : SourceData) (driver : DriverData) (kept : List Event) →
+    IsFresh m → driver ≡ driver_of m [] → kept ≡ [] → IsDriving m showing probes e source 0 m driver kept probes e source
 unfolding answers_after
-driving-starts m showing probes e source fresh = record {
+driving-starts m showing probes e source driver kept fresh counts none = record {
   lines = [];
   many = refl;
   at = after-start m fresh;
+  moments = moments-none m.config.nodes;
   put = sym (after-nil e);
-  told = λ rest. refl;
+  counted = counts;
+  kept_is = none;
+  told = refl;
   read = none-read source;
 }
 
@@ -82,14 +92,15 @@ pub second-broken : (ps qs : List Piece) (a b c : Ends) → b ≡ after a ps →
 second-broken ps qs a b c first broken = Breaks-after ps qs a c (subst (λ (t : Ends). Breaks qs t c) first broken)
 
 -- nothing is put
-pub nothing-put : (e : Ends) (m : MachineData) (showing : Showing) (number : ℕ) (said : Said) → said ≡ Nothing →
-    e ≡ after e (answer_now m showing number said)
-nothing-put e m showing number said is = sym (after-nil e) ∙ ap (λ (t : Said). after e (answer_now m showing number t)) (sym is)
+pub nothing-put : (e : Ends) (m : MachineData) (driver : DriverData) (showing : Showing) (number : ℕ) (said : Said) → said ≡ Nothing →
+    e ≡ after e (answer_now m driver showing number said)
+nothing-put e m driver showing number said is =
+    sym (after-nil e) ∙ ap (λ (t : Said). after e (answer_now m driver showing number t)) (sym is)
 
 pub over-none : (e : Ends) (how : DriveEnd) → how ≡ Whole → e ≡ after e (over_pieces how)
 over-none e how is = sym (after-nil e) ∙ ap (λ (t : DriveEnd). after e (over_pieces t)) (sym is)
 
-module _ (start : MachineData) (showing : Showing) (probes : List Meter) (before : Ends) (source : SourceData) (count : ℕ) (m : MachineData) (now_ : List Meter) (behind : Ends) (left : SourceData) (h : IsDriving start showing probes before source count m now_ behind left) where
+module _ (start : MachineData) (showing : Showing) (probes : List Meter) (before : Ends) (source : SourceData) (count : ℕ) (m : MachineData) (driver : DriverData) (kept : List Event) (now_ : List Meter) (behind : Ends) (left : SourceData) (h : IsDriving start showing probes before source count m driver kept now_ behind left) where
   abbrev done : List Event
   done = events_of start.config.nodes h.lines
 
@@ -98,10 +109,34 @@ module _ (start : MachineData) (showing : Showing) (probes : List Meter) (before
 
   -- all that were read are answered
   pub driving-answered : HasAnswered start showing h.lines probes before m now_ behind
-  driving-answered = record { at = h.at; put = h.put; knows = told-done start m done probes now_ h.told }
+  driving-answered = record { at = h.at; moments = h.moments; put = h.put; knows = h.told }
 
   pub driving-fits : (nodes : ℕ) (said : Said) → nodes ≡ start.config.nodes → SaidFits nodes said → SaidFits m.config.nodes said
   driving-fits nodes said is fits = subst (λ n. SaidFits n said) (is ∙ ap (λ (t : Config). t.nodes) (sym h.at.sizes)) fits
+
+  -- the driver is one for the machine, and has a long life ahead
+  pub same-nodes : driver.nodes ≡ m.config.nodes
+  same-nodes = ap (λ (d : DriverData). d.nodes) h.counted ∙ ap (λ (t : Config). t.nodes) (sym h.at.sizes)
+
+  pub by-usual : driver.rules ≡ usual_rules
+  by-usual = ap (λ (d : DriverData). d.rules) h.counted
+
+  pub long-life : driver.numbers.done < 4000000000
+  long-life =
+      let counts : driver.numbers.done ≡ (numbers_of start.image start.config done).done = ap (λ (d : DriverData). d.numbers.done) h.counted in
+      omega (arith, counts, numbers-done start.image start.config done, few)
+
+  -- what is kept are the events that led to it
+  pub kept-count : m.applied ≡ length kept
+  kept-count = h.at.count ∙ ap (λ (t : List Event). length t) (sym h.kept_is)
+
+  pub kept-fit : AllFit m.config.nodes kept
+  kept-fit =
+      subst (λ (t : List Event). AllFit m.config.nodes t) (sym h.kept_is)
+      (subst (λ (t : Config). AllFit t.nodes done) (sym h.at.sizes) h.at.fit)
+
+  pub kept-few : (said : Said) → length (event_in said) ≤ m.spare → length kept + length (event_in said) ≤ EVENTS
+  kept-few said room = omega (arith, kept-count, h.at.room, room)
 
   -- nothing more was read
   pub none-more : (after_ : SourceData) → AreRead [] left after_ → AreRead h.lines source after_
@@ -126,54 +161,76 @@ module _ (start : MachineData) (showing : Showing) (probes : List Meter) (before
     pub line-read : AreRead (h.lines ++ line ∷ []) source after_
     line-read = read-and h.lines (line ∷ []) source left after_ h.read next.2
 
-    events-are : events_of start.config.nodes (h.lines ++ line ∷ []) ≡ done ++ event_in said
-    events-are = events-last start.config.nodes h.lines line ∙ ap (λ (t : Said). done ++ event_in t) (sym said-is)
+    events-are : events_of start.config.nodes (h.lines ++ line ∷ []) ≡ done_after done said
+    events-are = events-last start.config.nodes h.lines line ∙ ap (λ (t : Said). done_after done t) (sym said-is)
 
-    pub asks-look : ((asked : Look) × (said ≡ Looks asked)) → IsLook start.config.nodes line
-    asks-look look = (look.0, sym said-is ∙ look.1)
+    pub wants-memory : WantsMemory kept said → WantsMemory done (said_by start.config.nodes line)
+    wants-memory wants =
+        subst (λ (t : Said). WantsMemory done t) said-is (subst (λ (t : List Event). WantsMemory t said) h.kept_is wants)
 
     -- there is no room for its event
     pub too-many : (event : Event) → m.spare ≡ 0 → said ≡ Does event → IsAtEnd (drive_on start showing) h.lines TooMany source after_
     too-many event none does = (omega (arith, h.at.count, h.at.room, none), (line, event, sym said-is ∙ does, line-read))
 
-    module _ (number : ℕ) (at : number ≡ count + 1) (n : MachineData) (told : List Meter) (d : Ends) (next_is : n ≡ machine_after m said) (knows : told ≡ told_after m said now_) where
-      answer-due : answer_now m showing number said ≡ answer_to start.image start.config showing h.lines line
+    module _ (number : ℕ) (at : number ≡ count + 1) (told : List Meter) (d : Ends) (knows : told ≡ told_after m said now_) where
+      answer-due : answer_now m driver showing number said ≡ answer_to start.image start.config showing h.lines line
       answer-due =
           let place : number ≡ length h.lines + 1 = omega (arith, at, h.many) in
-          answer-is start m done h.at showing number said
-          ∙ ap (λ k. answer_of start.image start.config showing (length done) (state_of_run start.image start.config done) k said) place
-          ∙ ap (λ (t : Said). answer_of start.image start.config showing (length done) (state_of_run start.image start.config done)
+          let x : Numbers = numbers_of start.image start.config done in
+          ap (λ (d : DriverData). answer_now m d showing number said) h.counted
+          ∙ answer-is start m done h.at showing number said
+          ∙ ap (λ k. answer_of start.image start.config showing (length done) (state_of_run start.image start.config done) x k said) place
+          ∙ ap (λ (t : Said). answer_of start.image start.config showing (length done) (state_of_run start.image start.config done) x
           (length h.lines + 1) t) said-is
 
-      told-so : IsToldSoFar start (events_of start.config.nodes (h.lines ++ line ∷ [])) probes n told
+      told-so : told ≡ told_along start.image start.config [] (h.lines ++ line ∷ []) probes
       told-so =
-          subst (λ (t : List Event). IsToldSoFar start t probes n told) (sym events-are)
-          (subst (λ (t : MachineData). IsToldSoFar start (done ++ event_in said) probes t told) (sym next_is)
-          (subst (λ (t : List Meter). IsToldSoFar start (done ++ event_in said) probes (machine_after m said) t) (sym knows)
-          (told-more start m done h.at probes now_ said h.told)))
+          knows ∙ told-is start m done h.at said now_
+          ∙ ap (λ (t : Said). told_by start.image start.config done t now_) said-is
+          ∙ ap (λ t. told_by start.image start.config done (said_by start.config.nodes line) t) h.told
+          ∙ sym (told-last start.image start.config h.lines line probes)
 
       -- it is answered
-      pub driving-next : SaidFits m.config.nodes said → length (event_in said) ≤ m.spare → d ≡ after behind (answer_now m showing number said) →
-          IsDriving start showing probes before source (count + 1) n told d after_
-      driving-next fits room put = record {
-        lines = h.lines ++ line ∷ [];
-        many = omega (arith, length-append h.lines (line ∷ []), h.many);
-        at = subst (λ (t : List Event). IsAfter start t n) (sym events-are)
-            (subst (λ (t : MachineData). IsAfter start (done ++ event_in said) t) (sym next_is) (after-next start m done h.at said fits room));
-        put = put ∙ ap (after behind) answer-due
-            ∙ ap (λ (t : Ends). after t (answer_to start.image start.config showing h.lines line)) h.put
-            ∙ after-append before (answers_to start.image start.config showing h.lines) (answer_to start.image start.config showing h.lines line)
-            ∙ ap (after before) (sym (answers-last start.image start.config showing h.lines line));
-        told = told-so;
-        read = line-read;
-      }
+      module _ (n : MachineData) (later : DriverData) (behind_ : List Event) (next_is : n ≡ machine_after m kept said) (counts : later ≡ driver_after driver m kept said) (keeps : behind_ ≡ done_after kept said) where
+        after-line : SaidFits m.config.nodes said → length (event_in said) ≤ m.spare →
+            IsAfter start (events_of start.config.nodes (h.lines ++ line ∷ [])) n
+        after-line fits room =
+            subst (λ (t : List Event). IsAfter start t n) (sym events-are)
+            (subst (λ (t : MachineData). IsAfter start (done_after done said) t)
+            (sym (next_is ∙ ap (λ (t : List Event). machine_after m t said) h.kept_is)) (after-next start m done h.at said fits room))
+
+        counted-line : later ≡ driver_of start (events_of start.config.nodes (h.lines ++ line ∷ []))
+        counted-line =
+            counts ∙ ap (λ (t : List Event). driver_after driver m t said) h.kept_is
+            ∙ ap (λ (d : DriverData). driver_after d m done said) h.counted
+            ∙ counted-more start m done h.at said ∙ ap (driver_of start) (sym events-are)
+
+        pub driving-next : SaidFits m.config.nodes said → length (event_in said) ≤ m.spare →
+            d ≡ after behind (answer_now m driver showing number said) →
+            IsDriving start showing probes before source (count + 1) n later behind_ told d after_
+        driving-next fits room put =
+            let at_ = after-line fits room in
+            let few_ : length (events_of start.config.nodes (h.lines ++ line ∷ [])) ≤ EVENTS = omega (arith, at_.count, at_.room) in
+            record {
+              lines = h.lines ++ line ∷ [];
+              many = omega (arith, length-append h.lines (line ∷ []), h.many);
+              at = at_;
+              moments = moments-last start.config.nodes h.lines line h.moments (record { few = few_; fit = at_.fit });
+              put = put ∙ ap (after behind) answer-due
+                  ∙ ap (λ (t : Ends). after t (answer_to start.image start.config showing h.lines line)) h.put
+                  ∙ after-append before (answers_to start.image start.config showing h.lines) (answer_to start.image start.config showing h.lines line)
+                  ∙ ap (after before) (sym (answers-last start.image start.config showing h.lines line));
+              counted = counted-line;
+              kept_is = keeps ∙ ap (λ (t : List Event). done_after t said) h.kept_is ∙ sym events-are;
+              told = told-so;
+              read = line-read;
+            }
 
       -- its answer is broken off
-      pub driving-breaks : Breaks (answer_now m showing number said) behind d → BreaksOff start showing h.lines line probes before told d
+      pub driving-breaks : Breaks (answer_now m driver showing number said) behind d → BreaksOff start showing h.lines line probes before told d
       driving-breaks broken = record {
-        few = few;
-        fit = h.at.fit;
+        moments = h.moments;
         broken = subst (λ (t : List Piece). Breaks t (after before (answers_to start.image start.config showing h.lines)) d) answer-due
-            (subst (λ (t : Ends). Breaks (answer_now m showing number said) t d) h.put broken);
-        knows = told-done start n (events_of start.config.nodes (h.lines ++ line ∷ [])) probes told told-so;
+            (subst (λ (t : Ends). Breaks (answer_now m driver showing number said) t d) h.put broken);
+        knows = told-so;
       }

@@ -2,36 +2,42 @@
 use Rattle.std.specs.Prelude.{ℕ, ◌+◌, List, [], ◌∷◌, ◌++◌, length}
 use Rattle.sn_base.specs.Image.{ImageData}
 use Rattle.sn_base.specs.declared.config.Config.{Config}
-use Rattle.sn_base.specs.declared.event.Event.{Event}
 use Rattle.sn_model.specs.Machine.{State}
 use Rattle.sn_model.specs.Step.{step_of}
 use Rattle.consistent_cuts.specs.Headline.{state_of_run}
+use Rattle.due_events.specs.Numbers.{Numbers}
 use Rattle.line_source.specs.Lines.{LineRead}
 use Rattle.sn_text.specs.Text.{event_line}
 use Rattle.sink_pieces.specs.Pieces.{Piece, Report}
 use Rattle.script_replay.specs.declared.job.Showing.{Showing}
 use Rattle.script_replay.specs.Pieces.{turn_pieces, end_pieces}
 use Rattle.driven_replay.specs.declared.job.Said.{Said}
-use Rattle.driven_replay.specs.declared.job.Said.TheVariants.{Nothing, Does, Foresees, Looks, Refused}
+use Rattle.driven_replay.specs.declared.job.Said.TheVariants.{Nothing, Does, Foresees, Looks, Marks, Back, Refused}
 use Rattle.driven_replay.specs.declared.driving.DriveEnd.{DriveEnd}
 use Rattle.driven_replay.specs.declared.driving.DriveEnd.TheVariants.{Whole, TooMany}
+use Rattle.driven_replay.specs.Dues.{numbers_of}
 use Rattle.driven_replay.specs.Looks.{look_line}
 use Rattle.driven_replay.specs.Said.{said_by, events_of}
 use Rattle.driven_replay.specs.Refusals.{refusal_line, too_many_line}
+use Rattle.driven_replay.specs.Marks.{mark_line, back_answer}
 
--- the answer to what the line of this number says, where so many events were applied and have led to this state
-abbrev pub answer_of : ImageData → Config → Showing → ℕ → State → ℕ → Said → List Piece
-answer_of image config showing done s number Nothing = []
-answer_of image config showing done s number (Does event) = turn_pieces image config showing (done + 1) s event
-answer_of image config showing done s number (Foresees event) =
+-- the answer to what the line of this number says, where so many events are done and have led to this state, and a driver has
+-- counted this of them
+abbrev pub answer_of : ImageData → Config → Showing → ℕ → State → Numbers → ℕ → Said → List Piece
+answer_of image config showing done s x number Nothing = []
+answer_of image config showing done s x number (Does event) = turn_pieces image config showing (done + 1) s event
+answer_of image config showing done s x number (Foresees event) =
     Report (event_line (done + 1) event (step_of image config s event).answer) ∷ []
-answer_of image config showing done s number (Looks asked) = Report (look_line image s asked) ∷ []
-answer_of image config showing done s number (Refused fault) = Report (refusal_line number fault) ∷ []
+answer_of image config showing done s x number (Looks asked) = Report (look_line image config s x asked) ∷ []
+answer_of image config showing done s x number Marks = Report (mark_line done) ∷ []
+answer_of image config showing done s x number (Back events) = Report (back_answer done number events) ∷ []
+answer_of image config showing done s x number (Refused fault) = Report (refusal_line number fault) ∷ []
 
 -- the answer to a line that comes after these
 abbrev pub answer_to : ImageData → Config → Showing → List LineRead → LineRead → List Piece
 answer_to image config showing before line = let done = events_of config.nodes before in
-    answer_of image config showing (length done) (state_of_run image config done) (length before + 1) (said_by config.nodes line)
+    answer_of image config showing (length done) (state_of_run image config done) (numbers_of image config done) (length before + 1)
+    (said_by config.nodes line)
 
 -- the answers to these lines, which come after others
 unfoldable pub answers_after : ImageData → Config → Showing → List LineRead → List LineRead → List Piece
@@ -42,7 +48,7 @@ answers_after image config showing before (line ∷ lines) =
 abbrev pub answers_to : ImageData → Config → Showing → List LineRead → List Piece
 answers_to image config showing lines = answers_after image config showing [] lines
 
--- the end after these lines: that there is no room for an event more, if so, and the end of a replay of their events
+-- the end after these lines: that there is no room for an event more, if so, and the end of a replay of the events that are done
 abbrev pub over_pieces : DriveEnd → List Piece
 over_pieces Whole = []
 over_pieces TooMany = Report too_many_line ∷ []

@@ -1,5 +1,5 @@
 -- What is promised of a drive.
-use Rattle.std.specs.Prelude.{◌≡◌, ◌≢◌, ℕ, ◌+◌, ◌^◌, ◌≤◌, ◌⊎◌, Bool, true, false, List, [], ◌∷◌, ◌++◌, length, take, filter, Option, IfSome}
+use Rattle.std.specs.Prelude.{◌≡◌, ℕ, ◌≤◌, Bool, true, false, List, [], ◌∷◌, ◌++◌, length, take, filter, Option, IfSome}
 use Rattle.sn_base.specs.declared.event.Event.{Event}
 use Rattle.consistent_cuts.specs.Headline.{IsRun, state_of_run}
 use Rattle.sn_io.specs.Outside.{followed_by}
@@ -14,11 +14,12 @@ use Rattle.script_replay.specs.Probed.{told_of_run}
 use Rattle.script_replay.specs.Shown.{IsLawful, output_of}
 use Rattle.driven_replay.specs.declared.job.Drive.{Drive}
 use Rattle.driven_replay.specs.declared.job.Said.{Said}
-use Rattle.driven_replay.specs.declared.job.Said.TheVariants.{Nothing, Does, Foresees, Refused}
+use Rattle.driven_replay.specs.declared.job.Said.TheVariants.{Does}
 use Rattle.driven_replay.specs.declared.driving.DriveEnd.{DriveEnd}
 use Rattle.driven_replay.specs.declared.driving.DriveEnd.TheVariants.{Whole, TooMany}
-use Rattle.driven_replay.specs.Said.{said_by, events_of, IsLook}
+use Rattle.driven_replay.specs.Said.{said_by, events_of, NeverBack, WantsMemory}
 use Rattle.driven_replay.specs.Answers.{answer_to, answers_to, last_of_drive, driven_pieces}
+use Rattle.driven_replay.specs.Told.{told_along}
 use Rattle.sn_base.specs.declared.limits.TheConstants.{EVENTS}
 
 -- a drive that may begin: its sizes fit, and it watches a word of memory
@@ -30,15 +31,16 @@ pub record MayDrive (d : Drive) : Type 0 where
 abbrev pub drive_on : MachineData → Showing → Drive
 drive_on m showing = record { program = m.image; config = m.config; showing = showing }
 
+-- the events that are done after these lines
 abbrev pub done_in : Drive → List LineRead → List Event
 done_in d lines = events_of d.config.nodes lines
 
 abbrev pub answers_in : Drive → List LineRead → List Piece
 answers_in d lines = answers_to d.program d.config d.showing lines
 
--- what the probes are told of these lines: their events
+-- what the probes are told of them
 abbrev pub told_in : Drive → List LineRead → List Meter → List Meter
-told_in d lines probes = told_of_run d.program d.config (done_in d lines) probes
+told_in d lines probes = told_along d.program d.config [] lines probes
 
 abbrev pub last_in : Drive → List Meter → DriveEnd → List LineRead → List Piece
 last_in d probes how lines = last_of_drive d.program d.config d.showing (tallies_of (told_in d lines probes)) how lines
@@ -73,14 +75,19 @@ IsReplayed d tallies lines = let events = done_in d lines in
 
 -- what holds of lines that are answered
 pub record AreAnswered (d : Drive) (lines : List LineRead) : Type 0 where
-  pub few : length (done_in d lines) ≤ EVENTS
-  -- at every moment the committed trace is an execution without faults, and the recovery point a cut of it
-  pub lawful : IsLawful d.program d.config (done_in d lines)
-  -- once the first of the lines are answered, the console has got that execution's output
-  pub in_step : (i : ℕ) → console_text (answers_in d (take i lines)) ≡ output_of d.program d.config (done_in d (take i lines))
-  pub replayed : (tallies : List (List ℕ)) → IsReplayed d tallies lines
+  -- once the first of the lines are answered, at most a million events are done
+  pub few : (i : ℕ) → length (done_in d (take i lines)) ≤ EVENTS
+  -- at every moment of them the committed trace is an execution without faults, and the recovery point a cut of it
+  pub lawful : (i : ℕ) → IsLawful d.program d.config (done_in d (take i lines))
+  -- as long as none goes back, the console has got that execution's output
+  pub in_step : (i : ℕ) → NeverBack d.config.nodes (take i lines) →
+      console_text (answers_in d (take i lines)) ≡ output_of d.program d.config (done_in d (take i lines))
+  -- where none goes back, a replay puts the same, and the probes were told the same
+  pub replayed : NeverBack d.config.nodes lines → (tallies : List (List ℕ)) → IsReplayed d tallies lines
+  pub told : NeverBack d.config.nodes lines → (probes : List Meter) →
+      told_in d lines probes ≡ told_of_run d.program d.config (done_in d lines) probes
 
--- they were all that were read, or after a million events one more was, which does an event
+-- they were all that were read, or a million events are done and one more line was read, which does an event
 abbrev pub IsAtEnd : Drive → List LineRead → DriveEnd → SourceData → SourceData → Type 0
 IsAtEnd d lines Whole before behind = AreRead lines before behind × IfSome behind.left (λ others. others ≡ [])
 IsAtEnd d lines TooMany before behind = (length (done_in d lines) ≡ EVENTS)
@@ -90,7 +97,7 @@ IsAtEnd d lines TooMany before behind = (length (done_in d lines) ≡ EVENTS)
 pub record IsDriven (d : Drive) (how : DriveEnd) (lines : List LineRead) (probes : List Meter) (before behind : Ends) (told : List Meter) : Type 0 where
   pub answered : AreAnswered d lines
   pub put : behind ≡ after before (driven_pieces d.program d.config d.showing (tallies_of (told_in d lines probes)) how lines)
-  pub output : behind.console ≡ followed_by before.console (output_of d.program d.config (done_in d lines))
+  pub output : NeverBack d.config.nodes lines → behind.console ≡ followed_by before.console (output_of d.program d.config (done_in d lines))
   pub knows : told ≡ told_in d lines probes
 
 -- the source failed: all lines that were read were answered, and nothing more was put
@@ -99,9 +106,9 @@ pub record IsLeftOff (d : Drive) (lines : List LineRead) (probes : List Meter) (
   pub put : behind ≡ after before (answers_in d lines)
   pub knows : told ≡ told_in d lines probes
 
--- memory was wanted for the look that the last line asks for: those before it were answered, and nothing more was put
+-- memory was wanted for the look or the way back that the last line asks for: those before it were answered, and nothing more was put
 pub record LacksMemory (d : Drive) (lines : List LineRead) (last : LineRead) (probes : List Meter) (before behind : Ends) (told : List Meter) : Type 0 where
-  pub asks : IsLook d.config.nodes last
+  pub asks : WantsMemory (done_in d lines) (said_by d.config.nodes last)
   pub others : IsLeftOff d lines probes before behind told
 
 -- a sink broke in the answer to the last line that was read; those before it were answered, and the probes know its event

@@ -1,6 +1,9 @@
+pub mod Dues
 pub mod Looks
 pub mod Said
 pub mod Refusals
+pub mod Marks
 pub mod Answers
+pub mod Told
 pub mod Driven
 pub mod Answered

@@ -8,20 +8,24 @@ ghost use Rattle.line_source.specs.Lines.{LineRead};
 ghost use Rattle.sink_pieces.specs.Pieces.{ends, after, Breaks};
 ghost use Rattle.sn_probe.specs.Probes.{meters_in, tallies_of};
 ghost use Rattle.script_replay.specs.Played.{IsWatchable, end_now};
-ghost use Rattle.driven_replay.specs.Said.{SaidFits, event_in, IsLook};
+ghost use Rattle.driven_replay.specs.Said.{SaidFits, WantsMemory, said_by, event_in, events_of};
 ghost use Rattle.driven_replay.specs.Answers.{over_pieces, answer_to};
-ghost use Rattle.driven_replay.specs.Answered.{IsFresh, fresh_machine, HasAnswered, BreaksOff, NextIs};
+ghost use Rattle.driven_replay.specs.Answered.{IsFresh, fresh_machine, driver_of, HasAnswered, BreaksOff, NextIs};
 ghost use Rattle.driven_replay.specs.Driven.{MayDrive, drive_on, source, AreRead, IsAtEnd, IsDriven, IsLeftOff, LacksMemory, BreaksInAnswer, BreaksAtEnd};
 ghost use Rattle.sn_base.specs.declared.limits.TheConstants.{EVENTS};
 
 use crate::answering::{AnswerFault, answer};
+use crate::going_back::fresh_machine;
 use crate::job::{Drive, Said};
+use crate::kept::Kept;
+use crate::looking::usual_rules;
 use crate::reading::said_in;
 use crate::refusals::write_too_many;
 use line_source::{LineRoom, Lines, ReadFailed, Taken};
 use script_replay::{Showing, put_end};
 use sink_pieces::put_report;
-use sn_base::{Config, EVENTS, Image};
+use sn_base::{Config, Image};
+use sn_driver::Driver;
 use sn_io::{Failed, Sink};
 use sn_machine::Machine;
 use sn_probe::ProbeSet;
@@ -44,15 +48,17 @@ pub enum DriveFault {
     Sink,
     /// The source failed, or gave as many lines as 64 bits can count. All that were read are answered.
     Input,
-    /// Memory was wanted and not given: before any line was read, or for the look that the last line asks for. All lines before
-    /// that one are answered, and nothing of it is put.
+    /// Memory was wanted and not given: before any line was read, or for the look or the way back that the last line asks for. All
+    /// lines before that one are answered, and nothing of it is put.
     Memory,
 }
 
-/// All memory of a drive, but for the text of a look, which takes memory as it grows.
+/// All memory of a drive, but for the text of a look, which takes memory as it grows, and for a machine that goes back.
 #[derive(Drop)]
 struct Ready {
     machine: Machine,
+    driver: Driver,
+    kept: Kept,
     line: Line,
     text: Vec<u8>,
     room: LineRoom,
@@ -60,7 +66,9 @@ struct Ready {
 
 fn ready_for(alloc: Global, program: Image, config: Config) -> Option<Ready>
     requires sizes { config_fits config ≡ true }
-    ensures { IfSome result (λ r. r.machine ≡ fresh_machine program config) }
+    ensures machine { IfSome result (λ r. r.machine ≡ fresh_machine program config) }
+    ensures driver { IfSome result (λ r. r.driver ≡ driver_of (fresh_machine program config) []) }
+    ensures kept { IfSome result (λ r. r.kept ≡ []) }
 {
     let Ok(line) = Line::new(alloc) else {
         return None;
@@ -68,12 +76,15 @@ fn ready_for(alloc: Global, program: Image, config: Config) -> Option<Ready>
     let Ok(room) = LineRoom::new(alloc) else {
         return None;
     };
-    let Ok(mut machine) = Machine::new(alloc, program, config) else {
+    let Ok(kept) = Kept::new(alloc) else {
         return None;
     };
-    match machine.reserve(EVENTS as u32) {
-        Ok(()) => Some(Ready {
+    let driver = Driver::new(usual_rules(), config.nodes);
+    match fresh_machine(alloc, program, config) {
+        Ok(machine) => Some(Ready {
             machine,
+            driver,
+            kept,
             line,
             text: Vec::new(alloc),
             room,
@@ -117,7 +128,10 @@ fn is_full(machine: &Machine, said: &Said) -> bool
 
 // Reads and answers one line after another.
 fn answer_lines<L: Lines, C: Sink, R: Sink>(
+    alloc: Global,
     machine: &mut Machine,
+    driver: &mut Driver,
+    kept: &mut Kept,
     line: &mut Line,
     text: &mut Vec<u8>,
     room: &mut LineRoom,
@@ -128,6 +142,8 @@ fn answer_lines<L: Lines, C: Sink, R: Sink>(
     report: &mut R,
 ) -> Result<DriveEnd, DriveFault>
     requires fresh { IsFresh machine.old }
+    requires driver { driver.old ≡ driver_of machine.old [] }
+    requires kept { kept.old ≡ [] }
     requires watched { IsWatchable showing.now.watch }
     ensures ok { IfOk result (λ how. (read : List LineRead)
         × HasAnswered machine.old showing.now read (meters_in first tally step probes.old.probes.items)
@@ -146,7 +162,8 @@ fn answer_lines<L: Lines, C: Sink, R: Sink>(
         (ends (C.written console.old) (R.written report.old)) (meters_in first tally step probes.new.probes.items)
         (ends (C.written console.new) (R.written report.new))
         × AreRead (read ++ last ∷ []) (source (L.read lines.old) (L.left lines.old)) (source (L.read lines.new) (L.left lines.new)) }
-    ensures memory { result ≡ Err DriveFault.Memory → (read : List LineRead) × (last : LineRead) × IsLook machine.old.config.nodes last
+    ensures memory { result ≡ Err DriveFault.Memory → (read : List LineRead) × (last : LineRead)
+        × WantsMemory (events_of machine.old.config.nodes read) (said_by machine.old.config.nodes last)
         × HasAnswered machine.old showing.now read (meters_in first tally step probes.old.probes.items)
         (ends (C.written console.old) (R.written report.old)) machine.new (meters_in first tally step probes.new.probes.items)
         (ends (C.written console.new) (R.written report.new))
@@ -168,7 +185,10 @@ fn answer_lines<L: Lines, C: Sink, R: Sink>(
             return Ok(DriveEnd::TooMany);
         }
         match answer(
+            alloc,
             machine,
+            driver,
+            kept,
             line,
             text,
             count + 1,
@@ -234,6 +254,7 @@ fn put_last<R: Sink>(
 
 // All but taking the memory.
 fn drive_all<L: Lines, C: Sink, R: Sink>(
+    alloc: Global,
     ready: Ready,
     lines: &mut L,
     showing: &Showing,
@@ -242,6 +263,8 @@ fn drive_all<L: Lines, C: Sink, R: Sink>(
     report: &mut R,
 ) -> Result<DriveEnd, DriveFault>
     requires fresh { IsFresh ready.machine }
+    requires driver { ready.driver ≡ driver_of ready.machine [] }
+    requires kept { ready.kept ≡ [] }
     requires watched { IsWatchable showing.now.watch }
     ensures ok { IfOk result (λ how. (read : List LineRead)
         × IsDriven (drive_on ready.machine showing.now) how read (meters_in first tally step probes.old.probes.items)
@@ -279,12 +302,17 @@ fn drive_all<L: Lines, C: Sink, R: Sink>(
 {
     let Ready {
         mut machine,
+        mut driver,
+        mut kept,
         mut line,
         mut text,
         mut room,
     } = ready;
     let how = match answer_lines(
+        alloc,
         &mut machine,
+        &mut driver,
+        &mut kept,
         &mut line,
         &mut text,
         &mut room,
@@ -304,9 +332,10 @@ fn drive_all<L: Lines, C: Sink, R: Sink>(
 }
 
 /// Reads lines one after another. Each is answered before the next is read: an event is applied, told to every probe and put, as a
-/// replay puts it; a look is shown, and an event foreseen, which changes nothing; what is none of these, or names what isn't
-/// there, is refused with its number, and changes nothing. At the end of the lines comes the end of a replay; so it does where
-/// there is no room for an event more.
+/// replay puts it; a look is shown, an event foreseen, and the number of events told, which changes nothing; a line that goes back
+/// puts the machine where the first of the events led it, and takes back nothing that was put or told; what is none of these, or
+/// names what isn't there, is refused with its number, and changes nothing. At the end of the lines comes the end of a replay of the
+/// events that are done; so it does where there is no room for an event more.
 pub fn drive<L: Lines, C: Sink, R: Sink>(
     alloc: Global,
     job: Drive,
@@ -348,7 +377,7 @@ pub fn drive<L: Lines, C: Sink, R: Sink>(
     ensures cause { result ≡ Err DriveFault.Sink
         → Rose (C.faults console.old) (C.faults console.new) ⊎ Rose (R.faults report.old) (R.faults report.new) }
 
-    // Memory was lacking: nothing is done; or it was for the look that the last line asks for, of which nothing is put.
+    // Memory was lacking: nothing is done; or it was for the look or the way back that the last line asks for, of which nothing is put.
     ensures memory { result ≡ Err DriveFault.Memory →
         ((lines.new ≡ lines.old) × (console.new ≡ console.old) × (report.new ≡ report.old) × (probes.new ≡ probes.old))
         ⊎ ((read : List LineRead) × (last : LineRead)
@@ -368,5 +397,5 @@ pub fn drive<L: Lines, C: Sink, R: Sink>(
     let Some(ready) = ready_for(alloc, program, config) else {
         return Err(DriveFault::Memory);
     };
-    drive_all(ready, lines, &showing, probes, console, report)
+    drive_all(alloc, ready, lines, &showing, probes, console, report)
 }

@@ -12,7 +12,7 @@ pub struct Drive {
     pub showing: Showing,
 }
 
-/// What may be asked to be shown of the machine's state.
+/// What may be asked to be shown: a part of the machine's state, or what is due there.
 #[derive(Clone, Copy, PartialEq, Eq, Debug)]
 pub enum Look {
     /// The whole of it.
@@ -25,6 +25,8 @@ pub enum Look {
     Block(BlockNo),
     /// The messages in flight.
     Flights,
+    /// The event that is due to a worker, which is a node, with the number that it draws.
+    Due(NodeId, u32),
 }
 
 /// What a line says.
@@ -36,8 +38,12 @@ pub enum Said {
     Does(Event),
     /// An event's answer is asked for, and nothing is to be applied.
     Foresees(Event),
-    /// A part of the state is to be shown, and nothing is to be applied.
+    /// That is to be shown, and nothing is to be applied.
     Looks(Look),
+    /// The number of events that are done is asked for.
+    Marks,
+    /// The machine is to stand where the first so many of the events that are done led it.
+    Back(u32),
     /// It is none of these.
     Refused(Fault),
 }

@@ -1,4 +1,4 @@
-//! Machines that are driven by lines in memory, beside replays of the same scripts.
+//! Machines that are driven by lines in memory.
 ghost use Rattle.std.specs.Prelude.{IfOk};
 ghost use Rattle.driven_replay.specs.Driven.{MayDrive};
 
@@ -190,5 +190,115 @@ fn a_message_has_arrived_once_it_stands_at_its_receiver(rt: HostRuntime) -> Resu
     let ended = driven(alloc, job, &mut lines, &mut console, &mut report);
     assert!(rt; ended == Ok(DriveEnd::Whole));
     assert!(rt; report.bytes().starts_with(ON_ITS_WAY.as_bytes()));
+    Ok(())
+}
+
+#[test]
+fn what_is_due_to_a_worker_is_told_and_not_done(rt: HostRuntime) -> Result<(), Fail> {
+    let alloc = rt.alloc();
+    let mut console = MemSink::with_room(alloc, 8)?;
+    let mut report = MemSink::with_room(alloc, 4_096)?;
+    let mut lines = MemLines::new(b"due 1 0\ndue 1 0\nkill a0\nkill b0\nrecover\ndue 1 0\n");
+    let job = job_of(&rt, alloc, 2, ADDS, ReportKind::Summary)?;
+    let ended = driven(alloc, job, &mut lines, &mut console, &mut report);
+    assert!(rt; ended == Ok(DriveEnd::Whole));
+    let wanted: &[u8] =
+        b"{\"event\":\"step 1\"}\n{\"event\":\"step 1\"}\n{\"event\":null}\nevents 3\n";
+    assert!(rt; report.bytes().starts_with(wanted));
+    Ok(())
+}
+
+#[test]
+fn a_worker_or_a_number_that_is_not_there_is_refused(rt: HostRuntime) -> Result<(), Fail> {
+    let alloc = rt.alloc();
+    let mut console = MemSink::with_room(alloc, 8)?;
+    let mut report = MemSink::with_room(alloc, 4_096)?;
+    let mut lines = MemLines::new(
+        b"due 1 0\ndue 0\ndue 0 4294967296\ndue 0 4294967295\ndue 0 01\n",
+    );
+    let job = job(&rt, alloc)?;
+    let ended = driven(alloc, job, &mut lines, &mut console, &mut report);
+    assert!(rt; ended == Ok(DriveEnd::Whole));
+    let wanted: &[u8] =
+        b"outofrange 1\nbadline 2\noutofrange 3\n{\"event\":\"step 0\"}\nbadline 5\nevents 0\n";
+    assert!(rt; report.bytes().starts_with(wanted));
+    Ok(())
+}
+
+#[test]
+fn a_mark_is_the_number_of_events_and_not_of_lines(rt: HostRuntime) -> Result<(), Fail> {
+    let alloc = rt.alloc();
+    let mut console = MemSink::with_room(alloc, 8)?;
+    let mut report = MemSink::with_room(alloc, 4_096)?;
+    let mut lines = MemLines::new(b"mark\nfall\nvalidate\n\nflights\nvalidate\nmark\n");
+    let job = job_of(&rt, alloc, 1, PUTS_A, ReportKind::Summary)?;
+    let ended = driven(alloc, job, &mut lines, &mut console, &mut report);
+    assert!(rt; ended == Ok(DriveEnd::Whole));
+    let wanted: &[u8] = b"{\"mark\":0}\nbadline 2\n{\"flights\":[]}\n{\"mark\":2}\nevents 2\n";
+    assert!(rt; report.bytes().starts_with(wanted));
+    Ok(())
+}
+
+#[test]
+fn after_a_way_back_to_the_start_the_first_event_is_done_again(
+    rt: HostRuntime,
+) -> Result<(), Fail> {
+    let alloc = rt.alloc();
+    let mut console = MemSink::with_room(alloc, 8)?;
+    let mut report = MemSink::with_room(alloc, 4_096)?;
+    let mut lines = MemLines::new(b"validate\nedge 0\nback 0\nmark\nedge 0\n");
+    let job = job(&rt, alloc)?;
+    let ended = driven(alloc, job, &mut lines, &mut console, &mut report);
+    assert!(rt; ended == Ok(DriveEnd::Whole));
+    let wanted: &[u8] = b"1 validate: notready 0\n2 edge 0: edged 1\n{\"back\":0}\n{\"mark\":0}\n\
+1 edge 0: edged 1\nevents 1\n";
+    assert!(rt; report.bytes().starts_with(wanted));
+    Ok(())
+}
+
+/// What comes after two steps of node 1.
+const GOES_ON: &[u8] = b"edge 0\nstep 0\nshow\ndue 0 3\nback 3\nstep 0\nshow\nmark\n";
+
+#[test]
+fn after_a_way_back_all_goes_on_as_if_the_others_had_not_been(rt: HostRuntime) -> Result<(), Fail> {
+    let alloc = rt.alloc();
+    let mut console = MemSink::with_room(alloc, 8)?;
+    let mut straight = MemSink::with_room(alloc, 65_536)?;
+    let mut returned = MemSink::with_room(alloc, 65_536)?;
+    let mut text = Vec::with_capacity(alloc, 256)?;
+    text.extend_from_slice(b"step 1\nstep 1\n")?;
+    text.extend_from_slice(GOES_ON)?;
+    let first = job_of(&rt, alloc, 2, ADDS, ReportKind::Summary)?;
+    let mut lines = MemLines::new(text.as_slice());
+    let ended = driven(alloc, first, &mut lines, &mut console, &mut straight);
+    assert!(rt; ended == Ok(DriveEnd::Whole));
+    text.clear();
+    text.extend_from_slice(b"step 1\nstep 1\nstep 1\nhop 1\nkill a1\nrecover\nback 2\n")?;
+    text.extend_from_slice(GOES_ON)?;
+    let second = job_of(&rt, alloc, 2, ADDS, ReportKind::Summary)?;
+    let mut lines = MemLines::new(text.as_slice());
+    let ended = driven(alloc, second, &mut lines, &mut console, &mut returned);
+    assert!(rt; ended == Ok(DriveEnd::Whole));
+    assert!(rt;
+        returned.bytes().strip_prefix(b"{\"back\":2}\n".as_slice()) == Some(straight.bytes())
+    );
+    Ok(())
+}
+
+#[test]
+fn a_way_back_to_more_events_than_are_done_is_refused(rt: HostRuntime) -> Result<(), Fail> {
+    let alloc = rt.alloc();
+    let mut console = MemSink::with_room(alloc, 8)?;
+    let mut report = MemSink::with_room(alloc, 4_096)?;
+    let mut lines = MemLines::new(
+        b"validate\nback 2\nback 4294967295\nmark\nback 4294967296\nback 01\nback\nback 1\n",
+    );
+    let job = job_of(&rt, alloc, 1, PUTS_A, ReportKind::Summary)?;
+    let ended = driven(alloc, job, &mut lines, &mut console, &mut report);
+    assert!(rt; ended == Ok(DriveEnd::Whole));
+    let wanted: &[u8] =
+        b"outofrange 2\noutofrange 3\n{\"mark\":1}\nbadline 5\nbadline 6\nbadline 7\n\
+{\"back\":1}\nevents 1\n";
+    assert!(rt; report.bytes().starts_with(wanted));
     Ok(())
 }

@@ -15,9 +15,9 @@ use Rattle.script_replay.specs.Played.{summary_pieces_of, end_now}
 use Rattle.run_journals.specs.declared.entry.JournalEntry.{JournalEntry}
 use Rattle.node_run.specs.Pieces.{entry_lines, journal_pieces}
 use Rattle.sn_base.specs.declared.report.RunReport.{RunReport}
-use Rattle.sn_base.specs.declared.report.RunReport.TheVariants.{Summary, Trace, Journal}
+use Rattle.sn_base.specs.declared.report.RunReport.TheVariants.{Summary, Trace, Accesses, Journal}
 use Rattle.node_run.specs.declared.job.RunShowing.{RunShowing}
-use Rattle.node_run.specs.Reported.{script_now, report_by_kind, report_now, HaveNumbers}
+use Rattle.node_run.specs.Reported.{script_now, rows_now, report_by_kind, report_now, HaveNumbers}
 
 -- the turns, one after another
 journal_pieces-drop : (journal : List JournalEntry) (i : ℕ) (entry : JournalEntry) → i < length journal → entry ≡ get_or journal i entry →
@@ -102,6 +102,9 @@ module _ (m : MachineData) (journal : List JournalEntry) (showing : RunShowing) 
       BreaksIn (report_now m journal showing tallies)
   trace-breaks is h = of_kind Trace is h
 
+  pub rows-breaks : showing.report ≡ Accesses → BreaksIn (rows_now m showing.watch tallies) → BreaksIn (report_now m journal showing tallies)
+  rows-breaks is h = of_kind Accesses is h
+
   pub script-breaks : showing.report ≡ Journal → BreaksIn (script_now m journal showing.watch tallies) →
       BreaksIn (report_now m journal showing tallies)
   script-breaks is h = of_kind Journal is h
@@ -121,8 +124,14 @@ no-summary e = cc
 no-trace : Trace ≡ Journal → ⊥
 no-trace e = cc
 
+no-rows : Accesses ≡ Journal → ⊥
+no-rows e = cc
+
 no-summary_traced : Summary ≡ Trace → ⊥
 no-summary_traced e = cc
+
+no-rows_traced : Accesses ≡ Trace → ⊥
+no-rows_traced e = cc
 
 no-journal_traced : Journal ≡ Trace → ⊥
 no-journal_traced e = cc
@@ -137,6 +146,9 @@ module _ (journal : List JournalEntry) (showing : RunShowing) (r : Result (Unit 
   pub trace-numbers : showing.report ≡ Trace → OnOk r IfAsked
   trace-numbers is = always r IfAsked (λ kind. absurd (no-trace (sym is ∙ kind)))
 
+  pub rows-numbers : showing.report ≡ Accesses → OnOk r IfAsked
+  rows-numbers is = always r IfAsked (λ kind. absurd (no-rows (sym is ∙ kind)))
+
   pub script-numbers : OnOk r (HaveNumbers journal) → OnOk r IfAsked
   script-numbers h = on-ok r (HaveNumbers journal) IfAsked (λ all kind. all) h
 
@@ -150,6 +162,9 @@ module _ (records : List Record) (showing : RunShowing) (r : Result (Unit {0}) F
 
   pub trace-values : OnOk r (replayed.Trace ≡ replayed.Trace → All HasValues records) → OnOk r IfTraced
   trace-values h = on-ok r (replayed.Trace ≡ replayed.Trace → All HasValues records) IfTraced (λ all kind. all refl) h
+
+  pub rows-values : showing.report ≡ Accesses → OnOk r IfTraced
+  rows-values is = always r IfTraced (λ kind. absurd (no-rows_traced (sym is ∙ kind)))
 
   pub script-values : showing.report ≡ Journal → OnOk r IfTraced
   script-values is = always r IfTraced (λ kind. absurd (no-journal_traced (sym is ∙ kind)))

@@ -1,4 +1,5 @@
 pub mod Journals
+pub mod TraceRows
 pub mod Replays
 pub mod Runs
 pub mod ReadBack

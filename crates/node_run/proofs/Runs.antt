@@ -5,6 +5,8 @@ use Rattle.std.specs.Prelude.{◌≤◌, Option, Some, None, Ok, codes, option_a
 use Rattle.sn_base.specs.Image.{ImageData}
 use Rattle.sn_base.specs.declared.config.Config.{Config}
 use Rattle.sn_base.specs.declared.event.Answer.{Answer}
+use Rattle.rv_core.specs.declared.state.CoreState.{CoreState}
+use Rattle.rv_core.specs.Flat.{first_cores}
 use Rattle.sn_io.specs.Outside.{followed_by, Rose}
 use Rattle.sn_model.specs.Machine.{State}
 use Rattle.consistent_cuts.specs.Headline.{IsRun, IsConsistent, retirements}
@@ -18,6 +20,8 @@ use Rattle.sn_console.specs.Handed.{IsHandedOn, IsBegun}
 use Rattle.sink_pieces.specs.Pieces.{Piece, Ends, ends, after, Breaks, console_piece, report_text}
 use Rattle.sink_pieces.proofs.PieceLaws.{report_text-append, after-append, after-console_piece, Breaks-after}
 use Rattle.sink_pieces.proofs.Begun.{report-after, report-begun}
+use Rattle.committed_accesses.specs.Rows.{access_rows_of}
+use Rattle.committed_accesses.specs.Lines.{access_pieces}
 use Rattle.script_replay.specs.Pieces.{trace_pieces, summary_pieces, end_pieces}
 use Rattle.script_replay.specs.Played.{summary_pieces_of}
 use Rattle.script_replay.specs.Shown.{IsLawful}
@@ -34,11 +38,11 @@ use Rattle.node_threads.specs.Told.{told_all}
 use Rattle.node_run.specs.declared.ending.Ending.{Ending}
 use Rattle.node_run.specs.declared.job.Run.{Run}
 use Rattle.sn_base.specs.declared.report.RunReport.{RunReport}
-use Rattle.sn_base.specs.declared.report.RunReport.TheVariants.{Summary, Trace, Journal}
+use Rattle.sn_base.specs.declared.report.RunReport.TheVariants.{Summary, Trace, Accesses, Journal}
 use Rattle.node_run.specs.Endings.{ending_by, flat_after, ending_of}
-use Rattle.node_run.specs.Pieces.{begins, tallies_by, entry_lines, journal_text, journal_pieces, summary_by, report_by}
+use Rattle.node_run.specs.Pieces.{begins, tallies_by, entry_lines, journal_text, journal_pieces, rows_by, summary_by, report_by}
 use Rattle.node_run.specs.Reported.{report_by_kind, report_now, HaveNumbers, ended_now, IsReported, IsUnreported}
-use Rattle.node_run.specs.Shown.{MayBegin, IsJournal, IsTrace, IsScript, written_trace}
+use Rattle.node_run.specs.Shown.{MayBegin, IsJournal, IsTrace, AreRows, IsScript, written_trace}
 use Rattle.node_run.specs.Shown.{IsDoneWith, IsBrokenOffWith, KnowAll, output_by}
 use Rattle.node_run.proofs.ReadBack.{journal-read}
 use Rattle.node_run.proofs.Replays.{told-replayed, replayed-so}
@@ -95,6 +99,13 @@ module _ (r : Run) (began : Began) (m : MachineData) (journal : List JournalEntr
   pub knows-all : (before now_ : List Meter) → now_ ≡ told_all journal answers before → KnowAll r journal before now_
   knows-all before now_ told = told ∙ told-replayed r journal answers before by_run.answers_are
 
+  -- cores at the start of the program are at that of the machine's
+  pub cores-at_start : (cores : List CoreState) → cores ≡ first_cores r.config.nodes r.program.entry →
+      cores ≡ first_cores m.config.nodes m.image.entry
+  cores-at_start cores at =
+      at ∙ ap (λ (i : ImageData). first_cores r.config.nodes i.entry) (sym by_run.image)
+      ∙ ap (λ (c : Config). first_cores c.nodes m.image.entry) (sym by_run.config)
+
   -- the report
 
   summary-is : (mark : List ℕ) (probes : List Meter) (tallies : List (List ℕ)) → tallies ≡ tallies_by r probes journal →
@@ -108,6 +119,12 @@ module _ (r : Run) (began : Began) (m : MachineData) (journal : List JournalEntr
       ∙ ap (λ (t : List (List ℕ)). summary_pieces mark r.program r.config r.showing.watch t (length journal)
       (state_of (begins r) journal)) are
 
+  rows-are : access_pieces (access_rows_of m.image m.config.nodes m.state.committed) ≡ rows_by r journal
+  rows-are =
+      ap (λ (i : ImageData). access_pieces (access_rows_of i m.config.nodes m.state.committed)) by_run.image
+      ∙ ap (λ (c : Config). access_pieces (access_rows_of r.program c.nodes m.state.committed)) by_run.config
+      ∙ ap (λ (s : State). access_pieces (access_rows_of r.program r.config.nodes s.committed)) by_run.state
+
   report-by_kind : (kind : RunReport) (probes : List Meter) (tallies : List (List ℕ)) → tallies ≡ tallies_by r probes journal →
       report_by_kind kind m journal r.showing tallies ≡ report_by kind r probes journal
   unfolding end_pieces
@@ -115,6 +132,9 @@ module _ (r : Run) (began : Began) (m : MachineData) (journal : List JournalEntr
   report-by_kind Trace probes tallies are =
       ap (λ (s : State). trace_pieces s.committed ++ summary_pieces_of (codes "# ") m r.showing.watch tallies) by_run.state
       ∙ ap (λ (t : List Piece). trace_pieces (state_of (begins r) journal).committed ++ t) (summary-is (codes "# ") probes tallies are)
+  report-by_kind Accesses probes tallies are =
+      ap (λ (t : List Piece). t ++ summary_pieces_of (codes "# ") m r.showing.watch tallies) rows-are
+      ∙ ap (λ (t : List Piece). rows_by r journal ++ t) (summary-is (codes "# ") probes tallies are)
   report-by_kind Journal probes tallies are =
       ap (λ (t : List Piece). journal_pieces journal ++ t) (summary-is (codes "# ") probes tallies are)
 
@@ -143,6 +163,14 @@ module _ (r : Run) (began : Began) (m : MachineData) (journal : List JournalEntr
         ∙ ap (λ t. t ++ report_text (summary_by (codes "# ") r probes journal))
         (report_text-trace (state_of (begins r) journal).committed));
     read = trace-is_read probes (subst (λ (s : State). All HasValues s.committed) by_run.state values);
+  }
+
+  are-rows : (probes : List Meter) (before behind : Option (List ℕ)) → r.showing.report ≡ Accesses →
+      behind ≡ followed_by before (report_text (report_by r.showing.report r probes journal)) → AreRows r probes journal before behind
+  are-rows probes before behind kind put = record {
+    execution = consistent.execution;
+    written = put ∙ ap (λ (k : RunReport). followed_by before (report_text (report_by k r probes journal))) kind
+        ∙ ap (followed_by before) (report_text-append (rows_by r journal) (summary_by (codes "# ") r probes journal));
   }
 
   is-script : (probes : List Meter) (before behind : Option (List ℕ)) → HaveNumbers journal → r.showing.report ≡ Journal →
@@ -199,6 +227,7 @@ module _ (r : Run) (began : Began) (m : MachineData) (journal : List JournalEntr
               lawful = lawful;
               output = output-is;
               traced = λ kind. is-trace probes report shown (values kind) kind text;
+              accessed = λ kind. are-rows probes report shown kind text;
               journaled = λ kind. is-script probes report shown (numbers kind) kind text;
               replayed = replayed-so r probes journal consistent.output;
             };

@@ -4,6 +4,8 @@ use Rattle.std.specs.List.{flat_map}
 use Rattle.sn_text.specs.Text.{count_line, script_line}
 use Rattle.sn_probe.specs.Probes.{Meter}
 use Rattle.sink_pieces.specs.Pieces.{Piece, Report, console_piece}
+use Rattle.committed_accesses.specs.Rows.{access_rows_of}
+use Rattle.committed_accesses.specs.Lines.{access_pieces}
 use Rattle.script_replay.specs.declared.job.ReportKind.TheVariants as replayed
 use Rattle.script_replay.specs.declared.job.Replay.{Replay}
 use Rattle.script_replay.specs.Pieces.{trace_pieces, summary_pieces}
@@ -12,7 +14,7 @@ use Rattle.run_journals.specs.declared.entry.JournalEntry.{JournalEntry}
 use Rattle.run_journals.specs.Journal.{Began, events_of, state_of}
 use Rattle.node_run.specs.declared.job.Run.{Run}
 use Rattle.sn_base.specs.declared.report.RunReport.{RunReport}
-use Rattle.sn_base.specs.declared.report.RunReport.TheVariants.{Summary, Trace, Journal}
+use Rattle.sn_base.specs.declared.report.RunReport.TheVariants.{Summary, Trace, Accesses, Journal}
 
 -- what a run begins with
 abbrev pub begins : Run → Began
@@ -49,10 +51,15 @@ abbrev pub summary_by : List ℕ → Run → List Meter → List JournalEntry �
 summary_by before r probes journal =
     summary_pieces before r.program r.config r.showing.watch (tallies_by r probes journal) (length journal) (state_of (begins r) journal)
 
--- the report: the summary; or the committed trace, or the journal, and then the summary, marked as comments
+-- the rows of the committed trace: of each record what it does in memory
+abbrev pub rows_by : Run → List JournalEntry → List Piece
+rows_by r journal = access_pieces (access_rows_of r.program r.config.nodes (state_of (begins r) journal).committed)
+
+-- the report: the summary; or the committed trace, or its rows, or the journal, and then the summary, marked as comments
 abbrev pub report_by : RunReport → Run → List Meter → List JournalEntry → List Piece
 report_by Summary r probes journal = summary_by [] r probes journal
 report_by Trace r probes journal = trace_pieces (state_of (begins r) journal).committed ++ summary_by (codes "# ") r probes journal
+report_by Accesses r probes journal = rows_by r journal ++ summary_by (codes "# ") r probes journal
 report_by Journal r probes journal = journal_pieces journal ++ summary_by (codes "# ") r probes journal
 
 -- all that a run with this journal puts, of which these probes are told

@@ -18,9 +18,9 @@ use Rattle.run_journals.specs.declared.entry.JournalEntry.{JournalEntry}
 use Rattle.run_journals.specs.Journal.{IsDue, events_of, state_of}
 use Rattle.node_run.specs.declared.ending.Ending.{Ending}
 use Rattle.node_run.specs.declared.job.Run.{Run}
-use Rattle.sn_base.specs.declared.report.RunReport.TheVariants.{Trace, Journal}
+use Rattle.sn_base.specs.declared.report.RunReport.TheVariants.{Trace, Accesses, Journal}
 use Rattle.node_run.specs.Endings.{ending_of}
-use Rattle.node_run.specs.Pieces.{begins, replay_of, journal_text, summary_by, report_by, run_pieces}
+use Rattle.node_run.specs.Pieces.{begins, replay_of, journal_text, rows_by, summary_by, report_by, run_pieces}
 use Rattle.sn_base.specs.declared.limits.TheConstants.{EVENTS}
 
 -- a run that may begin: its sizes fit, its rules are ones for so many nodes, there are at most a million events, and it watches a
@@ -54,6 +54,15 @@ pub record IsTrace (r : Run) (probes : List Meter) (journal : List JournalEntry)
   pub written : behind ≡ followed_by before (written_trace r probes journal)
   pub read : trace_of r.config.nodes (written_trace r probes journal) ≡ Ok (state_of (begins r) journal).committed
 
+-- the rows of the committed trace, and then the summary, marked as comments
+abbrev pub written_rows : Run → List Meter → List JournalEntry → List ℕ
+written_rows r probes journal = report_text (rows_by r journal) ++ report_text (summary_by (codes "# ") r probes journal)
+
+-- the report is this text, whose rows are those of an execution of the program
+pub record AreRows (r : Run) (probes : List Meter) (journal : List JournalEntry) (before behind : Option (List ℕ)) : Type 0 where
+  pub execution : IsExecution r.program r.config.nodes (state_of (begins r) journal).committed
+  pub written : behind ≡ followed_by before (written_rows r probes journal)
+
 -- a journal, and then the summary, marked as comments
 abbrev pub written_script : Run → List Meter → List JournalEntry → List ℕ
 written_script r probes journal = journal_text journal ++ report_text (summary_by (codes "# ") r probes journal)
@@ -74,6 +83,7 @@ pub record IsShown (r : Run) (probes : List Meter) (journal : List JournalEntry)
   pub lawful : IsLawful r.program r.config (events_of journal)
   pub output : behind.console ≡ followed_by before.console (output_by r journal)
   pub traced : r.showing.report ≡ Trace → IsTrace r probes journal before.report behind.report
+  pub accessed : r.showing.report ≡ Accesses → AreRows r probes journal before.report behind.report
   pub journaled : r.showing.report ≡ Journal → IsScript r probes journal before.report behind.report
   pub replayed : IsReplayedSo r probes journal
 

@@ -6,10 +6,12 @@ ghost use Rattle.sn_probe.specs.Probes.{meters_in, tallies_of};
 ghost use Rattle.sink_pieces.specs.Pieces.{ends, after, Breaks};
 ghost use Rattle.script_replay.specs.Played.{IsWatchable};
 ghost use Rattle.node_run.specs.Pieces.{entry_lines, journal_pieces};
-ghost use Rattle.node_run.specs.Reported.{script_now, report_now, HaveNumbers, ended_now, IsReported, IsUnreported};
+ghost use Rattle.node_run.specs.Reported.{script_now, report_now, HaveNumbers, ended_now, IsRoomFor, IsReported, IsUnreported};
 
 use crate::ending::{Ending, how_ended};
 use crate::job::RunShowing;
+use crate::room::ReportRoom;
+use crate::rows::put_rows;
 use node_threads::{Finished, JournalEntry};
 use script_replay::{ReportKind, Showing, put_end, put_summary};
 use sink_pieces::put_report;
@@ -77,13 +79,14 @@ fn put_script<R: Sink>(
 
 // Puts what the report has of a run that left this machine and this journal.
 fn put_run<R: Sink>(
-    line: &mut Line,
+    room: &mut ReportRoom,
     machine: &Machine,
     journal: &[JournalEntry],
     showing: &RunShowing,
     probes: &ProbeSet,
     report: &mut R,
 ) -> Result<(), Failed>
+    requires start { IsRoomFor room.old machine.now }
     requires watched { IsWatchable showing.now.watch }
     ensures ok { OnOk result ((c : Option (List ℕ)) → ends c (R.written report.new) ≡ after (ends c (R.written report.old))
         (report_now machine.now journal.now showing.now (tallies_of (meters_in first tally step probes.now.probes.items)))) }
@@ -95,6 +98,7 @@ fn put_run<R: Sink>(
     ensures later { R.faults report.old ≤ R.faults report.new }
     ensures cause { OnErr result (Rose (R.faults report.old) (R.faults report.new)) }
 {
+    let ReportRoom { line, rows } = room;
     let watch = showing.watch;
     match showing.report {
         RunReport::Summary => put_summary(line, "", machine, watch, probes, report),
@@ -105,19 +109,21 @@ fn put_run<R: Sink>(
             };
             put_end(line, machine, &showing, probes, report)
         }
+        RunReport::Accesses => put_rows(rows, line, machine, watch, probes, report),
         RunReport::Journal => put_script(line, machine, journal, watch, probes, report),
     }
 }
 
 /// Tells how a run ended that left this, and puts its report. None where the run was stopped, and then the report has nothing,
-/// or where the report broke.
+/// or where the report broke. It takes no memory beside its room.
 pub fn put_ended<R: Sink>(
-    line: &mut Line,
+    room: &mut ReportRoom,
     finished: &Finished,
     showing: &RunShowing,
     probes: &ProbeSet,
     report: &mut R,
 ) -> Option<Ending>
+    requires start { IsRoomFor room.old finished.now.machine }
     requires watched { IsWatchable showing.now.watch }
     ensures some { IfSome result (λ ending. IsReported finished.now.machine finished.now.journal.items finished.now.finish showing.now
         (tallies_of (meters_in first tally step probes.now.probes.items)) ending (R.written report.old) (R.written report.new)) }
@@ -131,7 +137,7 @@ pub fn put_ended<R: Sink>(
         return None;
     };
     let journal = finished.journal.as_slice();
-    match put_run(line, &finished.machine, journal, showing, probes, report) {
+    match put_run(room, &finished.machine, journal, showing, probes, report) {
         Ok(()) => Some(ending),
         Err(_) => None,
     }

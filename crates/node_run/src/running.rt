@@ -12,13 +12,13 @@ ghost use Rattle.sn_base.specs.declared.limits.TheConstants.{EVENTS};
 use crate::ending::Ending;
 use crate::job::Run;
 use crate::reporting::put_ended;
+use crate::room::report_room;
 use node_threads::{SharedMachine, run_nodes};
 use sn_base::{Config, Image, Rules};
 use sn_driver::Driver;
 use sn_io::{Gate, Sink};
 use sn_machine::Machine;
 use sn_probe::ProbeSet;
-use sn_text::Line;
 use std::alloc::Global;
 use std::sync::Wait;
 use std::thread::Threads;
@@ -32,8 +32,8 @@ pub enum RunFault {
     Memory,
 }
 
-// A machine of these sizes at the start of the program, that workers may share.
-fn shared_for(
+/// A machine of these sizes at the start of the program, that workers may share. None is want of memory.
+pub fn shared_for(
     alloc: Global,
     program: Image,
     config: Config,
@@ -94,7 +94,7 @@ pub fn run<T: Threads + Wait + Sync, C: Sink + Send, R: Sink, G: Gate + Sync>(
         budget,
         showing,
     } = job;
-    let Ok(mut line) = Line::new(alloc) else {
+    let Ok(mut room) = report_room(alloc, &program, config.nodes) else {
         return Err(RunFault::Memory);
     };
     let Some(shared) = shared_for(alloc, program, config, rules, seed, budget) else {
@@ -103,7 +103,7 @@ pub fn run<T: Threads + Wait + Sync, C: Sink + Send, R: Sink, G: Gate + Sync>(
     let Ok(finished) = run_nodes(rt, alloc, shared, gate, console, probes) else {
         return Err(RunFault::Memory);
     };
-    match put_ended(&mut line, &finished, &showing, probes, report) {
+    match put_ended(&mut room, &finished, &showing, probes, report) {
         Some(ending) => Ok(ending),
         None => Err(RunFault::Sink),
     }

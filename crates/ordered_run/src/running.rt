@@ -13,12 +13,11 @@ ghost use Rattle.ordered_run.specs.Stands.{Stands, IsReady, its_start};
 use crate::course::Course;
 use crate::starting::start;
 use crate::turns::make_turns;
-use node_run::{Ending, Run, RunFault, put_ended};
+use node_run::{Ending, Run, RunFault, put_ended, report_room};
 use node_threads::{Finished, tell};
 use sn_base::Memory;
 use sn_io::{Sink, SureSink};
 use sn_probe::ProbeSet;
-use sn_text::Line;
 use std::alloc::Global;
 use turn_orders::Order;
 
@@ -114,7 +113,7 @@ pub fn run<C: Sink, R: Sink>(
         budget,
         showing,
     } = job;
-    let Ok(mut line) = Line::new(alloc) else {
+    let Ok(mut room) = report_room(alloc, &program, config.nodes) else {
         return Err(RunFault::Memory);
     };
     let Ok(course) = start(alloc, program, config, rules, seed, budget, order) else {
@@ -122,7 +121,7 @@ pub fn run<C: Sink, R: Sink>(
     };
     let finished = finish(course, console);
     tell(&finished.journal, &finished.answers, probes);
-    match put_ended(&mut line, &finished, &showing, probes, report) {
+    match put_ended(&mut room, &finished, &showing, probes, report) {
         Some(ending) => Ok(ending),
         None => Err(RunFault::Sink),
     }

@@ -22,6 +22,26 @@ const LOOPS: &str = "0000006f\n";
 /// Isn't an instruction.
 const TRAPS: &str = "00000000\n";
 
+/// Adds 1 to a word and exits.
+const ADDS: &str = "800012b7\n00100313\n0062a3af\n05d00893\n00000073\n";
+
+/// Its rows, where it is committed as a whole.
+const ROWS: &str = "\
+core,pc,instruction,address,size,read,written,done
+0,80000000,\"lui x5, 524289\",,,,,
+0,80000004,\"addi x6, x0, 1\",,,,,
+0,80000008,\"amoadd.w x7, x6, (x5)\",80001000,4,00000000,00000001,
+0,8000000c,\"addi x17, x0, 93\",,,,,
+0,80000010,\"ecall\",,,,,
+# events ";
+
+/// The summary behind them, from the records on.
+const MARKED: &str = "
+# committed 5
+# released 0
+# core 0 80000010 exited 0 x5=80001000 x6=00000001 x17=0000005d
+";
+
 /// A round of four workers, and again.
 const ROUNDS: &[&[u8]] = &[
     b"# worker 0",
@@ -186,6 +206,38 @@ fn a_program_that_exits_leaves_its_output_and_the_summary(rt: HostRuntime) -> Re
         report.bytes().ends_with(
             b"\npoint 1\ncommitted 5\nreleased 1\ncore 0 80000010 exited 65 x10=00000041 x17=0000005d\n".as_slice()
         )
+    );
+    Ok(())
+}
+
+#[test]
+fn the_accesses_of_a_run_are_rows_before_a_marked_summary(rt: HostRuntime) -> Result<(), Fail> {
+    let alloc = rt.alloc();
+    let mut console = MemSink::with_room(alloc, 8)?;
+    let mut report = MemSink::with_room(alloc, 1_024)?;
+    let job = job(&rt, alloc, ADDS, 1, 10_000, RunReport::Accesses)?;
+    let ended = ran(alloc, job, Order::Round, &mut console, &mut report);
+    assert!(rt; has_exited(&ended));
+    assert!(rt; console.bytes().is_empty());
+    assert!(rt; report.bytes().starts_with(ROWS.as_bytes()));
+    assert!(rt; report.bytes().ends_with(MARKED.as_bytes()));
+    Ok(())
+}
+
+#[test]
+fn where_the_second_row_fails_the_report_has_the_first(rt: HostRuntime) -> Result<(), Fail> {
+    let alloc = rt.alloc();
+    let mut console = MemSink::with_room(alloc, 8)?;
+    let mut report = MemSink::with_room(alloc, 1_024)?;
+    report.fail_call(3)?;
+    let job = job(&rt, alloc, PUTS_A, 1, 10_000, RunReport::Accesses)?;
+    let ended = ran(alloc, job, Order::Round, &mut console, &mut report);
+    assert!(rt; has_a_broken_sink(&ended));
+    assert_eq!(rt; console.bytes(), b"A".as_slice());
+    assert!(rt;
+        report
+            .bytes()
+            .ends_with(b"done\n0,80000000,\"addi x10, x0, 65\",,,,,\n".as_slice())
     );
     Ok(())
 }

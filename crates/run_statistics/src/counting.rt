@@ -11,9 +11,8 @@ ghost use Rattle.run_statistics.specs.Counted.{IsAtStart};
 
 use crate::numbers::Numbers;
 use crate::owned::OwnedBefore;
-use crate::program::copy_of;
 use crate::statistics::{Before, Statistics};
-use sn_base::{Config, Event, Image, Memory};
+use sn_base::{Config, Event, Image, Memory, copy_of};
 use sn_machine::Machine;
 use std::alloc::Global;
 

@@ -12,11 +12,11 @@ use Rattle.driven_replay.specs.declared.driving.DriveEnd.TheVariants.{Whole, Too
 use Rattle.driven_replay.specs.declared.driving.DriveEnd.{DriveEnd}
 use Rattle.driven_replay.specs.Driven.{SourceData, AreRead, IsAtEnd, IsLeftOff, LacksMemory, BreaksInAnswer, BreaksAtEnd}
 use Rattle.line_source.specs.Lines.{LineRead}
-use Rattle.safetynet_main.specs.Call.{Fetches}
-use Rattle.safetynet_main.specs.Files.{program_limit, program_in}
-use Rattle.safetynet_main.specs.declared.status.Status.{Status}
-use Rattle.safetynet_main.specs.declared.status.Status.TheVariants.{StoreFault, Usage, Memory, SinkFault, InputFault}
-use Rattle.safetynet_main.proofs.LoadPlans.{program-of_bytes, if_some-intro}
+use Rattle.call_files.specs.Fetches.{Fetches}
+use Rattle.call_files.specs.Files.{program_limit, program_in}
+use Rattle.call_status.specs.declared.status.Status.{Status}
+use Rattle.call_status.specs.declared.status.Status.TheVariants.{StoreFault, Usage, Memory, SinkFault, InputFault}
+use Rattle.call_files.proofs.Found.{program-of_bytes, if_some-intro}
 use Rattle.safetynet_drive.specs.Call.{Asked, asked_in, drive_of, ComesTo, Follows, Comes, FollowsOver, IsCutShort, EndsInTheMiddle}
 
 -- a drive that began ends in no refusal

@@ -12,9 +12,9 @@ use Rattle.driven_replay.specs.declared.job.Drive.{Drive}
 use Rattle.driven_replay.specs.declared.driving.DriveEnd.{DriveEnd}
 use Rattle.driven_replay.specs.declared.driving.DriveEnd.TheVariants.{Whole, TooMany}
 use Rattle.driven_replay.specs.Driven.{SourceData, AreRead, IsAtEnd, IsDriven, IsLeftOff, LacksMemory, BreaksInAnswer, BreaksAtEnd}
-use Rattle.safetynet_main.specs.Files.{program_limit, program_in}
-use Rattle.safetynet_main.specs.declared.status.Status.{Status}
-use Rattle.safetynet_main.specs.declared.status.Status.TheVariants.{Done, Budget, SinkFault, InputFault, Usage}
+use Rattle.call_files.specs.Files.{program_limit, program_in}
+use Rattle.call_status.specs.declared.status.Status.{Status}
+use Rattle.call_status.specs.declared.status.Status.TheVariants.{Done, Budget, SinkFault, InputFault, Usage}
 
 -- whether the first word after the program's name is that of a drive
 abbrev pub is_drive : List (List ℕ) → Bool
@@ -93,7 +93,7 @@ FollowsOver held probes (Some asked) status from to before behind =
     Follows asked.config asked.watch probes (program_in (found_in (held asked.program) program_limit)) status from to before behind
 FollowsOver held probes None status from to before behind = (status ≡ Usage) × ((to ≡ from) × (behind ≡ before))
 
--- memory was wanted for the look that the last line asks for: those before it are answered, and nothing more is put
+-- memory was wanted for the look or the way back that the last line asks for: those before it are answered, and nothing more is put
 abbrev pub IsCutShort : Drive → List Meter → SourceData → SourceData → Ends → Ends → Type 0
 IsCutShort d probes from to before behind =
     (lines : List LineRead) × (last : LineRead) × (told : List Meter)

@@ -5,14 +5,15 @@ ghost use Rattle.command_words.specs.Request.{ask_of};
 ghost use Rattle.sn_probe.specs.Probes.{meters_of, meters_in};
 ghost use Rattle.sink_pieces.specs.Pieces.{ends};
 ghost use Rattle.driven_replay.specs.Driven.{MayDrive, source};
-ghost use Rattle.safetynet_main.specs.Status.{has_written};
-ghost use Rattle.safetynet_main.specs.Call.{Fetches};
+ghost use Rattle.call_status.specs.Status.{has_written};
+ghost use Rattle.call_files.specs.Fetches.{Fetches};
 ghost use Rattle.safetynet_drive.specs.Call.{is_drive, end_status, ComesTo, Comes, FollowsOver, IsCutShort, EndsInTheMiddle, HasGivenAll, asked_in};
 
+use call_files::fetch_program;
+use call_status::Status;
 use command_words::{Request, WordsFault, read_words};
 use driven_replay::{Drive, DriveEnd, DriveFault, drive};
 use line_source::Lines;
-use safetynet_main::{Status, fetch_program};
 use script_replay::{ReportKind, Showing};
 use sn_io::{Sink, Store};
 use sn_probe::{Probe, ProbeSet};
@@ -70,7 +71,7 @@ fn perform<L: Lines, C: Sink, R: Sink>(
 }
 
 // Fetches the program, and drives its machine.
-#[tactic(auto, using(safetynet_main::proofs::Watched::watched_is))]
+#[tactic(auto, using(call_files::proofs::Watched::watched_is))]
 fn answer<S: Store, L: Lines, C: Sink, R: Sink>(
     alloc: Global,
     words: &[String],
@@ -151,7 +152,7 @@ pub fn safetynet_drive<S: Store, L: Lines, C: Sink, R: Sink>(
         → Rose (C.faults console.old) (C.faults console.new) ⊎ Rose (R.faults report.old) (R.faults report.new) }
     ensures input_fault { result ≡ Status.InputFault → Rose (L.faults lines.old) (L.faults lines.new)
         ⊎ HasGivenAll (source (L.read lines.old) (L.left lines.old)) (source (L.read lines.new) (L.left lines.new)) }
-    // Nothing is read and nothing written, or memory was wanted for a look.
+    // Nothing is read and nothing written, or memory was wanted for a look or a way back.
     ensures nothing { has_written result ≡ false → ((console.new ≡ console.old) × ((report.new ≡ report.old) × (lines.new ≡ lines.old)))
         ⊎ ((result ≡ Status.Memory) × EndsInTheMiddle (Fetches S.files S.sure S.faults S.gave)
         (meters_of first tally step probes.items) (asked_in (ask_of (map string_bytes words.now))) store.old store.new

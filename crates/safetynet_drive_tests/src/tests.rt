@@ -1,8 +1,8 @@
 //! Each row is a call: its words, the program's file, the lines that come, which calls of the outside fail, and what is left.
+use call_status::{ProgramCause, Status};
 use elf_load::LoadCause;
 use line_source::MemLines;
 use safetynet_drive::{is_drive, safetynet_drive};
-use safetynet_main::{ProgramCause, Status};
 use sn_base::Memory;
 use sn_io::{MemSink, MemStore};
 use std::alloc::{AllocError, Global};

@@ -1,13 +1,9 @@
 -- What follows of a call from how its files were found.
 use Rattle.std.proofs.Common.{◌≡◌, ℕ, List, [], ◌∷◌, ◌++◌, length, refl, ap, sym, subst, ◌∙◌, inl, inr, append-nil}
-use Rattle.std.specs.Prelude.{Option, Some, None, IfSome, IfOk, Result, Ok, Err, ◌⊎◌, Vec}
-use Rattle.std.specs.declared.alloc.Global.{Global}
-use Rattle.std.specs.declared.dyn_box.DynBox.{DynBox}
-use Rattle.sn_base.specs.declared.event.Event.{Event}
-use Rattle.sn_base.specs.declared.event.Answer.{Answer}
+use Rattle.std.specs.Prelude.{Option, Some, None, IfSome, IfOk, Result, Ok, Err, ◌⊎◌}
 use Rattle.sn_io.specs.Outside.{Found, Rose, followed_by}
 use Rattle.command_words.specs.Request.{Request}
-use Rattle.sn_probe.specs.Probes.{Meter, meters_in}
+use Rattle.sn_probe.specs.Probes.{Meter}
 use Rattle.sink_pieces.specs.Pieces.{Ends, Report, ends, after, Breaks}
 use Rattle.sink_pieces.proofs.PieceLaws.{followed_by-nil}
 use Rattle.access_check.specs.declared.verdict.Verdict.{Verdict as AccessVerdict}
@@ -22,7 +18,7 @@ use Rattle.node_run.specs.Pieces.{begins}
 use Rattle.turn_orders.specs.declared.order.Order.{Order}
 use Rattle.ordered_run.specs.Ordered.{ordered_journal}
 use Rattle.seed_runs.specs.declared.job.SeedRuns.{SeedRuns}
-use Rattle.seed_runs.specs.Shown.{IsDoneCounted, IsBrokenCounted, AreShown as AreSeedsShown, AreBrokenOff as AreSeedsBroken}
+use Rattle.seed_runs.specs.Shown.{IsCountedByThreads, IsBrokenByThreads, IsDoneCounted, IsBrokenCounted, AreShown as AreSeedsShown, AreBrokenOff as AreSeedsBroken}
 use Rattle.seed_runs.specs.Shown.{AreLeftOff as AreSeedsLeft}
 use Rattle.ordered_run.specs.Shown.{IsDone as IsOrderDone, IsBrokenOff as IsOrderBroken}
 use Rattle.monitor_run.specs.declared.job.Monitor.{Monitor}
@@ -30,20 +26,22 @@ use Rattle.monitor_run.specs.Shown.{IsDone as IsWatchDone, IsBrokenOff as IsWatc
 use Rattle.safetynet_main.specs.LoadPlan.{Loads}
 use Rattle.shown_states.specs.declared.job.StatesReplay.{StatesReplay}
 use Rattle.shown_states.specs.Shown.{IsShown as AreStatesShown, IsShownInPart as AreStatesShownInPart, IsCutShort as AreStatesCutShort}
-use Rattle.safetynet_main.specs.Call.{Fetches, AsksNothing, plan_of, due_of, EndsIn, Follows, Comes, IsCutShort, EndsInTheMiddle}
+use Rattle.call_files.specs.Fetches.{Fetches}
+use Rattle.call_files.proofs.Found.{if_some-intro}
+use Rattle.safetynet_main.specs.Call.{AsksNothing, plan_of, due_of, EndsIn, Follows, Comes, IsCutShort, EndsInTheMiddle}
 use Rattle.safetynet_main.specs.Outcome.{Outcome, Finished, Judged, JudgedAccesses, Ran, Watched, IsVerdict, verdict_line, verdict_status}
 use Rattle.safetynet_main.specs.Outcome.{access_status, ending_status, status_of}
 use Rattle.safetynet_main.specs.declared.job.Check.{Check}
 use Rattle.safetynet_main.specs.declared.job.Job.{Job}
 use Rattle.safetynet_main.specs.declared.job.Job.TheVariants.{States as StatesJob, Run as RunJob, OrderedRun as OrderedJob, Monitor as MonitorJob}
-use Rattle.safetynet_main.specs.declared.job.Job.TheVariants.{CountedRun as CountedRunJob, Seeds as SeedsJob}
+use Rattle.safetynet_main.specs.declared.job.Job.TheVariants.{CountedByThreads as CountedByThreadsJob, CountedRun as CountedRunJob, Seeds as SeedsJob}
 use Rattle.safetynet_main.specs.declared.job.Job.TheVariants.{Check as CheckJob, Judge as JudgeJob}
 use Rattle.safetynet_main.specs.declared.job.Verdict.{Verdict}
 use Rattle.safetynet_main.specs.declared.job.Verdict.TheVariants as verdict
-use Rattle.safetynet_main.specs.declared.status.Status.{Status}
-use Rattle.safetynet_main.specs.declared.status.Status.TheVariants.{Done, Usage, StoreFault, BadProgram, BadScript, BadAsm, SinkFault}
-use Rattle.safetynet_main.specs.declared.status.Status.TheVariants.{Budget, Memory, CutOff, Refused, Trapped, InputFault}
-use Rattle.safetynet_main.proofs.LoadPlans.{plan-of_words, if_some-intro, loads-sure, loads-told, loads-rose, loads-usage, refused-at_once}
+use Rattle.call_status.specs.declared.status.Status.{Status}
+use Rattle.call_status.specs.declared.status.Status.TheVariants.{Done, Usage, BadPlaces, StoreFault, BadProgram, BadScript, BadAsm, SinkFault}
+use Rattle.call_status.specs.declared.status.Status.TheVariants.{Budget, Memory, CutOff, Refused, Trapped, InputFault}
+use Rattle.safetynet_main.proofs.LoadPlans.{plan-of_words, loads-sure, loads-told, loads-rose, loads-usage, refused-at_once}
 
 -- a run ends in no refusal
 ending-not_refused : (ending : Ending) (refusal : Status) → (refusal ≡ StoreFault) ⊎ (refusal ≡ Usage) → ending_status ending ≡ refusal → ⊥
@@ -94,6 +92,7 @@ is_memory : (status : Status) → (status ≡ Memory) ⊎ (status ≡ Memory →
 is_memory Memory = inl refl
 is_memory Done = inr (λ e. cc)
 is_memory Usage = inr (λ e. cc)
+is_memory (BadPlaces events) = inr (λ e. cc)
 is_memory StoreFault = inr (λ e. cc)
 is_memory (BadProgram cause) = inr (λ e. cc)
 is_memory (BadScript cause) = inr (λ e. cc)
@@ -324,11 +323,20 @@ follows-watch_broken probes told job r status was is before behind e s (journal,
     subst (λ (j : Job). Follows probes (Ok j) status was is before behind) (sym e)
     (inl (Watched journal seen ending, ((h.watched, h.ended), inr (s, h.broken, h))))
 
--- the same probes in the same boxes
-pub meters-same : {I : Type 0} {D : I → Type 0} (first tally : (x : I) × D x → List ℕ)
-    (step : (x : I) × D x → List ℕ → ℕ → Event → Answer → List ℕ) (a b : Vec (DynBox I Global D) Global) → a ≡ b →
-    meters_in first tally step a.items ≡ meters_in first tally step b.items
-meters-same first tally step a b e = ap (λ v. meters_in first tally step v.items) e
+-- a run by threads that is counted
+pub follows-threads_done : (probes told : List Meter) (job : Job) (r : Run) (ending : Ending) (status : Status) (was is : ℕ)
+    (before behind : Ends) → job ≡ CountedByThreadsJob r → status ≡ ending_status ending → IsCountedByThreads r probes ending before behind told →
+    Follows probes (Ok job) status was is before behind
+follows-threads_done probes told job r ending status was is before behind e s (journal, h) =
+    subst (λ (j : Job). Follows probes (Ok j) status was is before behind) (sym e)
+    (inl (Ran journal ending, ((h.lawful.journal_is, h.lawful.ended), inl (s, h.put, (h.lawful, h.output)))))
+
+pub follows-threads_broken : (probes told : List Meter) (job : Job) (r : Run) (status : Status) (was is : ℕ)
+    (before behind : Ends) → job ≡ CountedByThreadsJob r → status ≡ SinkFault → IsBrokenByThreads r probes before behind told →
+    Follows probes (Ok job) status was is before behind
+follows-threads_broken probes told job r status was is before behind e s (journal, h) =
+    subst (λ (j : Job). Follows probes (Ok j) status was is before behind) (sym e)
+    (inl (Ran journal h.ending, ((h.lawful.journal_is, h.lawful.ended), inr (s, h.broken, h.lawful))))
 
 -- a run in an order that is counted
 pub follows-counted_done : (probes told : List Meter) (job : Job) (r : Run) (order : Order) (ending : Ending) (status : Status) (was is : ℕ)

@@ -18,12 +18,12 @@ use Rattle.script_replay.specs.declared.job.Showing.{Showing}
 use Rattle.script_replay.specs.declared.job.ReportKind.TheVariants.{Summary}
 use Rattle.script_replay.specs.Shown.{IsReplayed, IsBrokenOff}
 use Rattle.generated_runs.specs.Generated.{generated_replay}
-use Rattle.safetynet_main.specs.Files.{program_of}
+use Rattle.call_files.specs.Files.{program_of}
 use Rattle.safetynet_main.specs.Call.{generated_job, Follows, Comes}
 use Rattle.safetynet_main.specs.Outcome.{Finished}
 use Rattle.safetynet_main.proofs.CallLaws.{comes-some}
-use Rattle.safetynet_main.specs.declared.status.Status.{Status}
-use Rattle.safetynet_main.specs.declared.status.Status.TheVariants.{Done, SinkFault}
+use Rattle.call_status.specs.declared.status.Status.{Status}
+use Rattle.call_status.specs.declared.status.Status.TheVariants.{Done, SinkFault}
 
 program-is : program_of (words_text counting_words) ≡ Ok counting_image
 unfolding image_of code_from lines_from hex_word

@@ -1,4 +1,3 @@
-pub mod Scripts
 pub mod LoadPlans
 pub mod CallLaws
 pub mod Watched

@@ -6,8 +6,6 @@ use Rattle.sn_base.specs.declared.config.Config.{Config}
 use Rattle.sn_base.specs.declared.event.Event.{Event}
 use Rattle.rv_core.specs.declared.step.Record.{Record}
 use Rattle.sn_io.specs.Outside.{Found, File, TooLong, Missing, Rose, found_in}
-use Rattle.elf_load.specs.declared.fault.LoadCause.{LoadCause}
-use Rattle.elf_load.specs.Loading.{image_of}
 use Rattle.access_texts.specs.Lists.{Said, said_by}
 use Rattle.rv_asm.specs.Assembly.{asm_of}
 use Rattle.rv_asm.specs.declared.fault.AsmCause.{AsmCause}
@@ -24,22 +22,22 @@ use Rattle.option_values.specs.declared.run.RunRules.{RunRules}
 use Rattle.command_words.specs.declared.request.RunOrder.{RunOrder}
 use Rattle.command_words.specs.declared.request.RunScope.{RunScope}
 use Rattle.command_words.specs.declared.request.ReplayReport.{ReplayReport}
+use Rattle.command_words.specs.declared.request.ReplayReport.TheVariants as replayed
 use Rattle.asm_texts.specs.Texts.{words_text}
 use Rattle.counting_program.specs.Program.{counting_words}
-use Rattle.safetynet_main.specs.Files.{program_limit, script_limit, accesses_limit, if_loaded, program_of, if_read, events_of, steps_of, records_of}
-use Rattle.safetynet_main.specs.Files.{if_said, accesses_of, if_assembled, assembly_of, listing_of}
+use Rattle.call_files.specs.Files.{program_limit, script_limit, accesses_limit, program_of, if_read, events_of, steps_of, records_of}
+use Rattle.call_files.specs.Files.{if_said, accesses_of, if_assembled, assembly_of, listing_of}
 use Rattle.safetynet_main.specs.LoadPlan.{LoadPlan, Due, Fetch, due_by, Loads}
-use Rattle.safetynet_main.specs.Call.{Fetches, job_with, roll_with, run_with, monitor_with, check_with, judge_with, text_job}
+use Rattle.call_files.specs.Fetches.{Fetches}
+use Rattle.call_files.proofs.Found.{IsOfBytes, program-of_bytes}
+use Rattle.safetynet_main.specs.Call.{are_there, replay_job, job_with, roll_with, run_with, monitor_with, check_with, judge_with, text_job}
 use Rattle.safetynet_main.specs.Call.{script_plan, control_plan, rolled_plan, trace_plan}
 use Rattle.safetynet_main.specs.Call.{generated_job, plan_of, AsksNothing}
 use Rattle.safetynet_main.specs.declared.job.Job.{Job}
-use Rattle.safetynet_main.specs.declared.status.ProgramCause.TheVariants.{TooLong as ProgramTooLong}
-use Rattle.safetynet_main.specs.declared.status.Status.{Status}
-use Rattle.safetynet_main.specs.declared.status.Status.TheVariants.{Usage, StoreFault, BadProgram, BadScript, BadAsm}
-
--- what the bytes of files come to is no fault of the store, nor of the words
-abbrev pub IsOfBytes : {A : Type 0} → Result A Status → Type 0
-IsOfBytes due = (due ≡ Err StoreFault → ⊥) × (due ≡ Err Usage → ⊥)
+use Rattle.safetynet_main.specs.declared.job.Job.TheVariants.{States as StatesJob}
+use Rattle.call_status.specs.declared.status.ProgramCause.TheVariants.{TooLong as ProgramTooLong}
+use Rattle.call_status.specs.declared.status.Status.{Status}
+use Rattle.call_status.specs.declared.status.Status.TheVariants.{Usage, BadPlaces, StoreFault, BadProgram, BadScript, BadAsm}
 
 -- a plan in which a file that isn't there is the store's fault, and nothing else is
 abbrev pub IsPlain : LoadPlan → Type 0
@@ -61,11 +59,6 @@ refused status s u = (λ e. s cc, λ e. u cc)
 given : {A : Type 0} (value : A) → IsOfBytes (let r : Result A Status = Ok value in r)
 given value = (λ e. cc, λ e. cc)
 
-loaded : (r : Result ImageData LoadCause) (long : Bool) → IsOfBytes (if long then Err (BadProgram ProgramTooLong) else if_loaded r)
-loaded r true = (λ e. cc, λ e. cc)
-loaded (Ok image) false = (λ e. cc, λ e. cc)
-loaded (Err cause) false = (λ e. cc, λ e. cc)
-
 read : {A : Type 0} (r : Result (List A) ScriptCause) (long : Bool) → IsOfBytes (if long then Err (BadScript ScriptTooLong) else if_read r)
 read r true = (λ e. cc, λ e. cc)
 read (Ok items) false = (λ e. cc, λ e. cc)
@@ -81,9 +74,23 @@ assembled r true = (λ e. cc, λ e. cc)
 assembled (Ok words) false = (λ e. cc, λ e. cc)
 assembled (Err cause) false = (λ e. cc, λ e. cc)
 
+plain-states : (there : Bool) (job : Job) (events : ℕ) →
+    IsOfBytes (let r : Result Job Status = if there then Ok job else Err (BadPlaces events) in r)
+plain-states true job events = (λ e. cc, λ e. cc)
+plain-states false job events = (λ e. cc, λ e. cc)
+
+plain-replay : (config : Config) (report : ReplayReport) (watch : Option ℕ) (image : ImageData) (events : List Event) →
+    IsOfBytes (replay_job config report watch image events)
+plain-replay config replayed.Events watch image events = (λ e. cc, λ e. cc)
+plain-replay config replayed.Trace watch image events = (λ e. cc, λ e. cc)
+plain-replay config replayed.Statistics watch image events = (λ e. cc, λ e. cc)
+plain-replay config replayed.Accesses watch image events = (λ e. cc, λ e. cc)
+plain-replay config (replayed.States only) watch image events = plain-states (are_there only (length events))
+    (StatesJob (record { program = image; config = config; watch = watch; only = only; script = events })) (length events)
+
 plain-job : (config : Config) (report : ReplayReport) (watch : Option ℕ) (image : ImageData) (events : Result (List Event) Status) → IsOfBytes events →
     IsOfBytes (job_with config report watch image events)
-plain-job config report watch image (Ok events) h = (λ e. cc, λ e. cc)
+plain-job config report watch image (Ok events) h = plain-replay config report watch image events
 plain-job config report watch image (Err status) h = (λ e. h.0 cc, λ e. h.1 cc)
 
 plain-roll : (config : Config) (watch : Option ℕ) (image : ImageData) (events : List Event) (controls : Result (List Control) Status) →
@@ -157,9 +164,6 @@ plain-trace nodes trace (Ok image) h = (
   λ bytes. plain-check nodes image (records_of nodes bytes) (read (trace_of nodes bytes) (nat_lt script_limit (length bytes))),
 )
 
-pub program-of_bytes : (bytes : List ℕ) → IsOfBytes (program_of bytes)
-program-of_bytes bytes = loaded (image_of bytes) (nat_lt program_limit (length bytes))
-
 plain-generated : (size : ℕ) (program : Result ImageData Status) → IsOfBytes program → IsOfBytes (generated_job size program)
 plain-generated size (Ok image) h = (λ e. cc, λ e. cc)
 plain-generated size (Err status) h = (λ e. h.0 cc, λ e. h.1 cc)
@@ -214,10 +218,6 @@ plan-of_words (Some (Disassemble program)) = (
 
 if_some-at : {T : Type 0} (o : Option T) (x : T) (P : T → Type 0) → o ≡ Some x → IfSome o P → P x
 if_some-at o x P e h = subst (λ t. IfSome t P) e h
-
-pub if_some-intro : {T : Type 0} (o : Option T) (P : T → Type 0) → ((x : T) → o ≡ Some x → P x) → IfSome o P
-if_some-intro None P h = tt
-if_some-intro (Some x) P h = h x refl
 
 Rose-before : (a b d : ℕ) → a ≤ b → Rose b d → Rose a d
 Rose-before a b d h r = omega arith

@@ -12,12 +12,12 @@ use Rattle.command_words.specs.declared.request.RunOrder.{RunOrder}
 use Rattle.command_words.specs.declared.request.RunScope.{RunScope}
 use Rattle.sn_base.specs.declared.report.RunReport.{RunReport}
 use Rattle.rolling_recovery.specs.declared.controls.Control.{Control}
-use Rattle.safetynet_main.specs.Files.{program_limit, script_limit, program_in, script_in, control_in, trace_in}
+use Rattle.call_files.specs.Files.{program_limit, script_limit, program_in, script_in, control_in, trace_in}
 use Rattle.safetynet_main.specs.LoadPlan.{LoadPlan, Fetch, Loads}
 use Rattle.safetynet_main.specs.Call.{job_with, roll_with, run_with, check_with, script_plan, control_plan, rolled_plan, trace_plan}
 use Rattle.safetynet_main.specs.Call.{replay_plan, roll_plan, run_plan, check_plan}
 use Rattle.safetynet_main.specs.declared.job.Job.{Job}
-use Rattle.safetynet_main.specs.declared.status.Status.{Status}
+use Rattle.call_status.specs.declared.status.Status.{Status}
 
 module _ {S : Type 0} (fetches : S → List ℕ → ℕ → Found → S → Type 0) (image : ImageData) (old mid new : S) where
   -- the program, and then the rest

@@ -1,6 +1,6 @@
--- A watched word that fits is one of memory, rules that fit are ones that so many nodes can keep, and a replay of what was read may begin.
+-- Rules that fit are ones that so many nodes can keep, and what was read may begin.
 use Rattle.std.proofs.Common.{◌≡◌, ℕ, ◌≤◌, ◌<◌, ◌*◌, true, List, length, Option, Some, None, arith}
-use Rattle.std.specs.Prelude.{IfSome}
+use Rattle.std.specs.Prelude.{Bool, false, if◌then◌else◌, IfSome, IfOk, Result, Ok, Err}
 use Rattle.std.proofs.lemmas.Bool.Decides.{nat_tests}
 use Rattle.sn_base.specs.Config.{config_fits}
 use Rattle.sn_base.specs.declared.config.Config.{Config}
@@ -9,31 +9,37 @@ use Rattle.sn_base.specs.Rules.{AreRules, kill_fits}
 use Rattle.sn_base.specs.declared.event.Event.{Event}
 use Rattle.sn_base.specs.declared.limits.TheConstants.{EVENTS}
 use Rattle.consistent_cuts.specs.Runs.{AllFit}
-use Rattle.option_values.specs.Values.{is_word_address}
 use Rattle.option_values.specs.Runs.{run_rules_fit}
+use Rattle.option_values.specs.declared.places.Places.{Places}
 use Rattle.option_values.specs.declared.run.RunRules.{RunRules}
 use Rattle.command_words.specs.Request.{watch_fits}
 use Rattle.command_words.specs.declared.request.ReplayReport.{ReplayReport}
 use Rattle.command_words.specs.declared.request.ReplayReport.TheVariants as replayed
-use Rattle.script_replay.specs.Played.{IsWord, IsWatchable}
+use Rattle.call_files.proofs.Watched.{watched_is}
 use Rattle.node_run.specs.declared.job.Run.{Run}
 use Rattle.node_run.specs.Shown.{MayBegin as MayRun}
 use Rattle.turn_orders.specs.declared.order.Order.{Order}
 use Rattle.command_words.specs.Request.{scope_fits}
 use Rattle.command_words.specs.declared.request.RunScope.{RunScope}
 use Rattle.command_words.specs.declared.request.RunScope.TheVariants as asked_scope
-use Rattle.safetynet_main.specs.Call.{replay_job, ordered_job, IsRead}
+use Rattle.safetynet_main.specs.Call.{are_there, replay_job, ordered_job, IsRead}
+use Rattle.safetynet_main.specs.declared.job.Job.{Job}
+use Rattle.safetynet_main.specs.declared.job.Job.TheVariants.{States as StatesJob}
+use Rattle.call_status.specs.declared.status.Status.{Status}
+use Rattle.call_status.specs.declared.status.Status.TheVariants.{BadPlaces}
 
-word-is : (address : ℕ) → is_word_address address ≡ true → IsWord address
-word-is address e = record { low = grind (arith, nat_tests); high = grind (arith, nat_tests); aligned = grind (arith, nat_tests) }
-
-pub watched_is : (watch : Option ℕ) → watch_fits watch ≡ true → IsWatchable watch
-watched_is None e = tt
-watched_is (Some address) e = word-is address e
+states-may_begin : (there : Bool) (config : Config) (only : Option Places) (watch : Option ℕ) (image : ImageData) (events : List Event) →
+    config_fits config ≡ true → AllFit config.nodes events → length events ≤ EVENTS → watch_fits watch ≡ true →
+    IfOk (let r : Result Job Status =
+    if there then Ok (StatesJob (record { program = image; config = config; watch = watch; only = only; script = events }))
+    else Err (BadPlaces (length events)) in r) IsRead
+states-may_begin true config only watch image events fits all few watched =
+    record { run = record { fits = fits; events_fit = all }; few = few; watched = watched_is watch watched }
+states-may_begin false config only watch image events fits all few watched = tt
 
 pub replay_may_begin : (config : Config) (report : ReplayReport) (watch : Option ℕ) (image : ImageData) (events : List Event) →
     config_fits config ≡ true → AllFit config.nodes events → length events ≤ EVENTS → watch_fits watch ≡ true →
-    IsRead (replay_job config report watch image events)
+    IfOk (replay_job config report watch image events) IsRead
 replay_may_begin config replayed.Events watch image events fits all few watched =
     record { run = record { fits = fits; events_fit = all }; few = few; watched = watched_is watch watched }
 replay_may_begin config replayed.Trace watch image events fits all few watched =
@@ -43,7 +49,7 @@ replay_may_begin config replayed.Statistics watch image events fits all few watc
 replay_may_begin config replayed.Accesses watch image events fits all few watched =
     record { run = record { fits = fits; events_fit = all }; few = few; watched = watched_is watch watched }
 replay_may_begin config (replayed.States only) watch image events fits all few watched =
-    record { run = record { fits = fits; events_fit = all }; few = few; watched = watched_is watch watched }
+    states-may_begin (are_there only (length events)) config only watch image events fits all few watched
 
 kill-is : (nodes : ℕ) (kill : Option (ℕ × ℕ)) → kill_fits nodes kill ≡ true → IfSome kill (λ rule. rule.0 < 2 * nodes)
 kill-is nodes None e = tt

@@ -1,12 +1,12 @@
 -- What a call comes to: by the words, by what was found of the files, and by the sinks.
-use Rattle.std.specs.Prelude.{◌≡◌, ℕ, ◌≤◌, ◌⊎◌, ⊤, Bool, true, false, List, [], ◌∷◌, Vec}
-use Rattle.std.specs.Prelude.{Option, Some, None, IfSome, Result, Ok, Err, All, length}
-use Rattle.std.specs.declared.alloc.Global.{Global}
+use Rattle.std.specs.Prelude.{◌≡◌, ℕ, ◌≤◌, ◌⊎◌, ⊤, Bool, true, false, nat_le, if◌then◌else◌, List, [], ◌∷◌}
+use Rattle.std.specs.Prelude.{Option, Some, None, Result, Ok, Err, All, length}
 use Rattle.sn_base.specs.Image.{ImageData}
 use Rattle.sn_base.specs.declared.config.Config.{Config}
 use Rattle.sn_base.specs.declared.event.Event.{Event}
 use Rattle.rv_core.specs.declared.step.Record.{Record}
-use Rattle.sn_io.specs.Outside.{Found, File, TooLong, Missing, Rose, found_in, followed_by}
+use Rattle.sn_io.specs.Outside.{Found, Rose, followed_by}
+use Rattle.option_values.specs.declared.places.Places.{Places}
 use Rattle.option_values.specs.declared.run.RunRules.{RunRules}
 use Rattle.option_values.specs.declared.seeds.Seeds.{Seeds}
 use Rattle.command_words.specs.declared.request.ReplayReport.{ReplayReport}
@@ -42,7 +42,7 @@ use Rattle.turn_orders.specs.declared.order.Order.TheVariants as turns
 use Rattle.ordered_run.specs.Ordered.{journal_after, ordered_journal}
 use Rattle.seed_runs.specs.declared.job.SeedRuns.{SeedRuns}
 use Rattle.seed_runs.specs.Pieces.{counted_pieces as counted_run_pieces, pieces_due as seeds_pieces}
-use Rattle.seed_runs.specs.Shown.{MayBegin as MayRunSeeds, IsLawfulRun, AreShown as AreSeedsShown, AreBrokenOff as AreSeedsBroken}
+use Rattle.seed_runs.specs.Shown.{MayBegin as MayRunSeeds, IsLawfulWith, IsLawfulRun, AreShown as AreSeedsShown, AreBrokenOff as AreSeedsBroken}
 use Rattle.seed_runs.specs.Shown.{AreLeftOff as AreSeedsLeft}
 use Rattle.monitor_run.specs.declared.job.Monitor.{Monitor}
 use Rattle.monitor_run.specs.Shown.{MayBegin as MayMonitor, run_of as watched_as, monitor_pieces, IsWatched, IsShown as IsMonitorShown}
@@ -55,55 +55,46 @@ use Rattle.access_texts.specs.Verdicts.{verdict_text}
 use Rattle.asm_texts.specs.Texts.{words_text}
 use Rattle.counting_program.specs.Program.{counting_words}
 use Rattle.generated_runs.specs.Generated.{generated_config, generated_events}
-use Rattle.safetynet_main.specs.Files.{program_limit, script_limit, accesses_limit, program_of, program_in, script_in, control_in}
-use Rattle.safetynet_main.specs.Files.{trace_in, accesses_in, assembly_in, listing_of}
+use Rattle.call_files.specs.Files.{program_limit, script_limit, accesses_limit, program_of, program_in, script_in, control_in}
+use Rattle.call_files.specs.Files.{trace_in, accesses_in, assembly_in, listing_of}
 use Rattle.safetynet_main.specs.LoadPlan.{LoadPlan, Due, Fetch, due_by, Loads}
 use Rattle.safetynet_main.specs.Outcome.{Outcome, Finished, Judged, JudgedAccesses, Ran, Watched, IsVerdict, verdict_line, status_of}
 use Rattle.safetynet_main.specs.declared.job.Check.{Check as Judging}
 use Rattle.safetynet_main.specs.declared.job.Job.{Job}
 use Rattle.safetynet_main.specs.declared.job.Job.TheVariants.{Replay as ReplayJob, Counted as CountedJob, Accesses as AccessesJob, States as StatesJob, Roll as RollJob, Run as RunJob}
-use Rattle.safetynet_main.specs.declared.job.Job.TheVariants.{Monitor as MonitorJob}
+use Rattle.safetynet_main.specs.declared.job.Job.TheVariants.{CountedByThreads as CountedByThreadsJob, Monitor as MonitorJob}
 use Rattle.safetynet_main.specs.declared.job.Job.TheVariants.{OrderedRun as OrderedJob, CountedRun as CountedRunJob, Seeds as SeedsJob, Check as CheckJob, Judge as JudgeJob, Text}
-use Rattle.safetynet_main.specs.declared.files.Unread.{Unread}
-use Rattle.safetynet_main.specs.declared.files.Unread.TheVariants.{Missing as UnreadMissing, TooLong as UnreadTooLong}
-use Rattle.safetynet_main.specs.declared.files.Unread.TheVariants.{Memory as UnreadMemory}
-use Rattle.safetynet_main.specs.declared.status.Status.{Status}
-use Rattle.safetynet_main.specs.declared.status.Status.TheVariants.{Usage, SinkFault}
-
--- what the bytes of a file, or why there are none, say was found
-abbrev pub found_by : Result (Vec ℕ Global) Unread → Found
-found_by (Ok bytes) = File bytes.items
-found_by (Err UnreadMissing) = Missing
-found_by (Err UnreadTooLong) = TooLong
-found_by (Err UnreadMemory) = Missing
-
--- how one file was found, from one store to the next
-pub record Fetches {S : Type 0} (files : S → Option (List ℕ → Option (List ℕ))) (sure : S → Type 0) (faults : S → ℕ) (gave : S → List ℕ → Found → S → Type 0) (old : S) (name : List ℕ) (limit : ℕ) (found : Found) (new : S) : Type 0 where
-  pub given : gave old name found new
-  pub told : IfSome (files old) (λ held. (found ≡ Missing → ⊥) → found ≡ found_in (held name) limit)
-  pub lacking : sure old → IfSome (files old) (λ held. found ≡ Missing → held name ≡ None)
-  pub rose : found ≡ Missing → Rose (faults old) (faults new)
-  pub later : faults old ≤ faults new
-  pub same_files : files new ≡ files old
-  pub stays_sure : sure old → sure new
+use Rattle.call_status.specs.declared.status.Status.{Status}
+use Rattle.call_status.specs.declared.status.Status.TheVariants.{Usage, BadPlaces, SinkFault}
 
 -- the replay of a program and of a script's events, with this report
 abbrev pub replay_with : Config → ReportKind → Option ℕ → ImageData → List Event → Replaying
 replay_with config report watch image events =
     record { program = image; config = config; showing = record { report = report; watch = watch }; script = events }
 
+-- whether places are ones of so many events
+abbrev pub are_there : Option Places → ℕ → Bool
+are_there None events = true
+are_there (Some only) events = nat_le only.to events
+
+-- the replay that shows states, all or those of places that are there
+abbrev pub states_job : Config → Option Places → Option ℕ → ImageData → List Event → Result Job Status
+states_job config only watch image events =
+    if are_there only (length events)
+    then Ok (StatesJob (record { program = image; config = config; watch = watch; only = only; script = events }))
+    else Err (BadPlaces (length events))
+
 -- the job of a program and of a script's events, by what is shown of them
-abbrev pub replay_job : Config → ReplayReport → Option ℕ → ImageData → List Event → Job
-replay_job config replayed.Events watch image events = ReplayJob (replay_with config Events watch image events)
-replay_job config replayed.Trace watch image events = ReplayJob (replay_with config TraceReport watch image events)
-replay_job config replayed.Statistics watch image events = CountedJob (replay_with config Events watch image events)
-replay_job config replayed.Accesses watch image events = AccessesJob (replay_with config TraceReport watch image events)
-replay_job config (replayed.States only) watch image events =
-    StatesJob (record { program = image; config = config; watch = watch; only = only; script = events })
+abbrev pub replay_job : Config → ReplayReport → Option ℕ → ImageData → List Event → Result Job Status
+replay_job config replayed.Events watch image events = Ok (ReplayJob (replay_with config Events watch image events))
+replay_job config replayed.Trace watch image events = Ok (ReplayJob (replay_with config TraceReport watch image events))
+replay_job config replayed.Statistics watch image events = Ok (CountedJob (replay_with config Events watch image events))
+replay_job config replayed.Accesses watch image events = Ok (AccessesJob (replay_with config TraceReport watch image events))
+replay_job config (replayed.States only) watch image events = states_job config only watch image events
 
 -- the same of what was read of the script
 abbrev pub job_with : Config → ReplayReport → Option ℕ → ImageData → Result (List Event) Status → Result Job Status
-job_with config report watch image (Ok events) = Ok (replay_job config report watch image events)
+job_with config report watch image (Ok events) = replay_job config report watch image events
 job_with config report watch image (Err status) = Err status
 
 -- the job of a program, of a script's events and of what was read of the control file
@@ -158,9 +149,14 @@ ordered_job scope.One order r = OrderedJob r order
 ordered_job scope.Counted order r = CountedRunJob r order
 ordered_job (scope.Seeds seeds counted) order r = SeedsJob (seeds_of r order seeds counted)
 
--- a run by who has the next turn; the words have more than one, and what is counted, in an order alone
+-- a run by threads, by whether it is counted
+abbrev pub threads_job : RunScope → Run → Job
+threads_job scope.Counted r = CountedByThreadsJob r
+threads_job _ r = RunJob r
+
+-- a run by who has the next turn; the words have more than one in an order alone
 abbrev pub run_job : RunOrder → RunScope → Run → Job
-run_job order.Threads scope r = RunJob r
+run_job order.Threads scope r = threads_job scope r
 run_job order.Round scope r = ordered_job scope turns.Round r
 run_job order.Drawn scope r = ordered_job scope turns.Drawn r
 
@@ -308,6 +304,7 @@ IsOutcome (AccessesJob r) outcome = outcome ≡ Finished
 IsOutcome (StatesJob r) outcome = outcome ≡ Finished
 IsOutcome (RollJob r) outcome = outcome ≡ Finished
 IsOutcome (RunJob r) outcome = RunsTo r outcome
+IsOutcome (CountedByThreadsJob r) outcome = RunsTo r outcome
 IsOutcome (OrderedJob r order) outcome = RunsInOrderTo r order outcome
 IsOutcome (CountedRunJob r order) outcome = RunsInOrderTo r order outcome
 IsOutcome (SeedsJob r) outcome = outcome ≡ Finished
@@ -345,6 +342,7 @@ pieces_of_job probes (AccessesJob r) outcome = accesses_pieces r probes
 pieces_of_job probes (StatesJob r) outcome = states_pieces r probes
 pieces_of_job probes (RollJob r) outcome = rolled_pieces r probes
 pieces_of_job probes (RunJob r) outcome = journal_pieces probes r outcome
+pieces_of_job probes (CountedByThreadsJob r) outcome = counted_journal_pieces probes r outcome
 pieces_of_job probes (OrderedJob r order) outcome = journal_pieces probes r outcome
 pieces_of_job probes (CountedRunJob r order) outcome = counted_journal_pieces probes r outcome
 pieces_of_job probes (SeedsJob r) outcome = seeds_pieces r
@@ -366,6 +364,16 @@ abbrev pub ShowsRunInPart : List Meter → Run → Outcome → Ends → Ends →
 ShowsRunInPart probes r (Ran journal ending) old new = IsRunShownInPart r probes journal old new
 ShowsRunInPart probes r _ old new = ⊥
 
+-- the same of one that is counted
+abbrev pub ShowsCounted : List Meter → Run → Outcome → Ends → Ends → Type 0
+ShowsCounted probes r (Ran journal ending) old new =
+    IsLawfulWith r journal probes ending × (new.console ≡ followed_by old.console (output_by r journal))
+ShowsCounted probes r _ old new = ⊥
+
+abbrev pub ShowsCountedInPart : List Meter → Run → Outcome → Type 0
+ShowsCountedInPart probes r (Ran journal ending) = IsLawfulWith r journal probes ending
+ShowsCountedInPart probes r _ = ⊥
+
 -- the same of one that was watched
 abbrev pub ShowsWatched : List Meter → Monitor → Outcome → Ends → Ends → Type 0
 ShowsWatched probes r (Watched journal seen ending) old new = IsMonitorShown r probes ending journal seen old new
@@ -383,6 +391,7 @@ Shows probes (AccessesJob r) outcome old new = AreAccessesShown r probes old new
 Shows probes (StatesJob r) outcome old new = AreStatesShown r probes old new
 Shows probes (RollJob r) outcome old new = IsRolled r probes old new
 Shows probes (RunJob r) outcome old new = ShowsRun probes r outcome old new
+Shows probes (CountedByThreadsJob r) outcome old new = ShowsCounted probes r outcome old new
 Shows probes (OrderedJob r order) outcome old new = ShowsRun probes r outcome old new
 Shows probes (CountedRunJob r order) outcome old new =
     IsLawfulRun order r probes × (new.console ≡ followed_by old.console (output_by r (ordered_journal order (begins r))))
@@ -399,6 +408,7 @@ ShowsInPart probes (AccessesJob r) outcome old new = AreAccessesShownInPart r pr
 ShowsInPart probes (StatesJob r) outcome old new = AreStatesShownInPart r probes old new
 ShowsInPart probes (RollJob r) outcome old new = IsRollBrokenOff r probes old new
 ShowsInPart probes (RunJob r) outcome old new = ShowsRunInPart probes r outcome old new
+ShowsInPart probes (CountedByThreadsJob r) outcome old new = ShowsCountedInPart probes r outcome
 ShowsInPart probes (OrderedJob r order) outcome old new = ShowsRunInPart probes r outcome old new
 ShowsInPart probes (CountedRunJob r order) outcome old new = IsLawfulRun order r probes
 ShowsInPart probes (SeedsJob r) outcome old new = AreSeedsBroken r old new
@@ -453,6 +463,7 @@ IsRead (AccessesJob r) = MayBegin r
 IsRead (StatesJob r) = MayShowStates r
 IsRead (RollJob r) = MayRoll r
 IsRead (RunJob r) = MayRun r
+IsRead (CountedByThreadsJob r) = MayRun r
 IsRead (OrderedJob r order) = MayRun r
 IsRead (CountedRunJob r order) = MayRun r
 IsRead (SeedsJob r) = MayRunSeeds r

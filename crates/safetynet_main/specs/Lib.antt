@@ -1,5 +1,3 @@
-pub mod Status
-pub mod Files
 pub mod LoadPlan
 pub mod Outcome
 pub mod Call

@@ -2,7 +2,7 @@
 use Rattle.std.specs.Prelude.{◌≡◌, ℕ, List, Option, Result}
 use Rattle.sn_io.specs.Outside.{Found, found_in}
 use Rattle.safetynet_main.specs.declared.job.Job.{Job}
-use Rattle.safetynet_main.specs.declared.status.Status.{Status}
+use Rattle.call_status.specs.declared.status.Status.{Status}
 
 pub data LoadPlan : Type 0 where
   -- nothing more is fetched, and this is due: a job, or the status that says why there is none

@@ -13,9 +13,9 @@ use Rattle.node_run.specs.declared.ending.Ending.TheVariants.{Exited, Trapped, C
 use Rattle.safetynet_main.specs.declared.job.Check.{Check}
 use Rattle.safetynet_main.specs.declared.job.Verdict.{Verdict}
 use Rattle.safetynet_main.specs.declared.job.Verdict.TheVariants.{Legal, Refused}
-use Rattle.safetynet_main.specs.declared.status.Status.{Status}
-use Rattle.safetynet_main.specs.declared.status.Status.TheVariants.{Done, Budget, CutOff as CutOffStatus, Refused as RefusedStatus}
-use Rattle.safetynet_main.specs.declared.status.Status.TheVariants.{Trapped as TrappedStatus}
+use Rattle.call_status.specs.declared.status.Status.{Status}
+use Rattle.call_status.specs.declared.status.Status.TheVariants.{Done, Budget, CutOff as CutOffStatus, Refused as RefusedStatus}
+use Rattle.call_status.specs.declared.status.Status.TheVariants.{Trapped as TrappedStatus}
 
 pub data Outcome : Type 0 where
   -- events were applied up to the last, and the controls of a recovery after them, or a text was put

@@ -4,16 +4,18 @@ ghost use Rattle.sn_io.specs.Outside.{Rose};
 ghost use Rattle.command_words.specs.Request.{ask_of};
 ghost use Rattle.sn_probe.specs.Probes.{meters_of, meters_in};
 ghost use Rattle.sink_pieces.specs.Pieces.{ends};
-ghost use Rattle.safetynet_main.specs.Status.{has_written};
-ghost use Rattle.safetynet_main.specs.Call.{Fetches, Comes, Follows, AsksNothing, due_of, EndsIn, IsCutShort, EndsInTheMiddle, IsRead};
+ghost use Rattle.call_status.specs.Status.{has_written};
+ghost use Rattle.call_files.specs.Fetches.{Fetches};
+ghost use Rattle.safetynet_main.specs.Call.{Comes, Follows, AsksNothing, due_of, EndsIn, IsCutShort, EndsInTheMiddle, IsRead};
 
 use crate::checking::check;
 use crate::demo::demo;
+use crate::ended::ended_as;
 use crate::files::load;
 use crate::job::Job;
 use crate::judging::judge;
-use crate::status::{Status, ended_as};
 use accesses_replay::replay_accesses;
+use call_status::Status;
 use command_words::{Request, WordsFault, read_words};
 use counted_replay::replay_counted;
 use monitor_run::monitor;
@@ -21,7 +23,7 @@ use node_run::{RunFault, run};
 use ordered_run::run as run_in_order;
 use rolled_replay::{RollFault, roll};
 use script_replay::{ReplayFault, replay};
-use seed_runs::{SeedsFault, run_counted, run_seeds};
+use seed_runs::{SeedsFault, run_counted, run_counted_by_threads, run_seeds};
 use shown_states::{StatesFault, replay_states};
 use sink_pieces::put_console;
 use sn_io::{Gate, Sink, Store};
@@ -81,6 +83,13 @@ fn perform<T: Threads + Wait + Sync, C: Sink + Send, R: Sink, G: Gate + Sync>(
             Err(RunFault::Sink) => Status::SinkFault,
             Err(RunFault::Memory) => Status::Memory,
         },
+        Job::CountedByThreads(job) => {
+            match run_counted_by_threads(rt, alloc, job, probes, console, report, gate) {
+                Ok(ending) => ended_as(ending),
+                Err(RunFault::Sink) => Status::SinkFault,
+                Err(RunFault::Memory) => Status::Memory,
+            }
+        }
         Job::Monitor(job) => match monitor(rt, alloc, job, probes, console, report) {
             Ok(ending) => ended_as(ending),
             Err(RunFault::Sink) => Status::SinkFault,
@@ -100,7 +109,7 @@ fn perform<T: Threads + Wait + Sync, C: Sink + Send, R: Sink, G: Gate + Sync>(
                 Err(RunFault::Memory) => Status::Memory,
             }
         }
-        Job::Seeds(job) => match run_seeds(alloc, job, console, report) {
+        Job::Seeds(job) => match run_seeds(rt, alloc, job, console, report) {
             Ok(()) => Status::Done,
             Err(SeedsFault::Sink) => Status::SinkFault,
             Err(SeedsFault::Memory) => Status::Memory,

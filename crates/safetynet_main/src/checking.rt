@@ -4,11 +4,11 @@ ghost use Rattle.sn_io.specs.Outside.{Rose};
 ghost use Rattle.sn_probe.specs.Probes.{Meter};
 ghost use Rattle.sink_pieces.specs.Pieces.{Report, ends, after, Breaks};
 ghost use Rattle.safetynet_main.specs.Outcome.{IsVerdict, verdict_line};
-ghost use Rattle.safetynet_main.specs.Status.{has_written};
+ghost use Rattle.call_status.specs.Status.{has_written};
 ghost use Rattle.safetynet_main.specs.Call.{Follows, IsRead};
 
 use crate::job::{Check, Job, Verdict};
-use crate::status::Status;
+use call_status::Status;
 use sink_pieces::put_report;
 use sn_base::Memory;
 use sn_io::{Failed, Gate, Sink};

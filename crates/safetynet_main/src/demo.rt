@@ -6,12 +6,12 @@ ghost use Rattle.sn_probe.specs.Probes.{meters_in};
 ghost use Rattle.sink_pieces.specs.Pieces.{ends};
 ghost use Rattle.asm_texts.specs.Texts.{words_text};
 ghost use Rattle.counting_program.specs.Program.{counting_words};
-ghost use Rattle.safetynet_main.specs.Files.{program_of};
-ghost use Rattle.safetynet_main.specs.Status.{has_written};
+ghost use Rattle.call_files.specs.Files.{program_of};
+ghost use Rattle.call_status.specs.Status.{has_written};
 ghost use Rattle.safetynet_main.specs.Call.{generated_job, Follows};
 ghost use Rattle.sn_base.specs.declared.limits.TheConstants.{EVENTS};
 
-use crate::status::Status;
+use call_status::Status;
 use generated_runs::replay_generated;
 use script_replay::{ReplayFault, ReportKind, Showing};
 use sn_io::Sink;

@@ -1,181 +1,33 @@
-//! Files fetched from the store, and read.
+//! What is due once the files of a request are fetched.
 ghost use Rattle.std.specs.Prelude.{◌≡◌, ◌≢◌, ◌≤◌, ℕ, true, All, length, Some, Ok, Err, IfOk, string_bytes};
 ghost use Rattle.sn_base.specs.Config.{lies_in, config_fits};
-ghost use Rattle.sn_io.specs.Outside.{Found};
-ghost use Rattle.access_check.specs.Accesses.{IsFittingAccess, IsFittingWord};
-ghost use Rattle.consistent_cuts.specs.Runs.{AllFit};
-ghost use Rattle.rolling_recovery.specs.Controls.{control_fits};
 ghost use Rattle.node_run.specs.Shown.{MayBegin as MayRun};
 ghost use Rattle.command_words.specs.Request.{as_request, watch_fits, scope_fits, request_fits};
 ghost use Rattle.option_values.specs.Runs.{run_rules_fit};
-ghost use Rattle.safetynet_main.specs.Files.{program_in, script_in, control_in, trace_in, accesses_in, assembly_in};
 ghost use Rattle.safetynet_main.specs.LoadPlan.{Loads};
-ghost use Rattle.safetynet_main.specs.Call.{Fetches, found_by, replay_with, replay_job, ordered_job, plan_of, replay_plan, roll_plan};
+ghost use Rattle.call_files.specs.Fetches.{Fetches};
+ghost use Rattle.safetynet_main.specs.Call.{replay_with, are_there, states_job, replay_job, ordered_job, threads_job, plan_of, replay_plan, roll_plan};
 ghost use Rattle.safetynet_main.specs.Call.{run_plan, monitor_plan, check_plan, judge_plan, assembly_plan, listing_plan, IsRead, AsksNothing};
 ghost use Rattle.sn_base.specs.declared.limits.TheConstants.{EVENTS};
 
-use crate::job::{Check, Job, Text, Trace};
-use crate::reading::{
-    ACCESSES_LIMIT, PROGRAM_LIMIT, SCRIPT_LIMIT, list_program, read_accesses, read_assembly,
-    read_control, read_program, read_script, read_trace,
+use crate::job::{Check, Job};
+use call_files::{
+    fetch_accesses, fetch_assembly, fetch_control, fetch_program, fetch_script, fetch_trace,
+    list_program,
 };
-use crate::status::{ProgramCause, Status};
-use access_texts::AccessList;
+use call_status::Status;
 use command_words::{ReplayReport, Request, RunOrder, RunScope};
 use monitor_run::Monitor;
 use node_run::{Run, RunShowing};
-use rolled_replay::{Controls, Roll};
-use rv_asm::AsmCause;
+use option_values::Places;
+use rolled_replay::Roll;
 use script_replay::{Replay, ReportKind, Script, Showing};
 use seed_runs::SeedRuns;
 use shown_states::StatesReplay;
 use sn_base::{Config, Image};
-use sn_io::{Fetched, Store, StoreFault};
-use sn_text::ScriptCause;
+use sn_io::Store;
 use std::alloc::Global;
 use turn_orders::Order;
-
-/// Why there are no bytes of a file.
-enum Unread {
-    Missing,
-    TooLong,
-    Memory,
-}
-
-fn fetch_file<S: Store>(
-    alloc: Global,
-    store: &mut S,
-    name: &str,
-    limit: usize,
-) -> Result<Vec<u8>, Unread>
-    ensures found { result ≢ Err Unread.Memory →
-        Fetches S.files S.sure S.faults S.gave store.old name.now limit (found_by result) store.new }
-    ensures files { S.files store.new ≡ S.files store.old }
-    ensures stays_sure { S.sure store.old → S.sure store.new }
-{
-    let mut bytes = Vec::new(alloc);
-    match store.fetch(name, limit, &mut bytes) {
-        Ok(Fetched::Whole) => Ok(bytes),
-        Ok(Fetched::Longer) => Err(Unread::TooLong),
-        Err(StoreFault::Failed) => Err(Unread::Missing),
-        Err(StoreFault::Memory) => Err(Unread::Memory),
-    }
-}
-
-/// Fetches a program, of at most 16 MiB, and reads it. An error is the status that says why there is none.
-pub fn fetch_program<S: Store>(alloc: Global, store: &mut S, name: &str) -> Result<Image, Status>
-    ensures found { result ≢ Err Status.Memory → (found : Found)
-        × Fetches S.files S.sure S.faults S.gave store.old name.now 16777216 found store.new
-        × (result ≡ program_in found) }
-    ensures files { S.files store.new ≡ S.files store.old }
-    ensures stays_sure { S.sure store.old → S.sure store.new }
-{
-    match fetch_file(alloc, store, name, PROGRAM_LIMIT) {
-        Ok(bytes) => read_program(alloc, bytes.as_slice()),
-        Err(Unread::Missing) => Err(Status::StoreFault),
-        Err(Unread::TooLong) => Err(Status::BadProgram(ProgramCause::TooLong)),
-        Err(Unread::Memory) => Err(Status::Memory),
-    }
-}
-
-fn fetch_script<S: Store>(
-    alloc: Global,
-    store: &mut S,
-    name: &str,
-    nodes: u8,
-) -> Result<Script, Status>
-    requires { nodes ≤ 16 }
-    ensures found { result ≢ Err Status.Memory → (found : Found)
-        × Fetches S.files S.sure S.faults S.gave store.old name.now 33554432 found store.new
-        × (result ≡ script_in nodes found) }
-    ensures fit { IfOk result (λ script. AllFit nodes script) }
-    ensures few { IfOk result (λ script. length script ≤ EVENTS) }
-    ensures files { S.files store.new ≡ S.files store.old }
-    ensures stays_sure { S.sure store.old → S.sure store.new }
-{
-    match fetch_file(alloc, store, name, SCRIPT_LIMIT) {
-        Ok(bytes) => read_script(alloc, bytes.as_slice(), nodes),
-        Err(Unread::Missing) => Err(Status::StoreFault),
-        Err(Unread::TooLong) => Err(Status::BadScript(ScriptCause::TooLong)),
-        Err(Unread::Memory) => Err(Status::Memory),
-    }
-}
-
-fn fetch_control<S: Store>(
-    alloc: Global,
-    store: &mut S,
-    name: &str,
-    nodes: u8,
-) -> Result<Controls, Status>
-    requires { nodes ≤ 16 }
-    ensures found { result ≢ Err Status.Memory → (found : Found)
-        × Fetches S.files S.sure S.faults S.gave store.old name.now 33554432 found store.new
-        × (result ≡ control_in nodes found) }
-    ensures fit { IfOk result (λ controls. All (λ control. control_fits nodes control ≡ true) controls) }
-    ensures few { IfOk result (λ controls. length controls ≤ EVENTS) }
-    ensures files { S.files store.new ≡ S.files store.old }
-    ensures stays_sure { S.sure store.old → S.sure store.new }
-{
-    match fetch_file(alloc, store, name, SCRIPT_LIMIT) {
-        Ok(bytes) => read_control(alloc, bytes.as_slice(), nodes),
-        Err(Unread::Missing) => Err(Status::StoreFault),
-        Err(Unread::TooLong) => Err(Status::BadScript(ScriptCause::TooLong)),
-        Err(Unread::Memory) => Err(Status::Memory),
-    }
-}
-
-fn fetch_trace<S: Store>(
-    alloc: Global,
-    store: &mut S,
-    name: &str,
-    nodes: u8,
-) -> Result<Trace, Status>
-    requires { nodes ≤ 16 }
-    ensures found { result ≢ Err Status.Memory → (found : Found)
-        × Fetches S.files S.sure S.faults S.gave store.old name.now 33554432 found store.new
-        × (result ≡ trace_in nodes found) }
-    ensures files { S.files store.new ≡ S.files store.old }
-    ensures stays_sure { S.sure store.old → S.sure store.new }
-{
-    match fetch_file(alloc, store, name, SCRIPT_LIMIT) {
-        Ok(bytes) => read_trace(alloc, bytes.as_slice(), nodes),
-        Err(Unread::Missing) => Err(Status::StoreFault),
-        Err(Unread::TooLong) => Err(Status::BadScript(ScriptCause::TooLong)),
-        Err(Unread::Memory) => Err(Status::Memory),
-    }
-}
-
-fn fetch_accesses<S: Store>(alloc: Global, store: &mut S, name: &str) -> Result<AccessList, Status>
-    ensures found { result ≢ Err Status.Memory → (found : Found)
-        × Fetches S.files S.sure S.faults S.gave store.old name.now 67108864 found store.new
-        × (result ≡ accesses_in found) }
-    ensures words { IfOk result (λ list. All IsFittingWord list.words) }
-    ensures accesses { IfOk result (λ list. All IsFittingAccess list.accesses) }
-    ensures files { S.files store.new ≡ S.files store.old }
-    ensures stays_sure { S.sure store.old → S.sure store.new }
-{
-    match fetch_file(alloc, store, name, ACCESSES_LIMIT) {
-        Ok(bytes) => read_accesses(alloc, bytes.as_slice()),
-        Err(Unread::Missing) => Err(Status::StoreFault),
-        Err(Unread::TooLong) => Err(Status::BadScript(ScriptCause::TooLong)),
-        Err(Unread::Memory) => Err(Status::Memory),
-    }
-}
-
-fn fetch_assembly<S: Store>(alloc: Global, store: &mut S, name: &str) -> Result<Text, Status>
-    ensures found { result ≢ Err Status.Memory → (found : Found)
-        × Fetches S.files S.sure S.faults S.gave store.old name.now 16777216 found store.new
-        × (result ≡ assembly_in found) }
-    ensures files { S.files store.new ≡ S.files store.old }
-    ensures stays_sure { S.sure store.old → S.sure store.new }
-{
-    match fetch_file(alloc, store, name, PROGRAM_LIMIT) {
-        Ok(bytes) => read_assembly(alloc, bytes.as_slice()),
-        Err(Unread::Missing) => Err(Status::StoreFault),
-        Err(Unread::TooLong) => Err(Status::BadAsm(AsmCause::TooLong)),
-        Err(Unread::Memory) => Err(Status::Memory),
-    }
-}
 
 // A replay with this report.
 fn replay_with(
@@ -195,6 +47,40 @@ fn replay_with(
     }
 }
 
+// Whether places are ones of so many events.
+fn are_there(only: &Option<Places>, events: u32) -> bool
+    ensures { result ≡ are_there only.now events }
+{
+    match only {
+        Some(places) => places.to <= events,
+        None => true,
+    }
+}
+
+// The replay that shows states, where the places are ones of the script's events.
+fn states_job(
+    config: Config,
+    only: Option<Places>,
+    watch: Option<u32>,
+    program: Image,
+    script: Script,
+) -> Result<Job, Status>
+    requires few { length script ≤ EVENTS }
+    ensures { result ≡ states_job config only watch program script }
+{
+    let events = script.events().len() as u32;
+    if !are_there(&only, events) {
+        return Err(Status::BadPlaces(events));
+    }
+    Ok(Job::States(StatesReplay {
+        program,
+        config,
+        watch,
+        only,
+        script,
+    }))
+}
+
 // The job of a program and of a script's events.
 fn replay_job(
     config: Config,
@@ -202,50 +88,45 @@ fn replay_job(
     watch: Option<u32>,
     program: Image,
     script: Script,
-) -> Job
+) -> Result<Job, Status>
+    requires few { length script ≤ EVENTS }
     ensures { result ≡ replay_job config report watch program script }
 {
     match report {
-        ReplayReport::Events => Job::Replay(replay_with(
+        ReplayReport::Events => Ok(Job::Replay(replay_with(
             config,
             ReportKind::Events,
             watch,
             program,
             script,
-        )),
-        ReplayReport::Trace => Job::Replay(replay_with(
+        ))),
+        ReplayReport::Trace => Ok(Job::Replay(replay_with(
             config,
             ReportKind::Trace,
             watch,
             program,
             script,
-        )),
-        ReplayReport::Statistics => Job::Counted(replay_with(
+        ))),
+        ReplayReport::Statistics => Ok(Job::Counted(replay_with(
             config,
             ReportKind::Events,
             watch,
             program,
             script,
-        )),
-        ReplayReport::Accesses => Job::Accesses(replay_with(
+        ))),
+        ReplayReport::Accesses => Ok(Job::Accesses(replay_with(
             config,
             ReportKind::Trace,
             watch,
             program,
             script,
-        )),
-        ReplayReport::States(only) => Job::States(StatesReplay {
-            program,
-            config,
-            watch,
-            only,
-            script,
-        }),
+        ))),
+        ReplayReport::States(only) => states_job(config, only, watch, program, script),
     }
 }
 
 // The program and the script of a replay, in this order.
-#[tactic(auto, using(crate::proofs::Watched::watched_is, crate::proofs::Watched::replay_may_begin))]
+#[tactic(auto, using(call_files::proofs::Watched::watched_is, crate::proofs::Watched::replay_may_begin))]
 fn load_replay<S: Store>(
     alloc: Global,
     store: &mut S,
@@ -267,13 +148,13 @@ fn load_replay<S: Store>(
     let config = asked.config;
     let (report, watch) = (asked.report, asked.watch);
     match fetch_script(alloc, store, asked.script.as_str(), config.nodes) {
-        Ok(script) => Ok(replay_job(config, report, watch, program, script)),
+        Ok(script) => replay_job(config, report, watch, program, script),
         Err(status) => Err(status),
     }
 }
 
 // The program, the script and the control file of a recovery node by node, in this order.
-#[tactic(auto, using(crate::proofs::Watched::watched_is))]
+#[tactic(auto, using(call_files::proofs::Watched::watched_is))]
 fn load_roll<S: Store>(
     alloc: Global,
     store: &mut S,
@@ -336,8 +217,20 @@ fn ordered_job(scope: RunScope, order: Order, run: Run) -> Job
     }
 }
 
+// The job of a run by threads.
+fn threads_job(scope: &RunScope, run: Run) -> Job
+    requires may { MayRun run }
+    ensures same { result ≡ threads_job scope.now run }
+    ensures read { IsRead result }
+{
+    match scope {
+        RunScope::Counted => Job::CountedByThreads(run),
+        RunScope::One | RunScope::Seeds(_, _) => Job::Run(run),
+    }
+}
+
 // The program of a run.
-#[tactic(auto, using(crate::proofs::Watched::watched_is, crate::proofs::Watched::rules_are, crate::proofs::Watched::budget_is))]
+#[tactic(auto, using(call_files::proofs::Watched::watched_is, crate::proofs::Watched::rules_are, crate::proofs::Watched::budget_is))]
 fn load_run<S: Store>(
     alloc: Global,
     store: &mut S,
@@ -378,14 +271,14 @@ fn load_run<S: Store>(
     };
     let (order, scope) = (asked.order, asked.scope);
     match order {
-        RunOrder::Threads => Ok(Job::Run(run)),
+        RunOrder::Threads => Ok(threads_job(&scope, run)),
         RunOrder::Round => Ok(ordered_job(scope, Order::Round, run)),
         RunOrder::Drawn => Ok(ordered_job(scope, Order::Drawn, run)),
     }
 }
 
 // The program of a run that is watched.
-#[tactic(auto, using(crate::proofs::Watched::watched_is, crate::proofs::Watched::rules_are, crate::proofs::Watched::budget_is))]
+#[tactic(auto, using(call_files::proofs::Watched::watched_is, crate::proofs::Watched::rules_are, crate::proofs::Watched::budget_is))]
 fn load_monitor<S: Store>(
     alloc: Global,
     store: &mut S,

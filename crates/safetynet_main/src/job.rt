@@ -2,75 +2,17 @@
 ghost use Rattle.std.specs.Prelude.{◌≡◌};
 ghost use Rattle.safetynet_main.specs.Outcome.{verdict_status};
 
-use crate::status::Status;
 use access_texts::AccessList;
+use call_files::{Text, Trace};
+use call_status::Status;
 use monitor_run::Monitor;
 use node_run::Run;
 use rolled_replay::Roll;
-use rv_core::Record;
 use script_replay::Replay;
 use seed_runs::SeedRuns;
 use shown_states::StatesReplay;
 use sn_base::Image;
-use std::marker::Model;
 use turn_orders::Order;
-
-/// A text for the console. Contracts see its bytes.
-#[derive(Drop)]
-pub struct Text {
-    bytes: Vec<u8>,
-}
-
-impl Model for Text {
-    ghost use Rattle.std.specs.Prelude.{ℕ, List};
-
-    ghost Value = { List ℕ };
-
-    ghost view = { λ t. t.bytes.items };
-}
-
-impl Text {
-    pub fn new(bytes: Vec<u8>) -> Text
-        ensures { result ≡ bytes.items }
-    {
-        Text { bytes }
-    }
-
-    pub fn bytes(&self) -> &[u8]
-        ensures { result.now ≡ self.now }
-    {
-        self.bytes.as_slice()
-    }
-}
-
-/// The records of a trace. Contracts see the list of them.
-#[derive(Drop)]
-pub struct Trace {
-    records: Vec<Record>,
-}
-
-impl Model for Trace {
-    ghost use Rattle.std.specs.Prelude.{List};
-    ghost use Rattle.rv_core.specs.declared.step.Record.{Record};
-
-    ghost Value = { List Record };
-
-    ghost view = { λ t. t.records.items };
-}
-
-impl Trace {
-    pub fn new(records: Vec<Record>) -> Trace
-        ensures { result ≡ records.items }
-    {
-        Trace { records }
-    }
-
-    pub fn records(&self) -> &[Record]
-        ensures { result.now ≡ self.now }
-    {
-        self.records.as_slice()
-    }
-}
 
 /// A program, on how many nodes it runs, and the trace that is judged.
 #[derive(Drop)]
@@ -95,11 +37,13 @@ pub enum Job {
     Roll(Roll),
     /// Workers run a machine, each in a thread of its own.
     Run(Run),
+    /// The same, and what was counted of the run is shown.
+    CountedByThreads(Run),
     /// Workers have their turns of a run in an order, all on one thread.
     OrderedRun(Run, Order),
     /// The same, and what was counted of the run is shown.
     CountedRun(Run, Order),
-    /// The same once for each seed of a range.
+    /// Runs in an order for each seed of a range.
     Seeds(SeedRuns),
     /// Workers run a machine in turn, and a watcher looks at it beside them.
     Monitor(Monitor),

@@ -4,13 +4,13 @@ ghost use Rattle.sn_io.specs.Outside.{Rose};
 ghost use Rattle.sn_probe.specs.Probes.{Meter};
 ghost use Rattle.sink_pieces.specs.Pieces.{ends};
 ghost use Rattle.safetynet_main.specs.Outcome.{access_status};
-ghost use Rattle.safetynet_main.specs.Status.{has_written};
+ghost use Rattle.call_status.specs.Status.{has_written};
 ghost use Rattle.safetynet_main.specs.Call.{Follows, IsRead};
 
 use crate::job::Job;
-use crate::status::Status;
 use access_check::Verdict;
 use access_texts::{AccessList, JudgeFault, judge_list};
+use call_status::Status;
 use sn_io::Sink;
 use std::alloc::Global;
 

@@ -11,12 +11,9 @@
 mod call;
 mod checking;
 mod demo;
+mod ended;
 mod files;
 mod job;
 mod judging;
-mod reading;
-mod status;
 
 pub use call::safetynet;
-pub use files::fetch_program;
-pub use status::{ProgramCause, Status};

@@ -10,8 +10,8 @@ mod runs;
 mod statuses;
 mod texts;
 
+use call_status::Status;
 use calls_in_memory::{Faults, Given, call};
-use safetynet_main::Status;
 use std::alloc::Global;
 use std::process::Abort;
 use std::sync::Wait;

@@ -15,16 +15,17 @@ ghost use Rattle.std.specs.Prelude.{◌≡◌, ◌≢◌, false, map, string_byt
 ghost use Rattle.command_words.specs.Command.{the_app};
 ghost use Rattle.help_pages.specs.Pages.{command_pages, page_by};
 ghost use Rattle.help_pages.specs.Texts.{text_on};
-ghost use Rattle.safetynet_main.specs.Status.{has_written};
+ghost use Rattle.call_status.specs.Status.{has_written};
 ghost use Rattle.sn_io.specs.Outside.{Rose, followed_by};
 
 use crate::terminal::{Console, Report};
 use crate::why::{write_notes_on, write_why};
+use call_status::Status;
 use help_pages::{Page, page_of, show};
 use line_source::ReaderLines;
 use reasons::{Lack, Reason, write_lack};
 use safetynet_drive::{is_drive, safetynet_drive};
-use safetynet_main::{Status, safetynet};
+use safetynet_main::safetynet;
 use sn_base::Memory;
 use sn_io::{FileStore, OpenGate, Sink, StdSink, Store};
 use sn_probe::{EventTally, Probe};

@@ -1,9 +1,9 @@
 //! Why a call ended as it did, said in one line on standard error above the status, and notes on one that is done.
 use crate::twice::{FilesAgain, unread_of};
 use call_reasons::{file_of, write_notes, write_reason};
+use call_status::Status;
 use command_words::{Request, WordsFault, read_words};
 use reasons::{Lack, Reason, write_lack, write_unread};
-use safetynet_main::Status;
 use sn_base::Memory;
 use std::alloc::Global;
 use std::rt::Files;

@@ -1,4 +1,4 @@
--- The journal of an order is one of a run, and that run is lawful.
+-- A run with a journal is lawful; the journal of an order is one of a run.
 use Rattle.std.proofs.Common.{◌≡◌, ℕ, zero, suc, ◌<◌, ◌≤◌, List, [], ◌∷◌, ◌++◌, length, get_or, refl, sym, subst, arith, length-append}
 use Rattle.std.specs.Prelude.{Option, Some, None, IsSome}
 use Rattle.std.specs.List.{All}
@@ -8,6 +8,7 @@ use Rattle.consistent_cuts.specs.Runs.{AllFit}
 use Rattle.consistent_cuts.specs.Headline.{IsRun, IsConsistent, retirements}
 use Rattle.consistent_cuts.proofs.Run.{reached_consistent}
 use Rattle.sn_probe.specs.Probes.{Meter}
+use Rattle.sink_pieces.specs.Pieces.{Ends}
 use Rattle.script_replay.proofs.Lawful.{run-lawful}
 use Rattle.run_journals.specs.declared.entry.JournalEntry.{JournalEntry}
 use Rattle.run_journals.specs.Journal.{Began, entry_of, events_of, next_pick, numbers_of, state_of}
@@ -15,6 +16,7 @@ use Rattle.run_journals.proofs.Folds.{events_of-snoc}
 use Rattle.shared_machine.proofs.Fits.{due-fits, all_fit-push}
 use Rattle.node_run.specs.declared.ending.Ending.{Ending}
 use Rattle.node_run.specs.declared.job.Run.{Run}
+use Rattle.node_run.specs.Endings.{ending_of}
 use Rattle.node_run.specs.Pieces.{begins}
 use Rattle.node_run.specs.Shown.{MayBegin, IsJournal}
 use Rattle.node_run.proofs.Replays.{replayed-so}
@@ -22,7 +24,7 @@ use Rattle.turn_orders.specs.declared.order.Order.{Order}
 use Rattle.turn_orders.proofs.Schedulers.{worker-below}
 use Rattle.ordered_run.specs.Ordered.{next_worker, due_after, with_due, journal_after, ordered_journal, ordered_end}
 use Rattle.ordered_run.proofs.OrderLaws.{due-ordered, workers-ordered, ordered-ends}
-use Rattle.seed_runs.specs.Shown.{IsLawfulRun}
+use Rattle.seed_runs.specs.Shown.{IsLawfulRun, IsDoneCounted, IsBrokenCounted, IsLawfulWith, IsCountedWith, IsCountedInPart}
 
 module _ (order : Order) (began : Began) (ruled : AreRules began.rules began.config.nodes) where
   some : 0 < began.config.nodes
@@ -74,28 +76,60 @@ its-ending : (o : Option Ending) → IsSome o → (ending : Ending) × (o ≡ So
 its-ending None h = absurd cc
 its-ending (Some ending) h = (ending, refl)
 
+-- a run with this journal and this end is lawful
+module _ (r : Run) (may : MayBegin r) (journal : List JournalEntry) (journal_is : IsJournal r journal) where
+  its-run : IsRun r.config (events_of journal)
+  its-run = record { fits = may.fits; events_fit = journal_is.fit }
+
+  consistent : IsConsistent r.program r.config.nodes (state_of (begins r) journal) (retirements r.program r.config (events_of journal))
+  unfolding state_of
+  consistent = reached_consistent r.program r.config (events_of journal) its-run
+
+  pub lawful-with : (probes : List Meter) (ending : Ending) → ending_of (begins r) journal ≡ Some ending →
+      IsLawfulWith r journal probes ending
+  lawful-with probes ending ended = record {
+    journal_is = journal_is;
+    ended = ended;
+    lawful = run-lawful r.program r.config (events_of journal) its-run;
+    output = consistent.output;
+    replayed = replayed-so r probes journal consistent.output;
+  }
+
+-- so is one in an order
 module _ (order : Order) (r : Run) (may : MayBegin r) where
   abbrev its : List JournalEntry
   its = ordered_journal order (begins r)
 
-  its-run : IsRun r.config (events_of its)
-  its-run = record { fits = may.fits; events_fit = fits-ordered order (begins r) may.ruled r.budget }
-
-  consistent : IsConsistent r.program r.config.nodes (state_of (begins r) its) (retirements r.program r.config (events_of its))
-  unfolding state_of
-  consistent = reached_consistent r.program r.config (events_of its) its-run
+  its-journal : IsJournal r its
+  its-journal = record {
+    due = due-ordered order (begins r) r.budget;
+    workers = nodes-ordered order (begins r) may.ruled r.budget;
+    fit = fits-ordered order (begins r) may.ruled r.budget;
+    few = few-ordered order (begins r) may.ruled r.budget;
+  }
 
   pub run-is_lawful : (probes : List Meter) → IsLawfulRun order r probes
-  run-is_lawful probes = record {
-    journal_is = record {
-      due = due-ordered order (begins r) r.budget;
-      workers = nodes-ordered order (begins r) may.ruled r.budget;
-      fit = fits-ordered order (begins r) may.ruled r.budget;
-      few = few-ordered order (begins r) may.ruled r.budget;
-    };
-    ending = (its-ending (ordered_end order (begins r)) (ordered-ends order (begins r))).0;
-    ended = (its-ending (ordered_end order (begins r)) (ordered-ends order (begins r))).1;
-    lawful = run-lawful r.program r.config (events_of its) its-run;
-    output = consistent.output;
-    replayed = replayed-so r probes its consistent.output;
-  }
+  run-is_lawful probes =
+      let end = its-ending (ordered_end order (begins r)) (ordered-ends order (begins r)) in
+      let all = lawful-with r may its its-journal probes end.0 end.1 in record {
+        journal_is = all.journal_is;
+        ending = end.0;
+        ended = end.1;
+        lawful = all.lawful;
+        output = all.output;
+        replayed = all.replayed;
+      }
+
+  module _ (probes told : List Meter) (before behind : Ends) where
+    pub counted-in_order : (ending : Ending) → IsCountedWith r its probes ending before behind told →
+        IsDoneCounted order r probes ending before behind told
+    counted-in_order ending h = record {
+      ended = h.lawful.ended;
+      put = h.put;
+      output = h.output;
+      lawful = run-is_lawful probes;
+      know = h.know;
+    }
+
+    pub broken-in_order : IsCountedInPart r its probes before behind told → IsBrokenCounted order r probes before behind told
+    broken-in_order h = record { broken = h.broken; lawful = run-is_lawful probes; know = h.know }

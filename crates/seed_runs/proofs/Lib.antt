@@ -3,3 +3,4 @@ pub mod Blocks
 pub mod Ranges
 pub mod Playing
 pub mod Puts
+pub mod Slots

@@ -1,6 +1,8 @@
 -- What is put of a run that has had its turns, by the machine that it left.
-use Rattle.std.proofs.Common.{◌≡◌, ◌⊎◌, inl, inr, ⊎_elim, ℕ, ◌+◌, ◌≤◌, Bool, true, false, List, [], ◌∷◌, ◌++◌, refl, ap, sym, subst, ◌∙◌, arith}
-use Rattle.std.specs.Prelude.{Option, Some, None, Ok}
+use Rattle.std.proofs.Common.{◌≡◌, ◌⊎◌, inl, inr, ⊎_elim, ℕ, ◌+◌, ◌≤◌, Bool, true, false, List, [], ◌∷◌, ◌++◌, length, refl, ap, sym, subst, ◌∙◌, arith}
+use Rattle.std.specs.Prelude.{Option, Some, None, Ok, option_and_then}
+use Rattle.rv_core.specs.Flat.{FlatState}
+use Rattle.sn_base.specs.declared.event.Answer.{Answer}
 use Rattle.sn_io.specs.Outside.{followed_by, Rose}
 use Rattle.sn_model.specs.Machine.{State}
 use Rattle.sn_console.specs.Handed.{IsHandedOn}
@@ -8,27 +10,30 @@ use Rattle.sn_probe.specs.Probes.{Meter, tallies_of}
 use Rattle.sink_pieces.specs.Pieces.{Piece, Report, Ends, ends, after, Breaks, console_piece}
 use Rattle.sink_pieces.proofs.Begun.{console-after, console_text-piece}
 use Rattle.run_journals.specs.declared.entry.JournalEntry.{JournalEntry}
-use Rattle.run_journals.specs.Journal.{state_of}
+use Rattle.run_journals.specs.Journal.{Began, state_of}
+use Rattle.run_journals.proofs.Folds.{length-answers_of}
+use Rattle.shared_machine.specs.declared.finish.Finish.{Finish}
+use Rattle.shared_machine.specs.declared.finish.Finish.TheVariants as finish
 use Rattle.node_threads.specs.Finishes.{Ends as EndsSo}
 use Rattle.node_threads.specs.Told.{told_all}
 use Rattle.node_threads.proofs.Finishing.{ends-of}
 use Rattle.node_run.specs.declared.ending.Ending.{Ending}
+use Rattle.node_run.specs.declared.ending.Ending.TheVariants as endings
 use Rattle.node_run.specs.declared.job.Run.{Run}
-use Rattle.node_run.specs.Endings.{ending_of}
+use Rattle.node_run.specs.declared.job.RunShowing.{RunShowing}
+use Rattle.node_run.specs.Endings.{first_trap, ended_by, ending_by, flat_after, ending_of}
 use Rattle.node_run.specs.Pieces.{begins, report_by, run_pieces}
 use Rattle.node_run.specs.Reported.{ended_now, IsReported}
-use Rattle.node_run.specs.Shown.{MayBegin as MayRun, IsDoneWith, IsBrokenOffWith, KnowAll, output_by}
+use Rattle.node_run.specs.Shown.{MayBegin as MayRun, IsJournal, IsDoneWith, IsBrokenOffWith, KnowAll, output_by}
 use Rattle.node_run.proofs.Runs.{run-reported, run-unreported, knows-all}
-use Rattle.turn_orders.specs.declared.order.Order.{Order}
-use Rattle.ordered_run.specs.Ordered.{ordered_journal, ordered_end}
 use Rattle.ordered_run.proofs.Outcomes.{cause-by, no-rise}
 use Rattle.seed_runs.specs.declared.job.SeedRuns.{SeedRuns}
 use Rattle.seed_runs.specs.declared.play.Played.{Played}
 use Rattle.seed_runs.specs.Text.{seed_line, end_line}
 use Rattle.seed_runs.specs.Pieces.{statistics_text, counted_pieces, run_of, journal_of, piece_if, end_pieces, tail_pieces, seed_pieces}
 use Rattle.seed_runs.specs.Played.{IsPlayed, IsUnput}
-use Rattle.seed_runs.specs.Shown.{MayBegin, IsDoneCounted, IsBrokenCounted}
-use Rattle.seed_runs.proofs.LawfulRuns.{run-is_lawful}
+use Rattle.seed_runs.specs.Shown.{MayBegin, AreLawful, IsCountedWith, IsCountedInPart}
+use Rattle.seed_runs.proofs.LawfulRuns.{lawful-with, run-is_lawful}
 use Rattle.seed_runs.proofs.Blocks.{block-put, head-breaks, middle-breaks, tail-breaks, both-put, first-breaks, last-breaks}
 
 -- a text that the console took is what is released
@@ -49,9 +54,30 @@ console-broke released text before behind is broken = subst (λ (t : List ℕ). 
 pub may-run : (r : SeedRuns) (seed : ℕ) → MayBegin r → MayRun (run_of r seed)
 may-run r seed may = record { fits = may.fits; ruled = may.ruled; few = may.few; watched = may.watched }
 
-module _ (order : Order) (r : Run) (counted : Bool) (p : Played) (played : IsPlayed order r counted p) (may : MayRun r) where
-  abbrev its : List JournalEntry
-  its = ordered_journal order (begins r)
+-- so the run of each is lawful
+pub all-lawful : (r : SeedRuns) → MayBegin r → AreLawful r
+all-lawful r may = λ seed. run-is_lawful r.order (run_of r seed) (may-run r seed may) []
+
+-- as many events as answers
+pub answered-each : (r : Run) (its : List JournalEntry) (counted : Bool) (p : Played) → IsPlayed r its counted p →
+    length p.finished.answers.items ≡ length p.finished.journal.items
+answered-each r its counted p played =
+    ap (λ (l : List Answer). length l) played.run.answers_are ∙ length-answers_of (begins r) p.finished.journal.items
+
+-- a run that no sink could stop has an end
+ending-found : (began : Began) (nodes : ℕ) (flat : FlatState) (journal : List JournalEntry) (found : Finish) (released : List ℕ)
+    (before behind : Option (List ℕ)) → EndsSo began journal found released before behind 0 0 →
+    (ending : Ending) × (ending_by nodes flat found ≡ Some ending)
+ending-found began nodes flat journal finish.Stopped released before behind so = absurd (no-rise so.1)
+ending-found began nodes flat journal finish.Over released before behind so = (ended_by (first_trap nodes flat), refl)
+ending-found began nodes flat journal (finish.CutOff a b) released before behind so = (endings.CutOff a b, refl)
+ending-found began nodes flat journal finish.Budget released before behind so = (endings.Spent, refl)
+
+module _ (r : Run) (its : List JournalEntry) (counted : Bool) (p : Played) (played : IsPlayed r its counted p) (may : MayRun r) where
+  its-journal : IsJournal r its
+  its-journal =
+      subst (λ (l : List JournalEntry). IsJournal r l) played.journal
+      (record { due = played.run.due; workers = played.run.workers; fit = played.run.fit may.ruled; few = played.run.few })
 
   ends-so : (written writes : Option (List ℕ)) → IsHandedOn [] p.finished.machine.state.released written writes →
       EndsSo (begins r) p.finished.journal.items p.finished.finish p.finished.machine.state.released written writes 0 0
@@ -59,14 +85,25 @@ module _ (order : Order) (r : Run) (counted : Bool) (p : Played) (played : IsPla
       ends-of (begins r) p.finished.journal.items p.finished.machine.state.released written writes 0 0 (Ok tt) p.finished.finish
       p.finished.finish refl (λ sound. played.finish) (handed, omega arith)
 
+  unstopped : EndsSo (begins r) p.finished.journal.items p.finished.finish p.finished.machine.state.released None None 0 0
+  unstopped = ends-so None None (record { more = p.finished.machine.state.released; grown = refl; put = refl })
+
   -- so it has an end, and what isn't put has its cause in a sink
+  its-end : (ending : Ending) × (ending_of (begins r) its ≡ Some ending)
+  its-end =
+      let flat = flat_after (begins r) p.finished.journal.items in
+      let found = ending-found (begins r) r.config.nodes flat p.finished.journal.items p.finished.finish
+      p.finished.machine.state.released None None unstopped in (
+        found.0,
+        subst (λ (l : List JournalEntry). ending_of (begins r) l ≡ Some found.0) played.journal
+            (ap (λ (o : Option Finish). option_and_then (ending_by r.config.nodes flat) o) played.finish ∙ found.1),
+      )
+
   pub caused : (broken : Type 0) → (ended_now p.finished.machine p.finished.finish ≡ None) ⊎ broken → broken
   caused broken why =
-      let handed : IsHandedOn [] p.finished.machine.state.released None None =
-      record { more = p.finished.machine.state.released; grown = refl; put = refl } in
       ⊎_elim (λ (rose : Rose 0 0). absurd (no-rise rose)) (λ (h : broken). h)
       (cause-by (begins r) p.finished.machine.config.nodes _ p.finished.journal.items p.finished.finish
-      p.finished.machine.state.released None None 0 0 broken (ends-so None None handed) why)
+      p.finished.machine.state.released None None 0 0 broken unstopped why)
 
   module _ (probes told : List Meter) (are : told ≡ told_all p.finished.journal.items p.finished.answers.items probes) where
     pub know-all : KnowAll r its probes told
@@ -114,49 +151,63 @@ module _ (order : Order) (r : Run) (counted : Bool) (p : Played) (played : IsPla
         subst (λ (l : List JournalEntry). Breaks (run_pieces r probes l) before behind) played.journal (broke-some before behind unput)
 
     -- a run with its statistics
-    module _ (asked : counted ≡ true) where
+    module _ (asked : counted ≡ true) (showing : RunShowing) (shown : showing ≡ r.showing) where
       text-is : Report p.statistics.items ∷ [] ≡ Report (statistics_text r its) ∷ []
       text-is =
           ap (λ (t : List ℕ). Report t ∷ []) (played.statistics asked)
           ∙ ap (λ (l : List JournalEntry). Report (statistics_text r l) ∷ []) played.journal
 
+      done-so : (ending : Ending) (written writes report reports : Option (List ℕ)) →
+          IsHandedOn [] p.finished.machine.state.released written writes →
+          IsReported p.finished.machine p.finished.journal.items p.finished.finish showing (tallies_of told) ending report reports →
+          IsDoneWith r its probes ending (ends written report) (ends writes reports) told
+      done-so ending written writes report reports handed reported =
+          done-with ending written writes report reports handed
+          (subst (λ (s : RunShowing). IsReported p.finished.machine p.finished.journal.items p.finished.finish s (tallies_of told) ending report
+          reports) shown reported)
+
       pub counted-done : (ending : Ending) (written writes report reports counts : Option (List ℕ)) →
           IsHandedOn [] p.finished.machine.state.released written writes →
-          IsReported p.finished.machine p.finished.journal.items p.finished.finish r.showing (tallies_of told) ending report reports →
+          IsReported p.finished.machine p.finished.journal.items p.finished.finish showing (tallies_of told) ending report reports →
           ends writes counts ≡ after (ends writes reports) (Report p.statistics.items ∷ []) →
-          IsDoneCounted order r probes ending (ends written report) (ends writes counts) told
+          IsCountedWith r its probes ending (ends written report) (ends writes counts) told
       counted-done ending written writes report reports counts handed reported put =
-          let done = done-with ending written writes report reports handed reported in record {
-            ended = done.0.ended;
+          let done = done-so ending written writes report reports handed reported in record {
             put =
                 both-put (run_pieces r probes its) (Report (statistics_text r its) ∷ []) (ends written report) (ends writes reports)
                 (ends writes counts) done.0.put (put ∙ ap (after (ends writes reports)) text-is);
             output = done.0.shown.output;
-            lawful = run-is_lawful order r may probes;
+            lawful = lawful-with r may its its-journal probes ending done.0.ended;
             know = know-all;
           }
 
       pub run-broke : (before behind : Ends) →
-          IsUnput p.finished.machine p.finished.journal.items p.finished.finish r.showing (tallies_of told) before behind →
-          IsBrokenCounted order r probes before behind told
+          IsUnput p.finished.machine p.finished.journal.items p.finished.finish showing (tallies_of told) before behind →
+          IsCountedInPart r its probes before behind told
       run-broke before behind unput = record {
-        broken = first-breaks (run_pieces r probes its) (Report (statistics_text r its) ∷ []) before behind (broke before behind unput);
-        lawful = run-is_lawful order r may probes;
+        ending = its-end.0;
+        broken =
+            first-breaks (run_pieces r probes its) (Report (statistics_text r its) ∷ []) before behind
+            (broke before behind
+            (subst (λ (s : RunShowing). IsUnput p.finished.machine p.finished.journal.items p.finished.finish s (tallies_of told) before
+            behind) shown unput));
+        lawful = lawful-with r may its its-journal probes its-end.0 its-end.1;
         know = know-all;
       }
 
       pub statistics-broke : (ending : Ending) (written writes report reports counts : Option (List ℕ)) →
           IsHandedOn [] p.finished.machine.state.released written writes →
-          IsReported p.finished.machine p.finished.journal.items p.finished.finish r.showing (tallies_of told) ending report reports →
+          IsReported p.finished.machine p.finished.journal.items p.finished.finish showing (tallies_of told) ending report reports →
           Breaks (Report p.statistics.items ∷ []) (ends writes reports) (ends writes counts) →
-          IsBrokenCounted order r probes (ends written report) (ends writes counts) told
+          IsCountedInPart r its probes (ends written report) (ends writes counts) told
       statistics-broke ending written writes report reports counts handed reported broken =
-          let done = done-with ending written writes report reports handed reported in record {
+          let done = done-so ending written writes report reports handed reported in record {
+            ending = ending;
             broken =
                 last-breaks (run_pieces r probes its) (Report (statistics_text r its) ∷ []) (ends written report) (ends writes reports)
                 (ends writes counts) done.0.put
                 (subst (λ (t : List Piece). Breaks t (ends writes reports) (ends writes counts)) text-is broken);
-            lawful = run-is_lawful order r may probes;
+            lawful = lawful-with r may its its-journal probes ending done.0.ended;
             know = know-all;
           }
 
@@ -171,7 +222,7 @@ seed-is : (r : SeedRuns) (seed : ℕ) →
 unfolding seed_pieces
 seed-is r seed = refl
 
-module _ (r : SeedRuns) (seed : ℕ) (p : Played) (may : MayBegin r) (played : IsPlayed r.order (run_of r seed) r.statistics p) (tallies : List (List ℕ)) (none : tallies ≡ []) where
+module _ (r : SeedRuns) (seed : ℕ) (p : Played) (may : MayBegin r) (played : IsPlayed (run_of r seed) (journal_of r seed) r.statistics p) (tallies : List (List ℕ)) (none : tallies ≡ []) where
   abbrev head : Piece
   head = Report (seed_line seed)
 
@@ -190,7 +241,7 @@ module _ (r : SeedRuns) (seed : ℕ) (p : Played) (may : MayBegin r) (played : I
       IsReported p.finished.machine p.finished.journal.items p.finished.finish (run_of r seed).showing tallies ending report reports →
       IsDoneWith (run_of r seed) (journal_of r seed) [] ending (ends written report) (ends writes reports) []
   done ending written writes report reports handed reported =
-      done-with r.order (run_of r seed) r.statistics p played (may-run r seed may) [] [] refl ending written writes report reports handed
+      done-with (run_of r seed) (journal_of r seed) r.statistics p played (may-run r seed may) [] [] refl ending written writes report reports handed
       (by_none ending report reports reported)
 
   tail-is : (ending : Ending) → ending_of (begins (run_of r seed)) (journal_of r seed) ≡ Some ending →
@@ -226,7 +277,7 @@ module _ (r : SeedRuns) (seed : ℕ) (p : Played) (may : MayBegin r) (played : I
   middle-broke before between behind begun unput =
       block-broke before behind
       (middle-breaks head middle (tail_pieces r seed) before between behind begun
-      (broke r.order (run_of r seed) r.statistics p played (may-run r seed may) [] [] refl between behind
+      (broke (run_of r seed) (journal_of r seed) r.statistics p played (may-run r seed may) [] [] refl between behind
       (subst (λ (t : List (List ℕ)). IsUnput p.finished.machine p.finished.journal.items p.finished.finish (run_of r seed).showing t between
       behind) none unput)))
 

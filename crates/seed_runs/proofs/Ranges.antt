@@ -28,45 +28,76 @@ pub one-block : (r : SeedRuns) (seed : ℕ) → seeds_pieces r seed 1 ≡ seed_p
 unfolding seeds_pieces
 one-block r seed = append-nil (seed_pieces r seed)
 
--- the blocks of so many seeds, and of the next
-pub one-more : (r : SeedRuns) (place : ℕ) →
-    seeds_pieces r r.first (place + 1) ≡ seeds_pieces r r.first place ++ seed_pieces r (r.first + place)
-one-more r place =
-    ranges-parted r r.first place 1 ∙ ap (λ t. seeds_pieces r r.first place ++ t) (one-block r (r.first + place))
+-- those of the first seeds are the first of all
+pub first-of_all : (r : SeedRuns) (first some all : ℕ) → some ≤ all →
+    seeds_pieces r first all ≡ seeds_pieces r first some ++ seeds_pieces r (first + some) (all - some)
+first-of_all r first some all few =
+    let many : all ≡ some + (all - some) = omega (arith, few) in
+    parted r some (all - some) all first (first + some) many refl
 
--- those are the first of all
-pub first-of_all : (r : SeedRuns) (some : ℕ) → some ≤ seeds_in r →
-    pieces_due r ≡ seeds_pieces r r.first some ++ seeds_pieces r (r.first + some) (seeds_in r - some)
-first-of_all r some few =
-    let many : seeds_in r ≡ some + (seeds_in r - some) = omega (arith, few) in
-    parted r some (seeds_in r - some) (seeds_in r) r.first (r.first + some) many refl
-
-pub none-put : (r : SeedRuns) (e : Ends) → e ≡ after e (seeds_pieces r r.first 0)
+pub none-put : (r : SeedRuns) (first : ℕ) (e : Ends) → e ≡ after e (seeds_pieces r first 0)
 unfolding seeds_pieces
-none-put r e = sym (after-nil e)
+none-put r first e = sym (after-nil e)
 
-module _ (r : SeedRuns) (place : ℕ) (before now_ behind : Ends) (had : now_ ≡ after before (seeds_pieces r r.first place)) where
-  pub next-put : behind ≡ after now_ (seed_pieces r (r.first + place)) → behind ≡ after before (seeds_pieces r r.first (place + 1))
-  next-put put =
-      both-put (seeds_pieces r r.first place) (seed_pieces r (r.first + place)) before now_ behind had put
-      ∙ ap (after before) (sym (one-more r place))
+-- the blocks of so many seeds, and of those behind them
+module _ (r : SeedRuns) (first place : ℕ) (before now_ behind : Ends) (had : now_ ≡ after before (seeds_pieces r first place)) where
+  pub group-put : (done : ℕ) → behind ≡ after now_ (seeds_pieces r (first + place) done) →
+      behind ≡ after before (seeds_pieces r first (place + done))
+  group-put done put =
+      both-put (seeds_pieces r first place) (seeds_pieces r (first + place) done) before now_ behind had put
+      ∙ ap (after before) (sym (ranges-parted r first place done))
 
-  -- a sink broke in the next block
-  pub next-breaks : place < seeds_in r → AreLawful r → Breaks (seed_pieces r (r.first + place)) now_ behind → AreBrokenOff r before behind
-  next-breaks below lawful broken =
-      let some : Breaks (seeds_pieces r r.first (place + 1)) before behind =
-      subst (λ (t : List Piece). Breaks t before behind) (sym (one-more r place))
-      (last-breaks (seeds_pieces r r.first place) (seed_pieces r (r.first + place)) before now_ behind had broken) in record {
-        broken =
-            subst (λ (t : List Piece). Breaks t before behind) (sym (first-of_all r (place + 1) (omega (arith, below))))
-            (first-breaks (seeds_pieces r r.first (place + 1)) (seeds_pieces r (r.first + (place + 1)) (seeds_in r - (place + 1))) before
-            behind some);
-        lawful = lawful;
-      }
+  pub next-put : behind ≡ after now_ (seed_pieces r (first + place)) → behind ≡ after before (seeds_pieces r first (place + 1))
+  next-put put = group-put 1 (put ∙ ap (after now_) (sym (one-block r (first + place))))
+
+  -- a sink broke in one of those
+  pub group-breaks : (count all : ℕ) → place + count ≤ all → Breaks (seeds_pieces r (first + place) count) now_ behind →
+      Breaks (seeds_pieces r first all) before behind
+  group-breaks count all below broken =
+      let some : Breaks (seeds_pieces r first (place + count)) before behind =
+      subst (λ (t : List Piece). Breaks t before behind) (sym (ranges-parted r first place count))
+      (last-breaks (seeds_pieces r first place) (seeds_pieces r (first + place) count) before now_ behind had broken) in
+      subst (λ (t : List Piece). Breaks t before behind) (sym (first-of_all r first (place + count) all below))
+      (first-breaks (seeds_pieces r first (place + count)) (seeds_pieces r (first + (place + count)) (all - (place + count))) before
+      behind some)
+
+  pub next-breaks : (all : ℕ) → place < all → Breaks (seed_pieces r (first + place)) now_ behind →
+      Breaks (seeds_pieces r first all) before behind
+  next-breaks all below broken =
+      group-breaks 1 all (omega (arith, below))
+      (subst (λ (t : List Piece). Breaks t now_ behind) (sym (one-block r (first + place))) broken)
+
+-- the same where none is put yet
+module _ (r : SeedRuns) (first done : ℕ) (before now_ behind : Ends) (had : now_ ≡ after before (seeds_pieces r first done)) (none : done ≡ 0) where
+  none-yet : now_ ≡ after before (seeds_pieces r first 0)
+  none-yet = had ∙ ap (λ (n : ℕ). after before (seeds_pieces r first n)) none
+
+  pub still-none : now_ ≡ before
+  still-none = none-yet ∙ sym (none-put r first before)
+
+  first-of : first ≡ first + 0
+  first-of = omega arith
+
+  pub first-put : behind ≡ after now_ (seed_pieces r first) → behind ≡ after before (seeds_pieces r first 1)
+  first-put put =
+      next-put r first 0 before now_ behind none-yet (subst (λ (n : ℕ). behind ≡ after now_ (seed_pieces r n)) first-of put)
+
+  pub first-breaks_off : (all : ℕ) → 0 < all → Breaks (seed_pieces r first) now_ behind → Breaks (seeds_pieces r first all) before behind
+  first-breaks_off all some broken =
+      next-breaks r first 0 before now_ behind none-yet all some
+      (subst (λ (n : ℕ). Breaks (seed_pieces r n) now_ behind) first-of broken)
+
+module _ (r : SeedRuns) (place : ℕ) (before now_ behind : Ends) (had : now_ ≡ after before (seeds_pieces r r.first place)) (lawful : AreLawful r) where
+  pub broken-off : (count : ℕ) → place + count ≤ seeds_in r → Breaks (seeds_pieces r (r.first + place) count) now_ behind →
+      AreBrokenOff r before behind
+  broken-off count below broken = record {
+    broken = group-breaks r r.first place before now_ behind had count (seeds_in r) below broken;
+    lawful = lawful;
+  }
 
   -- memory was wanted for the next
-  pub left-off : place < seeds_in r → AreLawful r → behind ≡ now_ → AreLeftOff r before behind
-  left-off below lawful same = record { done = place; few = below; put = same ∙ had; lawful = lawful }
+  pub left-off : place < seeds_in r → behind ≡ now_ → AreLeftOff r before behind
+  left-off below same = record { done = place; few = below; put = same ∙ had; lawful = lawful }
 
 -- there is no next
 pub all-shown : (r : SeedRuns) (place : ℕ) (before behind : Ends) → behind ≡ after before (seeds_pieces r r.first place) →

@@ -8,9 +8,11 @@ use Rattle.sn_probe.specs.Probes.{Meter}
 use Rattle.sink_pieces.specs.Pieces.{Ends, after, Breaks}
 use Rattle.script_replay.specs.Played.{IsWatchable}
 use Rattle.script_replay.specs.Shown.{IsLawful}
+use Rattle.run_journals.specs.declared.entry.JournalEntry.{JournalEntry}
 use Rattle.run_journals.specs.Journal.{events_of, state_of}
 use Rattle.node_run.specs.declared.ending.Ending.{Ending}
 use Rattle.node_run.specs.declared.job.Run.{Run}
+use Rattle.node_run.specs.Endings.{ending_of}
 use Rattle.node_run.specs.Pieces.{begins}
 use Rattle.node_run.specs.Shown.{IsJournal, IsReplayedSo, KnowAll, output_by}
 use Rattle.turn_orders.specs.declared.order.Order.{Order}
@@ -54,7 +56,38 @@ pub record IsBrokenCounted (order : Order) (r : Run) (probes : List Meter) (befo
   pub lawful : IsLawfulRun order r probes
   pub know : KnowAll r (ordered_journal order (begins r)) probes told
 
--- so it is of the run of each seed
+-- the same of a run with this journal, which ends so
+pub record IsLawfulWith (r : Run) (journal : List JournalEntry) (probes : List Meter) (ending : Ending) : Type 0 where
+  pub journal_is : IsJournal r journal
+  pub ended : ending_of (begins r) journal ≡ Some ending
+  pub lawful : IsLawful r.program r.config (events_of journal)
+  pub output : (state_of (begins r) journal).released ≡ output_by r journal
+  pub replayed : IsReplayedSo r probes journal
+
+-- a run came to its end with this journal, and all is put, and its statistics after it
+pub record IsCountedWith (r : Run) (journal : List JournalEntry) (probes : List Meter) (ending : Ending) (before behind : Ends) (told : List Meter) : Type 0 where
+  pub put : behind ≡ after before (counted_pieces r probes journal)
+  pub output : behind.console ≡ followed_by before.console (output_by r journal)
+  pub lawful : IsLawfulWith r journal probes ending
+  pub know : KnowAll r journal probes told
+
+-- it came to its end so, and a sink broke
+pub record IsCountedInPart (r : Run) (journal : List JournalEntry) (probes : List Meter) (before behind : Ends) (told : List Meter) : Type 0 where
+  pub ending : Ending
+  pub broken : Breaks (counted_pieces r probes journal) before behind
+  pub lawful : IsLawfulWith r journal probes ending
+  pub know : KnowAll r journal probes told
+
+-- the same of a run by threads: with some journal
+abbrev pub IsCountedByThreads : Run → List Meter → Ending → Ends → Ends → List Meter → Type 0
+IsCountedByThreads r probes ending before behind told =
+    (journal : List JournalEntry) × IsCountedWith r journal probes ending before behind told
+
+abbrev pub IsBrokenByThreads : Run → List Meter → Ends → Ends → List Meter → Type 0
+IsBrokenByThreads r probes before behind told =
+    (journal : List JournalEntry) × IsCountedInPart r journal probes before behind told
+
+-- the run of each seed is lawful so in its order
 abbrev pub AreLawful : SeedRuns → Type 0
 AreLawful r = (seed : ℕ) → IsLawfulRun r.order (run_of r seed) []
 

@@ -1,18 +1,24 @@
-//! A run in an order that has had its turns, and of which nothing is put yet.
-ghost use Rattle.std.specs.Prelude.{◌≡◌, ◌≤◌, true, length, IfOk};
+//! A run that has had its turns, and of which nothing is put yet.
+ghost use Rattle.std.specs.Prelude.{◌≡◌, ◌≤◌, true, length, Some, IfOk};
 ghost use Rattle.sn_base.specs.declared.limits.TheConstants.{EVENTS};
 ghost use Rattle.consistent_cuts.specs.Runs.{AllFit};
 ghost use Rattle.run_journals.specs.Journal.{events_of};
+ghost use Rattle.node_threads.specs.Finishes.{IsRunOf, finish_by};
+ghost use Rattle.node_run.specs.Pieces.{begins};
 ghost use Rattle.node_run.specs.Shown.{MayBegin};
+ghost use Rattle.ordered_run.specs.Ordered.{ordered_journal};
 ghost use Rattle.seed_runs.specs.Played.{statistics_now, IsPlayed};
 
-use node_run::Run;
-use node_threads::{Finished, JournalEntry};
+use node_run::{ReportRoom, Run, report_room, shared_for};
+use node_threads::{Finished, JournalEntry, run_nodes};
 use ordered_run::all_turns;
 use run_statistics::statistics_text;
 use sn_base::{Event, Memory};
-use sn_text::Line;
+use sn_io::{Gate, SureSink};
+use sn_probe::ProbeSet;
 use std::alloc::Global;
+use std::sync::Wait;
+use std::thread::Threads;
 use turn_orders::Order;
 
 /// What a run left, with all memory that is wanted to put it.
@@ -21,7 +27,8 @@ pub(crate) struct Played {
     pub finished: Finished,
     /// The lines of its statistics, where they are asked for.
     pub statistics: Vec<u8>,
-    pub line: Line,
+    /// Of its report, and of the lines beside it.
+    pub room: ReportRoom,
 }
 
 // The events of a journal.
@@ -60,12 +67,12 @@ fn statistics_if(alloc: Global, asked: bool, finished: &Finished) -> Result<Vec<
     }
 }
 
-/// Has all turns of a run, and counts its statistics where they are asked for. An error is want of memory.
+/// Has all turns of a run in an order, and counts its statistics where they are asked for. An error is want of memory.
 pub(crate) fn play(alloc: Global, job: Run, order: Order, counted: bool) -> Result<Played, Memory>
     requires { MayBegin job }
-    ensures { IfOk result (λ played. IsPlayed order job counted played) }
+    ensures { IfOk result (λ played. IsPlayed job (ordered_journal order (begins job)) counted played) }
 {
-    let Ok(line) = Line::new(alloc) else {
+    let Ok(room) = report_room(alloc, &job.program, job.config.nodes) else {
         return Err(Memory);
     };
     let Ok(finished) = all_turns(alloc, job, order) else {
@@ -77,6 +84,59 @@ pub(crate) fn play(alloc: Global, job: Run, order: Order, counted: bool) -> Resu
     Ok(Played {
         finished,
         statistics,
-        line,
+        room,
+    })
+}
+
+// All turns of a run by one worker a node, each in a thread of its own: what they leave. Nothing is put of it.
+fn turns_by_threads<T: Threads + Wait + Sync, G: Gate + Sync>(
+    rt: &T,
+    alloc: Global,
+    job: Run,
+    gate: &G,
+) -> Result<Finished, Memory>
+    requires { MayBegin job }
+    ensures run { IfOk result (λ left. IsRunOf (begins job) left.machine left.journal.items left.answers.items) }
+    ensures finish { IfOk result (λ left. finish_by (begins job) left.journal.items ≡ Some left.finish) }
+{
+    let Run {
+        program,
+        config,
+        rules,
+        seed,
+        budget,
+        showing: _,
+    } = job;
+    let Some(shared) = shared_for(alloc, program, config, rules, seed, budget) else {
+        return Err(Memory);
+    };
+    let mut nowhere = SureSink::new();
+    let mut none = ProbeSet::new(Vec::new(alloc));
+    run_nodes(rt, alloc, shared, gate, &mut nowhere, &mut none)
+}
+
+/// The same by one worker a node, each in a thread of its own, with its statistics.
+pub(crate) fn play_by_threads<T: Threads + Wait + Sync, G: Gate + Sync>(
+    rt: &T,
+    alloc: Global,
+    job: Run,
+    gate: &G,
+) -> Result<Played, Memory>
+    requires { MayBegin job }
+    ensures { IfOk result (λ played. IsPlayed job played.finished.journal.items true played) }
+{
+    let Ok(room) = report_room(alloc, &job.program, job.config.nodes) else {
+        return Err(Memory);
+    };
+    let Ok(finished) = turns_by_threads(rt, alloc, job, gate) else {
+        return Err(Memory);
+    };
+    let Ok(statistics) = statistics_by(alloc, &finished) else {
+        return Err(Memory);
+    };
+    Ok(Played {
+        finished,
+        statistics,
+        room,
     })
 }

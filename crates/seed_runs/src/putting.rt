@@ -5,13 +5,13 @@ ghost use Rattle.sn_console.specs.Handed.{IsHandedOn};
 ghost use Rattle.sn_probe.specs.Probes.{meters_in, tallies_of};
 ghost use Rattle.sink_pieces.specs.Pieces.{Report, ends, after, Breaks};
 ghost use Rattle.script_replay.specs.Played.{IsWatchable};
-ghost use Rattle.node_run.specs.Reported.{ended_now, IsReported};
+ghost use Rattle.node_run.specs.Reported.{ended_now, IsRoomFor, IsReported};
 ghost use Rattle.seed_runs.specs.Text.{seed_line, end_line};
 ghost use Rattle.seed_runs.specs.Pieces.{piece_if};
 ghost use Rattle.seed_runs.specs.Played.{IsUnput};
 
 use crate::lines::{write_end, write_seed};
-use node_run::{Ending, RunShowing, put_ended};
+use node_run::{Ending, ReportRoom, RunShowing, put_ended};
 use node_threads::Finished;
 use sink_pieces::{put_console, put_report};
 use sn_io::{Failed, Sink};
@@ -20,13 +20,14 @@ use sn_text::Line;
 
 /// Puts what is released to the console, and then the report. None where a sink took less.
 pub(crate) fn put_run<C: Sink, R: Sink>(
-    line: &mut Line,
+    room: &mut ReportRoom,
     finished: &Finished,
     showing: &RunShowing,
     probes: &ProbeSet,
     console: &mut C,
     report: &mut R,
 ) -> Option<Ending>
+    requires start { IsRoomFor room.old finished.now.machine }
     requires watched { IsWatchable showing.now.watch }
     ensures console { IfSome result (λ ending.
         IsHandedOn [] finished.now.machine.state.released (C.written console.old) (C.written console.new)) }
@@ -42,7 +43,7 @@ pub(crate) fn put_run<C: Sink, R: Sink>(
 {
     let view = finished.machine.recovered();
     match put_console(console, view.released()) {
-        Ok(()) => put_ended(line, finished, showing, probes, report),
+        Ok(()) => put_ended(room, finished, showing, probes, report),
         Err(_) => None,
     }
 }

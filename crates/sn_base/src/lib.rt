@@ -9,6 +9,7 @@
 mod block;
 mod config;
 mod content;
+mod copying;
 mod event;
 mod image;
 mod limits;
@@ -23,6 +24,7 @@ mod tests;
 
 pub use block::{Block, BlockNo, Width, Write};
 pub use config::Config;
+pub use copying::copy_of;
 pub use event::{Answer, Event, Undo};
 pub use image::{Image, Segment};
 pub use limits::{BLOCK_SIZE, BLOCKS, CHECKPOINTS, EVENTS, MESSAGES, RAM_END, RAM_SIZE, RAM_START};

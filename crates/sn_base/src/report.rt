@@ -7,6 +7,9 @@ pub enum RunReport {
     Summary,
     /// The committed trace, one record a line. The summary's lines are marked as comments of a trace.
     Trace,
+    /// The same with what each record does in memory, one row of CSV a record after a header. The summary's lines are marked as
+    /// comments.
+    Accesses,
     /// Each event as a line of a script, after a comment that names the worker in whose turn it was applied. The summary's
     /// lines are marked as comments of a script.
     Journal,

@@ -98,3 +98,13 @@ fn a_program_gives_its_bytes_and_zeros_after_them(rt: HostRuntime) -> Result<(),
     assert_eq!(rt; image.block(BlockNo::new(1)), Block::zero());
     Ok(())
 }
+
+#[test]
+fn a_copy_is_the_same_program(rt: HostRuntime) -> Result<(), Memory> {
+    let image = eight_bytes_of_code(rt.alloc())?;
+    let copy = copy_of(rt.alloc(), &image)?;
+    assert_eq!(rt; (copy.entry(), copy.segments().len()), (0x8000_0000, 1));
+    assert_eq!(rt; copy.fetch(0x8000_0000), Some(0x0410_0513));
+    assert_eq!(rt; copy.block(BlockNo::new(0)), image.block(BlockNo::new(0)));
+    Ok(())
+}

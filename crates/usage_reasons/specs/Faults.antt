@@ -17,7 +17,7 @@ use Rattle.usage_reasons.specs.Words.{begins, is_short, is_help, is_among, optio
 -- what is wrong: no word is there; the first is no command; a word asks for help among others; the command has no such option; an option
 -- has no value, or a flag has one; an option stands twice; the value isn't the option's number, no address, no switch that dies on so
 -- many nodes, no size of a demonstration, no order of turns, no places of events, or no range of seeds; a word that must be there is lacking; a word is one
--- too many; two options that don't stand together; places without the states that are shown of them; an option that stands only with an
+-- too many; two options that don't stand together; places without the states that are shown of them; a range of seeds without an
 -- order of turns; or nothing that is looked for here
 pub data Fault : Type 0 where
   NoCommand : Fault
@@ -38,12 +38,12 @@ pub data Fault : Type 0 where
   OneTooMany : Command → Text → Fault
   Together : Text → Text → Fault
   PlacesAlone : Fault
-  OrderLacking : Text → Fault
+  OrderLacking : Fault
   Other : Fault
 
 -- what has been read of a command's words: the option whose value the next word is, the files that are still to come, whether `--` was
--- met, behind which all words are files, the texts of the nodes and of the switch that dies, whether places and states are asked for, which trace
--- or journal is, and whether statistics are, a range of seeds, one seed, and an order of turns
+-- met, behind which all words are files, the texts of the nodes and of the switch that dies, whether places and states are asked for, which trace,
+-- journal or accesses are, and whether a range of seeds is, one seed, and an order of turns
 pub record Read : Type 0 where
   pub waiting : Option Key
   pub wanted : List Text
@@ -53,7 +53,6 @@ pub record Read : Type 0 where
   pub places : Bool
   pub states : Bool
   pub shown : Option Text
-  pub counted : Bool
   pub seeds : Bool
   pub seeded : Bool
   pub ordered : Bool
@@ -68,7 +67,6 @@ first_read command = record {
   places = false;
   states = false;
   shown = None;
-  counted = false;
   seeds = false;
   seeded = false;
   ordered = false;
@@ -132,9 +130,9 @@ with_key key r (Some value) = with_value key r value
 abbrev pub report_read : Read → Text → Read
 report_read r option =
     if bytes_eq option (codes "--states") then record r { states = true }
-    else if bytes_eq option (codes "--statistics") then record r { counted = true }
     else if bytes_eq option (codes "--trace") then record r { shown = Some option }
     else if bytes_eq option (codes "--journal") then record r { shown = Some option }
+    else if bytes_eq option (codes "--accesses") then record r { shown = Some option }
     else r
 
 -- what a flag does beside another of the command's, if one was given: only one report is had
@@ -196,13 +194,11 @@ end_by_kill (Some kill) r = kill_fault r.nodes kill
 abbrev pub end_by_places : Read → Fault
 end_by_places r = if r.places && not r.states then PlacesAlone else end_by_kill r.kill r
 
--- a range of seeds, and what is counted, are had in an order
+-- a range of seeds is had in an order
 abbrev pub end_by_order : Read → Fault
-end_by_order r =
-    if r.seeds && not r.ordered then OrderLacking (codes "--seeds")
-    else if r.counted && not r.ordered then OrderLacking (codes "--statistics") else end_by_places r
+end_by_order r = if r.seeds && not r.ordered then OrderLacking else end_by_places r
 
--- and a range of seeds beside the summary alone, and not beside one seed
+-- and beside the summary alone, and not beside one seed
 abbrev pub shown_beside : Option Text → Read → Fault
 shown_beside (Some flag) r = Together flag (codes "--seeds")
 shown_beside None r = end_by_order r

@@ -17,7 +17,6 @@ read_seen r = record {
   places = r.places;
   states = r.states;
   shown = option_map (λ flag. flag.now) r.shown;
-  counted = r.counted;
   seeds = r.seeds;
   seeded = r.seeded;
   ordered = r.ordered;
@@ -42,7 +41,7 @@ fault_seen (found.Lacking command file) = Lacking command file.now
 fault_seen (found.OneTooMany command word) = OneTooMany command word.now
 fault_seen (found.Together one other) = Together one.now other.now
 fault_seen found.PlacesAlone = PlacesAlone
-fault_seen (found.OrderLacking option) = OrderLacking option.now
+fault_seen found.OrderLacking = OrderLacking
 fault_seen found.Other = Other
 
 abbrev pub step_seen : Result Reading code.Fault → Result Read Fault

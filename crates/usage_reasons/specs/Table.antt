@@ -85,7 +85,7 @@ abbrev pub flags_of : Command → List Text
 flags_of Replay = codes "--trace" ∷ codes "--states" ∷ codes "--statistics" ∷ codes "--accesses" ∷ []
 flags_of Drive = []
 flags_of Roll = []
-flags_of Run = codes "--trace" ∷ codes "--journal" ∷ codes "--statistics" ∷ []
+flags_of Run = codes "--trace" ∷ codes "--journal" ∷ codes "--accesses" ∷ codes "--statistics" ∷ []
 flags_of Monitor = []
 flags_of Check = []
 flags_of Judge = []

@@ -123,10 +123,6 @@ bad_seeds text value =
 unfoldable pub together : Text → Text → Text → Text
 together text one other = text ++ one ++ codes " and " ++ other ++ codes " don't stand together"
 
--- an option that stands only with an order
-unfoldable pub order_lacking : Text → Text → Text
-order_lacking text option = text ++ option ++ codes " stands with --order round or --order drawn alone"
-
 unfoldable pub lacking : Text → Command → Text → Text
 lacking text command file = see (text ++ name_of command ++ codes ": " ++ file ++ codes " is lacking") (Some command)
 
@@ -152,7 +148,7 @@ fault_text text (BadSeeds value) = bad_seeds text value
 fault_text text (Lacking command file) = lacking text command file
 fault_text text (OneTooMany command word) = one_too_many text command word
 fault_text text (Together one other) = together text one other
-fault_text text (OrderLacking option) = order_lacking text option
+fault_text text OrderLacking = text ++ codes "--seeds stands with --order round or --order drawn alone"
 fault_text text PlacesAlone = text ++ codes "--only stands with --states alone"
 fault_text text Other = see (text ++ codes "the words are no command's") None
 

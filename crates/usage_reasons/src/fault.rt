@@ -29,8 +29,8 @@ pub(crate) enum Fault<'a> {
     Together(&'a str, &'a str),
     /// Places without the states that are shown of them.
     PlacesAlone,
-    /// An option that stands only with an order of turns.
-    OrderLacking(&'static str),
+    /// A range of seeds without an order of turns.
+    OrderLacking,
     /// Nothing is wrong that is looked for here.
     Other,
 }

@@ -27,9 +27,8 @@ pub(crate) struct Reading<'a> {
     kill: Option<&'a str>,
     places: bool,
     states: bool,
-    /// The flag for the trace or the journal.
+    /// The flag for the trace, the journal or the accesses.
     shown: Option<&'a str>,
-    counted: bool,
     seeds: bool,
     /// Whether one seed is given.
     seeded: bool,
@@ -50,7 +49,6 @@ fn first_read<'a>(command: Command, _words: &'a [String]) -> Reading<'a>
         places: false,
         states: false,
         shown: None,
-        counted: false,
         seeds: false,
         seeded: false,
         ordered: false,
@@ -235,11 +233,7 @@ fn with_report<'a>(reading: Reading<'a>, option: &'a str) -> Reading<'a>
             states: true,
             ..reading
         },
-        "--statistics" => Reading {
-            counted: true,
-            ..reading
-        },
-        "--trace" | "--journal" => Reading {
+        "--trace" | "--journal" | "--accesses" => Reading {
             shown: Some(option),
             ..reading
         },
@@ -379,10 +373,7 @@ fn end_by_order<'a>(reading: Reading<'a>) -> Fault<'a>
     ensures { fault_seen result ≡ end_by_order (read_seen reading.entry) }
 {
     if reading.seeds && !reading.ordered {
-        return Fault::OrderLacking("--seeds");
-    }
-    if reading.counted && !reading.ordered {
-        return Fault::OrderLacking("--statistics");
+        return Fault::OrderLacking;
     }
     end_by_places(reading)
 }

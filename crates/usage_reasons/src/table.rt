@@ -80,7 +80,7 @@ const REPLAY_OPTIONS: &[&str] = &["--nodes", "--sets", "--ways", "--log", "--wat
 
 const REPLAY_FLAGS: &[&str] = &["--trace", "--states", "--statistics", "--accesses"];
 
-const RUN_FLAGS: &[&str] = &["--trace", "--journal", "--statistics"];
+const RUN_FLAGS: &[&str] = &["--trace", "--journal", "--accesses", "--statistics"];
 
 const ORDERS: &[&str] = &["threads", "round", "drawn"];
 

@@ -3,7 +3,7 @@ ghost use Rattle.std.specs.Prelude.{◌≡◌, ◌++◌, None, map, option_map, 
 ghost use Rattle.reasons.specs.Reason.{begun, line_of_reason};
 ghost use Rattle.usage_reasons.specs.Texts.{quoted_word, see, near_or, unknown_command, help_among, nearest_option, unknown_option};
 ghost use Rattle.usage_reasons.specs.Texts.{value_lacking, value_unwanted, twice, given_as, range_front, range_back, range_text, bad_number};
-ghost use Rattle.usage_reasons.specs.Texts.{bad_address, bad_kill, bad_size, bad_order, bad_places, bad_seeds, together, order_lacking, lacking, one_too_many};
+ghost use Rattle.usage_reasons.specs.Texts.{bad_address, bad_kill, bad_size, bad_order, bad_places, bad_seeds, together, lacking, one_too_many};
 ghost use Rattle.usage_reasons.specs.Texts.{fault_text, usage_reason};
 ghost use Rattle.usage_reasons.specs.Seen.{fault_seen};
 
@@ -253,14 +253,6 @@ fn write_bad_seeds(reason: &mut Reason, value: &str) -> Result<(), Memory>
     )
 }
 
-#[tactic(auto, unfolding(crate::specs::Texts::order_lacking))]
-fn write_order_lacking(reason: &mut Reason, option: &str) -> Result<(), Memory>
-    ensures { OnOk result (reason.new ≡ order_lacking reason.old option.now) }
-{
-    reason.text(option)?;
-    reason.text(" stands with --order round or --order drawn alone")
-}
-
 // Two options, of which one stands.
 #[tactic(auto, unfolding(crate::specs::Texts::together))]
 fn write_together(reason: &mut Reason, one: &str, other: &str) -> Result<(), Memory>
@@ -323,7 +315,9 @@ fn write_fault(reason: &mut Reason, fault: Fault<'_>) -> Result<(), Memory>
         Fault::Lacking(command, file) => write_lacking(reason, command, file),
         Fault::OneTooMany(command, word) => write_one_too_many(reason, command, word),
         Fault::Together(one, other) => write_together(reason, one, other),
-        Fault::OrderLacking(option) => write_order_lacking(reason, option),
+        Fault::OrderLacking => {
+            reason.text("--seeds stands with --order round or --order drawn alone")
+        }
         Fault::PlacesAlone => reason.text("--only stands with --states alone"),
         Fault::Other => write_with_overview(reason, "the words are no command's"),
     }

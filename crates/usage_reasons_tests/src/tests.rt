@@ -383,12 +383,16 @@ const OPTIONS: &[(&str, &str)] = &[
     ),
     ("replay p s --states --states", "--states: it stands twice"),
     (
-        "run p --statistics",
-        "--statistics stands with --order round or --order drawn alone",
+        "run p --statistics --accesses",
+        "--statistics and --accesses don't stand together",
     ),
     (
-        "run p --statistics --order threads",
-        "--statistics stands with --order round or --order drawn alone",
+        "run p --seeds 1-2 --order threads",
+        "--seeds stands with --order round or --order drawn alone",
+    ),
+    (
+        "run p --seeds 1-2 --order round --accesses",
+        "--accesses and --seeds don't stand together",
     ),
     (
         "run p --seeds 1-2",

@@ -9,7 +9,7 @@ from typing import List, Optional, Tuple
 
 from ..errors import SafetyNetError
 from .log import Tally, log_text
-from .model import LitmusError, Test
+from .model import LitmusError, State, Test
 from .reading import read_litmus
 from .schedules import Runner, TrapError
 
@@ -27,9 +27,17 @@ def parser() -> argparse.ArgumentParser:
     found.add_argument("files", nargs="+", metavar="FILE", help="a test; none is run where one is refused")
     found.add_argument("--runs", type=_positive, default=100, metavar="N", help="how many runs of each test")
     found.add_argument("--seed", type=int, default=1, metavar="S", help="decides the schedules")
+    found.add_argument("--workers", type=_count, default=0, metavar="N", help="how many more runs by the workers of safetynet run, in drawn turns")
     found.add_argument("--losses", action="store_true", help="lose messages in each run, and go back to the recovery point")
     found.add_argument("--limit", type=_seconds, default=300.0, metavar="SECONDS", help="for each test; what isn't finished then isn't counted")
     return found
+
+
+def _count(text: str) -> int:
+    number = int(text)
+    if not 0 <= number <= 10**6:
+        raise argparse.ArgumentTypeError(f"{text} isn't from 0 to 1000000")
+    return number
 
 
 def _positive(text: str) -> int:
@@ -46,8 +54,10 @@ def _seconds(text: str) -> float:
     return seconds
 
 
-def run_test(runner: Runner, runs: int, seed: int, losses: bool = False, limit: float = float("inf")) -> Tally:
+def run_test(runner: Runner, runs: int, seed: int, losses: bool = False, limit: float = float("inf"), workers: int = 0) -> Tally:
     """Run a test so many times, or until its seconds are over; each run's schedule follows from the seed, the test's name and its number.
+
+    Before these come so many runs by workers, whose seeds begin with this one.
 
     Raises
     ------
@@ -56,17 +66,22 @@ def run_test(runner: Runner, runs: int, seed: int, losses: bool = False, limit: 
     """
     tally = Tally(runner.test)
     begun = time.monotonic()
+    for state in runner.by_workers(range(seed % 2**32, seed % 2**32 + workers), losses) if workers else ():
+        _count_state(tally, state)
     for number in range(runs):
         if time.monotonic() - begun >= limit:
             tally.unfinished += runs - number
             break
-        state = runner.run(random.Random(f"{seed} {runner.test.name} {number}"), losses, begun + limit)
-        if state is None:
-            tally.unfinished += 1
-        else:
-            tally.states[state] += 1
+        _count_state(tally, runner.run(random.Random(f"{seed} {runner.test.name} {number}"), losses, begun + limit))
     tally.seconds = time.monotonic() - begun
     return tally
+
+
+def _count_state(tally: Tally, state: Optional[State]) -> None:
+    if state is None:
+        tally.unfinished += 1
+    else:
+        tally.states[state] += 1
 
 
 def read_all(files: List[str]) -> Tuple[List[Tuple[str, Test]], List[str]]:
@@ -97,12 +112,12 @@ def main(words: Optional[List[str]] = None) -> int:
     status = DONE
     for runner in runners:
         try:
-            tally = run_test(runner, chosen.runs, chosen.seed, chosen.losses, chosen.limit)
+            tally = run_test(runner, chosen.runs, chosen.seed, chosen.losses, chosen.limit, chosen.workers)
         except (SafetyNetError, TrapError) as error:
             print(f"litmus: {error}", file=sys.stderr)
             return REFUSED
         print(log_text(tally), end="", flush=True)
         if tally.unfinished:
-            print(f"litmus: {runner.test.name}: {tally.unfinished} of {chosen.runs} runs aren't finished", file=sys.stderr)
+            print(f"litmus: {runner.test.name}: {tally.unfinished} of {chosen.runs + chosen.workers} runs aren't finished", file=sys.stderr)
             status = UNFINISHED
     return status

@@ -1,29 +1,33 @@
 """Runs of a test under schedules that are drawn, each brought to its final state.
 
 A schedule is a script. Much of it is guessed: an event that can't happen is answered and changes nothing, so it may name a message that isn't sent
-yet, and a few calls make a run. What a run ended with is read from the program's summary: each core has exited at the recovery point.
+yet, and a few questions make a run. It has ended once each core has exited at the recovery point: a recovery, which shows the cores there, is tried and
+taken back. The next run takes all of this one back, so one machine does all runs of a test.
 """
 from __future__ import annotations
 
 import random
 import time
-from typing import Iterable, List, Optional, Set
+from typing import Callable, Iterable, List, Optional, Sequence, Set, Tuple
 
+from ..calls import runs
 from ..events import Deliver, Edge, Event, Evict, Hop, Lose, Recover, Report, Step, Validate
 from ..machine import Machine
 from ..program import PathLike
-from ..report import Answer
+from ..report import Answer, Core
 from .model import DATA, Register, State, Test
 from .translation import ENTRY, Translation, translate
 
 # So many checkpoints a node may be above the recovery point.
 MOST_CHECKPOINTS = 4
-# A run that isn't finished after so many calls, or with so many events, isn't finished at all.
-MOST_CALLS = 40
+# A run that isn't finished after so many questions, or with so many events, isn't finished at all.
+MOST_QUESTIONS = 40
 MOST_EVENTS = 12_000
-# Turns of a call that guesses, and the messages beyond the newest that it may name.
+# Turns of a question that guesses, and the messages beyond the newest that it may name.
 TURNS = 14
 AHEAD = 6
+# Of a run by workers: instructions between two checkpoints, events without a validation before a recovery, and one in how many moves is a loss.
+INTERVAL, WAIT, LOSE_EVERY = 5, 400, 25
 
 
 class Progress:
@@ -107,17 +111,19 @@ class Runner:
         self.translation: Translation = translate(test, file, command)
         self.hops = farthest(self.nodes)
         self.command = command
-        self._start: Optional[Machine] = None
+        self._machine: Optional[Machine] = None
+        self._begin = 0
 
     def start(self) -> Machine:
-        """A machine whose cores stand before the first instruction of their threads, with that as the recovery point."""
-        if self._start is None:
+        """The machine, its cores before the first instruction of their threads, with that as the recovery point. It is the same one each time."""
+        if self._machine is None:
             machine = Machine(self.translation.image, self.nodes, command=self.command)
             heads = [*self.translation.heads, *[0] * (self.nodes - len(self.test.threads))]
             steps: List[Event] = [Step(node) for node in range(self.nodes) for _ in range(heads[node])]
             machine.apply_all([*steps, *Finish(self.nodes, self.hops).checkpoint(Progress(self.nodes))])
-            self._start = machine
-        return self._start.fork()
+            self._machine, self._begin = machine, machine.mark()
+        self._machine.back(self._begin)
+        return self._machine
 
     def run(self, drawn: random.Random, losses: bool = False, ends: float = float("inf")) -> Optional[State]:
         """One run, and its final state.
@@ -139,37 +145,105 @@ class Runner:
         Raises
         ------
         SafetyNetError
-            The program can't be called, or a core trapped: the test does what the machine can't.
+            The program can't be called.
+        TrapError
+            A core trapped: the test does what the machine can't.
         """
-        with self.start() as machine:
-            progress = Progress(self.nodes)
-            progress.note(machine.answers)
-            schedule = Schedule(self, drawn, losses)
-            for number in range(MOST_CALLS):
-                events = schedule.events(progress, number)
-                progress.note(machine.apply_all(events))
-                states = {core.state for core in machine.summary().cores}
-                if states == {"exited"}:
-                    return self.final(machine)
-                if "trapped" in states or len(machine.answers) > MOST_EVENTS or time.monotonic() > ends:
-                    break
-            self.refuse_traps(machine)
+        return self._gone_on(self.start(), Schedule(self, drawn, losses), ends)
+
+    def finish(self, machine: Machine, drawn: random.Random, ends: float = float("inf")) -> Optional[State]:
+        """Go on with a machine of this test from where it stands to the end of its threads, in an order that is drawn; its final state as of `run`."""
+        schedule = Schedule(self, drawn, False)
+        schedule.guesses = 1
+        return self._gone_on(machine, schedule, ends)
+
+    def by_workers(self, seeds: Sequence[int], losses: bool = False) -> Tuple[Optional[State], ...]:
+        """Runs by the workers of `safetynet run`, in turns that are drawn: they keep its rules, and the rest is left to the seed.
+
+        Parameters
+        ----------
+        seeds : range or sequence of int
+            Seeds one after another, one a run.
+        losses : bool
+            Whether messages are lost, and the machine goes back then.
+
+        Returns
+        -------
+        tuple of State or None
+            As of `run`, one a seed. All runs are a call, and one more for each variable but the first.
+
+        Raises
+        ------
+        SafetyNetError
+            The program can't be called.
+        TrapError
+            A core trapped.
+        """
+        addresses = [self.test.addresses[it.name] for it in self.test.observed if not isinstance(it, Register)]
+        of_address = {
+            address: runs(
+                self.translation.image,
+                seeds,
+                nodes=self.nodes,
+                interval=INTERVAL,
+                wait=WAIT,
+                budget=MOST_EVENTS,
+                lose_every=LOSE_EVERY if losses else 0,
+                watch=address,
+                command=self.command,
+            )
+            for address in addresses or [DATA]
+        }
+        states: List[Optional[State]] = []
+        for alike in zip(*of_address.values()):
+            words = {address: one.summary.watches[0].word for address, one in zip(of_address, alike)}
+            states.append(self.state_at(alike[0].summary.cores, words.__getitem__))
+        return tuple(states)
+
+    def _gone_on(self, machine: Machine, schedule: "Schedule", ends: float) -> Optional[State]:
+        progress = Progress(self.nodes)
+        progress.note(machine.answers)
+        for number in range(MOST_QUESTIONS):
+            progress.note(machine.apply_all(schedule.events(progress, number)))
+            state = self.final(machine)
+            if state is not None:
+                return state
+            if machine.mark() > MOST_EVENTS or time.monotonic() > ends:
+                break
         return None
 
-    def refuse_traps(self, machine: Machine) -> None:
-        """A core that trapped did what no thread of a test does."""
-        for core in machine.summary().cores:
+    def final(self, machine: Machine) -> Optional[State]:
+        """The words of the observed locations, where each core has exited at the recovery point; the machine stays. A replay for each variable.
+
+        Raises
+        ------
+        TrapError
+            A core trapped, which no thread of a test does.
+        """
+        mark = machine.mark()
+        cores = machine.recover().cores
+        machine.back(mark)
+        return self.state_at(cores, machine.watch)
+
+    def state_at(self, cores: Sequence[Core], watch: Callable[[int], int]) -> Optional[State]:
+        """The words of the observed locations, of cores and of what is asked by its address, at a recovery point; None where a core hasn't exited there.
+
+        Raises
+        ------
+        TrapError
+            A core trapped.
+        """
+        for core in cores:
             if core.state == "trapped":
                 raise TrapError(self.test.name, core.node, str(core.cause), core.pc - ENTRY)
-
-    def final(self, machine: Machine) -> State:
-        """The words of the observed locations, at the recovery point. A call for each variable."""
-        cores, words = machine.summary().cores, []
+        if {core.state for core in cores} != {"exited"}:
+            return None
+        words = []
         for location in self.test.observed:
             if isinstance(location, Register):
                 words.append(cores[location.thread].registers[self.translation.held(location)])
             else:
-                words.append(machine.watch(self.test.addresses[location.name]))
+                words.append(watch(self.test.addresses[location.name]))
         return tuple(words)
 
 
@@ -206,7 +280,7 @@ class Finish:
 
 
 class Schedule:
-    """The events of one run, call by call: one to three calls that guess, and then those that finish."""
+    """The events of one run, question by question: one to three that guess, and then those that finish."""
 
     def __init__(self, runner: Runner, drawn: random.Random, losses: bool) -> None:
         self.runner = runner
@@ -218,7 +292,7 @@ class Schedule:
         self.blocks = [(address - ENTRY) // 64 for address in runner.test.addresses.values()] or [(DATA - ENTRY) // 64]
 
     def events(self, progress: Progress, number: int) -> List[Event]:
-        """The events of a call, numbered from 0."""
+        """The events of a question, numbered from 0."""
         if number < self.guesses:
             return self.guessed(progress)
         if progress.has_loss:
@@ -262,6 +336,7 @@ class Schedule:
         return events
 
     def some_messages(self, progress: Progress, newest: int, count: int) -> List[int]:
+        """So many messages, of those in flight and of some that may have been sent since."""
         known = [*sorted(progress.flights), *range(max(progress.last + 1, newest - AHEAD), newest + 1)]
         return [self.drawn.choice(known) for _ in range(count)]
 

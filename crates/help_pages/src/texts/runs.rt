@@ -29,28 +29,29 @@ options, before or after the file, each at most once, as --nodes 2 or --nodes=2:
                    hexadecimal digits, 80000000 to 803ffffc, a multiple of 4
   --trace          report the committed trace, one record a line, and then the
                    summary with \"# \" before each line
-  --journal        report each event as a line of a script, after a comment that
-                   names the worker, and then the summary with \"# \" before each
-                   line; not together with --trace
-  --statistics     with --order round or drawn: report the summary, and behind
-                   it what was counted of the run: lines \"stat NAME VALUE\"
+  --journal        report each event as a line of a script, its worker in a
+                   comment, and then the summary with \"# \" before each line
+  --accesses       report the committed trace as a table (CSV), and then the
+                   summary with \"# \" before each line
+  --statistics     report the summary, and behind it what was counted of the run:
+                   lines \"stat NAME VALUE\" (help formats)
   --seeds A-B      with --order round or drawn: a run for each seed from A to B,
-                   at most 1000000, in place of --seed; a line \"seed S\", the
-                   run's report and how it ended, one seed after another
+                   at most 1000000: a line \"seed S\", its report, how it ended
+
+At most one of --trace, --journal, --accesses and --statistics stands.
 
 reads:
   PROGRAM  an ELF file or a text of words, at most 16 MiB (help formats)
 
 writes:
   standard output  the bytes that the program puts out, once validated
-  standard error   the summary, after the trace or the journal
+  standard error   the summary, after the trace, the journal or the table
 
-With --order threads each worker has a thread of its own, and the threads decide
-whose turn comes next: two runs on more than one node may differ. With --order
-round the workers' turns come in rounds, with --order drawn each turn's worker
-is drawn, from the seed too; both on one thread, and the same words and program
-give the same bytes. Each run can be had again: replay its journal, which is a
-script, with the same sizes; it puts the same output and the same summary.
+With --order threads the threads decide whose turn comes next: two runs on more
+than one node may differ. With --order round the workers' turns come in rounds,
+with --order drawn each turn's worker is drawn, from the seed too; both on one
+thread, and the same words and program give the same bytes. Each run can be had
+again: replay its journal, a script, with the same sizes.
 
 exit status: 0 done, 1 usage, 2 store, 3 program, 5 sink, 6 budget, 7 memory,
              8 cutoff, 10 trapped (help statuses)

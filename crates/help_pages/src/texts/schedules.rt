@@ -19,7 +19,7 @@ options, before or after the files, each at most once, as --nodes 2 or --nodes=2
                    object a line, the start, each event with what it touched,
                    and the summary
   --only A-B       with --states: only the events from place A to place B, from
-                   1 to 1000000, and the state before them
+                   1 to the number of events, and the state before them
   --statistics     report the events, and behind the summary what was counted of
                    the run: lines \"stat NAME VALUE\" (help formats)
   --accesses       report the committed trace in place of the events as a table:

@@ -1,7 +1,7 @@
 //! Traces that are judged.
 use super::{Case, each_is_left};
+use call_status::Status;
 use calls_in_memory::{ADDED, COUNTS, ECHOES, Faults, NO_FAULT, UNSEEN};
-use safetynet_main::Status;
 use sn_text::ScriptCause;
 use std::test::Fail;
 

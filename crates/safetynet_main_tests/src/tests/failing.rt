@@ -3,8 +3,8 @@ mod commands;
 mod refusals;
 
 use self::commands::COMMANDS;
+use call_status::Status;
 use calls_in_memory::{Faults, Given, Left, call};
-use safetynet_main::Status;
 use sn_base::Memory;
 use std::alloc::Global;
 use std::process::Abort;

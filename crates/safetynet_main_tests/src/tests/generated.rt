@@ -1,7 +1,7 @@
 //! The trace of a generated run, judged as it is and with one digit of a word that was seen changed.
 use super::leaves;
+use call_status::Status;
 use calls_in_memory::{Given, NO_FAULT, generated_trace};
-use safetynet_main::Status;
 use std::alloc::Global;
 use std::process::Abort;
 use std::sync::Wait;

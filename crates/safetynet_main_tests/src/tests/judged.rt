@@ -1,7 +1,7 @@
 //! Accesses that are judged by themselves.
 use super::{Case, each_is_left};
+use call_status::Status;
 use calls_in_memory::{Faults, NO_FAULT};
-use safetynet_main::Status;
 use sn_text::ScriptCause;
 use std::test::Fail;
 

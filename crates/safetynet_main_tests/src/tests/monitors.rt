@@ -1,7 +1,7 @@
 //! Runs that are watched, on one node, of which one cut is published or none: so what is seen doesn't hang on when the watcher looks.
 use super::{Case, each_is_left};
+use call_status::Status;
 use calls_in_memory::{Faults, LOOPS, NO_FAULT, PUTS_A};
-use safetynet_main::Status;
 use std::test::Fail;
 
 const ENDED_REPORT: &str = "\

@@ -3,11 +3,11 @@ ghost use Rattle.std.specs.Prelude.{[], ◌∷◌};
 ghost use Rattle.sn_probe.specs.Tally.{tally_with_one};
 ghost use Rattle.safetynet_main_tests.specs.Held.{place_of_held};
 
+use call_status::{ProgramCause, Status};
 use calls_in_memory::{
     COUNTS, Faults, Given, NO_FAULT, PUTS_A, Probes, VALIDATED, WORDS, call_with,
 };
 use elf_load::LoadCause;
-use safetynet_main::{ProgramCause, Status};
 use sn_base::{Answer, Event, Memory};
 use sn_probe::{EventTally, Probe};
 use std::alloc::{AllocError, Global};

@@ -1,7 +1,7 @@
 //! Replays: what they put, what their options show, and what is there where a sink fails.
 use super::{Case, each_is_left, leaves};
+use call_status::Status;
 use calls_in_memory::{ECHOES, Faults, Given, LATE_BYTE, NO_FAULT, PUTS_A, VALIDATED, WORDS};
-use safetynet_main::Status;
 use std::test::Fail;
 
 const RECOVERED: &str = "step 0\nstep 0\nstep 0\nedge 0\nreport 0\nrecover\n";

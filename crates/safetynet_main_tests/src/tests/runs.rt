@@ -1,8 +1,8 @@
 //! Runs by workers, on one node, where each is the same.
 use super::{Case, each_is_left, leaves};
+use call_status::Status;
 use calls_in_memory::{Faults, Given, LOOPS, NO_FAULT, PUTS_A};
 use rv_core::Cause;
-use safetynet_main::Status;
 use sn_base::NodeId;
 use std::test::Fail;
 

@@ -1,8 +1,8 @@
 //! The numbers and words of the statuses.
+use call_status::{ProgramCause, Status};
 use elf_load::LoadCause;
 use rv_asm::AsmCause;
 use rv_core::Cause;
-use safetynet_main::{ProgramCause, Status};
 use sn_base::NodeId;
 use sn_text::{ScriptCause, trap_name};
 use std::process::Abort;

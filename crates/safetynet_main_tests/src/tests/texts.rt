@@ -1,7 +1,7 @@
 //! Commands that need no script: words from a text, a text from words, and a generated run.
 use super::{Case, each_is_left};
+use call_status::Status;
 use calls_in_memory::{COUNTER, NO_FAULT, PUTS_A};
-use safetynet_main::Status;
 use std::test::Fail;
 
 const DEMO_REPORT: &str = "\

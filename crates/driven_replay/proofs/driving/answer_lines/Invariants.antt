@@ -17,7 +17,7 @@ invariant-driving g l =
       driving : IsDriving l.initial.machine l.showing before
           (ends (g.C.Sink.written l.initial.console) (g.R.Sink.written l.initial.report))
           (source (g.L.Lines.read l.initial.lines) (g.L.Lines.left l.initial.lines)) l.count
-          l.machine meters
+          l.machine l.driver l.kept meters
           (ends (g.C.Sink.written l.console) (g.R.Sink.written l.report))
           (source (g.L.Lines.read l.lines) (g.L.Lines.left l.lines));
       nodes : l.nodes ≡ l.initial.machine.config.nodes;

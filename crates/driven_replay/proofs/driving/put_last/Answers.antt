@@ -1,5 +1,3 @@
-use Rattle.std.proofs.Common.{ap, ◌∙◌, subst}
-use Rattle.sink_pieces.specs.Pieces.{Ends, after, Breaks}
 use Rattle.driven_replay.proofs.SoFar.{both-put, first-broken, second-broken}
 use Rattle.driven_replay.proofs.driving.put_last.Goals as goal
 

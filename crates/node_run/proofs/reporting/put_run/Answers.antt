@@ -1,5 +1,6 @@
-use Rattle.node_run.proofs.Journals.{summary-breaks, trace-breaks, script-breaks, summary-numbers, trace-numbers, script-numbers}
-use Rattle.node_run.proofs.Journals.{summary-values, trace-values, script-values}
+use Rattle.node_run.proofs.Journals.{summary-breaks, trace-breaks, rows-breaks, script-breaks}
+use Rattle.node_run.proofs.Journals.{summary-numbers, trace-numbers, rows-numbers, script-numbers}
+use Rattle.node_run.proofs.Journals.{summary-values, trace-values, rows-values, script-values}
 use Rattle.node_run.proofs.reporting.put_run.Goals as goal
 
 pub returns-in-Summary-clause-err : goal.returns-in-Summary-clause-err
@@ -10,6 +11,10 @@ returns-in-Summary-clause-err g c =
 pub returns-in-Trace-clause-err : goal.returns-in-Trace-clause-err
 returns-in-Trace-clause-err g c =
     trace-breaks c.args.machine.now c.args.journal.now c.args.showing.now _ c.put_end.result _ _ c.in-Trace.is c.put_end.ensures.err
+
+pub returns-in-Accesses-clause-err : goal.returns-in-Accesses-clause-err
+returns-in-Accesses-clause-err g c =
+    rows-breaks c.args.machine.now c.args.journal.now c.args.showing.now _ c.put_rows.result _ _ c.in-Accesses.is c.put_rows.ensures.err
 
 pub returns-in-Journal-clause-err : goal.returns-in-Journal-clause-err
 returns-in-Journal-clause-err g c =
@@ -22,6 +27,9 @@ returns-in-Summary-clause-numbers g c = summary-numbers c.args.journal.now c.arg
 pub returns-in-Trace-clause-numbers : goal.returns-in-Trace-clause-numbers
 returns-in-Trace-clause-numbers g c = trace-numbers c.args.journal.now c.args.showing.now c.put_end.result c.in-Trace.is
 
+pub returns-in-Accesses-clause-numbers : goal.returns-in-Accesses-clause-numbers
+returns-in-Accesses-clause-numbers g c = rows-numbers c.args.journal.now c.args.showing.now c.put_rows.result c.in-Accesses.is
+
 pub returns-in-Journal-clause-numbers : goal.returns-in-Journal-clause-numbers
 returns-in-Journal-clause-numbers g c =
     script-numbers c.args.journal.now c.args.showing.now c.put_script.result c.put_script.ensures.numbers
@@ -33,6 +41,10 @@ returns-in-Summary-clause-values g c =
 pub returns-in-Trace-clause-values : goal.returns-in-Trace-clause-values
 returns-in-Trace-clause-values g c =
     trace-values c.args.machine.now.state.committed c.args.showing.now c.put_end.result c.put_end.ensures.values
+
+pub returns-in-Accesses-clause-values : goal.returns-in-Accesses-clause-values
+returns-in-Accesses-clause-values g c =
+    rows-values c.args.machine.now.state.committed c.args.showing.now c.put_rows.result c.in-Accesses.is
 
 pub returns-in-Journal-clause-values : goal.returns-in-Journal-clause-values
 returns-in-Journal-clause-values g c =

@@ -1,6 +1,11 @@
 use Rattle.std.proofs.Common.{refl}
-use Rattle.node_run.proofs.Runs.{run-reported, run-unreported}
+use Rattle.node_run.proofs.Runs.{cores-at_start, run-reported, run-unreported}
 use Rattle.node_run.proofs.running.run.Goals as goal
+
+pub put_ended-requires-clause-start : goal.put_ended-requires-clause-start
+put_ended-requires-clause-start g c =
+    cores-at_start c.args.job _ c.in-Ok-run_nodes.finished.machine c.in-Ok-run_nodes.finished.journal.items
+    c.in-Ok-run_nodes.finished.answers.items c.in-Some.ensures c.in-Ok-run_nodes.ensures.run c.requires _ c.in-Ok.ensures
 
 pub returns-in-Some-put_ended-clause-ok : goal.returns-in-Some-put_ended-clause-ok
 returns-in-Some-put_ended-clause-ok g c = (

@@ -2,13 +2,19 @@ use Rattle.std.proofs.Common.{List, length, refl, ap, ◌∙◌}
 use Rattle.sn_base.specs.declared.event.Answer.{Answer}
 use Rattle.run_journals.proofs.Folds.{length-answers_of}
 use Rattle.node_run.specs.Pieces.{begins}
-use Rattle.node_run.proofs.Runs.{run-reported, run-unreported}
+use Rattle.node_run.proofs.Runs.{cores-at_start, run-reported, run-unreported}
 use Rattle.ordered_run.specs.Stands.{its_start}
 use Rattle.ordered_run.proofs.Outcomes.{ordered-by, ordered-done, ordered-broken, cause-by}
 use Rattle.ordered_run.proofs.running.run.Goals as goal
 
 pub tell-requires : goal.tell-requires
 tell-requires g c = ap (λ (l : List Answer). length l) c.finish-finished.ensures.run.answers_are ∙ length-answers_of _ _
+
+pub put_ended-requires-clause-start : goal.put_ended-requires-clause-start
+put_ended-requires-clause-start g c =
+    let left = c.finish-finished.result in
+    cores-at_start c.args.job (its_start c.in-Ok-start.course) left.machine left.journal.items left.answers.items
+    c.in-Ok-start.ensures.began c.finish-finished.ensures.run c.requires _ c.in-Ok.ensures
 
 pub returns-in-Some-clause-ok : goal.returns-in-Some-clause-ok
 returns-in-Some-clause-ok g c =

@@ -2,7 +2,7 @@ use Rattle.std.proofs.Common.{◌∙◌, ap, string_bytes}
 use Rattle.std.specs.Prelude.{Some}
 use Rattle.command_words.specs.Request.{as_request}
 use Rattle.command_words.specs.declared.request.Request.{Request as Asked}
-use Rattle.safetynet_main.specs.Call.{Fetches}
+use Rattle.call_files.specs.Fetches.{Fetches}
 use Rattle.safetynet_drive.proofs.CallLaws.{comes-of, in-the-middle}
 use Rattle.safetynet_drive.proofs.call.answer.Goals as goal
 

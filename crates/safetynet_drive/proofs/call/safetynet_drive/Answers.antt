@@ -1,5 +1,5 @@
-use Rattle.safetynet_main.specs.Call.{Fetches}
-use Rattle.safetynet_main.proofs.CallLaws.{meters-same}
+use Rattle.call_files.specs.Fetches.{Fetches}
+use Rattle.call_files.proofs.Probes.{meters-same}
 use Rattle.safetynet_drive.proofs.CallLaws.{clause-comes, clause-sure, clause-usage, clause-rose, middle-same}
 use Rattle.safetynet_drive.proofs.call.safetynet_drive.Given as given
 use Rattle.safetynet_drive.proofs.call.safetynet_drive.Goals as goal

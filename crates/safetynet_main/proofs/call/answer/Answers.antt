@@ -1,6 +1,6 @@
 use Rattle.std.proofs.Common.{ap, refl}
 use Rattle.std.specs.Prelude.{Ok, Err}
-use Rattle.safetynet_main.specs.Call.{Fetches}
+use Rattle.call_files.specs.Fetches.{Fetches}
 use Rattle.safetynet_main.proofs.CallLaws.{comes-none, comes-some}
 use Rattle.safetynet_main.proofs.Demos.{comes-demo}
 use Rattle.safetynet_main.proofs.call.answer.Goals as goal

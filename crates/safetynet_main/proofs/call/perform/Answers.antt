@@ -2,7 +2,7 @@ use Rattle.std.proofs.Common.{refl, ap}
 use Rattle.std.specs.Prelude.{Err}
 use Rattle.safetynet_main.proofs.CallLaws.{follows-check, follows-judge, follows-run_done, follows-run_broken, follows-watch_done, follows-watch_broken}
 use Rattle.safetynet_main.proofs.CallLaws.{follows-order_done, follows-order_broken, follows-counted_done, follows-counted_broken}
-use Rattle.safetynet_main.proofs.CallLaws.{follows-seeds_done, follows-seeds_broken}
+use Rattle.safetynet_main.proofs.CallLaws.{follows-threads_done, follows-threads_broken, follows-seeds_done, follows-seeds_broken}
 use Rattle.safetynet_main.proofs.call.perform.Goals as goal
 
 pub returns-in-Check-clause-follows : goal.returns-in-Check-clause-follows
@@ -55,6 +55,17 @@ pub returns-in-Err-Sink-run_counted-clause-follows : goal.returns-in-Err-Sink-ru
 returns-in-Err-Sink-run_counted-clause-follows g c = λ m.
     follows-counted_broken _ _ c.args.job c.in-CountedRun.job c.in-CountedRun.order _ _ _ _ _ c.in-CountedRun.is refl
     (c.in-Err-Sink-run_counted.ensures.sink (ap (λ t. Err t) c.in-Err-Sink-run_counted.field-0-is))
+
+pub returns-in-Ok-run_counted_by_threads-clause-follows : goal.returns-in-Ok-run_counted_by_threads-clause-follows
+returns-in-Ok-run_counted_by_threads-clause-follows g c = λ m.
+    follows-threads_done _ _ c.args.job c.in-CountedByThreads.job c.in-Ok-run_counted_by_threads.ending
+    c.ended_as-in-Ok-run_counted_by_threads.result _ _ _ _ c.in-CountedByThreads.is c.ended_as-in-Ok-run_counted_by_threads.ensures
+    c.in-Ok-run_counted_by_threads.ensures.ok
+
+pub returns-in-Err-Sink-run_counted_by_threads-clause-follows : goal.returns-in-Err-Sink-run_counted_by_threads-clause-follows
+returns-in-Err-Sink-run_counted_by_threads-clause-follows g c = λ m.
+    follows-threads_broken _ _ c.args.job c.in-CountedByThreads.job _ _ _ _ _ c.in-CountedByThreads.is refl
+    (c.in-Err-Sink-run_counted_by_threads.ensures.sink (ap (λ t. Err t) c.in-Err-Sink-run_counted_by_threads.field-0-is))
 
 pub returns-in-Ok-run_seeds-clause-follows : goal.returns-in-Ok-run_seeds-clause-follows
 returns-in-Ok-run_seeds-clause-follows g c = λ m.

@@ -1,5 +1,6 @@
-use Rattle.safetynet_main.specs.Call.{Fetches}
-use Rattle.safetynet_main.proofs.CallLaws.{clause-comes, clause-sure, clause-told, clause-complete, comes-rose, comes-usage, meters-same, middle-same}
+use Rattle.call_files.specs.Fetches.{Fetches}
+use Rattle.call_files.proofs.Probes.{meters-same}
+use Rattle.safetynet_main.proofs.CallLaws.{clause-comes, clause-sure, clause-told, clause-complete, comes-rose, comes-usage, middle-same}
 use Rattle.safetynet_main.proofs.call.safetynet.Given as given
 use Rattle.safetynet_main.proofs.call.safetynet.Goals as goal
 

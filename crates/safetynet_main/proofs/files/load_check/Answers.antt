@@ -1,5 +1,5 @@
 use Rattle.std.specs.Prelude.{Err}
-use Rattle.safetynet_main.specs.Call.{Fetches}
+use Rattle.call_files.specs.Fetches.{Fetches}
 use Rattle.safetynet_main.proofs.Loading.{loads-check}
 use Rattle.safetynet_main.proofs.files.load_check.Goals as goal
 

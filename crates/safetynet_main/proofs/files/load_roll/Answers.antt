@@ -1,6 +1,6 @@
 use Rattle.std.proofs.Common.{refl, string_bytes}
 use Rattle.std.specs.Prelude.{Ok, Err}
-use Rattle.safetynet_main.specs.Call.{Fetches}
+use Rattle.call_files.specs.Fetches.{Fetches}
 use Rattle.safetynet_main.proofs.Loading.{loads-roll_script, loads-roll}
 use Rattle.safetynet_main.proofs.files.load_roll.Goals as goal
 

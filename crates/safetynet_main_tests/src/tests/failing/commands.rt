@@ -1,10 +1,10 @@
 //! The commands, each with all that it puts.
 use super::Command;
 use super::Outside::{Console, Report};
+use call_status::Status;
 use calls_in_memory::{
     ADDED, COUNTER, COUNTS, ECHOES, LATE_BYTE, LOOPS, PUTS_A, UNSEEN, VALIDATED,
 };
-use safetynet_main::Status;
 
 /// A recovery undoes a request that stands at its receiver.
 const RECOVERED: &str = "step 0\nstep 1\nstep 1\nstep 1\nhop 1\nrecover\nedge 0\n";

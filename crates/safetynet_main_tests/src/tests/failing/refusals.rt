@@ -1,9 +1,9 @@
 //! Words and files that are refused, with nothing written.
 use super::{Failing, Outside, ends_so};
+use call_status::{ProgramCause, Status};
 use calls_in_memory::{Given, NO_FAULT, PUTS_A, VALIDATED, WORDS};
 use elf_load::LoadCause;
 use rv_asm::AsmCause;
-use safetynet_main::{ProgramCause, Status};
 use sn_text::ScriptCause;
 use std::alloc::{AllocError, Global};
 use std::process::Abort;

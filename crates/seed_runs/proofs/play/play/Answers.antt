@@ -1,4 +1,6 @@
-use Rattle.std.proofs.Common.{◌∙◌}
+use Rattle.std.proofs.Common.{refl, ◌∙◌}
+use Rattle.node_run.specs.Pieces.{begins}
+use Rattle.node_run.proofs.Runs.{cores-at_start}
 use Rattle.seed_runs.proofs.Playing.{events-fit, events-few, statistics-are}
 use Rattle.seed_runs.proofs.play.play.Goals as goal
 
@@ -18,6 +20,9 @@ returns c =
       run = c.in-Ok-all_turns.ensures.run;
       journal = c.in-Ok-all_turns.ensures.journal;
       finish = c.in-Ok-all_turns.ensures.finish;
+      room =
+          cores-at_start c.args.job (begins c.args.job) left.machine left.journal.items left.answers.items refl
+          c.in-Ok-all_turns.ensures.run c.requires _ c.in-Ok.ensures;
       statistics = λ asked.
           c.in-Ok-statistics_if.ensures asked
           ∙ statistics-are c.args.job left.machine left.journal.items left.answers.items c.in-Ok-all_turns.ensures.run;

@@ -1,0 +1,4 @@
+pub mod Scripts
+pub mod Found
+pub mod Watched
+pub mod Probes

@@ -1,5 +1,0 @@
-use Rattle.std.proofs.Common.{◌≡◌, take}
-use Rattle.run_statistics.proofs.program.copy_segments.Given as goal
-
-abbrev pub invariant-segments : goal.invariant-segments
-invariant-segments l = l.copies.items ≡ take l.segment-index l.segments

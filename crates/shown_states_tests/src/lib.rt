@@ -1,0 +1,5 @@
+//! Tests of replays that show states.
+#![tactic(auto)]
+
+#[cfg(test)]
+mod tests;
