@@ -18,7 +18,7 @@ declare -gA _safetynet_operands=(
 )
 declare -gA _safetynet_options=(
   [replay]='--nodes= --sets= --ways= --log= --watch= --only= --trace --states --statistics --accesses'
-  [drive]='--nodes= --sets= --ways= --log= --watch='
+  [drive]='--nodes= --sets= --ways= --log= --watch= --states'
   [roll]='--nodes= --sets= --ways= --log= --watch='
   [run]='--nodes= --sets= --ways= --log= --interval= --wait= --budget= --lose-every= --kill= --seed= --order= --watch= --trace --journal --accesses --statistics --seeds='
   [monitor]='--nodes= --sets= --ways= --log= --interval= --wait= --budget= --lose-every= --kill= --seed= --watch='

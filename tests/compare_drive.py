@@ -5,7 +5,7 @@
 
 PROGRAM is the built program. Each stored script of examples/ and COUNT (200) random ones, on programs as those of compare_replay.py, are given to
 `drive` as one text, in pieces of any size, or line by line, each once the answer to the one before it is there; then console, report and status must be
-those of `replay`, byte for byte. Then lines are strewn in: empty ones and comments, lines that are no events or name what isn't there, lines that
+those of `replay`, byte for byte; and so with `--states`, where some of the events are taken back and done again. Then lines are strewn in: empty ones and comments, lines that are no events or name what isn't there, lines that
 foresee, and lines that ask for looks at the state, where the program has those. What each is answered is asked of `replay` too: a bad line's cause
 is that of a script of this line alone, a foreseen event's line is that of a replay that goes on by it, and a look shows what `replay --states` tells.
 
@@ -17,7 +17,7 @@ import re
 import sys
 import tempfile
 from collections import Counter
-from dataclasses import dataclass
+from dataclasses import dataclass, replace
 from pathlib import Path
 from typing import Any, Callable, Dict, List, Sequence, Tuple
 
@@ -101,10 +101,12 @@ def stored_cases(built: str, folder: Path) -> List[Case]:
 # Plain scripts.
 
 
-def one_by_one(case: Case, answers: Sequence[Tuple[Line, bytes]], console: bytes) -> Outcome:
-    """Each line once the one before it has its answer; and all that is put out is there before the input ends."""
+def one_by_one(case: Case, answers: Sequence[Tuple[Line, bytes]], console: bytes, opening: bytes = b"") -> Outcome:
+    """Each line once the one before it has its answer; what opens the report is there before the first, and all that is put out before the input ends."""
     with Driven(case.built, case.words, case.folder) as it:
-        size = 0
+        size = len(opening)
+        it.read(size)
+        must_be(bytes(it.report), opening, f"{case.name}: before the first line")
         for line, answer in answers:
             it.give(line)
             size += len(answer)
@@ -130,18 +132,45 @@ def compare_plain(choose: random.Random, case: Case) -> Outcome:
     """A script of events alone."""
     expected = case.replay(case.events)
     must_be(expected.status, 0, f"{case.name}: a replay")
+    compare_ways(choose, case, expected, split_groups(expected.report))
+    return expected
+
+
+def compare_ways(choose: random.Random, case: Case, expected: Outcome, answers: Sequence[bytes], opening: bytes = b"") -> None:
+    """The script's events in one of the ways in which lines may come. Each has its answer; the report may begin before them, and ends behind them."""
     end = choose.choice([b"\n", b"\n", b"\r\n"])
-    text = b"".join(it + end for it in case.events)
+    lines = [it + end for it in case.events]
+    text = b"".join(lines)
     ways: List[Callable[[], Outcome]] = [
         lambda: driven(case.built, case.words, case.folder, text),
         lambda: driven(case.built, case.words, case.folder, text.rstrip(b"\r\n")),
         lambda: in_pieces(choose, case, text),
     ]
     if len(case.events) < 500:
-        answers = list(zip((it + end for it in case.events), split_groups(expected.report)))
-        ways.append(lambda: one_by_one(case, answers, expected.console))
+        ways.append(lambda: one_by_one(case, list(zip(lines, answers)), expected.console, opening))
     must_be(choose.choice(ways)(), expected, f"{case.name}, {' '.join(case.words)}")
-    return expected
+
+
+def compare_states(choose: random.Random, plain: Case) -> None:
+    """The same events with `--states`; and with some of them taken back and done again, whose lines are then those that they had."""
+    case = replace(plain, words=["--states", *plain.words])
+    expected = case.replay(case.events)
+    must_be(expected.status, 0, f"{case.name}: a replay that shows states")
+    opening, *answers, last = expected.report.splitlines(keepends=True)
+    compare_ways(choose, case, expected, answers, opening)
+    stays = choose.randrange(len(case.events) + 1)
+    again = [b"back %d\n" % stays, *(it + b"\n" for it in case.events[stays:])]
+    found = driven(case.built, case.words, case.folder, b"".join(it + b"\n" for it in case.events) + b"".join(again))
+    *lines, end = found.report.splitlines(keepends=True)
+    must_be(lines, [opening, *answers, b'{"back":%d}\n' % stays, *answers[stays:]], f"{case.name}, back to {stays}")
+    must_be(without_probes(end), without_probes(last), f"{case.name}, the end after going back to {stays}")
+
+
+def without_probes(line: bytes) -> Any:
+    """The last line of states, without what the probes counted: they were told the events that were taken back, too."""
+    summary = json.loads(line)["summary"]
+    del summary["probes"]
+    return summary
 
 
 # What is strewn in.
@@ -260,7 +289,13 @@ def has_looks(built: str, folder: Path) -> bool:
     return driven(built, ["program"], folder, b"core 0\n").report.startswith(b"{")
 
 
-def compare_all(built: str, folder: Path, count: int, seed: str, looks: bool) -> "Counter[str]":
+def has_states(built: str, folder: Path) -> bool:
+    """Whether the program's `drive` shows states."""
+    Path(folder, "program").write_text("00000073\n")
+    return driven(built, ["--states", "program"], folder, b"").report.startswith(b"{")
+
+
+def compare_all(built: str, folder: Path, count: int, seed: str, looks: bool, with_states: bool) -> "Counter[str]":
     """All scripts, and then the ends; what was compared."""
     told: "Counter[str]" = Counter()
     causes = Causes()
@@ -269,6 +304,8 @@ def compare_all(built: str, folder: Path, count: int, seed: str, looks: bool) ->
         choose = random.Random(f"{seed} {number}")
         case = stored[number] if number < len(stored) else random_case(choose, built, number - len(stored), folder)
         outcome = compare_plain(choose, case)
+        if with_states:
+            compare_states(choose, case)
         told.update(scripts=1, events=len(case.events), released=len(outcome.console))
         told.update(compare_strewn(choose, case, causes, looks))
     for what, must in ENDS:
@@ -288,14 +325,16 @@ def main() -> int:
     count, seed = int(sys.argv[2]) if len(sys.argv) > 2 else 200, sys.argv[3] if len(sys.argv) > 3 else "1"
     with tempfile.TemporaryDirectory() as name:
         folder = Path(name)
-        looks = has_looks(built, folder)
+        looks, with_states = has_looks(built, folder), has_states(built, folder)
         try:
-            told = compare_all(built, folder, count, seed, looks)
+            told = compare_all(built, folder, count, seed, looks, with_states)
         except (Differs, Hangs) as error:
             print(error)
             return 1
     if not looks:
         print("skipped, since this program's drive has none: looks at the state")
+    if not with_states:
+        print("skipped, since this program's drive shows none: states")
     strewn = ", ".join(f"{told[kind]} {kind}" for kind in ("skipped", "refused", "foreseen", "look"))
     print(f"{told['scripts']} scripts, no difference; {told['events']} events, {told['released']} bytes released; lines strewn in: {strewn}; {told['ends']} ends")
     return 0

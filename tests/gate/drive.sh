@@ -23,6 +23,13 @@ ends_alike() {
 }
 is_so "the end is that of a replay" ends_alike
 
+# With --states each event has its line, between the first line and the last.
+states() {
+  "$SAFETYNET" replay --nodes 2 --states $count "$work/script" 2>"$work/replayed" &&
+    "$SAFETYNET" drive --nodes 2 --states $count <"$work/script" 2>&1 >/dev/null | cmp - "$work/replayed"
+}
+is_so "with --states the lines are those of a replay that shows states" states
+
 # A shell that asks for a line only once it has read the answer to the one before it.
 in_turns() {
   local line answer='' into from

@@ -34,7 +34,7 @@ filed='\(bash-completion\|fonts-dejavu-core\|python3-[a-z]*\)'
 packages() { # what it shows, the lines
   : >"$work/calls"
   PATH=$bin "$BASH" tools/packages >"$work/out" 2>&1
-  is_so "$1: $(cat "$work/out")" diff <(printf '%s\n' "$2") <(sed "/install\(ed\)\? $filed\$/d; s/\( $filed\)*\$//" "$work/out")
+  is_so "$1: $(cat "$work/out")" diff <(printf '%s\n' "$2") <(sed "/install\(ed\)\? $filed\$/d; s/ $filed//g" "$work/out")
 }
 packages "without apt-get" "# packages: lacking: man-db groff-base mandoc shellcheck mypy chromium chromium-driver gcc-riscv64-unknown-elf snakemake slurm-wlm munge
 # packages: apt-get isn't there; nothing was installed"

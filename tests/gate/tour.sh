@@ -35,6 +35,26 @@ part() {
 is_so "some events alone have a page" part
 : >"$work/empty.script"
 is_so "a script without an event has a page" toured empty --nodes 3 $hex "$work/empty.script"
+# Of an open transaction is lost what lets a put go on, and what it gives back; a forward; and an unblock that is sent into a dead switch.
+asks() { # a node, which wants to write
+  printf 'step %s\n' "$1" "$1" "$1"
+}
+writes() { # a neighbour of the home, and its request's number
+  asks "$1"
+  printf '%s %s\n' hop "$2" deliver "$2" hop $(($2 + 1)) deliver $(($2 + 1)) hop $(($2 + 2)) deliver $(($2 + 2)) step "$1"
+}
+{
+  writes 1 1
+  printf '%s\n' 'evict 1 64' 'hop 4' 'deliver 4' 'lose 5' recover
+  writes 1 6
+  printf '%s\n' 'evict 1 64' 'hop 9' 'deliver 9' 'hop 10' 'deliver 10' 'lose 11' recover
+  writes 1 12
+  asks 2
+  printf '%s\n' 'hop 15' 'deliver 15' 'lose 16' recover
+  asks 3
+  printf '%s\n' 'hop 17' 'hop 17' 'hop 17' 'deliver 17' 'hop 18' 'hop 18' 'hop 18' 'kill a3' 'deliver 18' validate recover
+} >"$work/losses.script"
+is_so "what is lost of transactions has a page" toured losses --nodes 4 $hex "$work/losses.script"
 is_so "the same bytes come a second time" cmp <(tools/tour "${later[@]}") <(tools/tour "${later[@]}")
 is_so "a title is escaped" tools/tour "--title=<b>{{data}} & \"c\"</b>" "${later[@]}" >"$work/title.html"
 is_so "and stands there as it was given" grep -q '<h1>&lt;b&gt;{{data}} &amp; "c"&lt;/b&gt;</h1>' "$work/title.html"

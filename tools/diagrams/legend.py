@@ -1,5 +1,5 @@
 """What the marks of a picture mean: those that it has."""
-from typing import List, NamedTuple, Tuple
+from typing import List, NamedTuple, Sequence, Tuple
 
 from .arrows import ASKS, GIVES, POINT, SAYS, SHARES, cross, drawn_line, head, look_of, stopped
 from .labels import width
@@ -80,9 +80,9 @@ def ground_entries(plan: Plan) -> List[Entry]:
     return found
 
 
-def legend(plan: Plan, ways: List[Way], top: float, right: float) -> Tuple[str, float]:
-    """The legend's element below `top`, in as many columns as fit, and its lower end."""
-    entries = event_entries(plan) + arrow_entries(ways) + ground_entries(plan)
+def legend(plan: Plan, ways: List[Way], more: Sequence[Entry], top: float, right: float) -> Tuple[str, float]:
+    """The legend's element below `top`, in as many columns as fit, and its lower end. `more` is what is laid over the picture."""
+    entries = event_entries(plan) + arrow_entries(ways) + ground_entries(plan) + [*more]
     if not entries:
         return "", top
     wide = max(SAMPLE + 8 + width(entry.meaning) for entry in entries) + GAP
@@ -91,6 +91,6 @@ def legend(plan: Plan, ways: List[Way], top: float, right: float) -> Tuple[str, 
     parts = []
     for place, entry in enumerate(entries):
         x, y = MARGIN + wide * (place // lines), top + LINE * (place % lines + 0.5)
-        parts.append(f'<g transform="translate({number(x)} {number(y)})">{entry.sample}</g>')
-        parts.append(words(entry.meaning, x + SAMPLE + 8, y + 3.9, "legend f-soft"))
+        both = [f'<g transform="translate({number(x)} {number(y)})">{entry.sample}</g>', words(entry.meaning, x + SAMPLE + 8, y + 3.9, "legend f-soft")]
+        parts += [group("over", both)] if entry in more else both
     return group("legend", parts), top + LINE * lines

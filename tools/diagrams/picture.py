@@ -1,11 +1,11 @@
 """The whole picture: `picture(story, ..)` gives its text, from which nothing is left to chance, so that the same report is the same bytes."""
-from typing import Dict, List, Tuple
+from typing import Dict, List, Sequence, Tuple
 from xml.sax.saxutils import escape
 
 from .arrows import arrow, label_of, labels, runs
 from .grounds import borders, cut_line, hatched, lane, margin_words, recovery_band, recovery_words
 from .labels import Room, width
-from .legend import legend
+from .legend import Entry, legend
 from .marks import clear_edges, rows
 from .plan import MARGIN, TITLE_SIZE, Plan, plan_of
 from .routes import Way, ways_of
@@ -65,10 +65,10 @@ def ground_parts(plan: Plan, room: Room) -> Tuple[List[str], List[Tuple[float, s
     return parts + [borders(plan)], notes
 
 
-def framed(plan: Plan, ways: List[Way], title: str, parts: List[str], reach: Tuple[float, float]) -> str:
+def framed(plan: Plan, ways: List[Way], title: str, parts: List[str], more: Sequence[Entry], reach: Tuple[float, float]) -> str:
     """The file: its size, its words for who doesn't see it, its style, and its parts, which reach so far right and down, with the legend below."""
     wide = max(reach[0], plan.right(), MARGIN + max(width(line, TITLE_SIZE * 1.12) for line in plan.title)) + MARGIN
-    below, bottom = legend(plan, ways, reach[1] + 18, wide - MARGIN)
+    below, bottom = legend(plan, ways, more, reach[1] + 18, wide - MARGIN)
     size = f"{number(wide)} {number(bottom + MARGIN)}"
     width_height = 'width="{}" height="{}"'.format(*size.split(" "))
     return (
@@ -79,8 +79,8 @@ def framed(plan: Plan, ways: List[Way], title: str, parts: List[str], reach: Tup
     )
 
 
-def picture(story: Story, title: str, first: int, last: int, with_hops: bool) -> str:
-    """The picture of the events from `first` to `last`, places that the report has; of none where `last` is below `first`."""
+def picture(story: Story, title: str, first: int, last: int, with_hops: bool, more: Sequence[Entry] = ()) -> str:
+    """The picture of the events from `first` to `last`, places that the report has; of none where `last` is below `first`. `more` joins the legend."""
     plan = plan_of(story, title, first, last, with_hops)
     room = Room()
     ways = ways_of(plan)
@@ -94,7 +94,7 @@ def picture(story: Story, title: str, first: int, last: int, with_hops: bool) ->
     notes += homeless_notes(plan, homeless)
     margin, reach, below = margin_words(plan, notes, room)
     parts = grounds + events + [arrow(way) for way in ways] + placed + margin
-    return framed(plan, ways, title, parts, (reach, below))
+    return framed(plan, ways, title, parts, more, (reach, below))
 
 
 def homeless_notes(plan: Plan, homeless: List[List[Way]]) -> List[Tuple[float, str, str]]:

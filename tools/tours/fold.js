@@ -87,3 +87,36 @@ function blocksOf(line, before, after) {
   blocks.delete(undefined);
   return blocks;
 }
+
+/** The messages that an event lost: those that it sent and that were lost at once, and those in flight before it that neither came nor were dropped. */
+function lostBy(line, before, after) {
+  const atOnce = line.sent.filter((sent) => sent.lost).map((sent) => sent.message);
+  if (line.recovery || line.answer === "delivered") return atOnce;
+  const still = new Set(after.net.messages.map((flight) => flight.message.id));
+  return [...atOnce, ...before.net.messages.map((flight) => flight.message).filter((message) => !still.has(message.id))];
+}
+
+// Of each kind of message that a home's transaction brings about, the field that names the node for which it is open. The others begin one, or
+// come after it.
+const FOR_WHOM = {
+  fwdgets: "requester", fwdgetm: "requester", inv: "requester", datas: "to", datam: "to", datae: "to", upgok: "to", invack: "to", unblock: "from", putgo: "to", putdata: "from",
+};
+
+/** Whether a message is one of a block's open transaction: it is about the block, and for the same node; a put has messages of its own. */
+function isOf(message, block, open) {
+  return message.block === block && message[FOR_WHOM[message.kind]] === open.requester && message.kind.startsWith("put") === (open.kind === "put");
+}
+
+/** The transaction that is open at a block's home, or null. */
+function openAt(state, block) {
+  return state.homes.get(block)?.transaction ?? null;
+}
+
+/** The messages of a block's open transaction that were lost while it was open, each with the place of the event that lost it. */
+function lostOf(story, place, block) {
+  const open = openAt(story.state(place), block);
+  const found = open ? story.lost.filter((one) => one.place <= place && isOf(one.message, block, open)) : [];
+  let since = place;
+  while (found.some((one) => one.place < since) && same(openAt(story.state(since - 1), block), open)) since -= 1;
+  return found.filter((one) => one.place >= since);
+}

@@ -7,10 +7,12 @@ from pathlib import Path
 from typing import Dict, List, NamedTuple
 from xml.sax.saxutils import escape
 
+from diagrams.legend import SAMPLE, Entry
 from diagrams.picture import HATCH, picture
 from diagrams.plan import ROW, plan_of
 from diagrams.story import Story
 from diagrams.style import sheet
+from diagrams.svg import box
 
 from .lines import States
 
@@ -21,6 +23,11 @@ PIECE = 250
 # A message may be drawn in several pieces, and each piece has lanes: their names get the piece's number.
 NAMED = re.compile(r'\b(id|aria-labelledby)="([^"]*)"')
 KEPT = re.compile(r"event-[0-9]+")
+# What lanes.js lays over the lanes for the block that is looked at, as the legend has it.
+THREADS = (
+    Entry(box(SAMPLE / 2 - 3.5, -8, 7, 16, "t-thread"), "the chosen block's owner: a cache"),
+    Entry(box(SAMPLE / 2 - 1.5, -8, 3, 16, "t-thread t-home"), "the chosen block's owner: its home"),
+)
 
 
 class Tour(NamedTuple):
@@ -54,7 +61,7 @@ def geometry(tour: Tour, first: int, last: int) -> Dict[str, object]:
 
 def piece(tour: Tour, place: int, first: int, last: int) -> str:
     """A piece of the picture, with its geometry beside it."""
-    drawn = picture(tour.story, f"Events {first} to {last}" if first <= last else "No event", first, last, tour.with_hops)
+    drawn = picture(tour.story, f"Events {first} to {last}" if first <= last else "No event", first, last, tour.with_hops, THREADS)
     bare = drawn.replace(sheet(), "", 1).replace(HATCH, "", 1)
     size = re.search(r' width="([0-9.]+)" height="([0-9.]+)"', bare)
     if size is None:

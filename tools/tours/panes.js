@@ -83,8 +83,13 @@ function cachesPane(state, before) {
   }));
 }
 
+/** What was lost of a transaction, with links to the events that lost it. */
+function lostWords(lost) {
+  return lost.flatMap(({ message, place }) => [`; message ${message.id} of it, ${kindWords(message)}, was lost at event `, eventLink(place)]);
+}
+
 /** Homes that aren't as at the start. */
-function homesPane(state, before) {
+function homesPane(state, before, lostNow) {
   if (state.homes.size === 0) return nothing("All are as at the start: each home owns its blocks.");
   const rows = [...state.homes.values()].sort((one, other) => one.block - other.block).map((home) => {
     const open = home.transaction;
@@ -93,7 +98,7 @@ function homesPane(state, before) {
       made("td", {}, String(home.block % state.nodes.length)),
       made("td", {}, home.owner === null ? "the home" : `node ${home.owner}`),
       made("td", {}, home.sharers.join(" ")),
-      made("td", {}, open ? `${open.kind} for node ${open.requester}, begun in interval ${open.begun}` : ""));
+      made("td", {}, open ? `${open.kind} for node ${open.requester}, begun in interval ${open.begun}` : "", ...lostWords(lostNow(home.block))));
   });
   return table(["block", "home", "owner", "sharers", "open transaction"], rows);
 }
@@ -154,16 +159,17 @@ function consolePane(state, before, story) {
 }
 
 /** All of a block: who owns it, who has a copy, its home, messages about it, and the events that are about it. */
-function storyPane(state, story, block) {
+function storyPane(state, story, block, lostNow) {
   if (block === null) return nothing("Choose a block: by a click on its number, or in the field above.");
   const owner = ownerOf(state, block);
   const home = block % state.nodes.length;
   const whose = owner === null ? "It is on its way: nobody owns it just now." : owner === "home" ? `Its home, node ${home}, owns it.` : `Node ${owner} owns it.`;
   const copies = state.nodes.flatMap((node) => node.lines.filter((line) => line.block === block).map((line) => made("li", {}, `node ${node.node}: ${STATES[line.state]}, `, made("code", {}, line.content.slice(0, 16)), "…")));
   const flights = state.net.messages.filter((flight) => flight.message.block === block).map((flight) => made("li", {}, ...messageWords(flight.message), ` in switch ${flight.switch}`));
-  const open = state.homes.get(block)?.transaction;
+  const open = openAt(state, block);
+  const serves = open ? [`Its home serves node ${open.requester} (${open.kind})`, ...lostWords(lostNow(block)), "."] : [];
   return made("div", {},
-    made("p", {}, `${whose} ${open ? `Its home serves node ${open.requester} (${open.kind}).` : ""}`),
+    made("p", {}, `${whose} `, ...serves),
     made("ul", { class: "t-plain" }, ...copies, ...flights),
     made("p", { class: "t-events" }, "events about it: ", ...story.about(block).flatMap((place) => [eventLink(place), " "])));
 }

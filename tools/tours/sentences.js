@@ -1,6 +1,7 @@
 // What happened, in words: one line a kind of event and answer, and one a kind of message that is delivered.
 // A line is given what it may speak of: `node`, the event's node; `line`, the event's; `message`, the one that the event is about; `before` and
-// `after`, the event's node (of a message, its receiver) before and after; `state` and `next`, the whole states; and `numbers`, the answer's.
+// `after`, the event's node (of a message, its receiver) before and after; `state` and `next`, the whole states; `numbers`, the answer's; and
+// `lostBefore`, which gives what was lost of a block's open transaction before the event.
 
 const count = (many, what, more = `${what}s`) => `${many} ${many === 1 ? what : more}`;
 const list = (words) => (words.length < 2 ? words.join("") : `${words.slice(0, -1).join(", ")} and ${words[words.length - 1]}`);
@@ -24,14 +25,20 @@ function orders({ line }) {
   return many === 0 ? "" : `, and tells ${count(many, "node")} to drop ${many === 1 ? "its copy" : "their copies"}`;
 }
 
+/** A home's open transaction, with what was lost of it. */
+function openWords(open, lostBefore) {
+  const lost = lostBefore(open.block).map(({ message, place }) => `message ${message.id}, ${kindWords(message)}, was lost at event ${place}`);
+  return `its home's open transaction on block ${open.block} since interval ${open.transaction.begun}${lost.length ? `, of which ${list(lost)}` : ""}`;
+}
+
 /** What still holds a node back, in words. */
-function holdingWords(unready) {
+function holdingWords(unready, lostBefore) {
   return list(
     unready.map((one) => {
       const causes = [
         ...(one.miss ? [`its miss on block ${one.miss.block} since interval ${one.miss.issued}`] : []),
         ...(one.put ? [`its put of block ${one.put.block} since interval ${one.put.issued}`] : []),
-        ...one.transactions.map((open) => `its home's open transaction on block ${open.block} since interval ${open.transaction.begun}`),
+        ...one.transactions.map((open) => openWords(open, lostBefore)),
       ];
       return `node ${one.node} (${causes.length ? list(causes) : `it has reported ${one.reported}`})`;
     }),
@@ -47,14 +54,20 @@ function openSince(state, node, interval) {
 }
 
 /** Why a recovery goes back to its checkpoint and to no later one: who hasn't reported the next, and what holds them back. */
-function pointWords(state) {
+function pointWords(state, lostBefore) {
   const { point, reported } = state.controller;
   const late = reported.flatMap((number, node) => (number > point ? [] : [openSince(state, node, point)]));
   const held = late.filter((one) => one.miss || one.put || one.transactions.length > 0);
   const who = late.length > 4 ? `${late.length} nodes` : list(late.map((one) => `node ${one.node}`));
   const next = late.length === 0 ? `all nodes have reported checkpoint ${point + 1}, and it isn't validated yet` : `${who} ${late.length === 1 ? "hasn't" : "haven't"} reported checkpoint ${point + 1}`;
-  const back = held.length === 0 ? "" : `. Held back: ${holdingWords(held)}`;
+  const back = held.length === 0 ? "" : `. Held back: ${holdingWords(held, lostBefore)}`;
   return `${point === 0 ? "the start, because no later one is validated" : "the last one that is validated"}: ${next}${back}`;
+}
+
+/** The open transaction that a lost message was part of, as a sentence. */
+function partWords(message, state) {
+  const open = openAt(state, message.block);
+  return open && isOf(message, message.block, open) ? ` It was part of the open transaction of home ${message.block % state.nodes.length} for node ${open.requester} (${open.kind}), begun in interval ${open.begun}.` : "";
 }
 
 /** An instruction that is done. */
@@ -101,7 +114,7 @@ const SENTENCES = {
   "edge edged": ({ node, numbers }) => `Node ${node} takes checkpoint ${numbers[0]}: its registers are kept, and its next interval begins.`,
   "edge checkpointsfull": ({ node }) => `Node ${node} has as many checkpoints as it may that aren't validated. It takes no more.`,
   "hop hopped": ({ operands, message, next }) => `Message ${operands[0]}, ${kindWords(message)}, moves on to switch ${switchOf(next, operands[0])}.`,
-  "hop lostindead": ({ operands, message }) => `Message ${operands[0]}, ${kindWords(message)}, comes to a dead switch and is lost.`,
+  "hop lostindead": ({ operands, message, next }) => `Message ${operands[0]}, ${kindWords(message)}, comes to a dead switch and is lost.${partWords(message, next)}`,
   "hop arrived": ({ operands, message }) => `Message ${operands[0]} stands at node ${message.to} already.`,
   "hop nomessage": NO_MESSAGE,
   "deliver held": ({ message, after }) =>
@@ -111,23 +124,23 @@ const SENTENCES = {
   "deliver netfull": NO_ROOM,
   "deliver notarrived": ({ message }) => `Message ${message.id} hasn't come to node ${message.to} yet.`,
   "deliver nomessage": NO_MESSAGE,
-  "lose lost": ({ operands, message }) =>
-    `Message ${operands[0]}, ${kindWords(message)} to node ${message.to}${message.kind === "ready" || message.kind === "advance" ? ", is lost." : ` about block ${message.block}, is lost. Whoever waits for it waits for ever, and no later checkpoint can be validated: only a recovery helps.`}`,
+  "lose lost": ({ operands, message, next }) =>
+    `Message ${operands[0]}, ${kindWords(message)} to node ${message.to}${message.kind === "ready" || message.kind === "advance" ? ", is lost." : ` about block ${message.block}, is lost.${partWords(message, next)} Whoever waits for it waits for ever, and no later checkpoint can be validated: only a recovery helps.`}`,
   "lose nomessage": NO_MESSAGE,
   "kill killed": ({ operands }) => `Switch ${operands[0]} is dead: what is in it and what reaches it is lost.`,
   "kill alreadydead": ({ operands }) => `Switch ${operands[0]} is dead already.`,
-  "report reported": ({ node, numbers, line }) =>
+  "report reported": ({ node, numbers, line, lostBefore }) =>
     line.unready.length === 0
       ? `Node ${node} says that all it began before checkpoint ${numbers[0]} is complete.`
-      : `Node ${node} can say no more than that all before checkpoint ${numbers[0]} is complete. It is held back: ${holdingWords(line.unready)}.`,
+      : `Node ${node} can say no more than that all before checkpoint ${numbers[0]} is complete. It is held back: ${holdingWords(line.unready, lostBefore)}.`,
   "report netfull": NO_ROOM,
   "validate validated": ({ numbers, state, next }) =>
     `Checkpoint ${numbers[0]} is validated: ${count(next.controller.committed - state.controller.committed, "instruction")} more are committed${releasedWords(state, next)}.`,
-  "validate notready": ({ line, numbers }) =>
-    `The next checkpoint can't be validated: node ${numbers[0]} hasn't reported it. Held back: ${holdingWords(line.unready)}.`,
+  "validate notready": ({ line, numbers, lostBefore }) =>
+    `The next checkpoint can't be validated: node ${numbers[0]} hasn't reported it. Held back: ${holdingWords(line.unready, lostBefore)}.`,
   "validate netfull": NO_ROOM,
-  "recover recovered": ({ numbers, line, state }) =>
-    `All nodes go back to checkpoint ${numbers[0]}, ${pointWords(state)}. ${count(Number(numbers[2]), "log entry is", "log entries are")} undone, ${count(Number(numbers[4]), "message is", "messages are")} dropped${takenBackWords(line.recovery.taken_back)}.`,
+  "recover recovered": ({ numbers, line, state, lostBefore }) =>
+    `All nodes go back to checkpoint ${numbers[0]}, ${pointWords(state, lostBefore)}. ${count(Number(numbers[2]), "log entry is", "log entries are")} undone, ${count(Number(numbers[4]), "message is", "messages are")} dropped${takenBackWords(line.recovery.taken_back)}.`,
   "recover cutoff": ({ numbers }) =>
     numbers[0] === numbers[1] ? `Both switches of node ${numbers[0]} are dead: the machine can't recover.` : `No living switches join node ${numbers[0]} and node ${numbers[1]}: the machine can't recover.`,
   "input given": ({ node, operands }) => `Node ${node} is given the byte ${byteWords(operands[1])}.`,
@@ -192,18 +205,19 @@ function takenBackWords(taken) {
 }
 
 /** What a sentence may speak of. */
-function mattersOf(line, state, next) {
+function mattersOf(line, story) {
+  const [state, next] = [story.state(line.place - 1), story.state(line.place)];
   const [kind, ...operands] = line.event.split(" ");
   const [answer, ...numbers] = line.answer.split(" ");
   const isMessage = kind === "hop" || kind === "deliver" || kind === "lose";
   const message = isMessage ? flightIn(state, operands[0]) : null;
   const node = isMessage ? message?.to : /^[0-9]+$/.test(operands[0] ?? "") ? Number(operands[0]) : undefined;
-  return { kind, operands, answer, numbers, message, node, line, state, next, before: state.nodes[node], after: next.nodes[node] };
+  return { kind, operands, answer, numbers, message, node, line, state, next, before: state.nodes[node], after: next.nodes[node], lostBefore: (block) => lostOf(story, line.place - 1, block) };
 }
 
 /** An event in words. */
-function sentenceOf(line, state, next) {
-  const it = mattersOf(line, state, next);
+function sentenceOf(line, story) {
+  const it = mattersOf(line, story);
   const told = it.kind === "deliver" && it.answer === "delivered" ? DELIVERED[it.message.kind] : SENTENCES[`${it.kind} ${it.answer}`];
   return typeof told === "function" ? told(it) : told ?? `${line.event}: ${line.answer}.`;
 }

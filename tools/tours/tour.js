@@ -15,7 +15,8 @@ function storyOf({ first, events, summary, console: bytes }) {
   const line = (place) => events[place - begin];
   const blocks = events.map((one) => blocksOf(one, state(one.place - 1), state(one.place)));
   const about = (block) => events.filter((_, at) => blocks[at].has(block)).map((one) => one.place);
-  return { first, events, summary, console: bytes, begin, end: begin + events.length - 1, state, line, about };
+  const lost = events.flatMap((one) => lostBy(one, state(one.place - 1), state(one.place)).map((message) => ({ message, place: one.place })));
+  return { first, events, summary, console: bytes, begin, end: begin + events.length - 1, state, line, about, lost };
 }
 
 /** The next place after this one whose event is so, or null. */
@@ -45,11 +46,12 @@ function showState(story, place, block) {
   const state = story.state(place);
   const before = place < story.begin ? state : story.state(place - 1);
   const line = story.line(place);
-  at("sentence").textContent = line ? sentenceOf(line, before, state) : place === 0 ? "The start: all cores stand at the program's entry, all caches are empty." : `The state after event ${place}.`;
+  at("sentence").textContent = line ? sentenceOf(line, story) : place === 0 ? "The start: all cores stand at the program's entry, all caches are empty." : `The state after event ${place}.`;
   at("report").textContent = line ? `${line.place} ${line.event}: ${line.answer}` : "";
   at("details").replaceChildren(...(line ? [detailsPane(line)] : []));
   at("block-title").textContent = block === null ? "A block's story" : `Block ${block} (from ${addressOf(block)} on)`;
-  const panes = { cores: coresPane(state, before), story: storyPane(state, story, block), caches: cachesPane(state, before), homes: homesPane(state, before),
+  const lostNow = (one) => lostOf(story, place, one);
+  const panes = { cores: coresPane(state, before), story: storyPane(state, story, block, lostNow), caches: cachesPane(state, before), homes: homesPane(state, before, lostNow),
     logs: logsPane(state, before), net: netPane(state, before), console: consolePane(state, before, story) };
   for (const [name, pane] of Object.entries(panes)) at(name).replaceChildren(pane);
 }
@@ -114,7 +116,7 @@ function joined(page, story) {
 
 /** All sentences, for paper. */
 function allSentences(story) {
-  at("all-sentences").replaceChildren(...story.events.map((line) => made("li", { value: line.place }, sentenceOf(line, story.state(line.place - 1), story.state(line.place)))));
+  at("all-sentences").replaceChildren(...story.events.map((line) => made("li", { value: line.place }, sentenceOf(line, story))));
 }
 
 async function main() {

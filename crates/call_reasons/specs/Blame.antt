@@ -13,7 +13,7 @@ Files = List ℕ → Option (List ℕ)
 -- the name of the program
 abbrev pub program_of : Request → Option (List ℕ)
 program_of (Replay config report watch program script) = Some program
-program_of (Drive config watch program) = Some program
+program_of (Drive config report watch program) = Some program
 program_of (Roll config watch program script control) = Some program
 program_of (Run config rules report order scope watch program) = Some program
 program_of (Monitor config rules watch program) = Some program
@@ -31,7 +31,7 @@ assembly_of _ = None
 -- the names of the files that a call fetches, in their order
 abbrev pub first_of : Request → Option (List ℕ)
 first_of (Replay config report watch program script) = Some program
-first_of (Drive config watch program) = Some program
+first_of (Drive config report watch program) = Some program
 first_of (Roll config watch program script control) = Some program
 first_of (Run config rules report order scope watch program) = Some program
 first_of (Monitor config rules watch program) = Some program

@@ -57,7 +57,7 @@ unfoldable pub of_full : List ℕ → List ℕ
 of_full text = line_of_reason (begun text ++ codes "the drive has 1000000 events, and there is room for no more")
 
 abbrev pub of_spent : List ℕ → Request → List ℕ
-of_spent text (Drive config watch program) = of_full text
+of_spent text (Drive config report watch program) = of_full text
 of_spent text ask = of_budget text (budget_of ask)
 
 -- a text, and then why places aren't shown: the script has only so many events

@@ -24,7 +24,7 @@ replay_app = command_app (codes "replay") (codes "program" ∷ codes "script" �
 
 abbrev pub drive_app : App
 drive_app = command_app (codes "drive") (codes "program" ∷ [])
-    (codes "nodes" ∷ codes "sets" ∷ codes "ways" ∷ codes "log" ∷ codes "watch" ∷ []) []
+    (codes "nodes" ∷ codes "sets" ∷ codes "ways" ∷ codes "log" ∷ codes "watch" ∷ []) (codes "states" ∷ [])
 
 abbrev pub roll_app : App
 roll_app = command_app (codes "roll") (codes "program" ∷ codes "script" ∷ codes "control" ∷ [])

@@ -22,6 +22,8 @@ use Rattle.sn_base.specs.declared.report.RunReport.{RunReport}
 use Rattle.sn_base.specs.declared.report.RunReport.TheVariants as shown
 use Rattle.command_words.specs.declared.request.ReplayReport.{ReplayReport}
 use Rattle.command_words.specs.declared.request.ReplayReport.TheVariants as replayed
+use Rattle.command_words.specs.declared.request.DriveReport.{DriveReport}
+use Rattle.command_words.specs.declared.request.DriveReport.TheVariants as driven
 use Rattle.command_words.specs.declared.request.RunOrder.{RunOrder}
 use Rattle.command_words.specs.declared.request.RunOrder.TheVariants as order
 use Rattle.command_words.specs.declared.request.RunScope.{RunScope}
@@ -31,11 +33,11 @@ use Rattle.command_words.specs.declared.request.Request as code_request
 use Rattle.command_words.specs.declared.request.Request.TheVariants as asked
 use Rattle.sn_base.specs.declared.limits.TheConstants.{EVENTS}
 
--- the sizes, the rules of a run, what of a replay or of a run is to be shown, who has a run's turns, which word is to be watched, and the names of
+-- the sizes, the rules of a run, what of a replay, of a drive or of a run is to be shown, who has a run's turns, which word is to be watched, and the names of
 -- files: of the program and of the script, the control or the trace, or of the accesses or the text
 pub data Request : Type 0 where
   Replay : Config → ReplayReport → Option ℕ → Text → Text → Request
-  Drive : Config → Option ℕ → Text → Request
+  Drive : Config → DriveReport → Option ℕ → Text → Request
   Roll : Config → Option ℕ → Text → Text → Text → Request
   Run : Config → RunRules → RunReport → RunOrder → RunScope → Option ℕ → Text → Request
   Monitor : Config → RunRules → Option ℕ → Text → Request
@@ -76,9 +78,13 @@ replay_of entries =
     (first_of (codes "script") entries)) (first_of (codes "program") entries)) (watch_by (first_of (codes "watch") entries)))
     (replay_report_of entries)) (config_of entries)
 
+-- what a drive shows by its flag
+abbrev pub drive_report_of : List Row → DriveReport
+drive_report_of entries = if flag_of (codes "states") entries then driven.States else driven.Events
+
 abbrev pub drive_of : List Row → Option Request
 drive_of entries =
-    option_and_then (λ config. option_and_then (λ watch. option_map (λ program. Drive config watch program)
+    option_and_then (λ config. option_and_then (λ watch. option_map (λ program. Drive config (drive_report_of entries) watch program)
     (first_of (codes "program") entries)) (watch_by (first_of (codes "watch") entries))) (config_of entries)
 
 abbrev pub roll_of : List Row → Option Request
@@ -187,7 +193,7 @@ abbrev pub as_replay : code_replay.Replay → Request
 as_replay r = Replay r.config r.report r.watch (string_bytes r.program) (string_bytes r.script)
 
 abbrev pub as_drive : code_drive.Drive → Request
-as_drive d = Drive d.config d.watch (string_bytes d.program)
+as_drive d = Drive d.config d.report d.watch (string_bytes d.program)
 
 abbrev pub as_roll : code_roll.Roll → Request
 as_roll r = Roll r.config r.watch (string_bytes r.program) (string_bytes r.script) (string_bytes r.control)
@@ -231,7 +237,7 @@ scope_fits scope.Counted = true
 -- whether the sizes and the rules of a run lie in their ranges, and so do the places that are shown, and the watched word in memory
 abbrev pub request_fits : Request → Bool
 request_fits (Replay config report watch program script) = config_fits config && (report_fits report && watch_fits watch)
-request_fits (Drive config watch program) = config_fits config && watch_fits watch
+request_fits (Drive config report watch program) = config_fits config && watch_fits watch
 request_fits (Roll config watch program script control) = config_fits config && watch_fits watch
 request_fits (Run config rules report order scope watch program) =
     config_fits config && (run_rules_fit config.nodes rules && (scope_fits scope && watch_fits watch))

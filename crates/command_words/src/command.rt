@@ -92,7 +92,7 @@ fn drive<'a>(alloc: Global) -> Result<Command<'a>, AllocError>
     ensures alone { IfOk result (λ c. (fields_of c).has_globals ≡ false) }
 {
     let options = ["nodes", "sets", "ways", "log", "watch"];
-    command_by(alloc, "drive", &["program"], &options, &[])
+    command_by(alloc, "drive", &["program"], &options, &["states"])
 }
 
 fn roll<'a>(alloc: Global) -> Result<Command<'a>, AllocError>

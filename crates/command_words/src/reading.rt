@@ -4,7 +4,7 @@ ghost use Rattle.sn_base.specs.Config.{lies_in, config_fits};
 ghost use Rattle.option_values.specs.Runs.{run_rules_fit};
 ghost use Rattle.clap.specs.Words.{found_of, rows_of, first_of};
 ghost use Rattle.command_words.specs.Request.{ask_of, as_request, request_of, config_of, replay_of, drive_of, roll_of, run_rules_of, run_report_of};
-ghost use Rattle.command_words.specs.Request.{replay_report_of, report_fits};
+ghost use Rattle.command_words.specs.Request.{replay_report_of, report_fits, drive_report_of};
 ghost use Rattle.command_words.specs.Request.{run_order_of, is_ordered, is_summary, run_scope_by, run_scope_of, scope_fits};
 ghost use Rattle.command_words.specs.Request.{run_of, monitor_of, check_of, demo_of, as_replay, as_drive, as_roll, as_run, as_monitor, as_check};
 ghost use Rattle.command_words.specs.Request.{watch_fits, request_fits};
@@ -13,7 +13,8 @@ ghost use Rattle.sn_base.specs.declared.limits.TheConstants.{EVENTS};
 use crate::command::entries_of;
 use crate::entries::{command_of, has_flag, text_of};
 use crate::request::{
-    Check, Drive, Monitor, Replay, ReplayReport, Request, Roll, Run, RunOrder, RunScope, WordsFault,
+    Check, Drive, DriveReport, Monitor, Replay, ReplayReport, Request, Roll, Run, RunOrder,
+    RunScope, WordsFault,
 };
 use clap::ArgMatches;
 use option_values::{
@@ -85,6 +86,16 @@ fn replay(alloc: Global, entries: &ArgMatches<'_>) -> Result<Replay, WordsFault>
     })
 }
 
+fn drive_report(entries: &ArgMatches<'_>) -> DriveReport
+    ensures { result ≡ drive_report_of (rows_of (found_of entries.now)) }
+{
+    if has_flag(entries, "states") {
+        DriveReport::States
+    } else {
+        DriveReport::Events
+    }
+}
+
 fn drive(alloc: Global, entries: &ArgMatches<'_>) -> Result<Drive, WordsFault>
     ensures ok { IfOk result (λ drive. drive_of (rows_of (found_of entries.now)) ≡ Some (as_drive drive)) }
     ensures usage { result ≡ Err WordsFault.Usage → drive_of (rows_of (found_of entries.now)) ≡ None }
@@ -93,6 +104,7 @@ fn drive(alloc: Global, entries: &ArgMatches<'_>) -> Result<Drive, WordsFault>
 {
     Ok(Drive {
         config: config(entries)?,
+        report: drive_report(entries),
         watch: read_watch(text_of(entries, "watch")).ok_or(WordsFault::Usage)?,
         program: name(alloc, entries, "program")?,
     })

@@ -31,10 +31,20 @@ pub struct Replay {
     pub script: String,
 }
 
+/// What a drive shows of each event.
+#[derive(Clone, Copy, PartialEq, Eq, Debug)]
+pub enum DriveReport {
+    /// Its answer.
+    Events,
+    /// The machine's state after it.
+    States,
+}
+
 /// The sizes, what is shown, and the name of the program's file. The events come line by line.
 #[derive(Drop)]
 pub struct Drive {
     pub config: Config,
+    pub report: DriveReport,
     /// The address of the word that is shown after each recovery, and at the end.
     pub watch: Option<u32>,
     pub program: String,

@@ -48,9 +48,9 @@ fn shown(alloc: Global, request: &Request) -> Result<String, AllocError> {
         }
         Request::Drive(d) => {
             let c = &d.config;
-            let watch = d.watch;
+            let (watch, report) = (d.watch, d.report);
             format!(in alloc;
-                "drive {} ({} nodes, {} sets, {} ways, log {}) {watch:?}",
+                "drive {} ({} nodes, {} sets, {} ways, log {}) {watch:?} {report:?}",
                 d.program, c.nodes, c.sets, c.ways, c.log
             )
         }
@@ -159,11 +159,15 @@ const REQUESTS: &[(&str, &str)] = &[
     ),
     (
         "drive p",
-        "drive p (4 nodes, 16 sets, 4 ways, log 256) None",
+        "drive p (4 nodes, 16 sets, 4 ways, log 256) None Events",
+    ),
+    (
+        "drive --states p",
+        "drive p (4 nodes, 16 sets, 4 ways, log 256) None States",
     ),
     (
         "drive --nodes 2 --sets 3 --ways 5 --log 7 --watch 80000004 p",
-        "drive p (2 nodes, 3 sets, 5 ways, log 7) Some(2147483652)",
+        "drive p (2 nodes, 3 sets, 5 ways, log 7) Some(2147483652) Events",
     ),
     (
         "replay -- --nodes --trace",
@@ -352,6 +356,8 @@ const USAGE: &[&str] = &[
     "drive",
     "drive p s",
     "drive p --trace",
+    "drive p --states --states",
+    "drive p --states=true",
     "drive p --nodes 0",
     "drive p --watch 80000001",
     "replay p s --states=1",

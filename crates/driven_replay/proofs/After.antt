@@ -12,7 +12,7 @@ use Rattle.sn_machine.specs.Machine.{MachineData, next_of}
 use Rattle.consistent_cuts.specs.Headline.{state_of_run}
 use Rattle.consistent_cuts.specs.Runs.{AllFit, EventFits}
 use Rattle.sn_probe.specs.Probes.{Meter, told_of}
-use Rattle.script_replay.specs.declared.job.Showing.{Showing}
+use Rattle.driven_replay.specs.declared.job.DriveShowing.{DriveShowing}
 use Rattle.script_replay.specs.Played.{after_event}
 use Rattle.script_replay.proofs.Fits.{all_fit-take}
 use Rattle.driven_replay.specs.declared.job.Said.{Said}
@@ -44,7 +44,7 @@ after-start m fresh = record {
 
 module _ (start m : MachineData) (done : List Event) (h : IsAfter start done m) where
   -- its answers are those of the state that they lead to
-  pub answer-is : (showing : Showing) (number : ℕ) (said : Said) →
+  pub answer-is : (showing : DriveShowing) (number : ℕ) (said : Said) →
       answer_now m (driver_of start done) showing number said
       ≡ answer_of start.image start.config showing (length done) (state_of_run start.image start.config done)
       (numbers_of start.image start.config done) number said

@@ -3,6 +3,7 @@ pub mod Lines
 pub mod Counted
 pub mod After
 pub mod Applied
+pub mod Showings
 pub mod Turns
 pub mod SoFar
 pub mod Ended

@@ -8,7 +8,7 @@ use Rattle.sn_base.specs.declared.event.Event.{Event}
 use Rattle.consistent_cuts.specs.Runs.{AllFit, EventFits}
 use Rattle.line_source.specs.Lines.{LineRead, lines_and, first_of_lines}
 use Rattle.sn_probe.specs.Probes.{Meter}
-use Rattle.script_replay.specs.declared.job.Showing.{Showing}
+use Rattle.driven_replay.specs.declared.job.DriveShowing.{DriveShowing}
 use Rattle.driven_replay.specs.declared.job.Said.{Said}
 use Rattle.driven_replay.specs.declared.job.Said.TheVariants.{Nothing, Does, Foresees, Looks, Marks, Back, Refused}
 use Rattle.driven_replay.specs.Said.{said_by, done_after, done_along, events_of, event_in, goes_back, NeverBack}
@@ -86,7 +86,7 @@ forward nodes done (line ∷ lines) on =
     ∙ ap (λ t. t ++ events-in nodes lines) (forward-said done (said_by nodes line) (on-first nodes line lines on))
     ∙ append_assoc done (event_in (said_by nodes line)) (events-in nodes lines)
 
-answers-more : (image : ImageData) (config : Config) (showing : Showing) (before lines : List LineRead) (line : LineRead) →
+answers-more : (image : ImageData) (config : Config) (showing : DriveShowing) (before lines : List LineRead) (line : LineRead) →
     answers_after image config showing before (lines ++ line ∷ [])
     ≡ answers_after image config showing before lines ++ answer_to image config showing (before ++ lines) line
 unfolding answers_after
@@ -100,7 +100,7 @@ answers-more image config showing before (first ∷ lines) line =
     ∙ ap (λ t. (answer_to image config showing before first ++ answers_after image config showing (before ++ first ∷ []) lines)
     ++ answer_to image config showing t line) (append_assoc before (first ∷ []) lines)
 
-pub answers-last : (image : ImageData) (config : Config) (showing : Showing) (lines : List LineRead) (line : LineRead) →
+pub answers-last : (image : ImageData) (config : Config) (showing : DriveShowing) (lines : List LineRead) (line : LineRead) →
     answers_after image config showing [] (lines ++ line ∷ [])
     ≡ answers_after image config showing [] lines ++ answer_to image config showing lines line
 answers-last image config showing lines line = answers-more image config showing [] lines line

@@ -15,7 +15,7 @@ use Rattle.sn_driver.specs.Driver.{DriverData}
 use Rattle.sn_probe.specs.Probes.{Meter}
 use Rattle.sink_pieces.specs.Pieces.{Piece, Ends, after, Breaks}
 use Rattle.sink_pieces.proofs.PieceLaws.{after-append, after-nil, Breaks-more, Breaks-after}
-use Rattle.script_replay.specs.declared.job.Showing.{Showing}
+use Rattle.driven_replay.specs.declared.job.DriveShowing.{DriveShowing}
 use Rattle.driven_replay.specs.declared.job.Said.{Said}
 use Rattle.driven_replay.specs.declared.job.Said.TheVariants.{Nothing, Does}
 use Rattle.driven_replay.specs.declared.driving.DriveEnd.{DriveEnd}
@@ -32,7 +32,7 @@ use Rattle.driven_replay.proofs.Counted.{numbers-done}
 use Rattle.sn_base.specs.declared.limits.TheConstants.{EVENTS}
 
 -- so many lines were read and answered
-pub record IsDriving (start : MachineData) (showing : Showing) (probes : List Meter) (before : Ends) (source : SourceData) (count : ℕ) (m : MachineData) (driver : DriverData) (kept : List Event) (now_ : List Meter) (behind : Ends) (left : SourceData) : Type 0 where
+pub record IsDriving (start : MachineData) (showing : DriveShowing) (probes : List Meter) (before : Ends) (source : SourceData) (count : ℕ) (m : MachineData) (driver : DriverData) (kept : List Event) (now_ : List Meter) (behind : Ends) (left : SourceData) : Type 0 where
   pub lines : List LineRead
   pub many : length lines ≡ count
   pub at : IsAfter start (events_of start.config.nodes lines) m
@@ -43,7 +43,7 @@ pub record IsDriving (start : MachineData) (showing : Showing) (probes : List Me
   pub told : now_ ≡ told_along start.image start.config [] lines probes
   pub read : AreRead lines source left
 
-pub driving-starts : (m : MachineData) (showing : Showing) (probes : List Meter) (e : Ends) (source : SourceData) (driver : DriverData) (kept : List Event) →
+pub driving-starts : (m : MachineData) (showing : DriveShowing) (probes : List Meter) (e : Ends) (source : SourceData) (driver : DriverData) (kept : List Event) →
     IsFresh m → driver ≡ driver_of m [] → kept ≡ [] → IsDriving m showing probes e source 0 m driver kept probes e source
 unfolding answers_after
 driving-starts m showing probes e source driver kept fresh counts none = record {
@@ -92,7 +92,7 @@ pub second-broken : (ps qs : List Piece) (a b c : Ends) → b ≡ after a ps →
 second-broken ps qs a b c first broken = Breaks-after ps qs a c (subst (λ (t : Ends). Breaks qs t c) first broken)
 
 -- nothing is put
-pub nothing-put : (e : Ends) (m : MachineData) (driver : DriverData) (showing : Showing) (number : ℕ) (said : Said) → said ≡ Nothing →
+pub nothing-put : (e : Ends) (m : MachineData) (driver : DriverData) (showing : DriveShowing) (number : ℕ) (said : Said) → said ≡ Nothing →
     e ≡ after e (answer_now m driver showing number said)
 nothing-put e m driver showing number said is =
     sym (after-nil e) ∙ ap (λ (t : Said). after e (answer_now m driver showing number t)) (sym is)
@@ -100,7 +100,7 @@ nothing-put e m driver showing number said is =
 pub over-none : (e : Ends) (how : DriveEnd) → how ≡ Whole → e ≡ after e (over_pieces how)
 over-none e how is = sym (after-nil e) ∙ ap (λ (t : DriveEnd). after e (over_pieces t)) (sym is)
 
-module _ (start : MachineData) (showing : Showing) (probes : List Meter) (before : Ends) (source : SourceData) (count : ℕ) (m : MachineData) (driver : DriverData) (kept : List Event) (now_ : List Meter) (behind : Ends) (left : SourceData) (h : IsDriving start showing probes before source count m driver kept now_ behind left) where
+module _ (start : MachineData) (showing : DriveShowing) (probes : List Meter) (before : Ends) (source : SourceData) (count : ℕ) (m : MachineData) (driver : DriverData) (kept : List Event) (now_ : List Meter) (behind : Ends) (left : SourceData) (h : IsDriving start showing probes before source count m driver kept now_ behind left) where
   abbrev done : List Event
   done = events_of start.config.nodes h.lines
 
@@ -164,9 +164,9 @@ module _ (start : MachineData) (showing : Showing) (probes : List Meter) (before
     events-are : events_of start.config.nodes (h.lines ++ line ∷ []) ≡ done_after done said
     events-are = events-last start.config.nodes h.lines line ∙ ap (λ (t : Said). done_after done t) (sym said-is)
 
-    pub wants-memory : WantsMemory kept said → WantsMemory done (said_by start.config.nodes line)
+    pub wants-memory : WantsMemory showing kept said → WantsMemory showing done (said_by start.config.nodes line)
     wants-memory wants =
-        subst (λ (t : Said). WantsMemory done t) said-is (subst (λ (t : List Event). WantsMemory t said) h.kept_is wants)
+        subst (λ (t : Said). WantsMemory showing done t) said-is (subst (λ (t : List Event). WantsMemory showing t said) h.kept_is wants)
 
     -- there is no room for its event
     pub too-many : (event : Event) → m.spare ≡ 0 → said ≡ Does event → IsAtEnd (drive_on start showing) h.lines TooMany source after_

@@ -1,6 +1,6 @@
 -- The answers to lines beside the pieces of a replay of their events.
 use Rattle.std.proofs.Common.{◌≡◌, ℕ, ◌+◌, ◌≤◌, false, cond, List, [], ◌∷◌, ◌++◌, length, map, refl, ap, sym, subst, ◌∙◌}
-use Rattle.std.proofs.Common.{append_assoc, length-append, arith}
+use Rattle.std.proofs.Common.{length-append, arith}
 use Rattle.std.proofs.lemmas.List.{take_all, map-id}
 use Rattle.std.proofs.lemmas.Simd.{map-map}
 use Rattle.std.specs.Prelude.{None}
@@ -8,33 +8,35 @@ use Rattle.sn_base.specs.Image.{ImageData}
 use Rattle.sn_base.specs.declared.config.Config.{Config}
 use Rattle.sn_base.specs.declared.event.Event.{Event}
 use Rattle.sn_model.specs.Machine.{State, start_of}
-use Rattle.sn_model.specs.Step.{step_of, state_after}
+use Rattle.sn_model.specs.Step.{step_of}
 use Rattle.consistent_cuts.specs.Headline.{IsRun, state_of_run}
 use Rattle.line_source.specs.Lines.{LineRead}
 use Rattle.sn_probe.specs.Probes.{Meter, told_from}
 use Rattle.sink_pieces.specs.Pieces.{Piece, ends, after, console_text}
 use Rattle.sink_pieces.proofs.PieceLaws.{console_text-append}
-use Rattle.script_replay.specs.declared.job.Showing.{Showing}
 use Rattle.script_replay.specs.declared.job.ReportKind.TheVariants.{Trace, Summary}
-use Rattle.script_replay.specs.Pieces.{turn_pieces, turns_from, turns_of, pieces_from, pieces_of, end_pieces}
+use Rattle.script_replay.specs.Pieces.{turns_of, pieces_of}
 use Rattle.script_replay.specs.Probed.{answers_along, told_of_run}
 use Rattle.script_replay.specs.Shown.{output_of, IsShown}
-use Rattle.script_replay.proofs.Shown.{console_text-turn, shown-all}
+use Rattle.script_replay.proofs.Shown.{shown-all}
+use Rattle.driven_replay.specs.declared.job.DriveShowing.{DriveShowing}
 use Rattle.driven_replay.specs.declared.job.Said.{Said}
 use Rattle.driven_replay.specs.declared.job.Said.TheVariants.{Nothing, Does, Foresees, Looks, Marks, Back, Refused}
+use Rattle.driven_replay.specs.Pieces.{start_pieces, event_pieces, end_pieces, replay_pieces}
 use Rattle.driven_replay.specs.Dues.{numbers_of}
 use Rattle.driven_replay.specs.Said.{said_by, done_after, events_of, event_in, goes_back, NeverBack}
-use Rattle.driven_replay.specs.Answers.{answer_of, answer_to, answers_after}
+use Rattle.driven_replay.specs.Answers.{answer_of, answer_to, answers_after, pieces_to}
 use Rattle.driven_replay.specs.Driven.{is_event, good_lines}
 use Rattle.driven_replay.specs.Told.{told_by, told_along}
 use Rattle.driven_replay.proofs.Lines.{events-last, events-in, on-first, on-others, forward}
 use Rattle.driven_replay.proofs.After.{state-last}
+use Rattle.driven_replay.proofs.Showings.{quiet, turns-along, along-none, along-more, replay-is, console-start, console-along}
 use Rattle.sn_base.specs.declared.limits.TheConstants.{EVENTS}
 
-module _ (image : ImageData) (config : Config) (showing : Showing) where
+module _ (image : ImageData) (config : Config) (showing : DriveShowing) where
   -- the turns of these events, which come after those
   abbrev turns-after : List Event → List Event → List Piece
-  turns-after done events = turns_from image config showing (length done) (state_of_run image config done) events
+  turns-after done events = turns-along image config showing (length done) (state_of_run image config done) events
 
   abbrev said-pieces : List Event → ℕ → Said → List Piece
   said-pieces done number said =
@@ -43,14 +45,14 @@ module _ (image : ImageData) (config : Config) (showing : Showing) where
   -- an event more
   turns-event : (done rest : List Event) (event : Event) →
       turns-after done (event ∷ rest)
-      ≡ turn_pieces image config showing (length done + 1) (state_of_run image config done) event ++ turns-after (done ++ event ∷ []) rest
-  unfolding turns_from
+      ≡ event_pieces image config showing (length done + 1) (state_of_run image config done) event ++ turns-after (done ++ event ∷ []) rest
   turns-event done rest event =
       let count : length done + 1 ≡ length (done ++ event ∷ []) = sym (length-append done (event ∷ [])) in
-      ap (λ n. turn_pieces image config showing (length done + 1) (state_of_run image config done) event
-      ++ turns_from image config showing n (step_of image config (state_of_run image config done) event).state rest) count
-      ∙ ap (λ (s : State). turn_pieces image config showing (length done + 1) (state_of_run image config done) event
-      ++ turns_from image config showing (length (done ++ event ∷ [])) s rest)
+      along-more image config showing (length done) (state_of_run image config done) event rest
+      ∙ ap (λ n. event_pieces image config showing (length done + 1) (state_of_run image config done) event
+      ++ turns-along image config showing n (step_of image config (state_of_run image config done) event).state rest) count
+      ∙ ap (λ (s : State). event_pieces image config showing (length done + 1) (state_of_run image config done) event
+      ++ turns-along image config showing (length (done ++ event ∷ [])) s rest)
       (sym (state-last image config (start_of image config.nodes) done event))
 
   -- what a line puts to the console, and then the turns of the events after it
@@ -59,7 +61,7 @@ module _ (image : ImageData) (config : Config) (showing : Showing) where
       ≡ console_text (turns-after done (event_in said ++ rest))
   console-said done rest number (Does event) on =
       sym (ap (λ t. console_text t) (turns-event done rest event)
-      ∙ console_text-append (turn_pieces image config showing (length done + 1) (state_of_run image config done) event)
+      ∙ console_text-append (event_pieces image config showing (length done + 1) (state_of_run image config done) event)
       (turns-after (done ++ event ∷ []) rest))
   console-said done rest number (Back events) on = absurd cc
   console-said done rest number Nothing on = refl
@@ -72,8 +74,10 @@ module _ (image : ImageData) (config : Config) (showing : Showing) where
   console-answers : (before lines : List LineRead) → NeverBack config.nodes lines →
       console_text (answers_after image config showing before lines)
       ≡ console_text (turns-after (events_of config.nodes before) (events-in config.nodes lines))
-  unfolding answers_after turns_from
-  console-answers before [] on = refl
+  unfolding answers_after
+  console-answers before [] on =
+      ap (λ t. console_text t)
+      (sym (along-none image config showing (length (events_of config.nodes before)) (state_of_run image config (events_of config.nodes before))))
   console-answers before (line ∷ lines) on =
       let done : List Event = events_of config.nodes before in
       let said : Said = said_by config.nodes line in
@@ -95,7 +99,7 @@ module _ (image : ImageData) (config : Config) (showing : Showing) where
       let rest : List Event = events-in config.nodes lines in
       ap (λ (t : Said). said-pieces done (length before + 1) t
       ++ answers_after image config showing (before ++ line ∷ []) (good_lines config.nodes lines)) is
-      ∙ ap (λ t. turn_pieces image config showing (length done + 1) (state_of_run image config done) event ++ t)
+      ∙ ap (λ t. event_pieces image config showing (length done + 1) (state_of_run image config done) event ++ t)
       (others (before ++ line ∷ [])
       ∙ ap (λ (t : List Event). turns-after t rest) (events-last config.nodes before line ∙ ap (λ (t : Said). done_after done t) is))
       ∙ sym (turns-event done rest event)
@@ -109,49 +113,29 @@ module _ (image : ImageData) (config : Config) (showing : Showing) where
   good-answers : (lines before : List LineRead) →
       answers_after image config showing before (good_lines config.nodes lines)
       ≡ turns-after (events_of config.nodes before) (events-in config.nodes lines)
-  unfolding answers_after turns_from
-  good-answers [] before = refl
+  unfolding answers_after
+  good-answers [] before =
+      sym (along-none image config showing (length (events_of config.nodes before)) (state_of_run image config (events_of config.nodes before)))
   good-answers (line ∷ lines) before =
       good-said before lines line (said_by config.nodes line) refl (λ first. good-answers lines first)
 
-  -- the pieces of a replay are its turns and its end
-  pieces-split : (tallies : List (List ℕ)) (done : ℕ) (s : State) (events : List Event) →
-      pieces_from image config showing tallies done s events
-      ≡ turns_from image config showing done s events
-      ++ end_pieces image config showing tallies (done + length events) (state_after image config s events)
-  unfolding turns_from pieces_from
-  pieces-split tallies done s [] =
-      let same : done ≡ done + 0 = omega arith in
-      ap (λ n. end_pieces image config showing tallies n s) same
-  pieces-split tallies done s (event ∷ events) =
-      let next : State = (step_of image config s event).state in
-      let same : done + 1 + length events ≡ done + length (event ∷ events) = omega arith in
-      ap (λ t. turn_pieces image config showing (done + 1) s event ++ t) (pieces-split tallies (done + 1) next events)
-      ∙ sym (append_assoc (turn_pieces image config showing (done + 1) s event) (turns_from image config showing (done + 1) next events)
-      (end_pieces image config showing tallies (done + 1 + length events) (state_after image config next events)))
-      ∙ ap (λ n. (turn_pieces image config showing (done + 1) s event ++ turns_from image config showing (done + 1) next events)
-      ++ end_pieces image config showing tallies n (state_after image config next events)) same
-
   replayed-events : (tallies : List (List ℕ)) (lines : List LineRead) → let events = events-in config.nodes lines in
-      pieces_of image config showing tallies events
-      ≡ answers_after image config showing [] (good_lines config.nodes lines)
+      replay_pieces image config showing tallies events
+      ≡ pieces_to image config showing (good_lines config.nodes lines)
       ++ end_pieces image config showing tallies (length events) (state_of_run image config events)
-  unfolding pieces_of
   replayed-events tallies lines =
       let events : List Event = events-in config.nodes lines in
-      let same : 0 + length events ≡ length events = omega arith in
-      pieces-split tallies 0 (start_of image config.nodes) events
-      ∙ ap (λ n. turns_from image config showing 0 (start_of image config.nodes) events
-      ++ end_pieces image config showing tallies n (state_of_run image config events)) same
-      ∙ ap (λ t. t ++ end_pieces image config showing tallies (length events) (state_of_run image config events)) (sym (good-answers lines []))
+      replay-is image config showing tallies events
+      ∙ ap (λ t. (start_pieces image config showing ++ t)
+      ++ end_pieces image config showing tallies (length events) (state_of_run image config events)) (sym (good-answers lines []))
 
   pub replayed : (tallies : List (List ℕ)) (lines : List LineRead) → NeverBack config.nodes lines → let events = events_of config.nodes lines in
-      pieces_of image config showing tallies events
-      ≡ answers_after image config showing [] (good_lines config.nodes lines)
+      replay_pieces image config showing tallies events
+      ≡ pieces_to image config showing (good_lines config.nodes lines)
       ++ end_pieces image config showing tallies (length events) (state_of_run image config events)
   replayed tallies lines on =
-      subst (λ (t : List Event). pieces_of image config showing tallies t
-      ≡ answers_after image config showing [] (good_lines config.nodes lines)
+      subst (λ (t : List Event). replay_pieces image config showing tallies t
+      ≡ pieces_to image config showing (good_lines config.nodes lines)
       ++ end_pieces image config showing tallies (length t) (state_of_run image config t))
       (sym (forward config.nodes [] lines on)) (replayed-events tallies lines)
 
@@ -195,22 +179,7 @@ module _ (image : ImageData) (config : Config) where
   told-run lines probes on =
       told-lines [] lines probes on ∙ ap (λ (t : List Event). told_of_run image config t probes) (sym (forward config.nodes [] lines on))
 
--- which report is shown makes no difference to the console
-
-abbrev quiet : Showing
-quiet = record { report = Summary; watch = None }
-
-console-quiet : (image : ImageData) (config : Config) (showing : Showing) (done : ℕ) (s : State) (events : List Event) →
-    console_text (turns_from image config showing done s events) ≡ console_text (turns_from image config quiet done s events)
-unfolding turns_from
-console-quiet image config showing done s [] = refl
-console-quiet image config showing done s (event ∷ events) =
-    let next : State = (step_of image config s event).state in
-    console_text-append (turn_pieces image config showing (done + 1) s event) (turns_from image config showing (done + 1) next events)
-    ∙ ap (λ t. t ++ console_text (turns_from image config showing (done + 1) next events))
-    (console_text-turn image config showing (done + 1) s event ∙ sym (console_text-turn image config quiet (done + 1) s event))
-    ∙ ap (λ t. console_text (turn_pieces image config quiet (done + 1) s event) ++ t) (console-quiet image config showing (done + 1) next events)
-    ∙ sym (console_text-append (turn_pieces image config quiet (done + 1) s event) (turns_from image config quiet (done + 1) next events))
+-- a replay that shows nothing puts the output of the committed trace to the console
 
 no-trace : Summary ≡ Trace → ⊥
 no-trace is = cc
@@ -224,14 +193,16 @@ module _ (image : ImageData) (config : Config) (events : List Event) (run : IsRu
       subst (λ (t : List Event). console_text (turns_of image config quiet t) ≡ output_of image config t)
       (take_all (length events) events (omega arith)) (shown.in_step (length events)).output
 
--- so answers put the output of the committed trace to the console, where none goes back
-pub answers-output : (image : ImageData) (config : Config) (showing : Showing) (lines : List LineRead) → NeverBack config.nodes lines →
+-- so the start and answers put the output of the committed trace to the console, where none goes back
+pub pieces-output : (image : ImageData) (config : Config) (showing : DriveShowing) (lines : List LineRead) → NeverBack config.nodes lines →
     IsRun config (events_of config.nodes lines) → length (events_of config.nodes lines) ≤ EVENTS →
-    console_text (answers_after image config showing [] lines) ≡ output_of image config (events_of config.nodes lines)
+    console_text (pieces_to image config showing lines) ≡ output_of image config (events_of config.nodes lines)
 unfolding turns_of
-answers-output image config showing lines on run few =
-    console-answers image config showing [] lines on
-    ∙ ap (λ (t : List Event). console_text (turns_from image config showing 0 (start_of image config.nodes) t))
+pieces-output image config showing lines on run few =
+    console_text-append (start_pieces image config showing) (answers_after image config showing [] lines)
+    ∙ ap (λ t. t ++ console_text (answers_after image config showing [] lines)) (console-start image config showing)
+    ∙ console-answers image config showing [] lines on
+    ∙ ap (λ (t : List Event). console_text (turns-along image config showing 0 (start_of image config.nodes) t))
     (sym (forward config.nodes [] lines on))
-    ∙ console-quiet image config showing 0 (start_of image config.nodes) (events_of config.nodes lines)
+    ∙ console-along image config showing 0 (start_of image config.nodes) (events_of config.nodes lines)
     ∙ quiet-output image config (events_of config.nodes lines) run few

@@ -13,10 +13,11 @@ use Rattle.sn_driver.specs.Driver.{DriverData}
 use Rattle.line_source.specs.Lines.{LineRead}
 use Rattle.sn_probe.specs.Probes.{Meter}
 use Rattle.sink_pieces.specs.Pieces.{Piece, Ends, after, Breaks}
-use Rattle.script_replay.specs.declared.job.Showing.{Showing}
 use Rattle.script_replay.specs.Played.{after_event, told_next}
+use Rattle.driven_replay.specs.declared.job.DriveShowing.{DriveShowing}
 use Rattle.driven_replay.specs.declared.job.Said.{Said}
 use Rattle.driven_replay.specs.declared.job.Said.TheVariants.{Does, Back}
+use Rattle.driven_replay.specs.Pieces.{start_pieces, event_pieces, end_pieces}
 use Rattle.driven_replay.specs.Dues.{usual_rules, numbers_of}
 use Rattle.driven_replay.specs.Said.{said_by, events_of}
 use Rattle.driven_replay.specs.Answers.{answer_of, answer_to, answers_to}
@@ -24,8 +25,18 @@ use Rattle.driven_replay.specs.Told.{told_along}
 use Rattle.driven_replay.specs.Driven.{SourceData, AreRead}
 use Rattle.sn_base.specs.declared.limits.TheConstants.{EVENTS}
 
+-- the pieces of a machine's start, of its next event, and of its end
+abbrev pub start_now : MachineData → DriveShowing → List Piece
+start_now m showing = start_pieces m.image m.config showing
+
+abbrev pub event_now : MachineData → DriveShowing → Event → List Piece
+event_now m showing event = event_pieces m.image m.config showing (m.applied + 1) m.state event
+
+abbrev pub end_now : MachineData → DriveShowing → List (List ℕ) → List Piece
+end_now m showing tallies = end_pieces m.image m.config showing tallies m.applied m.state
+
 -- the answer that a machine gives, with a driver that has counted its events
-abbrev pub answer_now : MachineData → DriverData → Showing → ℕ → Said → List Piece
+abbrev pub answer_now : MachineData → DriverData → DriveShowing → ℕ → Said → List Piece
 answer_now m driver showing number said = answer_of m.image m.config showing m.applied m.state driver.numbers number said
 
 -- a machine at its program's start, with room for a million events
@@ -95,14 +106,14 @@ pub record IsAfter (start : MachineData) (done : List Event) (m : MachineData) :
   pub fit : AllFit start.config.nodes done
 
 -- these lines were answered
-pub record HasAnswered (start : MachineData) (showing : Showing) (lines : List LineRead) (probes : List Meter) (before : Ends) (m : MachineData) (told : List Meter) (behind : Ends) : Type 0 where
+pub record HasAnswered (start : MachineData) (showing : DriveShowing) (lines : List LineRead) (probes : List Meter) (before : Ends) (m : MachineData) (told : List Meter) (behind : Ends) : Type 0 where
   pub at : IsAfter start (events_of start.config.nodes lines) m
   pub moments : MayBeDoneAlong start.config.nodes lines
   pub put : behind ≡ after before (answers_to start.image start.config showing lines)
   pub knows : told ≡ told_along start.image start.config [] lines probes
 
 -- these lines were answered, and the answer to one more was broken off
-pub record BreaksOff (start : MachineData) (showing : Showing) (lines : List LineRead) (last : LineRead) (probes : List Meter) (before : Ends) (told : List Meter) (behind : Ends) : Type 0 where
+pub record BreaksOff (start : MachineData) (showing : DriveShowing) (lines : List LineRead) (last : LineRead) (probes : List Meter) (before : Ends) (told : List Meter) (behind : Ends) : Type 0 where
   pub moments : MayBeDoneAlong start.config.nodes lines
   pub broken : Breaks (answer_to start.image start.config showing lines last) (after before (answers_to start.image start.config showing lines)) behind
   pub knows : told ≡ told_along start.image start.config [] (lines ++ last ∷ []) probes

@@ -1,3 +1,4 @@
+pub mod Pieces
 pub mod Dues
 pub mod Looks
 pub mod Said

@@ -9,9 +9,11 @@ use Rattle.sn_text.specs.Items.{is_skipped}
 use Rattle.sn_text.specs.Script.{begins, after, event_of}
 use Rattle.sn_text.specs.declared.cause.Fault.{Fault}
 use Rattle.sn_text.specs.declared.cause.Fault.TheVariants.{NotOfForm}
+use Rattle.driven_replay.specs.declared.job.DriveShowing.{DriveShowing}
 use Rattle.driven_replay.specs.declared.job.Look.{Look}
 use Rattle.driven_replay.specs.declared.job.Said.{Said}
 use Rattle.driven_replay.specs.declared.job.Said.TheVariants.{Nothing, Does, Foresees, Looks, Marks, Back, Refused}
+use Rattle.driven_replay.specs.Pieces.{ShowsStates}
 use Rattle.driven_replay.specs.Looks.{look_of, HasItsNode}
 
 -- a line of a script, or `foresee` and such a line
@@ -84,8 +86,10 @@ SaidFits nodes (Foresees event) = IsThere nodes event
 SaidFits nodes (Looks asked) = HasItsNode nodes asked
 SaidFits nodes _ = ⊤
 
--- memory may be wanted for it, where these events are done: for a look, or for a machine that goes back to so many of them
-abbrev pub WantsMemory : List Event → Said → Type 0
-WantsMemory done (Looks asked) = ⊤
-WantsMemory done (Back events) = events ≤ length done
-WantsMemory done _ = ⊥
+-- memory may be wanted for it, where these events are done: for a look, for a machine that goes back to so many of them, or for an
+-- event whose line shows states
+abbrev pub WantsMemory : DriveShowing → List Event → Said → Type 0
+WantsMemory showing done (Does event) = ShowsStates showing
+WantsMemory showing done (Looks asked) = ⊤
+WantsMemory showing done (Back events) = events ≤ length done
+WantsMemory showing done _ = ⊥

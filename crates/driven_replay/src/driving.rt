@@ -7,22 +7,24 @@ ghost use Rattle.sn_io.specs.Outside.{Rose};
 ghost use Rattle.line_source.specs.Lines.{LineRead};
 ghost use Rattle.sink_pieces.specs.Pieces.{ends, after, Breaks};
 ghost use Rattle.sn_probe.specs.Probes.{meters_in, tallies_of};
-ghost use Rattle.script_replay.specs.Played.{IsWatchable, end_now};
+ghost use Rattle.sn_machine.specs.Machine.{MachineData};
+ghost use Rattle.script_replay.specs.Played.{IsWatchable};
+ghost use Rattle.driven_replay.specs.Pieces.{watch_of, ShowsStates};
 ghost use Rattle.driven_replay.specs.Said.{SaidFits, WantsMemory, said_by, event_in, events_of};
 ghost use Rattle.driven_replay.specs.Answers.{over_pieces, answer_to};
-ghost use Rattle.driven_replay.specs.Answered.{IsFresh, fresh_machine, driver_of, HasAnswered, BreaksOff, NextIs};
-ghost use Rattle.driven_replay.specs.Driven.{MayDrive, drive_on, source, AreRead, IsAtEnd, IsDriven, IsLeftOff, LacksMemory, BreaksInAnswer, BreaksAtEnd};
+ghost use Rattle.driven_replay.specs.Answered.{IsFresh, fresh_machine, driver_of, end_now, HasAnswered, BreaksOff, NextIs};
+ghost use Rattle.driven_replay.specs.Driven.{MayDrive, drive_on, source, AreRead, IsAtEnd, IsDriven, IsLeftOff, LacksMemory, LacksMemoryAtEnd, BreaksAtStart, BreaksInAnswer, BreaksAtEnd};
 ghost use Rattle.sn_base.specs.declared.limits.TheConstants.{EVENTS};
 
-use crate::answering::{AnswerFault, answer};
+use crate::answering::answer;
 use crate::going_back::fresh_machine;
-use crate::job::{Drive, Said};
+use crate::job::{Drive, DriveShowing, Said};
 use crate::kept::Kept;
 use crate::looking::usual_rules;
+use crate::putting::{PutFault, put_ending, put_start};
 use crate::reading::said_in;
 use crate::refusals::write_too_many;
 use line_source::{LineRoom, Lines, ReadFailed, Taken};
-use script_replay::{Showing, put_end};
 use sink_pieces::put_report;
 use sn_base::{Config, Image};
 use sn_driver::Driver;
@@ -48,12 +50,13 @@ pub enum DriveFault {
     Sink,
     /// The source failed, or gave as many lines as 64 bits can count. All that were read are answered.
     Input,
-    /// Memory was wanted and not given: before any line was read, or for the look or the way back that the last line asks for. All
-    /// lines before that one are answered, and nothing of it is put.
+    /// Memory was wanted and not given: before any line was read, or for the look, the way back or the event that the last line asks
+    /// for. All lines before that one are answered, and nothing of it is put. Or it was wanted for the last line of states; then all
+    /// lines are answered.
     Memory,
 }
 
-/// All memory of a drive, but for the text of a look, which takes memory as it grows, and for a machine that goes back.
+/// All memory of a drive, but for the text of a look or of states, which takes memory as it grows, and for a machine that goes back.
 #[derive(Drop)]
 struct Ready {
     machine: Machine,
@@ -136,7 +139,7 @@ fn answer_lines<L: Lines, C: Sink, R: Sink>(
     text: &mut Vec<u8>,
     room: &mut LineRoom,
     lines: &mut L,
-    showing: &Showing,
+    showing: &DriveShowing,
     probes: &mut ProbeSet,
     console: &mut C,
     report: &mut R,
@@ -144,7 +147,7 @@ fn answer_lines<L: Lines, C: Sink, R: Sink>(
     requires fresh { IsFresh machine.old }
     requires driver { driver.old ≡ driver_of machine.old [] }
     requires kept { kept.old ≡ [] }
-    requires watched { IsWatchable showing.now.watch }
+    requires watched { IsWatchable (watch_of showing.now) }
     ensures ok { IfOk result (λ how. (read : List LineRead)
         × HasAnswered machine.old showing.now read (meters_in first tally step probes.old.probes.items)
         (ends (C.written console.old) (R.written report.old)) machine.new (meters_in first tally step probes.new.probes.items)
@@ -162,10 +165,10 @@ fn answer_lines<L: Lines, C: Sink, R: Sink>(
         (ends (C.written console.old) (R.written report.old)) (meters_in first tally step probes.new.probes.items)
         (ends (C.written console.new) (R.written report.new))
         × AreRead (read ++ last ∷ []) (source (L.read lines.old) (L.left lines.old)) (source (L.read lines.new) (L.left lines.new)) }
-    ensures memory { result ≡ Err DriveFault.Memory → (read : List LineRead) × (last : LineRead)
-        × WantsMemory (events_of machine.old.config.nodes read) (said_by machine.old.config.nodes last)
+    ensures memory { result ≡ Err DriveFault.Memory → (read : List LineRead) × (last : LineRead) × (reached : MachineData)
+        × WantsMemory showing.now (events_of machine.old.config.nodes read) (said_by machine.old.config.nodes last)
         × HasAnswered machine.old showing.now read (meters_in first tally step probes.old.probes.items)
-        (ends (C.written console.old) (R.written report.old)) machine.new (meters_in first tally step probes.new.probes.items)
+        (ends (C.written console.old) (R.written report.old)) reached (meters_in first tally step probes.new.probes.items)
         (ends (C.written console.new) (R.written report.new))
         × AreRead (read ++ last ∷ []) (source (L.read lines.old) (L.left lines.old)) (source (L.read lines.new) (L.left lines.new)) }
     ensures source_later { L.faults lines.old ≤ L.faults lines.new }
@@ -199,8 +202,8 @@ fn answer_lines<L: Lines, C: Sink, R: Sink>(
             report,
         ) {
             Ok(()) => {}
-            Err(AnswerFault::Sink) => return Err(DriveFault::Sink),
-            Err(AnswerFault::Memory) => return Err(DriveFault::Memory),
+            Err(PutFault::Sink) => return Err(DriveFault::Sink),
+            Err(PutFault::Memory) => return Err(DriveFault::Memory),
         }
     }
     Err(DriveFault::Input)
@@ -229,71 +232,84 @@ fn put_last<R: Sink>(
     how: DriveEnd,
     machine: &Machine,
     line: &mut Line,
-    showing: &Showing,
+    text: &mut Vec<u8>,
+    showing: &DriveShowing,
     probes: &ProbeSet,
     report: &mut R,
-) -> Result<(), Failed>
-    requires watched { IsWatchable showing.now.watch }
+) -> Result<(), PutFault>
+    requires watched { IsWatchable (watch_of showing.now) }
     ensures ok { OnOk result ((c : Option (List ℕ)) → ends c (R.written report.new) ≡ after (ends c (R.written report.old))
         (over_pieces how ++ end_now machine.now showing.now (tallies_of (meters_in first tally step probes.now.probes.items)))) }
-    ensures err { OnErr result ((c : Option (List ℕ)) →
+    ensures sink { result ≡ Err PutFault.Sink → (c : Option (List ℕ)) →
         Breaks (over_pieces how ++ end_now machine.now showing.now (tallies_of (meters_in first tally step probes.now.probes.items)))
-        (ends c (R.written report.old)) (ends c (R.written report.new))) }
+        (ends c (R.written report.old)) (ends c (R.written report.new)) }
+    ensures memory { result ≡ Err PutFault.Memory → ShowsStates showing.now
+        × ((c : Option (List ℕ)) → ends c (R.written report.new) ≡ after (ends c (R.written report.old)) (over_pieces how)) }
     ensures later { R.faults report.old ≤ R.faults report.new }
-    ensures cause { OnErr result (Rose (R.faults report.old) (R.faults report.new)) }
+    ensures cause { result ≡ Err PutFault.Sink → Rose (R.faults report.old) (R.faults report.new) }
 {
     match put_over(how, line, report) {
         Ok(()) => {}
-        Err(failed) => return Err(failed),
+        Err(_) => return Err(PutFault::Sink),
     }
-    match put_end(line, machine, showing, probes, report) {
-        Ok(()) => Ok(()),
-        Err(failed) => Err(failed),
-    }
+    put_ending(line, text, machine, showing, probes, report)
 }
 
 // All but taking the memory.
 fn drive_all<L: Lines, C: Sink, R: Sink>(
     alloc: Global,
-    ready: Ready,
+    ready: &mut Ready,
     lines: &mut L,
-    showing: &Showing,
+    showing: &DriveShowing,
     probes: &mut ProbeSet,
     console: &mut C,
     report: &mut R,
 ) -> Result<DriveEnd, DriveFault>
-    requires fresh { IsFresh ready.machine }
-    requires driver { ready.driver ≡ driver_of ready.machine [] }
-    requires kept { ready.kept ≡ [] }
-    requires watched { IsWatchable showing.now.watch }
+    requires fresh { IsFresh ready.old.machine }
+    requires driver { ready.old.driver ≡ driver_of ready.old.machine [] }
+    requires kept { ready.old.kept ≡ [] }
+    requires watched { IsWatchable (watch_of showing.now) }
     ensures ok { IfOk result (λ how. (read : List LineRead)
-        × IsDriven (drive_on ready.machine showing.now) how read (meters_in first tally step probes.old.probes.items)
+        × IsDriven (drive_on ready.old.machine showing.now) how read (meters_in first tally step probes.old.probes.items)
         (ends (C.written console.old) (R.written report.old)) (ends (C.written console.new) (R.written report.new))
         (meters_in first tally step probes.new.probes.items)
-        × IsAtEnd (drive_on ready.machine showing.now) read how
+        × IsAtEnd (drive_on ready.old.machine showing.now) read how
         (source (L.read lines.old) (L.left lines.old)) (source (L.read lines.new) (L.left lines.new))) }
     ensures input { result ≡ Err DriveFault.Input → (read : List LineRead)
-        × IsLeftOff (drive_on ready.machine showing.now) read (meters_in first tally step probes.old.probes.items)
+        × IsLeftOff (drive_on ready.old.machine showing.now) read (meters_in first tally step probes.old.probes.items)
         (ends (C.written console.old) (R.written report.old)) (ends (C.written console.new) (R.written report.new))
         (meters_in first tally step probes.new.probes.items)
         × AreRead read (source (L.read lines.old) (L.left lines.old)) (source (L.read lines.new) (L.left lines.new))
         × (Rose (L.faults lines.old) (L.faults lines.new) ⊎ (2 ^ 64 - 1 ≤ length read)) }
-    ensures sink { result ≡ Err DriveFault.Sink → ((read : List LineRead) × (last : LineRead)
-        × BreaksInAnswer (drive_on ready.machine showing.now) read last (meters_in first tally step probes.old.probes.items)
+    ensures sink { result ≡ Err DriveFault.Sink →
+        ((lines.new ≡ lines.old)
+        × BreaksAtStart (drive_on ready.old.machine showing.now) (meters_in first tally step probes.old.probes.items)
+        (ends (C.written console.old) (R.written report.old)) (ends (C.written console.new) (R.written report.new))
+        (meters_in first tally step probes.new.probes.items))
+        ⊎ (((read : List LineRead) × (last : LineRead)
+        × BreaksInAnswer (drive_on ready.old.machine showing.now) read last (meters_in first tally step probes.old.probes.items)
         (ends (C.written console.old) (R.written report.old)) (ends (C.written console.new) (R.written report.new))
         (meters_in first tally step probes.new.probes.items)
         × AreRead (read ++ last ∷ []) (source (L.read lines.old) (L.left lines.old)) (source (L.read lines.new) (L.left lines.new)))
         ⊎ ((how : DriveEnd) × (read : List LineRead)
-        × BreaksAtEnd (drive_on ready.machine showing.now) how read (meters_in first tally step probes.old.probes.items)
+        × BreaksAtEnd (drive_on ready.old.machine showing.now) how read (meters_in first tally step probes.old.probes.items)
         (ends (C.written console.old) (R.written report.old)) (ends (C.written console.new) (R.written report.new))
         (meters_in first tally step probes.new.probes.items)
-        × IsAtEnd (drive_on ready.machine showing.now) read how
-        (source (L.read lines.old) (L.left lines.old)) (source (L.read lines.new) (L.left lines.new))) }
-    ensures memory { result ≡ Err DriveFault.Memory → (read : List LineRead) × (last : LineRead)
-        × LacksMemory (drive_on ready.machine showing.now) read last (meters_in first tally step probes.old.probes.items)
+        × IsAtEnd (drive_on ready.old.machine showing.now) read how
+        (source (L.read lines.old) (L.left lines.old)) (source (L.read lines.new) (L.left lines.new)))) }
+    ensures memory { result ≡ Err DriveFault.Memory →
+        ((lines.new ≡ lines.old) × (console.new ≡ console.old) × (report.new ≡ report.old) × (probes.new ≡ probes.old))
+        ⊎ (((read : List LineRead) × (last : LineRead)
+        × LacksMemory (drive_on ready.old.machine showing.now) read last (meters_in first tally step probes.old.probes.items)
         (ends (C.written console.old) (R.written report.old)) (ends (C.written console.new) (R.written report.new))
         (meters_in first tally step probes.new.probes.items)
-        × AreRead (read ++ last ∷ []) (source (L.read lines.old) (L.left lines.old)) (source (L.read lines.new) (L.left lines.new)) }
+        × AreRead (read ++ last ∷ []) (source (L.read lines.old) (L.left lines.old)) (source (L.read lines.new) (L.left lines.new)))
+        ⊎ ((how : DriveEnd) × (read : List LineRead)
+        × LacksMemoryAtEnd (drive_on ready.old.machine showing.now) how read (meters_in first tally step probes.old.probes.items)
+        (ends (C.written console.old) (R.written report.old)) (ends (C.written console.new) (R.written report.new))
+        (meters_in first tally step probes.new.probes.items)
+        × IsAtEnd (drive_on ready.old.machine showing.now) read how
+        (source (L.read lines.old) (L.left lines.old)) (source (L.read lines.new) (L.left lines.new)))) }
     ensures source_later { L.faults lines.old ≤ L.faults lines.new }
     ensures console_later { C.faults console.old ≤ C.faults console.new }
     ensures report_later { R.faults report.old ≤ R.faults report.new }
@@ -301,38 +317,33 @@ fn drive_all<L: Lines, C: Sink, R: Sink>(
         → Rose (C.faults console.old) (C.faults console.new) ⊎ Rose (R.faults report.old) (R.faults report.new) }
 {
     let Ready {
-        mut machine,
-        mut driver,
-        mut kept,
-        mut line,
-        mut text,
-        mut room,
+        machine,
+        driver,
+        kept,
+        line,
+        text,
+        room,
     } = ready;
+    match put_start(machine, text, showing, report) {
+        Ok(()) => {}
+        Err(PutFault::Sink) => return Err(DriveFault::Sink),
+        Err(PutFault::Memory) => return Err(DriveFault::Memory),
+    }
     let how = match answer_lines(
-        alloc,
-        &mut machine,
-        &mut driver,
-        &mut kept,
-        &mut line,
-        &mut text,
-        &mut room,
-        lines,
-        showing,
-        probes,
-        console,
-        report,
+        alloc, machine, driver, kept, line, text, room, lines, showing, probes, console, report,
     ) {
         Ok(how) => how,
         Err(fault) => return Err(fault),
     };
-    match put_last(how, &machine, &mut line, showing, probes, report) {
+    match put_last(how, machine, line, text, showing, probes, report) {
         Ok(()) => Ok(how),
-        Err(_) => Err(DriveFault::Sink),
+        Err(PutFault::Sink) => Err(DriveFault::Sink),
+        Err(PutFault::Memory) => Err(DriveFault::Memory),
     }
 }
 
-/// Reads lines one after another. Each is answered before the next is read: an event is applied, told to every probe and put, as a
-/// replay puts it; a look is shown, an event foreseen, and the number of events told, which changes nothing; a line that goes back
+/// Puts the start, and reads lines one after another. Each is answered before the next is read: an event is applied, told to every
+/// probe and put, as a replay puts it; a look is shown, an event foreseen, and the number of events told, which changes nothing; a line that goes back
 /// puts the machine where the first of the events led it, and takes back nothing that was put or told; what is none of these, or
 /// names what isn't there, is refused with its number, and changes nothing. At the end of the lines comes the end of a replay of the
 /// events that are done; so it does where there is no room for an event more.
@@ -362,8 +373,13 @@ pub fn drive<L: Lines, C: Sink, R: Sink>(
         × AreRead read (source (L.read lines.old) (L.left lines.old)) (source (L.read lines.new) (L.left lines.new))
         × (Rose (L.faults lines.old) (L.faults lines.new) ⊎ (2 ^ 64 - 1 ≤ length read)) }
 
-    // A sink broke, in the answer to the last line that was read or in the end.
-    ensures sink { result ≡ Err DriveFault.Sink → ((read : List LineRead) × (last : LineRead)
+    // A sink broke, in the start, in the answer to the last line that was read or in the end.
+    ensures sink { result ≡ Err DriveFault.Sink →
+        ((lines.new ≡ lines.old)
+        × BreaksAtStart job (meters_in first tally step probes.old.probes.items)
+        (ends (C.written console.old) (R.written report.old)) (ends (C.written console.new) (R.written report.new))
+        (meters_in first tally step probes.new.probes.items))
+        ⊎ (((read : List LineRead) × (last : LineRead)
         × BreaksInAnswer job read last (meters_in first tally step probes.old.probes.items)
         (ends (C.written console.old) (R.written report.old)) (ends (C.written console.new) (R.written report.new))
         (meters_in first tally step probes.new.probes.items)
@@ -373,18 +389,25 @@ pub fn drive<L: Lines, C: Sink, R: Sink>(
         (ends (C.written console.old) (R.written report.old)) (ends (C.written console.new) (R.written report.new))
         (meters_in first tally step probes.new.probes.items)
         × IsAtEnd job read how
-        (source (L.read lines.old) (L.left lines.old)) (source (L.read lines.new) (L.left lines.new))) }
+        (source (L.read lines.old) (L.left lines.old)) (source (L.read lines.new) (L.left lines.new)))) }
     ensures cause { result ≡ Err DriveFault.Sink
         → Rose (C.faults console.old) (C.faults console.new) ⊎ Rose (R.faults report.old) (R.faults report.new) }
 
-    // Memory was lacking: nothing is done; or it was for the look or the way back that the last line asks for, of which nothing is put.
+    // Memory was lacking: nothing is done; or it was for what the last line asks for, of which nothing is put; or for the last line of
+    // states, where all lines are answered.
     ensures memory { result ≡ Err DriveFault.Memory →
         ((lines.new ≡ lines.old) × (console.new ≡ console.old) × (report.new ≡ report.old) × (probes.new ≡ probes.old))
-        ⊎ ((read : List LineRead) × (last : LineRead)
+        ⊎ (((read : List LineRead) × (last : LineRead)
         × LacksMemory job read last (meters_in first tally step probes.old.probes.items)
         (ends (C.written console.old) (R.written report.old)) (ends (C.written console.new) (R.written report.new))
         (meters_in first tally step probes.new.probes.items)
-        × AreRead (read ++ last ∷ []) (source (L.read lines.old) (L.left lines.old)) (source (L.read lines.new) (L.left lines.new))) }
+        × AreRead (read ++ last ∷ []) (source (L.read lines.old) (L.left lines.old)) (source (L.read lines.new) (L.left lines.new)))
+        ⊎ ((how : DriveEnd) × (read : List LineRead)
+        × LacksMemoryAtEnd job how read (meters_in first tally step probes.old.probes.items)
+        (ends (C.written console.old) (R.written report.old)) (ends (C.written console.new) (R.written report.new))
+        (meters_in first tally step probes.new.probes.items)
+        × IsAtEnd job read how
+        (source (L.read lines.old) (L.left lines.old)) (source (L.read lines.new) (L.left lines.new)))) }
     ensures source_later { L.faults lines.old ≤ L.faults lines.new }
     ensures console_later { C.faults console.old ≤ C.faults console.new }
     ensures report_later { R.faults report.old ≤ R.faults report.new }
@@ -394,8 +417,8 @@ pub fn drive<L: Lines, C: Sink, R: Sink>(
         config,
         showing,
     } = job;
-    let Some(ready) = ready_for(alloc, program, config) else {
+    let Some(mut ready) = ready_for(alloc, program, config) else {
         return Err(DriveFault::Memory);
     };
-    drive_all(alloc, ready, lines, &showing, probes, console, report)
+    drive_all(alloc, &mut ready, lines, &showing, probes, console, report)
 }

@@ -4,12 +4,22 @@ use script_replay::Showing;
 use sn_base::{BlockNo, Config, Event, Image, NodeId};
 use sn_text::Fault;
 
+/// What a drive puts of its events and at its end.
+#[derive(Clone, Copy, PartialEq, Eq, Debug)]
+pub enum DriveShowing {
+    /// What a replay puts that shows this: of each event its group of lines, and at the end the summary.
+    Replay(Showing),
+    /// What a replay puts that shows all states: at the start the first line, of each event its line of JSON, and at the end the
+    /// last line, with the word at this address.
+    States(Option<u32>),
+}
+
 /// A program, the sizes of the machine that it runs on, and what to show.
 #[derive(Drop)]
 pub struct Drive {
     pub program: Image,
     pub config: Config,
-    pub showing: Showing,
+    pub showing: DriveShowing,
 }
 
 /// What may be asked to be shown: a part of the machine's state, or what is due there.

@@ -1,12 +1,14 @@
 //! Machines that are driven by lines in memory.
 ghost use Rattle.std.specs.Prelude.{IfOk};
 ghost use Rattle.driven_replay.specs.Driven.{MayDrive};
+ghost use Rattle.shown_states.specs.Shown.{MayBegin};
 
-use driven_replay::{Drive, DriveEnd, DriveFault, drive};
+use driven_replay::{Drive, DriveEnd, DriveFault, DriveShowing, drive};
 use elf_load::load;
 use line_source::MemLines;
-use script_replay::{ReportKind, Showing};
-use sn_base::Config;
+use script_replay::{ReportKind, Script, Showing};
+use shown_states::{StatesReplay, replay_states};
+use sn_base::{Config, Event, NodeId};
 use sn_io::MemSink;
 use sn_probe::ProbeSet;
 use std::alloc::Global;
@@ -46,10 +48,10 @@ fn job_of(
     Ok(Drive {
         program: load(alloc, program.as_bytes())?,
         config,
-        showing: Showing {
+        showing: DriveShowing::Replay(Showing {
             report,
             watch: None,
-        },
+        }),
     })
 }
 
@@ -300,5 +302,110 @@ fn a_way_back_to_more_events_than_are_done_is_refused(rt: HostRuntime) -> Result
         b"outofrange 2\noutofrange 3\n{\"mark\":1}\nbadline 5\nbadline 6\nbadline 7\n\
 {\"back\":1}\nevents 1\n";
     assert!(rt; report.bytes().starts_with(wanted));
+    Ok(())
+}
+
+/// The same, whose states are shown.
+fn with_states(job: Drive) -> Drive
+    requires { MayDrive job }
+    ensures { MayDrive result }
+{
+    Drive {
+        program: job.program,
+        config: job.config,
+        showing: DriveShowing::States(None),
+    }
+}
+
+/// Whether the first program's machine is driven by these lines to their end, and its states are shown.
+fn shows(rt: &impl Abort, alloc: Global, lines: &[u8], report: &mut MemSink) -> Result<bool, Fail> {
+    let mut console = MemSink::with_room(alloc, 8)?;
+    let mut lines = MemLines::new(lines);
+    let job = with_states(job(rt, alloc)?);
+    let ended = driven(alloc, job, &mut lines, &mut console, report);
+    Ok(ended == Ok(DriveEnd::Whole))
+}
+
+/// A step, an edge, a report, and a recovery while it is on its way, as lines.
+const RECOVERS: &[u8] = b"step 0\nedge 0\nreport 0\nrecover\n";
+
+/// The same as a replay on that machine, whose states are shown.
+fn recovers(rt: &impl Abort, alloc: Global) -> Result<StatesReplay, Fail>
+    ensures { IfOk result (λ r. MayBegin r) }
+{
+    let config = Config {
+        nodes: 1,
+        sets: 16,
+        ways: 4,
+        log: 256,
+    };
+    assert!(rt; config.fits());
+    let node = NodeId::numbered(0);
+    let mut events = Vec::new(alloc);
+    events.push(Event::Step(node))?;
+    events.push(Event::Edge(node))?;
+    events.push(Event::Report(node))?;
+    events.push(Event::Recover)?;
+    Ok(StatesReplay {
+        program: load(alloc, PUTS_A.as_bytes())?,
+        config,
+        watch: None,
+        only: None,
+        script: Script::new(events),
+    })
+}
+
+/// Whether that replay comes to its end.
+fn is_replayed(rt: &impl Abort, alloc: Global, report: &mut MemSink) -> Result<bool, Fail> {
+    let job = recovers(rt, alloc)?;
+    let mut console = MemSink::with_room(alloc, 8)?;
+    let mut probes = ProbeSet::new(Vec::new(alloc));
+    let ended = replay_states(alloc, job, &mut probes, &mut console, report);
+    Ok(ended == Ok(()))
+}
+
+#[test]
+fn where_states_are_shown_it_puts_what_a_replay_puts(rt: HostRuntime) -> Result<(), Fail> {
+    let alloc = rt.alloc();
+    let mut wanted = MemSink::with_room(alloc, 16_384)?;
+    let mut report = MemSink::with_room(alloc, 16_384)?;
+    let replayed = is_replayed(&rt, alloc, &mut wanted)?;
+    let driven = shows(&rt, alloc, RECOVERS, &mut report)?;
+    assert!(rt; replayed && driven && report.bytes() == wanted.bytes());
+    Ok(())
+}
+
+/// The start.
+const FIRST: &str = "\
+{\"form\":\"safetynet states 1\",\"nodes\":1,\"sets\":16,\"ways\":4,\"log\":256,\"entry\":\"80000000\",\"events\":0,\"state\":{\"nodes\":[{\"node\":0,\"now\":0,\"known\":0,\"core\":{\"pc\":\"80000000\",\"end\":\"running\",\"registers\":{},\"reservation\":null},\"lines\":[],\"miss\":null,\"put\":null,\"log\":[],\"given\":\"\",\"taken\":0,\"waiting\":[]}],\"homes\":[],\"net\":{\"messages\":[],\"dead\":[],\"next\":\"1\"},\"controller\":{\"point\":0,\"reported\":[0],\"committed\":0,\"held\":[],\"released\":0}}}\n\
+";
+
+/// An edge after it, which is taken back.
+const EDGE_AND_BACK: &str = "\
+{\"place\":1,\"event\":\"edge 0\",\"answer\":\"edged 1\",\"sent\":[],\"parts\":{\"nodes\":[{\"node\":0,\"now\":1,\"known\":0,\"core\":{\"pc\":\"80000000\",\"end\":\"running\",\"registers\":{},\"reservation\":null},\"lines\":[],\"miss\":null,\"put\":null,\"log\":[],\"given\":\"\",\"taken\":0,\"waiting\":[]}],\"homes\":[],\"net\":null,\"controller\":null}}\n\
+{\"back\":0}\n\
+";
+
+/// Whether a text has both of these at its head, and what comes then.
+fn behind_both(text: &[u8]) -> Option<&[u8]> {
+    match text.strip_prefix(FIRST.as_bytes()) {
+        Some(rest) => rest.strip_prefix(EDGE_AND_BACK.as_bytes()),
+        None => None,
+    }
+}
+
+#[test]
+fn states_after_a_way_back_are_those_of_the_events_that_are_left(
+    rt: HostRuntime,
+) -> Result<(), Fail> {
+    let alloc = rt.alloc();
+    let mut wanted = MemSink::with_room(alloc, 16_384)?;
+    let mut report = MemSink::with_room(alloc, 16_384)?;
+    let lines: &[u8] = b"edge 0\nback 0\nstep 0\nedge 0\nreport 0\nrecover\n";
+    let straight = shows(&rt, alloc, RECOVERS, &mut wanted)?;
+    let returned = shows(&rt, alloc, lines, &mut report)?;
+    let rest = behind_both(report.bytes());
+    assert!(rt; straight && returned && rest.is_some());
+    assert!(rt; wanted.bytes().strip_prefix(FIRST.as_bytes()) == rest);
     Ok(())
 }

@@ -6,7 +6,9 @@ use Rattle.sink_pieces.specs.Pieces.{Piece, Ends, after, Breaks}
 use Rattle.sink_pieces.proofs.PieceLaws.{after-append, Breaks-more, Breaks-after}
 use Rattle.script_replay.specs.Pieces.{summary_pieces}
 use Rattle.rolling_recovery.specs.declared.controls.Control.{Control}
+use Rattle.rolling_recovery.specs.Rolling.{RollingData, rolling_start}
 use Rattle.rolled_replay.specs.declared.stage.Stage.{Stage}
+use Rattle.rolled_replay.specs.declared.stage.Stage.TheVariants.{UnderWay}
 use Rattle.rolled_replay.specs.Stages.{stage_after, machine_of}
 use Rattle.rolled_replay.specs.Pieces.{control_pieces, recovery_pieces}
 
@@ -34,3 +36,21 @@ module _ (stage : Stage) (controls : List Control) (watch : Option ℕ) (tallies
         Breaks-after (control_pieces 0 stage controls) (summed (machine_of (stage_after stage controls)) watch tallies events) a d
         (subst (λ (e : Ends). Breaks (summed (machine_of (stage_after stage controls)) watch tallies events) e d) lines
         (subst (λ (t : MachineData). Breaks (summed t watch tallies events) b d) machine-is broken))
+
+-- a recovery that has just begun is one of the machine that it began with
+module _ (rolling : RollingData) (m : MachineData) (begins : rolling ≡ rolling_start m) (controls : List Control) (watch : Option ℕ) (tallies : List (List ℕ)) (events : ℕ) (a b : Ends) where
+  pub begun-put : b ≡ after a (recovery_pieces (UnderWay rolling) controls watch tallies events) →
+      b ≡ after a (recovery_pieces (UnderWay (rolling_start m)) controls watch tallies events)
+  begun-put put = subst (λ (t : RollingData). b ≡ after a (recovery_pieces (UnderWay t) controls watch tallies events)) begins put
+
+  pub begun-broke : Breaks (recovery_pieces (UnderWay rolling) controls watch tallies events) a b →
+      Breaks (recovery_pieces (UnderWay (rolling_start m)) controls watch tallies events) a b
+  begun-broke broken = subst (λ (t : RollingData). Breaks (recovery_pieces (UnderWay t) controls watch tallies events) a b) begins broken
+
+-- the summary of a machine is that of one that is the same
+module _ (m other : MachineData) (same : m ≡ other) (watch : Option ℕ) (tallies : List (List ℕ)) (events : ℕ) (a b : Ends) where
+  pub end-put : b ≡ after a (summed m watch tallies events) → b ≡ after a (summed other watch tallies events)
+  end-put put = subst (λ (t : MachineData). b ≡ after a (summed t watch tallies events)) same put
+
+  pub end-broke : Breaks (summed m watch tallies events) a b → Breaks (summed other watch tallies events) a b
+  end-broke broken = subst (λ (t : MachineData). Breaks (summed t watch tallies events) a b) same broken

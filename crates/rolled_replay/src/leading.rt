@@ -1,14 +1,15 @@
 //! The parts of a replay with its recovery: all memory, the events, and the controls.
-ghost use Rattle.std.specs.Prelude.{◌≡◌, ℕ, ◌+◌, ◌≤◌, ◌⊎◌, List, [], true, Option, Err, OnOk, OnErr, IfOk, IfSome, length};
+ghost use Rattle.std.specs.Prelude.{◌≡◌, ℕ, ◌+◌, ◌^◌, ◌≤◌, ◌⊎◌, List, [], ◌∷◌, true, Option, Err, OnOk, OnErr, IfOk, IfSome, length};
 ghost use Rattle.std.specs.List.{All};
 ghost use Rattle.sn_base.specs.Config.{config_fits};
 ghost use Rattle.consistent_cuts.specs.Runs.{AllFit};
 ghost use Rattle.sn_io.specs.Outside.{Rose};
-ghost use Rattle.sink_pieces.specs.Pieces.{ends, after, Breaks};
+ghost use Rattle.sink_pieces.specs.Pieces.{Report, ends, after, Breaks};
 ghost use Rattle.sn_probe.specs.Probes.{meters_in, tallies_of};
 ghost use Rattle.script_replay.specs.Played.{turns_left, told_left, StopsAt, IsWatchable};
 ghost use Rattle.rolling_recovery.specs.Controls.{control_fits};
-ghost use Rattle.rolled_replay.specs.Stages.{IsNumbered, machine_of, stage_after};
+ghost use Rattle.rolled_replay.specs.Stages.{IsNumbered, machine_of, next_stage, reply_to, stage_after};
+ghost use Rattle.rolled_replay.specs.Text.{control_line};
 ghost use Rattle.rolled_replay.specs.Pieces.{after_events, control_pieces, machine_with_room, quietly};
 ghost use Rattle.sn_base.specs.declared.limits.TheConstants.{EVENTS};
 
@@ -41,28 +42,51 @@ pub struct Ready {
     pub room: Room,
 }
 
+// A machine of these sizes at the start of the program, with room for so many events.
+fn machine_for(alloc: Global, program: Image, config: Config, events: u32) -> Option<Machine>
+    requires sizes { config_fits config ≡ true }
+    requires few { events ≤ EVENTS + 1 }
+    ensures { IfSome result (λ m. m ≡ machine_with_room program config events) }
+{
+    let Ok(mut machine) = Machine::new(alloc, program, config) else {
+        return None;
+    };
+    match machine.reserve(events) {
+        Ok(()) => Some(machine),
+        Err(_) => {
+            drop(machine);
+            None
+        }
+    }
+}
+
+// A line, and the room of a recovery.
+fn room_for(alloc: Global) -> Option<(Line, Room)> {
+    let Ok(line) = Line::new(alloc) else {
+        return None;
+    };
+    match Room::new(alloc) {
+        Ok(room) => Some((line, room)),
+        Err(_) => None,
+    }
+}
+
 /// A machine of these sizes at the start of the program, with room for so many events and a recovery, and the room of that.
 pub fn ready_for(alloc: Global, program: Image, config: Config, events: u32) -> Option<Ready>
     requires sizes { config_fits config ≡ true }
     requires few { events ≤ EVENTS }
     ensures { IfSome result (λ r. r.machine ≡ machine_with_room program config (events + 1)) }
 {
-    let Ok(line) = Line::new(alloc) else {
+    let Some((line, room)) = room_for(alloc) else {
         return None;
     };
-    let Ok(room) = Room::new(alloc) else {
-        return None;
-    };
-    let Ok(mut machine) = Machine::new(alloc, program, config) else {
-        return None;
-    };
-    match machine.reserve(events + 1) {
-        Ok(()) => Some(Ready {
+    match machine_for(alloc, program, config, events + 1) {
+        Some(machine) => Some(Ready {
             machine,
             line,
             room,
         }),
-        Err(_) => None,
+        None => None,
     }
 }
 
@@ -102,6 +126,36 @@ pub fn put_events<C: Sink, R: Sink>(
     Ok(())
 }
 
+// What a control leaves of a stage, and its line is put.
+fn put_control<R: Sink>(
+    stage: Stage,
+    line: &mut Line,
+    place: u64,
+    control: &Control,
+    report: &mut R,
+) -> Result<Stage, Failed>
+    requires fits { control_fits (machine_of stage).config.nodes control.now ≡ true }
+    requires numbers { IsNumbered stage (2 ^ 63) }
+    ensures stage { IfOk result (λ next. next ≡ next_stage stage control.now) }
+    ensures ok { OnOk result ((c : Option (List ℕ)) → ends c (R.written report.new)
+        ≡ after (ends c (R.written report.old)) (Report (control_line place control.now (reply_to stage control.now)) ∷ [])) }
+    ensures err { OnErr result ((c : Option (List ℕ)) →
+        Breaks (Report (control_line place control.now (reply_to stage control.now)) ∷ [])
+        (ends c (R.written report.old)) (ends c (R.written report.new))) }
+    ensures later { R.faults report.old ≤ R.faults report.new }
+    ensures cause { OnErr result (Rose (R.faults report.old) (R.faults report.new)) }
+{
+    let (next, reply) = stage.control(control);
+    write_line(line, place, control, &reply);
+    match put_report(report, line.bytes()) {
+        Ok(()) => Ok(next),
+        Err(_) => {
+            drop(next);
+            Err(Failed)
+        }
+    }
+}
+
 /// Leads the recovery, and puts each control's line.
 pub fn put_controls<R: Sink>(
     stage: Stage,
@@ -123,11 +177,8 @@ pub fn put_controls<R: Sink>(
     let mut stage = stage;
     let mut place = 0u64;
     'controls: for control in controls {
-        let (next, reply) = stage.control(control);
-        stage = next;
         place += 1;
-        write_line(line, place, control, &reply);
-        put_report(report, line.bytes())?;
+        stage = put_control(stage, line, place, control, report)?;
     }
     Ok(stage)
 }

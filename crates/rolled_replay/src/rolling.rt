@@ -1,11 +1,13 @@
 //! A replay with its recovery, from the job to the summary.
-ghost use Rattle.std.specs.Prelude.{◌≡◌, ℕ, ◌≤◌, ◌⊎◌, List, true, Option, Err, OnOk, OnErr, length};
+ghost use Rattle.std.specs.Prelude.{◌≡◌, ℕ, ◌≤◌, ◌⊎◌, List, [], true, Option, Err, OnOk, OnErr, length};
 ghost use Rattle.std.specs.List.{All};
 ghost use Rattle.sn_io.specs.Outside.{Rose};
 ghost use Rattle.sink_pieces.specs.Pieces.{ends, after, Breaks};
 ghost use Rattle.sn_probe.specs.Probes.{meters_in, tallies_of};
+ghost use Rattle.script_replay.specs.Pieces.{summary_pieces};
 ghost use Rattle.script_replay.specs.Played.{IsWatchable};
 ghost use Rattle.rolling_recovery.specs.Controls.{control_fits};
+ghost use Rattle.rolling_recovery.specs.Rolling.{rolling_start};
 ghost use Rattle.rolled_replay.specs.Stages.{IsNumbered, machine_of};
 ghost use Rattle.rolled_replay.specs.Pieces.{machine_for, recovery_pieces};
 ghost use Rattle.rolled_replay.specs.Rolled.{MayRoll, roll_of, told_script, IsRolled, IsBrokenOff, KnowApplied};
@@ -21,6 +23,29 @@ use sn_io::{Failed, Sink};
 use sn_probe::ProbeSet;
 use sn_text::Line;
 use std::alloc::Global;
+
+// Puts the summary of so many events and of the machine that the controls left.
+fn put_end<R: Sink>(
+    last: &Stage,
+    line: &mut Line,
+    events: u64,
+    watch: Option<u32>,
+    probes: &ProbeSet,
+    report: &mut R,
+) -> Result<(), Failed>
+    requires watched { IsWatchable watch }
+    ensures ok { OnOk result ((c : Option (List ℕ)) → ends c (R.written report.new) ≡ after (ends c (R.written report.old))
+        (summary_pieces [] (machine_of last.now).image (machine_of last.now).config watch
+        (tallies_of (meters_in first tally step probes.now.probes.items)) events (machine_of last.now).state)) }
+    ensures err { OnErr result ((c : Option (List ℕ)) →
+        Breaks (summary_pieces [] (machine_of last.now).image (machine_of last.now).config watch
+        (tallies_of (meters_in first tally step probes.now.probes.items)) events (machine_of last.now).state)
+        (ends c (R.written report.old)) (ends c (R.written report.new))) }
+    ensures later { R.faults report.old ≤ R.faults report.new }
+    ensures cause { OnErr result (Rose (R.faults report.old) (R.faults report.new)) }
+{
+    put_counted_summary(line, "", events, last.machine(), watch, probes, report)
+}
 
 // Leads the recovery and puts its pieces.
 fn put_recovery<R: Sink>(
@@ -44,9 +69,46 @@ fn put_recovery<R: Sink>(
     ensures later { R.faults report.old ≤ R.faults report.new }
     ensures cause { OnErr result (Rose (R.faults report.old) (R.faults report.new)) }
 {
-    let last = put_controls(stage, line, controls, report)?;
-    put_counted_summary(line, "", events, last.machine(), watch, probes, report)?;
-    Ok(())
+    match put_controls(stage, line, controls, report) {
+        Ok(last) => {
+            let put = put_end(&last, line, events, watch, probes, report);
+            drop(last);
+            put
+        }
+        Err(_) => Err(Failed),
+    }
+}
+
+// Leads the recovery of the machine that events left, and puts its pieces.
+fn put_rest<R: Sink>(
+    ready: Ready,
+    controls: &[Control],
+    events: u64,
+    watch: Option<u32>,
+    probes: &ProbeSet,
+    report: &mut R,
+) -> Result<(), Failed>
+    requires room { 1 ≤ ready.machine.spare }
+    requires fit { All (λ call. control_fits ready.machine.config.nodes call ≡ true) controls.now }
+    requires few { length controls.now ≤ EVENTS }
+    requires watched { IsWatchable watch }
+    ensures ok { OnOk result ((c : Option (List ℕ)) → ends c (R.written report.new) ≡ after (ends c (R.written report.old))
+        (recovery_pieces (Stage.UnderWay (rolling_start ready.machine)) controls.now watch
+        (tallies_of (meters_in first tally step probes.now.probes.items)) events)) }
+    ensures err { OnErr result ((c : Option (List ℕ)) →
+        Breaks (recovery_pieces (Stage.UnderWay (rolling_start ready.machine)) controls.now watch
+        (tallies_of (meters_in first tally step probes.now.probes.items)) events)
+        (ends c (R.written report.old)) (ends c (R.written report.new))) }
+    ensures later { R.faults report.old ≤ R.faults report.new }
+    ensures cause { OnErr result (Rose (R.faults report.old) (R.faults report.new)) }
+{
+    let Ready {
+        machine,
+        mut line,
+        room,
+    } = ready;
+    let stage = Stage::UnderWay(Rolling::start(room, machine));
+    put_recovery(stage, &mut line, controls, events, watch, probes, report)
 }
 
 // All but taking the memory: the events, the recovery of the machine that they leave, and the summary.
@@ -78,24 +140,23 @@ fn put_all<C: Sink, R: Sink>(
     ensures cause { OnErr result
         (Rose (C.faults console.old) (C.faults console.new) ⊎ Rose (R.faults report.old) (R.faults report.new)) }
 {
-    let Ready {
-        mut machine,
-        mut line,
-        room,
-    } = ready;
-    put_events(
-        &mut machine,
-        &mut line,
+    let mut ready = ready;
+    let count = events.len() as u64;
+    match put_events(
+        &mut ready.machine,
+        &mut ready.line,
         events,
         watch,
         probes,
         console,
         report,
-    )?;
-    let count = events.len() as u64;
-    let stage = Stage::UnderWay(Rolling::start(room, machine));
-    put_recovery(stage, &mut line, controls, count, watch, probes, report)?;
-    Ok(())
+    ) {
+        Ok(()) => put_rest(ready, controls, count, watch, probes, report),
+        Err(_) => {
+            drop(ready);
+            Err(Failed)
+        }
+    }
 }
 
 /// Applies the script's events in order, tells each to every probe and puts the released bytes to the console; then leads the

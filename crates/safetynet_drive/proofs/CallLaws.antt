@@ -6,18 +6,20 @@ use Rattle.sn_base.specs.declared.config.Config.{Config}
 use Rattle.sn_io.specs.Outside.{Found, File, TooLong as FileTooLong, Missing, Rose, found_in}
 use Rattle.sn_probe.specs.Probes.{Meter}
 use Rattle.command_words.specs.Request.{Request, Drive as DriveRequest}
+use Rattle.command_words.specs.declared.request.DriveReport.{DriveReport}
 use Rattle.sink_pieces.specs.Pieces.{Ends}
 use Rattle.driven_replay.specs.declared.job.Drive.{Drive}
 use Rattle.driven_replay.specs.declared.driving.DriveEnd.TheVariants.{Whole, TooMany}
 use Rattle.driven_replay.specs.declared.driving.DriveEnd.{DriveEnd}
-use Rattle.driven_replay.specs.Driven.{SourceData, AreRead, IsAtEnd, IsLeftOff, LacksMemory, BreaksInAnswer, BreaksAtEnd}
+use Rattle.driven_replay.specs.Driven.{SourceData, AreRead, IsAtEnd, source, IsLeftOff, LacksMemory, LacksMemoryAtEnd, BreaksAtStart, BreaksInAnswer, BreaksAtEnd}
 use Rattle.line_source.specs.Lines.{LineRead}
 use Rattle.call_files.specs.Fetches.{Fetches}
 use Rattle.call_files.specs.Files.{program_limit, program_in}
 use Rattle.call_status.specs.declared.status.Status.{Status}
 use Rattle.call_status.specs.declared.status.Status.TheVariants.{StoreFault, Usage, Memory, SinkFault, InputFault}
 use Rattle.call_files.proofs.Found.{program-of_bytes, if_some-intro}
-use Rattle.safetynet_drive.specs.Call.{Asked, asked_in, drive_of, ComesTo, Follows, Comes, FollowsOver, IsCutShort, EndsInTheMiddle}
+use Rattle.driven_replay.specs.declared.job.DriveShowing.{DriveShowing}
+use Rattle.safetynet_drive.specs.Call.{Asked, asked_in, showing_of, ComesTo, Follows, Comes, FollowsOver, IsCutShort, EndsInTheMiddle}
 
 -- a drive that began ends in no refusal
 not-refused : (d : Drive) (probes : List Meter) (status refusal : Status) (from to : SourceData) (before behind : Ends) →
@@ -32,11 +34,11 @@ not-refused d probes status refusal from to before behind (inr (inr (is, left)))
 not-refused d probes status refusal from to before behind (inr (inr (is, left))) (inr w) e = cc
 
 -- a call that ends in one had no program
-refused-program : (config : Config) (watch : Option ℕ) (probes : List Meter) (program : Result ImageData Status) (status refusal : Status)
-    (from to : SourceData) (before behind : Ends) → Follows config watch probes program status from to before behind →
+refused-program : (config : Config) (report : DriveReport) (watch : Option ℕ) (probes : List Meter) (program : Result ImageData Status) (status refusal : Status)
+    (from to : SourceData) (before behind : Ends) → Follows config report watch probes program status from to before behind →
     (refusal ≡ StoreFault) ⊎ (refusal ≡ Usage) → status ≡ refusal → program ≡ Err refusal
-refused-program config watch probes (Err s) status refusal from to before behind h which e = ap (λ t. Err t) (sym h.0 ∙ e)
-refused-program config watch probes (Ok image) status refusal from to before behind h which e =
+refused-program config report watch probes (Err s) status refusal from to before behind h which e = ap (λ t. Err t) (sym h.0 ∙ e)
+refused-program config report watch probes (Ok image) status refusal from to before behind h which e =
     absurd (not-refused _ probes status refusal from to before behind h which e)
 
 -- a program that is refused as one of the store's faults is missing
@@ -56,13 +58,13 @@ module _ {S : Type 0} (files : S → Option (List ℕ → Option (List ℕ))) (s
       status ≡ StoreFault → Rose (faults old) (faults new)
   rose-by None h e = absurd cc
   rose-by (Some asked) h e =
-      h.1.0.rose (missing h.0 (refused-program asked.config asked.watch probes (program_in h.0) status StoreFault from to before behind h.1.1 (inl refl) e))
+      h.1.0.rose (missing h.0 (refused-program asked.config asked.report asked.watch probes (program_in h.0) status StoreFault from to before behind h.1.1 (inl refl) e))
 
   usage-by : (asked : Option Asked) → Comes (Fetches files sure faults gave) probes asked status old new from to before behind →
       status ≡ Usage → asked ≡ None
   usage-by None h e = refl
   usage-by (Some asked) h e =
-      absurd (not-usage h.0 (refused-program asked.config asked.watch probes (program_in h.0) status Usage from to before behind h.1.1 (inr refl) e))
+      absurd (not-usage h.0 (refused-program asked.config asked.report asked.watch probes (program_in h.0) status Usage from to before behind h.1.1 (inr refl) e))
 
   -- over a sure store the file that it holds says what is done
   sure-by : (asked : Option Asked) (held : List ℕ → Option (List ℕ)) →
@@ -70,7 +72,7 @@ module _ {S : Type 0} (files : S → Option (List ℕ → Option (List ℕ))) (s
       FollowsOver held probes asked status from to before behind
   sure-by None held (usage, (files, (read, put))) s e = (usage, (read, put))
   sure-by (Some asked) held h s e =
-      subst (λ f. Follows asked.config asked.watch probes (program_in f) status from to before behind)
+      subst (λ f. Follows asked.config asked.report asked.watch probes (program_in f) status from to before behind)
       (found-held h.0 (held asked.program) (subst (λ o. IfSome o (λ files. (h.0 ≡ Missing → ⊥) → h.0 ≡ found_in (files asked.program) program_limit)) e h.1.0.told)
       (subst (λ o. IfSome o (λ files. h.0 ≡ Missing → files asked.program ≡ None)) e (h.1.0.lacking s)))
       h.1.1
@@ -107,53 +109,74 @@ module _ {S : Type 0} (files : S → Option (List ℕ → Option (List ℕ))) (s
 
 -- a drive of which the program was fetched
 pub comes-of : {S : Type 0} (fetches : S → List ℕ → ℕ → Found → S → Type 0) (probes : List Meter) (ask : Option Request) (config : Config)
-    (watch : Option ℕ) (program name : List ℕ) (image : ImageData) (status : Status) (old new : S) (from to : SourceData) (before behind : Ends) →
-    ask ≡ Some (DriveRequest config watch program) → name ≡ program →
+    (report : DriveReport) (watch : Option ℕ) (program name : List ℕ) (image : ImageData) (showing : DriveShowing) (status : Status) (old new : S) (from to : SourceData) (before behind : Ends) →
+    ask ≡ Some (DriveRequest config report watch program) → name ≡ program →
     (found : Found) × fetches old name program_limit found new × (Ok image ≡ program_in found) →
-    ComesTo (drive_of config watch image) probes status from to before behind →
+    showing ≡ showing_of report watch → ComesTo (record { program = image; config = config; showing = showing }) probes status from to before behind →
     Comes fetches probes (asked_in ask) status old new from to before behind
-comes-of fetches probes ask config watch program name image status old new from to before behind e n (found, fetched, is) h =
+comes-of fetches probes ask config report watch program name image showing status old new from to before behind e n (found, fetched, is) shows h =
     subst (λ (a : Option Request). Comes fetches probes (asked_in a) status old new from to before behind) (sym e) (
       found,
       (
         subst (λ (t : List ℕ). fetches old t program_limit found new) n fetched,
-        subst (λ (p : Result ImageData Status). Follows config watch probes p status from to before behind) is h,
+        subst (λ (p : Result ImageData Status). Follows config report watch probes p status from to before behind) is
+            (subst (λ (s : DriveShowing). ComesTo (record { program = image; config = config; showing = s }) probes status from to before behind) shows h),
       ),
     )
 
 -- what a drive comes to whose sink broke, or whose source failed
-pub broken-off : (d : Drive) (probes told : List Meter) (from to : SourceData) (before behind : Ends) →
-    ((lines : List LineRead) × (last : LineRead) × BreaksInAnswer d lines last probes before behind told × AreRead (lines ++ last ∷ []) from to)
-    ⊎ ((how : DriveEnd) × (lines : List LineRead) × BreaksAtEnd d how lines probes before behind told × IsAtEnd d lines how from to) →
-    ComesTo d probes SinkFault from to before behind
-broken-off d probes told from to before behind (inl (lines, last, breaks, read)) = inr (inl (refl, inl (lines, last, told, breaks, read)))
-broken-off d probes told from to before behind (inr (how, lines, breaks, end)) = inr (inl (refl, inr (how, lines, told, breaks, end)))
+module _ {L : Type 0} (read left : L → Option (List LineRead)) (old new : L) (d : Drive) (probes told : List Meter) (before behind : Ends) where
+  abbrev source_before : SourceData
+  source_before = source (read old) (left old)
+
+  abbrev source_behind : SourceData
+  source_behind = source (read new) (left new)
+
+  pub broken-off :
+      ((new ≡ old) × BreaksAtStart d probes before behind told)
+      ⊎ (((lines : List LineRead) × (last : LineRead) × BreaksInAnswer d lines last probes before behind told
+      × AreRead (lines ++ last ∷ []) source_before source_behind)
+      ⊎ ((how : DriveEnd) × (lines : List LineRead) × BreaksAtEnd d how lines probes before behind told
+      × IsAtEnd d lines how source_before source_behind)) →
+      ComesTo d probes SinkFault source_before source_behind before behind
+  broken-off (inl (same, breaks)) = inr (inl (refl, inl (told, breaks, ap (λ l. source (read l) (left l)) same)))
+  broken-off (inr (inl (lines, last, breaks, taken))) = inr (inl (refl, inr (inl (lines, last, told, breaks, taken))))
+  broken-off (inr (inr (how, lines, breaks, end))) = inr (inl (refl, inr (inr (how, lines, told, breaks, end))))
 
 pub left-off : (d : Drive) (probes told : List Meter) (from to : SourceData) (before behind : Ends) (A : List LineRead → Type 0) →
     (lines : List LineRead) × IsLeftOff d lines probes before behind told × AreRead lines from to × A lines →
     ComesTo d probes InputFault from to before behind
 left-off d probes told from to before behind A (lines, left, read, why) = inr (inr (refl, (lines, told, left, read)))
 
--- memory was lacking before a line was read, or for a look
+-- memory was lacking before a line was read, for what the last line asks for, or for the end
 pub cut-short : (d : Drive) (probes told : List Meter) (from to : SourceData) (before behind : Ends) (L C R P : Type 0) →
-    (L × C × R × P) ⊎ ((lines : List LineRead) × (last : LineRead)
-    × LacksMemory d lines last probes before behind told × AreRead (lines ++ last ∷ []) from to) →
+    (L × C × R × P) ⊎ (((lines : List LineRead) × (last : LineRead)
+    × LacksMemory d lines last probes before behind told × AreRead (lines ++ last ∷ []) from to)
+    ⊎ ((how : DriveEnd) × (lines : List LineRead)
+    × LacksMemoryAtEnd d how lines probes before behind told × IsAtEnd d lines how from to)) →
     (C × (R × L)) ⊎ ((Memory ≡ Memory) × IsCutShort d probes from to before behind)
 cut-short d probes told from to before behind L C R P (inl (l, c, r, p)) = inl (c, (r, l))
-cut-short d probes told from to before behind L C R P (inr (lines, last, lacks, read)) = inr (refl, (lines, last, told, lacks, read))
+cut-short d probes told from to before behind L C R P (inr (inl (lines, last, lacks, read))) = inr (refl, inl (lines, last, told, lacks, read))
+cut-short d probes told from to before behind L C R P (inr (inr (how, lines, lacks, end))) = inr (refl, inr (how, lines, told, lacks, end))
 
 pub in-the-middle : {S : Type 0} (fetches : S → List ℕ → ℕ → Found → S → Type 0) (probes : List Meter) (ask : Option Request) (config : Config)
-    (watch : Option ℕ) (program name : List ℕ) (image : ImageData) (status : Status) (old new : S) (from to : SourceData) (before behind : Ends)
-    (A : Type 0) → ask ≡ Some (DriveRequest config watch program) → name ≡ program →
+    (report : DriveReport) (watch : Option ℕ) (program name : List ℕ) (image : ImageData) (showing : DriveShowing) (status : Status) (old new : S) (from to : SourceData) (before behind : Ends)
+    (A : Type 0) → ask ≡ Some (DriveRequest config report watch program) → name ≡ program →
     (found : Found) × fetches old name program_limit found new × (Ok image ≡ program_in found) →
-    A ⊎ ((status ≡ Memory) × IsCutShort (drive_of config watch image) probes from to before behind) →
+    showing ≡ showing_of report watch →
+    A ⊎ ((status ≡ Memory) × IsCutShort (record { program = image; config = config; showing = showing }) probes from to before behind) →
     A ⊎ ((status ≡ Memory) × EndsInTheMiddle fetches probes (asked_in ask) old new from to before behind)
-in-the-middle fetches probes ask config watch program name image status old new from to before behind A e n fetched (inl same) = inl same
-in-the-middle fetches probes ask config watch program name image status old new from to before behind A e n (found, fetched, is) (inr (m, cut)) =
+in-the-middle fetches probes ask config report watch program name image showing status old new from to before behind A e n fetched shows (inl same) = inl same
+in-the-middle fetches probes ask config report watch program name image showing status old new from to before behind A e n (found, fetched, is) shows (inr (m, cut)) =
     inr (
       m,
-      subst (λ (a : Option Request). EndsInTheMiddle fetches probes (asked_in a) old new from to before behind) (sym e)
-          (found, image, subst (λ (t : List ℕ). fetches old t program_limit found new) n fetched, sym is, cut),
+      subst (λ (a : Option Request). EndsInTheMiddle fetches probes (asked_in a) old new from to before behind) (sym e) (
+        found,
+        image,
+        subst (λ (t : List ℕ). fetches old t program_limit found new) n fetched,
+        sym is,
+        subst (λ (s : DriveShowing). IsCutShort (record { program = image; config = config; showing = s }) probes from to before behind) shows cut,
+      ),
     )
 
 pub middle-same : {S : Type 0} (fetches : S → List ℕ → ℕ → Found → S → Type 0) (probes given : List Meter) (asked : Option Asked) (status : Status)

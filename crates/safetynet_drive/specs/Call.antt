@@ -5,13 +5,17 @@ use Rattle.sn_base.specs.declared.config.Config.{Config}
 use Rattle.sn_io.specs.Outside.{Found, found_in}
 use Rattle.sn_probe.specs.Probes.{Meter}
 use Rattle.command_words.specs.Request.{Request, Drive as DriveRequest}
+use Rattle.command_words.specs.declared.request.DriveReport.{DriveReport}
+use Rattle.command_words.specs.declared.request.DriveReport.TheVariants as report
 use Rattle.line_source.specs.Lines.{LineRead}
 use Rattle.sink_pieces.specs.Pieces.{Ends}
-use Rattle.script_replay.specs.declared.job.ReportKind.TheVariants.{Events}
+use Rattle.script_replay.specs.declared.job.ReportKind.TheVariants as kind
 use Rattle.driven_replay.specs.declared.job.Drive.{Drive}
+use Rattle.driven_replay.specs.declared.job.DriveShowing.{DriveShowing}
+use Rattle.driven_replay.specs.declared.job.DriveShowing.TheVariants as showing
 use Rattle.driven_replay.specs.declared.driving.DriveEnd.{DriveEnd}
 use Rattle.driven_replay.specs.declared.driving.DriveEnd.TheVariants.{Whole, TooMany}
-use Rattle.driven_replay.specs.Driven.{SourceData, AreRead, IsAtEnd, IsDriven, IsLeftOff, LacksMemory, BreaksInAnswer, BreaksAtEnd}
+use Rattle.driven_replay.specs.Driven.{SourceData, AreRead, IsAtEnd, IsDriven, IsLeftOff, LacksMemory, LacksMemoryAtEnd, BreaksAtStart, BreaksInAnswer, BreaksAtEnd}
 use Rattle.call_files.specs.Files.{program_limit, program_in}
 use Rattle.call_status.specs.declared.status.Status.{Status}
 use Rattle.call_status.specs.declared.status.Status.TheVariants.{Done, Budget, SinkFault, InputFault, Usage}
@@ -21,9 +25,14 @@ abbrev pub is_drive : List (List ℕ) → Bool
 is_drive (name ∷ command ∷ words) = bytes_eq command (codes "drive")
 is_drive _ = false
 
--- the machine that is driven: of these sizes, at the start of the program, each event with its group
-abbrev pub drive_of : Config → Option ℕ → ImageData → Drive
-drive_of config watch image = record { program = image; config = config; showing = record { report = Events; watch = watch } }
+-- what is shown: of each event its group, or its line with states; and a word of memory besides
+abbrev pub showing_of : DriveReport → Option ℕ → DriveShowing
+showing_of report.Events watch = showing.Replay (record { report = kind.Events; watch = watch })
+showing_of report.States watch = showing.States watch
+
+-- the machine that is driven: of these sizes, at the start of the program
+abbrev pub drive_of : Config → DriveReport → Option ℕ → ImageData → Drive
+drive_of config report watch image = record { program = image; config = config; showing = showing_of report watch }
 
 -- the status of a drive that came to its end: there are no more lines, or there is no room for an event more
 abbrev pub end_status : DriveEnd → Status
@@ -36,13 +45,14 @@ IsDone d probes status from to before behind =
     (how : DriveEnd) × (lines : List LineRead) × (told : List Meter) × (status ≡ end_status how)
     × IsDriven d how lines probes before behind told × IsAtEnd d lines how from to
 
--- a sink broke in the answer to the last line that was read, or in the end
+-- a sink broke before a line was read, in the answer to the last line that was read, or in the end
 abbrev pub IsBrokenOff : Drive → List Meter → SourceData → SourceData → Ends → Ends → Type 0
 IsBrokenOff d probes from to before behind =
-    ((lines : List LineRead) × (last : LineRead) × (told : List Meter)
+    ((told : List Meter) × BreaksAtStart d probes before behind told × (to ≡ from))
+    ⊎ (((lines : List LineRead) × (last : LineRead) × (told : List Meter)
     × BreaksInAnswer d lines last probes before behind told × AreRead (lines ++ last ∷ []) from to)
     ⊎ ((how : DriveEnd) × (lines : List LineRead) × (told : List Meter)
-    × BreaksAtEnd d how lines probes before behind told × IsAtEnd d lines how from to)
+    × BreaksAtEnd d how lines probes before behind told × IsAtEnd d lines how from to))
 
 -- the source failed: all lines that were read before are answered, and nothing more is put
 abbrev pub IsLeft : Drive → List Meter → SourceData → SourceData → Ends → Ends → Type 0
@@ -57,26 +67,28 @@ ComesTo d probes status from to before behind =
     ⊎ ((status ≡ InputFault) × IsLeft d probes from to before behind))
 
 -- what is due is done: a program that is refused is the status, no line is read, and nothing is written
-abbrev pub Follows : Config → Option ℕ → List Meter → Result ImageData Status → Status → SourceData → SourceData → Ends → Ends → Type 0
-Follows config watch probes (Err refusal) status from to before behind = (status ≡ refusal) × ((to ≡ from) × (behind ≡ before))
-Follows config watch probes (Ok image) status from to before behind =
-    ComesTo (drive_of config watch image) probes status from to before behind
+abbrev pub Follows : Config → DriveReport → Option ℕ → List Meter → Result ImageData Status → Status → SourceData → SourceData → Ends → Ends → Type 0
+Follows config report watch probes (Err refusal) status from to before behind = (status ≡ refusal) × ((to ≡ from) × (behind ≡ before))
+Follows config report watch probes (Ok image) status from to before behind =
+    ComesTo (drive_of config report watch image) probes status from to before behind
 
--- a drive by its words: the sizes, the watched word, and the name of the program's file
+-- a drive by its words: the sizes, what is shown of each event, the watched word, and the name of the program's file
 pub record Asked : Type 0 where
   pub config : Config
+  pub report : DriveReport
   pub watch : Option ℕ
   pub program : List ℕ
 
 abbrev pub asked_in : Option Request → Option Asked
-asked_in (Some (DriveRequest config watch program)) = Some (record { config = config; watch = watch; program = program })
+asked_in (Some (DriveRequest config report watch program)) =
+    Some (record { config = config; report = report; watch = watch; program = program })
 asked_in _ = None
 
 -- the program is fetched, and what was found of it says what is done
 abbrev pub ComesOfDrive : {S : Type 0} → (S → List ℕ → ℕ → Found → S → Type 0) → List Meter → Asked → Status → S → S → SourceData → SourceData → Ends → Ends → Type 0
 ComesOfDrive {S} fetches probes asked status old new from to before behind = (found : Found)
     × (fetches old asked.program program_limit found new
-    × Follows asked.config asked.watch probes (program_in found) status from to before behind)
+    × Follows asked.config asked.report asked.watch probes (program_in found) status from to before behind)
 
 -- words that ask for no drive are refused: nothing is fetched, read or written
 abbrev pub IsUsage : {S : Type 0} → Status → S → S → SourceData → SourceData → Ends → Ends → Type 0
@@ -90,20 +102,23 @@ Comes fetches probes None status old new from to before behind = IsUsage status 
 -- the same over files that are told
 abbrev pub FollowsOver : (List ℕ → Option (List ℕ)) → List Meter → Option Asked → Status → SourceData → SourceData → Ends → Ends → Type 0
 FollowsOver held probes (Some asked) status from to before behind =
-    Follows asked.config asked.watch probes (program_in (found_in (held asked.program) program_limit)) status from to before behind
+    Follows asked.config asked.report asked.watch probes (program_in (found_in (held asked.program) program_limit)) status from to before behind
 FollowsOver held probes None status from to before behind = (status ≡ Usage) × ((to ≡ from) × (behind ≡ before))
 
--- memory was wanted for the look or the way back that the last line asks for: those before it are answered, and nothing more is put
+-- memory was wanted for the look, the way back or the event with its states that the last line asks for: those before it are answered, and
+-- nothing more is put; or it was wanted for the last line of states, and all lines are answered
 abbrev pub IsCutShort : Drive → List Meter → SourceData → SourceData → Ends → Ends → Type 0
 IsCutShort d probes from to before behind =
-    (lines : List LineRead) × (last : LineRead) × (told : List Meter)
-    × LacksMemory d lines last probes before behind told × AreRead (lines ++ last ∷ []) from to
+    ((lines : List LineRead) × (last : LineRead) × (told : List Meter)
+    × LacksMemory d lines last probes before behind told × AreRead (lines ++ last ∷ []) from to)
+    ⊎ ((how : DriveEnd) × (lines : List LineRead) × (told : List Meter)
+    × LacksMemoryAtEnd d how lines probes before behind told × IsAtEnd d lines how from to)
 
 -- a call whose drive is cut short so
 abbrev pub EndsInTheMiddle : {S : Type 0} → (S → List ℕ → ℕ → Found → S → Type 0) → List Meter → Option Asked → S → S → SourceData → SourceData → Ends → Ends → Type 0
 EndsInTheMiddle fetches probes (Some asked) old new from to before behind = (found : Found) × (image : ImageData)
     × fetches old asked.program program_limit found new × (program_in found ≡ Ok image)
-    × IsCutShort (drive_of asked.config asked.watch image) probes from to before behind
+    × IsCutShort (drive_of asked.config asked.report asked.watch image) probes from to before behind
 EndsInTheMiddle fetches probes None old new from to before behind = ⊥
 
 -- the source gave as many lines as 64 bits can count

@@ -7,12 +7,12 @@ ghost use Rattle.sink_pieces.specs.Pieces.{ends};
 ghost use Rattle.driven_replay.specs.Driven.{MayDrive, source};
 ghost use Rattle.call_status.specs.Status.{has_written};
 ghost use Rattle.call_files.specs.Fetches.{Fetches};
-ghost use Rattle.safetynet_drive.specs.Call.{is_drive, end_status, ComesTo, Comes, FollowsOver, IsCutShort, EndsInTheMiddle, HasGivenAll, asked_in};
+ghost use Rattle.safetynet_drive.specs.Call.{is_drive, end_status, showing_of, ComesTo, Comes, FollowsOver, IsCutShort, EndsInTheMiddle, HasGivenAll, asked_in};
 
 use call_files::fetch_program;
 use call_status::Status;
-use command_words::{Request, WordsFault, read_words};
-use driven_replay::{Drive, DriveEnd, DriveFault, drive};
+use command_words::{DriveReport, Request, WordsFault, read_words};
+use driven_replay::{Drive, DriveEnd, DriveFault, DriveShowing, drive};
 use line_source::Lines;
 use script_replay::{ReportKind, Showing};
 use sn_io::{Sink, Store};
@@ -26,6 +26,18 @@ pub fn is_drive(words: &[String]) -> bool
     match words {
         [_, command, ..] => command.as_str() == "drive",
         _ => false,
+    }
+}
+
+fn showing_of(report: DriveReport, watch: Option<u32>) -> DriveShowing
+    ensures { result ≡ showing_of report watch }
+{
+    match report {
+        DriveReport::Events => DriveShowing::Replay(Showing {
+            report: ReportKind::Events,
+            watch,
+        }),
+        DriveReport::States => DriveShowing::States(watch),
     }
 }
 
@@ -111,10 +123,7 @@ fn answer<S: Store, L: Lines, C: Sink, R: Sink>(
     let job = Drive {
         program,
         config: asked.config,
-        showing: Showing {
-            report: ReportKind::Events,
-            watch: asked.watch,
-        },
+        showing: showing_of(asked.report, asked.watch),
     };
     perform(alloc, job, lines, console, report, probes)
 }
@@ -152,7 +161,7 @@ pub fn safetynet_drive<S: Store, L: Lines, C: Sink, R: Sink>(
         → Rose (C.faults console.old) (C.faults console.new) ⊎ Rose (R.faults report.old) (R.faults report.new) }
     ensures input_fault { result ≡ Status.InputFault → Rose (L.faults lines.old) (L.faults lines.new)
         ⊎ HasGivenAll (source (L.read lines.old) (L.left lines.old)) (source (L.read lines.new) (L.left lines.new)) }
-    // Nothing is read and nothing written, or memory was wanted for a look or a way back.
+    // Nothing is read and nothing written, or memory was wanted for a look, a way back or a line of states.
     ensures nothing { has_written result ≡ false → ((console.new ≡ console.old) × ((report.new ≡ report.old) × (lines.new ≡ lines.old)))
         ⊎ ((result ≡ Status.Memory) × EndsInTheMiddle (Fetches S.files S.sure S.faults S.gave)
         (meters_of first tally step probes.items) (asked_in (ask_of (map string_bytes words.now))) store.old store.new

@@ -26,6 +26,8 @@ const PUTS_A: &str = "04100513\n00100893\n00000073\n05d00893\n00000073\n";
 
 const WORDS: &str = "safetynet drive --nodes 1 a.hex";
 
+const STATES_WORDS: &str = "safetynet drive --nodes 1 --states a.hex";
+
 /// A byte is put and released, between lines that are no events.
 const RELEASED: &str = "\
 step 0\n# a comment\nstep 0\nstep 0\nfall 0\nedge 0\nreport 0\nforesee validate\ndeliver 1\nstep 1\nvalidate\n";
@@ -58,9 +60,26 @@ released 0
 core 0 80000000 running
 ";
 
+/// What `replay --states` reports of one step.
+const STATES_REPORT: &str = "\
+{\"form\":\"safetynet states 1\",\"nodes\":1,\"sets\":16,\"ways\":4,\"log\":256,\"entry\":\"80000000\",\"events\":0,\
+\"state\":{\"nodes\":[{\"node\":0,\"now\":0,\"known\":0,\"core\":{\"pc\":\"80000000\",\"end\":\"running\",\
+\"registers\":{},\"reservation\":null},\"lines\":[],\"miss\":null,\"put\":null,\"log\":[],\"given\":\"\",\"taken\":0,\
+\"waiting\":[]}],\"homes\":[],\"net\":{\"messages\":[],\"dead\":[],\"next\":\"1\"},\"controller\":{\"point\":0,\
+\"reported\":[0],\"committed\":0,\"held\":[],\"released\":0}}}\n\
+{\"place\":1,\"event\":\"step 0\",\"answer\":\"retired\",\"step\":{\"pc\":\"80000000\",\
+\"instruction\":\"addi x10, x0, 65\",\"did\":{\"seen\":\"00000000\",\"done\":false,\"read\":null,\"wrote\":null,\
+\"out\":null}},\"sent\":[],\"parts\":{\"nodes\":[{\"node\":0,\"now\":0,\"known\":0,\"core\":{\"pc\":\"80000004\",\
+\"end\":\"running\",\"registers\":{\"x10\":\"00000041\"},\"reservation\":null},\"lines\":[],\"miss\":null,\
+\"put\":null,\"log\":[],\"given\":\"\",\"taken\":0,\"waiting\":[{\"interval\":0,\"seen\":\"00000000\",\"done\":false,\
+\"read\":null}]}],\"homes\":[],\"net\":null,\"controller\":{\"point\":0,\"reported\":[0],\"committed\":0,\"held\":[],\
+\"released\":0}}}\n\
+{\"summary\":{\"events\":1,\"point\":0,\"committed\":0,\"released\":0,\"cores\":[{\"pc\":\"80000000\",\
+\"end\":\"running\",\"registers\":{},\"reservation\":null}],\"watch\":null,\"probes\":[]}}\n";
+
 const NONE: (u64, u64, u64) = (0, 0, 0);
 
-const ROWS: [Row; 8] = [
+const ROWS: [Row; 10] = [
     Row {
         words: WORDS,
         program: PUTS_A,
@@ -96,6 +115,24 @@ const ROWS: [Row; 8] = [
         status: Status::SinkFault,
         console: "",
         report: "1 validate: notready 0\n",
+    },
+    Row {
+        words: STATES_WORDS,
+        program: PUTS_A,
+        lines: "step 0\n",
+        failing: NONE,
+        status: Status::Done,
+        console: "",
+        report: STATES_REPORT,
+    },
+    Row {
+        words: STATES_WORDS,
+        program: PUTS_A,
+        lines: "step 0\n",
+        failing: (0, 0, 1),
+        status: Status::SinkFault,
+        console: "",
+        report: "",
     },
     Row {
         words: WORDS,

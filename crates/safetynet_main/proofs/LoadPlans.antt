@@ -170,7 +170,7 @@ plain-generated size (Err status) h = (λ e. h.0 cc, λ e. h.1 cc)
 
 pub plan-of_words : (ask : Option Request) → IsOfWords (plan_of ask)
 plan-of_words None = inl refl
-plan-of_words (Some (Drive config watch program)) = inl refl
+plan-of_words (Some (Drive config report watch program)) = inl refl
 plan-of_words (Some (Check nodes program trace)) = (
   refl,
   plain-trace nodes trace (Err (BadProgram ProgramTooLong)) (λ e. cc, λ e. cc),
@@ -336,7 +336,7 @@ module _ {S : Type 0} (files : S → Option (List ℕ → Option (List ℕ))) (s
 -- only words that are no command's are refused before any file
 pub refused-at_once : (ask : Option Request) → plan_of ask ≡ Due (Err Usage) → AsksNothing ask
 refused-at_once None e = refl
-refused-at_once (Some (Drive config watch program)) e = refl
+refused-at_once (Some (Drive config report watch program)) e = refl
 refused-at_once (Some (Check nodes program trace)) e = absurd cc
 refused-at_once (Some (Demo size)) e =
     absurd ((plain-generated size (program_of (words_text counting_words)) (program-of_bytes (words_text counting_words))).1 cc)

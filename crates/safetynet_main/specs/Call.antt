@@ -246,7 +246,7 @@ demo_plan size = Due (generated_job size (program_of (words_text counting_words)
 -- words that aren't a command's are refused, and so are those of a drive, which has a call of its own
 abbrev pub plan_of : Option Request → LoadPlan
 plan_of (Some (Replay config report watch program script)) = replay_plan config report watch program script
-plan_of (Some (Drive config watch program)) = Due (Err Usage)
+plan_of (Some (Drive config report watch program)) = Due (Err Usage)
 plan_of (Some (RollRequest config watch program script control)) = roll_plan config watch program script control
 plan_of (Some (RunRequest config rules report order scope watch program)) = run_plan config rules report order scope watch program
 plan_of (Some (MonitorRequest config rules watch program)) = monitor_plan config rules watch program
@@ -260,7 +260,7 @@ plan_of None = Due (Err Usage)
 -- whether the words are those of a command that this call does
 abbrev pub is_asked : Option Request → Bool
 is_asked None = false
-is_asked (Some (Drive config watch program)) = false
+is_asked (Some (Drive config report watch program)) = false
 is_asked (Some _) = true
 
 -- the words are no command's, or a drive's

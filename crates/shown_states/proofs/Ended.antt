@@ -1,9 +1,8 @@
 -- After the last event the summary is put.
-use Rattle.std.proofs.Common.{◌≡◌, ℕ, List, [], ◌∷◌, ◌++◌, take, length, refl, ap, sym, subst, ◌∙◌, inr, arith}
+use Rattle.std.proofs.Common.{◌≡◌, ℕ, List, [], ◌∷◌, take, length, ap, sym, subst, ◌∙◌, inr, arith}
 use Rattle.std.proofs.lemmas.List.{take_all}
 use Rattle.sn_base.specs.Image.{ImageData}
 use Rattle.sn_base.specs.declared.config.Config.{Config}
-use Rattle.sn_base.specs.declared.event.Event.{Event}
 use Rattle.sn_model.specs.Machine.{State}
 use Rattle.sn_machine.specs.Machine.{MachineData}
 use Rattle.consistent_cuts.specs.Headline.{state_of_run}
@@ -14,7 +13,7 @@ use Rattle.sink_pieces.proofs.PieceLaws.{after-append, Breaks-after}
 use Rattle.script_replay.specs.Probed.{told_of_run}
 use Rattle.shown_states.specs.declared.job.StatesReplay.{StatesReplay}
 use Rattle.shown_states.specs.Pieces.{turns_of}
-use Rattle.shown_states.specs.Shown.{MayBegin, told_script, pieces_due, IsShown, IsShownInPart, KnowApplied}
+use Rattle.shown_states.specs.Shown.{MayBegin, told_script, IsShown, IsShownInPart, KnowApplied}
 use Rattle.shown_states.proofs.Moments.{last_piece, due-is, all-put, part-put}
 use Rattle.shown_states.proofs.Played.{IsPlayed}
 

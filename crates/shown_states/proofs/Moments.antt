@@ -33,7 +33,7 @@ quietly watch = record { report = Summary; watch = watch }
 
 -- lines put nothing to the console
 
-quiet-report : (text : List ℕ) → console_text (report_piece text) ≡ []
+pub quiet-report : (text : List ℕ) → console_text (report_piece text) ≡ []
 quiet-report [] = refl
 quiet-report (byte ∷ text) = refl
 
@@ -49,7 +49,7 @@ module _ (image : ImageData) (config : Config) (only : Option Places) (watch : O
       ∙ append-nil (console_text (console_piece fresh)) ∙ console_text-piece fresh
       ∙ sym (console_text-turn image config (quietly watch) place s event)
 
-  console-from : (done : ℕ) (s : State) (events : List Event) →
+  pub console-from : (done : ℕ) (s : State) (events : List Event) →
       console_text (turns_from image config only done s events)
       ≡ console_text (script.turns_from image config (quietly watch) done s events)
   unfolding turns_from script.turns_from

@@ -1,15 +1,16 @@
 -- How far a replay that shows states has come, between two of its events.
-use Rattle.std.proofs.Common.{◌≡◌, ℕ, zero, suc, ◌+◌, ◌<◌, ◌≤◌, true, List, [], ◌∷◌, ◌++◌, map, take, drop, length, get_or, refl, ap, sym, subst, ◌∙◌}
+use Rattle.std.proofs.Common.{◌≡◌, ℕ, zero, suc, ◌+◌, ◌<◌, ◌≤◌, true, List, [], ◌∷◌, ◌++◌, map, take, length, get_or, refl, ap, sym, subst, ◌∙◌}
 use Rattle.std.proofs.Common.{append-nil, inl, inr, arith}
 use Rattle.std.proofs.lemmas.List.{take_more, map-id}
-use Rattle.std.specs.Prelude.{Option}
+use Rattle.std.proofs.lemmas.Result.{IfErr-at_err}
+use Rattle.std.specs.Prelude.{Option, Result, Err}
 use Rattle.sn_base.specs.Image.{ImageData}
 use Rattle.sn_base.specs.declared.config.Config.{Config}
 use Rattle.sn_base.specs.declared.event.Event.{Event}
 use Rattle.sn_base.specs.declared.event.Answer.{Answer}
 use Rattle.sn_base.specs.Events.{event_fits}
 use Rattle.sn_model.specs.Machine.{State, start_of}
-use Rattle.sn_model.specs.Step.{step_of, state_after}
+use Rattle.sn_model.specs.Step.{step_of}
 use Rattle.sn_machine.specs.Machine.{MachineData, next_of}
 use Rattle.consistent_cuts.specs.Headline.{state_of_run}
 use Rattle.consistent_cuts.specs.Runs.{EventFits, AllFit}
@@ -22,7 +23,7 @@ use Rattle.option_values.specs.declared.places.Places.{Places}
 use Rattle.shown_states.specs.declared.job.StatesReplay.{StatesReplay}
 use Rattle.shown_states.specs.Pieces.{report_piece, opening_text, state_turn, turns_from, turns_of}
 use Rattle.shown_states.specs.Played.{turn_now, states_of}
-use Rattle.shown_states.specs.Shown.{MayBegin, first_pieces, told_first, pieces_due, IsShownInPart, BreaksAt, KnowApplied, IsCutShort}
+use Rattle.shown_states.specs.Shown.{MayBegin, first_pieces, told_first, pieces_due, IsShownInPart, KnowApplied, IsCutShort}
 use Rattle.shown_states.proofs.Laws.{state-more, turns_of-more, told-more, turns-first}
 use Rattle.shown_states.proofs.Moments.{last_piece, due-is, console-first, is-lawful, part-put}
 use Rattle.sink_pieces.proofs.Begun.{console-after}
@@ -217,6 +218,10 @@ module _ (r : StatesReplay) (i : ℕ) (event : Event) (below : i < length r.scri
           knows = told-applied m h.reached probes now_ told h.knows more;
         },
       ))
+
+-- why an event isn't put is why a replay ends
+pub as-fault : {A B E : Type 0} (x y : E) → ◌≡◌ {A = Result A E} (Err x) (Err y) → ◌≡◌ {A = Result B E} (Err x) (Err y)
+as-fault x y is = ap (λ t. Err t) (IfErr-at_err (λ t. x ≡ t) is refl)
 
 -- memory was lacking
 pub cut-short : (r : StatesReplay) (may : MayBegin r) (i : ℕ) (probes : List Meter) (before : Ends) (m : MachineData) (now_ told : List Meter)

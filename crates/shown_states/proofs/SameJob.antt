@@ -1,6 +1,5 @@
 -- What was done of a replay that shows states was done of the same one in other words.
-use Rattle.std.proofs.Common.{◌≡◌, ◌⊎◌, ℕ, ◌≤◌, List, Result, OnOk, refl, ap, sym, subst, ◌∙◌, inl, inr, length, arith}
-use Rattle.std.specs.Prelude.{Option}
+use Rattle.std.proofs.Common.{◌≡◌, ◌⊎◌, ℕ, ◌≤◌, List, Result, OnOk, refl, ap, sym, subst, ◌∙◌, length, arith}
 use Rattle.sn_base.specs.Image.{ImageData}
 use Rattle.sn_base.specs.declared.config.Config.{Config}
 use Rattle.sn_base.specs.declared.event.Event.{Event}
@@ -9,7 +8,6 @@ use Rattle.sn_model.specs.Machine.{start_of}
 use Rattle.sn_probe.specs.Probes.{Meter}
 use Rattle.sink_pieces.specs.Pieces.{Ends}
 use Rattle.script_replay.specs.Played.{IsAtStart}
-use Rattle.option_values.specs.declared.places.Places.{Places}
 use Rattle.shown_states.specs.declared.job.StatesReplay.{StatesReplay}
 use Rattle.shown_states.specs.Played.{states_of}
 use Rattle.shown_states.specs.Shown.{told_script, IsShown, IsShownInPart, KnowApplied, IsCutShort}

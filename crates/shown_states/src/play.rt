@@ -1,8 +1,9 @@
 //! Events one after another, each with its pieces.
-ghost use Rattle.std.specs.Prelude.{◌≡◌, ℕ, ◌+◌, ◌≤◌, ◌⊎◌, true, List, [], ◌∷◌, length, Option, OnOk, OnErr, Err};
+ghost use Rattle.std.specs.Prelude.{◌≡◌, ℕ, ◌+◌, ◌≤◌, ◌⊎◌, true, List, [], ◌∷◌, length, Option, OnOk, OnErr, IfOk, Err};
 ghost use Rattle.sn_base.specs.Events.{event_fits};
 ghost use Rattle.consistent_cuts.specs.Runs.{EventFits};
 ghost use Rattle.sn_io.specs.Outside.{Rose};
+ghost use Rattle.sn_machine.specs.Machine.{next_of};
 ghost use Rattle.sn_probe.specs.Probes.{meters_in, tallies_of};
 ghost use Rattle.sink_pieces.specs.Pieces.{Report, ends, after, Breaks};
 ghost use Rattle.state_json.specs.Lines.{last_line};
@@ -14,7 +15,7 @@ ghost use Rattle.shown_states.specs.Shown.{MayBegin, told_script, IsShown, IsSho
 use crate::pieces::{apply_and_write, put_text, tell_and_put, write_opening};
 use option_values::Places;
 use sink_pieces::put_report;
-use sn_base::Event;
+use sn_base::{Answer, Event};
 use sn_io::Sink;
 use sn_machine::Machine;
 use sn_probe::ProbeSet;
@@ -30,8 +31,8 @@ pub enum StatesFault {
     Memory,
 }
 
-// The first line, where the first event is shown.
-fn start<R: Sink>(
+/// Puts the first line, where the machine's next event is the first that is shown.
+pub fn put_opening<R: Sink>(
     text: &mut Vec<u8>,
     machine: &Machine,
     only: &Option<Places>,
@@ -55,8 +56,9 @@ fn start<R: Sink>(
     }
 }
 
-// One event: its text is written, every probe is told it, and its pieces are put.
-fn turn<C: Sink, R: Sink>(
+/// One event: its text is written while it is applied, every probe is told it, and its pieces are put. Where memory is lacking, the
+/// machine may be before the event or after it.
+pub fn turn_with_state<C: Sink, R: Sink>(
     text: &mut Vec<u8>,
     machine: &mut Machine,
     event: &Event,
@@ -64,11 +66,12 @@ fn turn<C: Sink, R: Sink>(
     probes: &mut ProbeSet,
     console: &mut C,
     report: &mut R,
-) -> Result<(), StatesFault>
+) -> Result<Answer, StatesFault>
     requires fits { event_fits machine.old.config.nodes event.now ≡ true }
     requires whole { EventFits machine.old.config.nodes event.now }
     requires room { 1 ≤ machine.old.spare }
     ensures next { OnOk result (machine.new ≡ after_event machine.old event.now) }
+    ensures answer { IfOk result (λ answer. answer ≡ (next_of machine.old event.now).answer) }
     ensures told { OnOk result (meters_in first tally step probes.new.probes.items
         ≡ told_next machine.old event.now (meters_in first tally step probes.old.probes.items)) }
     ensures ok { OnOk result (ends (C.written console.new) (R.written report.new)
@@ -99,13 +102,13 @@ fn turn<C: Sink, R: Sink>(
         console,
         report,
     ) {
-        Ok(()) => Ok(()),
+        Ok(()) => Ok(answer),
         Err(_) => Err(StatesFault::Sink),
     }
 }
 
-// The last line.
-fn finish<R: Sink>(
+/// Puts the last line, of the events that were applied to the machine.
+pub fn put_last_line<R: Sink>(
     text: &mut Vec<u8>,
     machine: &Machine,
     watch: Option<u32>,
@@ -171,15 +174,15 @@ pub fn play<C: Sink, R: Sink>(
         → Rose (C.faults console.old) (C.faults console.new) ⊎ Rose (R.faults report.old) (R.faults report.new) }
 {
     let mut text = Vec::new(alloc);
-    match start(&mut text, machine, only, report) {
+    match put_opening(&mut text, machine, only, report) {
         Ok(()) => {}
         Err(fault) => return Err(fault),
     }
     'events: for event in events {
-        match turn(&mut text, machine, event, only, probes, console, report) {
-            Ok(()) => {}
+        match turn_with_state(&mut text, machine, event, only, probes, console, report) {
+            Ok(_) => {}
             Err(fault) => return Err(fault),
         }
     }
-    finish(&mut text, machine, watch, probes, report)
+    put_last_line(&mut text, machine, watch, probes, report)
 }

@@ -83,7 +83,7 @@ options_of Dis = []
 -- the options that take none
 abbrev pub flags_of : Command → List Text
 flags_of Replay = codes "--trace" ∷ codes "--states" ∷ codes "--statistics" ∷ codes "--accesses" ∷ []
-flags_of Drive = []
+flags_of Drive = codes "--states" ∷ []
 flags_of Roll = []
 flags_of Run = codes "--trace" ∷ codes "--journal" ∷ codes "--accesses" ∷ codes "--statistics" ∷ []
 flags_of Monitor = []

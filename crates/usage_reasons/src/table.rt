@@ -80,6 +80,8 @@ const REPLAY_OPTIONS: &[&str] = &["--nodes", "--sets", "--ways", "--log", "--wat
 
 const REPLAY_FLAGS: &[&str] = &["--trace", "--states", "--statistics", "--accesses"];
 
+const DRIVE_FLAGS: &[&str] = &["--states"];
+
 const RUN_FLAGS: &[&str] = &["--trace", "--journal", "--accesses", "--statistics"];
 
 const ORDERS: &[&str] = &["threads", "round", "drawn"];
@@ -198,9 +200,9 @@ pub(crate) fn flags_of(command: Command) -> &'static [&'static str]
 {
     match command {
         Command::Replay => REPLAY_FLAGS,
+        Command::Drive => DRIVE_FLAGS,
         Command::Run => RUN_FLAGS,
-        Command::Drive
-        | Command::Roll
+        Command::Roll
         | Command::Monitor
         | Command::Check
         | Command::Judge

@@ -13,6 +13,10 @@ options, before or after the file, each at most once, as --nodes 2 or --nodes=2:
   --log N          entries of each node's log, 4 to 4096 [default: 256]
   --watch ADDRESS  also show the word at ADDRESS wherever cores are shown: eight
                    hexadecimal digits, 80000000 to 803ffffc, a multiple of 4
+  --states         of each event a line of JSON, with what it changed of the
+                   state, as replay --states puts it; the start's whole state
+                   comes before the first line is read, and the summary is the
+                   last object
 
 reads:
   PROGRAM         an ELF file or a text of words, at most 16 MiB (help formats)

@@ -41,7 +41,7 @@ driving-preserved g c =
     let fits = fits-said _ _ c.in-Ok-Some.said c.in-Ok-Some.field-0-is c.in-Ok-Some.ensures.fits in
     record {
       driving = driving-next _ _ _ _ _ _ _ _ _ _ _ _ h _ c.driving.invariant.nodes c.in-Ok-Some.said _ next _ refl _ _
-          c.answer.ensures.told c.answer.new.machine c.answer.new.driver c.answer.new.kept
+          c.in-Ok.ensures.told c.answer.new.machine c.answer.new.driver c.answer.new.kept
           c.in-Ok.ensures.next c.in-Ok.ensures.counted c.in-Ok.ensures.kept
           (driving-fits _ _ _ _ _ _ _ _ _ _ _ _ h _ c.in-Ok-Some.said c.driving.invariant.nodes fits)
           (c.is_full.ensures.room c.if-is_full.false) c.in-Ok.ensures.ok;
@@ -85,7 +85,8 @@ returns-in-Err-Sink-clause-sink g c = λ e.
       h.lines,
       next.0,
       driving-breaks _ _ _ _ _ _ _ _ _ _ _ _ h _ c.driving.invariant.nodes c.in-Ok-Some.said _ next _ refl _ _
-          c.answer.ensures.told (c.in-Err-Sink.ensures.sink (ap (λ t. Err t) c.in-Err-Sink.field-0-is)),
+          (c.in-Err-Sink.ensures.knows (ap (λ t. Err t) c.in-Err-Sink.field-0-is))
+          (c.in-Err-Sink.ensures.sink (ap (λ t. Err t) c.in-Err-Sink.field-0-is)),
       line-read _ _ _ _ _ _ _ _ _ _ _ _ h _ c.driving.invariant.nodes c.in-Ok-Some.said _ next,
     )
 
@@ -96,8 +97,9 @@ returns-in-Err-Memory-clause-memory g c = λ e.
     let k = c.in-Err-Memory.ensures.memory (ap (λ t. Err t) c.in-Err-Memory.field-0-is) in (
       h.lines,
       next.0,
+      c.driving.machine,
       wants-memory _ _ _ _ _ _ _ _ _ _ _ _ h _ c.driving.invariant.nodes c.in-Ok-Some.said _ next k.0,
-      rw (k.1, k.4, k.5, k.6) (driving-answered _ _ _ _ _ _ _ _ _ _ _ _ h),
+      rw (k.3, k.4, k.5) (driving-answered _ _ _ _ _ _ _ _ _ _ _ _ h),
       line-read _ _ _ _ _ _ _ _ _ _ _ _ h _ c.driving.invariant.nodes c.in-Ok-Some.said _ next,
     )
 

@@ -1,4 +1,4 @@
-use Rattle.std.proofs.Common.{ap, inr}
+use Rattle.std.proofs.Common.{ap}
 use Rattle.std.specs.Prelude.{◌⊎◌, ◌≤◌, ◌-◌, ◌^◌, List, length}
 use Rattle.sn_io.specs.Outside.{Rose}
 use Rattle.line_source.specs.Lines.{LineRead}
@@ -19,8 +19,8 @@ returns-clause-input g c = λ e.
 
 pub returns-clause-sink : goal.returns-clause-sink
 returns-clause-sink g c = λ e.
-    of-job _ c.args.job _ _ _ _ _ _ (ap (λ (m : MachineData). drive_on m c.args.job.showing) c.in-Some.ensures.machine) (c.drive_all.ensures.sink e)
+    of-job _ _ c.args.job _ _ _ _ _ _ (ap (λ (m : MachineData). drive_on m c.args.job.showing) c.in-Some.ensures.machine) (c.drive_all.ensures.sink e)
 
 pub returns-clause-memory : goal.returns-clause-memory
 returns-clause-memory g c = λ e.
-    inr (of-lack _ c.args.job _ _ _ _ _ _ (ap (λ (m : MachineData). drive_on m c.args.job.showing) c.in-Some.ensures.machine) (c.drive_all.ensures.memory e))
+    of-lack _ _ c.args.job _ _ _ _ _ _ (ap (λ (m : MachineData). drive_on m c.args.job.showing) c.in-Some.ensures.machine) (c.drive_all.ensures.memory e)

@@ -5,7 +5,6 @@ use Rattle.sink_pieces.proofs.SoFar.{SoFar, SoFar-start}
 use Rattle.rolled_replay.specs.declared.stage.Stage.{Stage}
 use Rattle.rolled_replay.specs.Pieces.{control_pieces}
 use Rattle.rolled_replay.specs.Stages.{IsNumbered, machine_of, stage_after}
-use Rattle.rolled_replay.specs.Text.{control_line}
 use Rattle.rolled_replay.proofs.Lined.{last-next, line-next, line-breaks, lines-whole}
 use Rattle.rolled_replay.proofs.Staged.{stage-numbered, stage-sizes}
 use Rattle.rolled_replay.proofs.leading.put_controls.Goals as goal
@@ -23,34 +22,32 @@ controls-init g c = record {
 pub controls-preserved : goal.controls-preserved
 controls-preserved g c = record {
   place = ap (λ k. k + 1) c.controls.invariant.place;
-  numbers = subst (λ (s : Stage). IsNumbered s (c.controls.control-index + 1 + 1)) (sym c.control-next.ensures.stage)
+  numbers = subst (λ (s : Stage). IsNumbered s (c.controls.control-index + 1 + 1)) (sym c.in_ok-stage.ensures.stage)
       (stage-numbered c.controls.stage c.control-item.result (c.controls.control-index + 1) c.controls.invariant.numbers);
-  sizes = ap (λ (s : Stage). (machine_of s).config) c.control-next.ensures.stage ∙ stage-sizes c.controls.stage c.control-item.result
-      ∙ c.controls.invariant.sizes;
-  last = ap (λ (s : Stage). stage_after s (drop (c.controls.control-index + 1) c.args.controls.now)) c.control-next.ensures.stage
+  sizes = ap (λ (s : Stage). (machine_of s).config) c.in_ok-stage.ensures.stage
+      ∙ stage-sizes c.controls.stage c.control-item.result ∙ c.controls.invariant.sizes;
+  last = ap (λ (s : Stage). stage_after s (drop (c.controls.control-index + 1) c.args.controls.now)) c.in_ok-stage.ensures.stage
       ∙ last-next c.args.controls.now c.controls.control-index c.control-item.result c.controls-test.true c.control-item.is c.args.stage
       c.controls.stage c.controls.invariant.last;
   put = λ r.
       subst (λ (s : Stage). SoFar (control_pieces 0 c.args.stage c.args.controls.now)
       (control_pieces (c.controls.control-index + 1) s (drop (c.controls.control-index + 1) c.args.controls.now)) (ends r (g.R.Sink.written c.args.report.now))
-      (ends r (g.R.Sink.written c.put_report.new.report)))
-      (sym c.control-next.ensures.stage)
+      (ends r (g.R.Sink.written c.put_control.new.report)))
+      (sym c.in_ok-stage.ensures.stage)
       (line-next c.args.controls.now c.controls.control-index c.control-item.result c.controls-test.true c.control-item.is
-      (control_pieces 0 c.args.stage c.args.controls.now) c.controls.stage c.controls.place c.controls.invariant.place c.bytes.result.now
-      (c.bytes.ensures ∙ c.write_line.ensures ∙ ap (control_line (c.controls.place + 1) c.control-item.result) c.control-next.ensures.reply)
-      _ _ _ (c.controls.invariant.put r) (c.in_ok-put_report.ensures.ok r));
-  later = omega (arith, c.put_report.ensures.later, c.controls.invariant.later);
+      (control_pieces 0 c.args.stage c.args.controls.now) c.controls.stage c.controls.place c.controls.invariant.place _ refl
+      _ _ _ (c.controls.invariant.put r) (c.in_ok-stage.ensures.ok r));
+  later = omega (arith, c.put_control.ensures.later, c.controls.invariant.later);
 }
 
-pub returns-in_err-put_report-clause-err : goal.returns-in_err-put_report-clause-err
-returns-in_err-put_report-clause-err g c =
+pub returns-in_err-stage-clause-err : goal.returns-in_err-stage-clause-err
+returns-in_err-stage-clause-err g c =
     let p = err_from_is_err_and c.from_residual.result c.from_residual.ensures.1 in
     rw p.1
     (λ r.
     line-breaks c.args.controls.now c.controls.control-index c.control-item.result c.controls-test.true c.control-item.is
-    (control_pieces 0 c.args.stage c.args.controls.now) c.controls.stage c.controls.place c.controls.invariant.place c.bytes.result.now
-    (c.bytes.ensures ∙ c.write_line.ensures ∙ ap (control_line (c.controls.place + 1) c.control-item.result) c.control-next.ensures.reply)
-    _ _ _ (c.controls.invariant.put r) (c.in_err-put_report.ensures.err r))
+    (control_pieces 0 c.args.stage c.args.controls.now) c.controls.stage c.controls.place c.controls.invariant.place _ refl
+    _ _ _ (c.controls.invariant.put r) (c.in_err-stage.ensures.err r))
 
 pub returns-clause-ok : goal.returns-clause-ok
 returns-clause-ok g c =

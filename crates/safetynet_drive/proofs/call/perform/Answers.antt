@@ -5,7 +5,7 @@ use Rattle.safetynet_drive.proofs.call.perform.Goals as goal
 
 pub returns-in-Err-Sink-clause-follows : goal.returns-in-Err-Sink-clause-follows
 returns-in-Err-Sink-clause-follows g c = λ m.
-    broken-off c.args.job _ _ _ _ _ _ (c.in-Err-Sink.ensures.sink (ap (λ t. Err t) c.in-Err-Sink.field-0-is))
+    broken-off g.L.Lines.read g.L.Lines.left _ _ c.args.job _ _ _ _ (c.in-Err-Sink.ensures.sink (ap (λ t. Err t) c.in-Err-Sink.field-0-is))
 
 pub returns-in-Err-Input-clause-follows : goal.returns-in-Err-Input-clause-follows
 returns-in-Err-Input-clause-follows g c = λ m.
