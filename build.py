@@ -44,8 +44,8 @@ OWN = Path(__file__).resolve()
 HERE = OWN.parent
 PARTS = ["src", "specs", "proofs"]
 MEMORY_EACH = 3 << 30
-# What a build from nothing takes on four processors that do nothing else (docs/MEASURES.md).
-MINUTES_FROM_NOTHING = 24
+# About what a build from nothing takes on four processors, by what its checks cost (docs/MEASURES.md).
+MINUTES_FROM_NOTHING = 45
 
 
 class NotBuilt(Exception):

@@ -20,7 +20,7 @@ from typing import List, Sequence
 
 TOP = Path(__file__).resolve().parent.parent
 # Those that take longest, which begin first.
-LONGEST = ["first_command", "python", "campaigns"]
+LONGEST = ["tour", "first_command", "python", "campaigns"]
 LIMIT = 40 * 60.0
 # So long a part that is to end may still take, to take away what it began.
 GRACE = 60.0
