@@ -225,6 +225,17 @@ def nothing_is_left_unflushed(built: str, folder: Path) -> None:
         assert it.end().console == b"A" * 39
 
 
+def outputs_in_one_pipe(built: str, folder: Path) -> None:
+    """Where one pipe takes both outputs, each byte of the console stands before the answer of the event that released it, though all lines come together."""
+    events = FIRST + b"".join(map(released, range(1, 40)))
+    Path(folder, "events.script").write_bytes(events)
+    words = put_program(folder, LOUD)
+    report = called(built, ["replay", *words, "events.script"], folder).report
+    done = subprocess.run([built, "drive", *words], cwd=folder, input=events, stdout=subprocess.PIPE, stderr=subprocess.STDOUT, timeout=LONGEST)
+    wanted = re.sub(rb"(?m)^(?=\d+ validate: validated )", b"A", report)
+    assert done.returncode == 0 and done.stdout == wanted, (done.returncode, done.stdout[:300])
+
+
 ENDS: List[Tuple[str, Must]] = [
     ("no input", no_input),
     ("no line end", no_line_end),
@@ -240,4 +251,5 @@ ENDS: List[Tuple[str, Must]] = [
     ("two on one input", shared_input),
     ("words and files that are refused", refused_words),
     ("nothing is left unflushed", nothing_is_left_unflushed),
+    ("outputs in one pipe", outputs_in_one_pipe),
 ]

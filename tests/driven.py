@@ -25,12 +25,19 @@ class Outcome(NamedTuple):
     report: bytes
 
 
+def heed_interrupts() -> None:
+    """In a process that is about to begin: what is begun in the background ignores SIGINT, and so would all that it begins."""
+    signal.signal(signal.SIGINT, signal.SIG_DFL)
+
+
 class Driven:
     """`drive` with these words, in a folder. What it writes is kept; `read` waits for so many bytes of it."""
 
     def __init__(self, program: str, words: Sequence[str], folder: Path) -> None:
         pipe = subprocess.PIPE
-        self.process = subprocess.Popen([program, "drive", *words], cwd=folder, bufsize=0, stdin=pipe, stdout=pipe, stderr=pipe, start_new_session=True)
+        self.process = subprocess.Popen(
+            [program, "drive", *words], cwd=folder, bufsize=0, stdin=pipe, stdout=pipe, stderr=pipe, start_new_session=True, preexec_fn=heed_interrupts
+        )
         assert self.process.stdin and self.process.stdout and self.process.stderr
         self.stdin, self.stdout, self.stderr = (it.fileno() for it in (self.process.stdin, self.process.stdout, self.process.stderr))
         self.console, self.report = bytearray(), bytearray()

@@ -5,11 +5,10 @@ use Rattle.sn_base.specs.declared.config.Config.{Config}
 use Rattle.sn_base.specs.declared.event.Event.{Event}
 use Rattle.rv_core.specs.declared.state.CoreState.{CoreState}
 use Rattle.rv_core.specs.Flat.{first_cores}
-use Rattle.sn_machine.specs.Machine.{MachineData}
+use Rattle.sn_machine.specs.Machine.{MachineData, machine_with_room}
 use Rattle.sn_probe.specs.Probes.{Meter}
 use Rattle.sink_pieces.specs.Pieces.{Ends}
 use Rattle.script_replay.specs.declared.job.Replay.{Replay}
-use Rattle.accesses_replay.specs.Pieces.{machine_with_room}
 use Rattle.script_replay.specs.Probed.{told_all}
 use Rattle.script_replay.specs.Scheduled.{replay_of}
 use Rattle.accesses_replay.specs.Shown.{IsDone, IsBrokenOff, KnowApplied}

@@ -5,7 +5,7 @@ use Rattle.sn_base.specs.Image.{ImageData}
 use Rattle.sn_base.specs.declared.config.Config.{Config}
 use Rattle.sn_base.specs.declared.event.Event.{Event}
 use Rattle.sn_model.specs.Machine.{State}
-use Rattle.sn_machine.specs.Machine.{MachineData}
+use Rattle.sn_machine.specs.Machine.{MachineData, machine_with_room}
 use Rattle.consistent_cuts.specs.Headline.{state_of_run}
 use Rattle.sn_io.specs.Outside.{followed_by}
 use Rattle.sn_probe.specs.Probes.{Meter, tallies_of}
@@ -17,7 +17,7 @@ use Rattle.script_replay.specs.Probed.{told_of_run, told_all, tallies_due}
 use Rattle.script_replay.specs.Shown.{BreaksAt}
 use Rattle.script_replay.specs.Played.{MayBegin, turns_left, told_left, state_left, StopsAt}
 use Rattle.script_replay.specs.declared.job.Replay.{Replay}
-use Rattle.accesses_replay.specs.Pieces.{machine_with_room, after_events, quietly, end_pieces, pieces_of}
+use Rattle.accesses_replay.specs.Pieces.{after_events, quietly, end_pieces, pieces_of}
 use Rattle.accesses_replay.specs.Shown.{end_due, pieces_due, IsDone, IsBrokenOff, KnowApplied}
 use Rattle.accesses_replay.proofs.Left.{left-image, left-config, left-state, left-applied}
 use Rattle.accesses_replay.proofs.Moments.{turns-first, executed, console-due, report-due, is-lawful}

@@ -3,7 +3,7 @@ use Rattle.std.specs.Prelude.{ℕ, List, [], ◌∷◌, ◌++◌, length, codes,
 use Rattle.sn_base.specs.Image.{ImageData}
 use Rattle.sn_base.specs.declared.config.Config.{Config}
 use Rattle.sn_base.specs.declared.event.Event.{Event}
-use Rattle.sn_model.specs.Machine.{State, start_of}
+use Rattle.sn_model.specs.Machine.{State}
 use Rattle.sn_machine.specs.Machine.{MachineData}
 use Rattle.consistent_cuts.specs.Headline.{state_of_run}
 use Rattle.sink_pieces.specs.Pieces.{Piece}
@@ -14,17 +14,7 @@ use Rattle.script_replay.specs.declared.job.ReportKind.TheVariants.{Summary}
 use Rattle.script_replay.specs.Pieces.{summary_pieces, turns_of}
 use Rattle.script_replay.specs.Played.{after_event}
 
--- a machine at the start of a program with room for so many events, and what events leave of it
-abbrev pub machine_with_room : ImageData → Config → ℕ → MachineData
-machine_with_room image config room = record {
-  image = image;
-  config = config;
-  state = start_of image config.nodes;
-  sent = [];
-  applied = 0;
-  spare = room;
-}
-
+-- what events leave of a machine
 abbrev pub after_events : MachineData → List Event → MachineData
 after_events m [] = m
 after_events m (event ∷ events) = after_events (after_event m event) events

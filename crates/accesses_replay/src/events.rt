@@ -4,10 +4,11 @@ ghost use Rattle.sn_base.specs.Config.{config_fits};
 ghost use Rattle.sn_io.specs.Outside.{Rose};
 ghost use Rattle.sink_pieces.specs.Pieces.{ends, after, Breaks};
 ghost use Rattle.rv_core.specs.Flat.{first_cores};
+ghost use Rattle.sn_machine.specs.Machine.{machine_with_room};
 ghost use Rattle.consistent_cuts.specs.Runs.{AllFit};
 ghost use Rattle.sn_probe.specs.Probes.{meters_in, tallies_of};
 ghost use Rattle.script_replay.specs.Played.{turns_left, told_left, StopsAt, IsWatchable};
-ghost use Rattle.accesses_replay.specs.Pieces.{machine_with_room, after_events, quietly, end_pieces};
+ghost use Rattle.accesses_replay.specs.Pieces.{after_events, quietly, end_pieces};
 ghost use Rattle.sn_base.specs.declared.limits.TheConstants.{EVENTS};
 
 use committed_accesses::AccessRows;
@@ -40,11 +41,8 @@ pub fn ready_for(alloc: Global, program: Image, config: Config, events: u32) -> 
     let Ok(rows) = AccessRows::start(alloc, &program, config.nodes) else {
         return None;
     };
-    let Ok(mut machine) = Machine::new(alloc, program, config) else {
-        return None;
-    };
-    match machine.reserve(events) {
-        Ok(()) => Some(Ready {
+    match Machine::with_room(alloc, program, config, events) {
+        Ok(machine) => Some(Ready {
             machine,
             line,
             rows,

@@ -4,7 +4,7 @@ ghost use Rattle.sn_io.specs.Outside.{Rose};
 ghost use Rattle.sink_pieces.specs.Pieces.{ends};
 ghost use Rattle.rv_core.specs.Flat.{first_cores};
 ghost use Rattle.sn_probe.specs.Probes.{meters_in};
-ghost use Rattle.accesses_replay.specs.Pieces.{machine_with_room};
+ghost use Rattle.sn_machine.specs.Machine.{machine_with_room};
 ghost use Rattle.script_replay.specs.Played.{MayBegin};
 ghost use Rattle.script_replay.specs.Probed.{told_all};
 ghost use Rattle.script_replay.specs.Scheduled.{replay_of};
@@ -19,25 +19,25 @@ use std::alloc::Global;
 
 // All but taking the memory: the events, and what stands at the end.
 fn put_all<C: Sink, R: Sink>(
-    ready: Ready,
+    ready: &mut Ready,
     events: &[Event],
     showing: &Showing,
     probes: &mut ProbeSet,
     console: &mut C,
     report: &mut R,
 ) -> Result<(), Failed>
-    requires start { ready.machine ≡ machine_with_room ready.machine.image ready.machine.config (length events.now) }
-    requires rows { ready.rows.cores ≡ first_cores ready.machine.config.nodes ready.machine.image.entry }
-    requires may { MayBegin (replay_of ready.machine showing.now events.now) }
-    ensures ok { OnOk result (IsDone (replay_of ready.machine showing.now events.now)
+    requires start { ready.old.machine ≡ machine_with_room ready.old.machine.image ready.old.machine.config (length events.now) }
+    requires rows { ready.old.rows.cores ≡ first_cores ready.old.machine.config.nodes ready.old.machine.image.entry }
+    requires may { MayBegin (replay_of ready.old.machine showing.now events.now) }
+    ensures ok { OnOk result (IsDone (replay_of ready.old.machine showing.now events.now)
         (meters_in first tally step probes.old.probes.items)
         (ends (C.written console.old) (R.written report.old)) (ends (C.written console.new) (R.written report.new))) }
     ensures told { OnOk result (meters_in first tally step probes.new.probes.items
-        ≡ told_all (replay_of ready.machine showing.now events.now) (meters_in first tally step probes.old.probes.items)) }
-    ensures sink { OnErr result (IsBrokenOff (replay_of ready.machine showing.now events.now)
+        ≡ told_all (replay_of ready.old.machine showing.now events.now) (meters_in first tally step probes.old.probes.items)) }
+    ensures sink { OnErr result (IsBrokenOff (replay_of ready.old.machine showing.now events.now)
         (meters_in first tally step probes.old.probes.items)
         (ends (C.written console.old) (R.written report.old)) (ends (C.written console.new) (R.written report.new))) }
-    ensures applied { OnErr result (KnowApplied (replay_of ready.machine showing.now events.now)
+    ensures applied { OnErr result (KnowApplied (replay_of ready.old.machine showing.now events.now)
         (meters_in first tally step probes.old.probes.items)
         (ends (C.written console.old) (R.written report.old)) (ends (C.written console.new) (R.written report.new))
         (meters_in first tally step probes.new.probes.items)) }
@@ -46,14 +46,9 @@ fn put_all<C: Sink, R: Sink>(
     ensures cause { OnErr result
         (Rose (C.faults console.old) (C.faults console.new) ⊎ Rose (R.faults report.old) (R.faults report.new)) }
 {
-    let Ready {
-        mut machine,
-        mut line,
-        mut rows,
-    } = ready;
     put_events(
-        &mut machine,
-        &mut line,
+        &mut ready.machine,
+        &mut ready.line,
         events,
         showing.watch,
         probes,
@@ -61,9 +56,9 @@ fn put_all<C: Sink, R: Sink>(
         report,
     )?;
     put_end(
-        &mut rows,
-        &mut line,
-        &machine,
+        &mut ready.rows,
+        &mut ready.line,
+        &ready.machine,
         showing.watch,
         probes,
         report,
@@ -110,10 +105,12 @@ pub fn replay_accesses<C: Sink, R: Sink>(
         script,
     } = job;
     let events = script.events();
-    let Some(ready) = ready_for(alloc, program, config, events.len() as u32) else {
+    let Some(mut ready) = ready_for(alloc, program, config, events.len() as u32) else {
         return Err(ReplayFault::Memory);
     };
-    match put_all(ready, events, &showing, probes, console, report) {
+    let put = put_all(&mut ready, events, &showing, probes, console, report);
+    drop(ready);
+    match put {
         Ok(()) => Ok(()),
         Err(_) => Err(ReplayFault::Sink),
     }

@@ -1,6 +1,6 @@
 //! The table of commands, as clap wants it: a function a command, and a line for it in `command`.
 ghost use Rattle.std.specs.Prelude.{◌≡◌, ◌↔◌, IfOk, IfErr, false, true, map, string_bytes};
-ghost use Rattle.clap.specs.Words.{app_of, rule_of, with_rule, takes, kind_of, subcommand_of, subcommand_rows_of};
+ghost use Rattle.clap.specs.Words.{App, app_of, rule_of, with_rule, takes, kind_of, subcommand_of, subcommand_rows_of};
 ghost use Rattle.clap.specs.declared.builder.command.Command.TheViews.{out-Command as fields_of};
 ghost use Rattle.command_words.specs.Command.{rule_by, with_args, command_app, replay_app, drive_app, roll_app, run_app, monitor_app};
 ghost use Rattle.command_words.specs.Command.{check_app, judge_app, demo_app, asm_app, dis_app, named_app, with_command, the_app};
@@ -202,26 +202,54 @@ fn named<'a>(alloc: Global) -> Command<'a>
         .subcommand_required(true)
 }
 
-fn with_command<'a>(command: Command<'a>, other: Command<'a>) -> Result<Command<'a>, AllocError>
-    requires alone { (fields_of other).has_globals ≡ false }
-    ensures { IfOk result (λ c. app_of c ≡ with_command (app_of command.entry) (app_of other.entry)) }
+// One command more, where there is memory for it.
+fn added<'a>(
+    table: Command<'a>,
+    other: Result<Command<'a>, AllocError>,
+) -> Result<Command<'a>, AllocError>
+    requires alone { IfOk other (λ c. (fields_of c).has_globals ≡ false) }
+    ensures { (row : App) → IfOk other.entry (λ c. app_of c ≡ row) → IfOk result (λ c. app_of c ≡ with_command (app_of table.entry) row) }
 {
-    command.subcommand(other)
+    match other {
+        Ok(other) => table.subcommand(other),
+        Err(error) => {
+            drop(table);
+            Err(error)
+        }
+    }
+}
+
+// A table with one command more, where there is memory for both.
+fn with_command<'a>(
+    table: Result<Command<'a>, AllocError>,
+    other: Result<Command<'a>, AllocError>,
+) -> Result<Command<'a>, AllocError>
+    requires alone { IfOk other (λ c. (fields_of c).has_globals ≡ false) }
+    ensures { (rows row : App) → IfOk table.entry (λ c. app_of c ≡ rows) → IfOk other.entry (λ c. app_of c ≡ row)
+        → IfOk result (λ c. app_of c ≡ with_command rows row) }
+{
+    match table {
+        Ok(table) => added(table, other),
+        Err(error) => {
+            drop(other);
+            Err(error)
+        }
+    }
 }
 
 fn command<'a>(alloc: Global) -> Result<Command<'a>, AllocError>
     ensures { IfOk result (λ c. app_of c ≡ the_app) }
 {
-    let command = with_command(named(alloc), replay(alloc)?)?;
-    let command = with_command(command, drive(alloc)?)?;
-    let command = with_command(command, roll(alloc)?)?;
-    let command = with_command(command, run(alloc)?)?;
-    let command = with_command(command, monitor(alloc)?)?;
-    let command = with_command(command, check(alloc)?)?;
-    let command = with_command(command, judge(alloc)?)?;
-    let command = with_command(command, demo(alloc)?)?;
-    let command = with_command(command, asm(alloc)?)?;
-    with_command(command, dis(alloc)?)
+    let table = with_command(Ok(named(alloc)), replay(alloc));
+    let table = with_command(table, drive(alloc));
+    let table = with_command(table, roll(alloc));
+    let table = with_command(table, run(alloc));
+    let table = with_command(table, monitor(alloc));
+    let table = with_command(table, check(alloc));
+    let table = with_command(table, judge(alloc));
+    let table = with_command(table, demo(alloc));
+    let table = with_command(table, asm(alloc));
+    with_command(table, dis(alloc))
 }
 
 fn parse<'a>(alloc: Global, words: &'a [String]) -> Result<ArgMatches<'a>, Error>

@@ -50,6 +50,7 @@ pub fn replay_counted<C: Sink, R: Sink>(
         → Rose (C.faults console.old) (C.faults console.new) ⊎ Rose (R.faults report.old) (R.faults report.new) }
 {
     let Ok(text) = statistics_text(alloc, &job.program, job.config, job.script.events()) else {
+        drop(job);
         return Err(ReplayFault::Memory);
     };
     match replay(alloc, job, probes, console, report) {

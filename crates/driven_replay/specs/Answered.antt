@@ -5,7 +5,7 @@ use Rattle.sn_base.specs.Image.{ImageData}
 use Rattle.sn_base.specs.declared.config.Config.{Config}
 use Rattle.sn_base.specs.declared.event.Event.{Event}
 use Rattle.sn_model.specs.Machine.{start_of}
-use Rattle.sn_machine.specs.Machine.{MachineData, next_of}
+use Rattle.sn_machine.specs.Machine.{MachineData, machine_with_room, next_of}
 use Rattle.consistent_cuts.specs.Headline.{state_of_run}
 use Rattle.consistent_cuts.specs.Runs.{AllFit}
 use Rattle.due_events.specs.Numbers.{numbers_after}
@@ -41,14 +41,7 @@ answer_now m driver showing number said = answer_of m.image m.config showing m.a
 
 -- a machine at its program's start, with room for a million events
 abbrev pub fresh_machine : ImageData → Config → MachineData
-fresh_machine image config = record {
-  image = image;
-  config = config;
-  state = start_of image config.nodes;
-  sent = [];
-  applied = 0;
-  spare = EVENTS;
-}
+fresh_machine image config = machine_with_room image config EVENTS
 
 -- a driver by the usual rules that has counted these events of a machine that began so
 abbrev pub driver_of : MachineData → List Event → DriverData

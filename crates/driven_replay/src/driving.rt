@@ -17,7 +17,6 @@ ghost use Rattle.driven_replay.specs.Driven.{MayDrive, drive_on, source, AreRead
 ghost use Rattle.sn_base.specs.declared.limits.TheConstants.{EVENTS};
 
 use crate::answering::answer;
-use crate::going_back::fresh_machine;
 use crate::job::{Drive, DriveShowing, Said};
 use crate::kept::Kept;
 use crate::looking::usual_rules;
@@ -26,7 +25,7 @@ use crate::reading::said_in;
 use crate::refusals::write_too_many;
 use line_source::{LineRoom, Lines, ReadFailed, Taken};
 use sink_pieces::put_report;
-use sn_base::{Config, Image};
+use sn_base::{Config, EVENTS, Image};
 use sn_driver::Driver;
 use sn_io::{Failed, Sink};
 use sn_machine::Machine;
@@ -82,11 +81,10 @@ fn ready_for(alloc: Global, program: Image, config: Config) -> Option<Ready>
     let Ok(kept) = Kept::new(alloc) else {
         return None;
     };
-    let driver = Driver::new(usual_rules(), config.nodes);
-    match fresh_machine(alloc, program, config) {
+    match Machine::with_room(alloc, program, config, EVENTS as u32) {
         Ok(machine) => Some(Ready {
             machine,
-            driver,
+            driver: Driver::new(usual_rules(), config.nodes),
             kept,
             line,
             text: Vec::new(alloc),
@@ -420,5 +418,7 @@ pub fn drive<L: Lines, C: Sink, R: Sink>(
     let Some(mut ready) = ready_for(alloc, program, config) else {
         return Err(DriveFault::Memory);
     };
-    drive_all(alloc, &mut ready, lines, &showing, probes, console, report)
+    let ended = drive_all(alloc, &mut ready, lines, &showing, probes, console, report);
+    drop(ready);
+    ended
 }

@@ -17,20 +17,6 @@ use sn_driver::Driver;
 use sn_machine::Machine;
 use std::alloc::Global;
 
-/// A machine at the program's start, with room for a million events.
-pub(crate) fn fresh_machine(
-    alloc: Global,
-    program: Image,
-    config: Config,
-) -> Result<Machine, Memory>
-    requires sizes { config_fits config ≡ true }
-    ensures { IfOk result (λ m. m ≡ fresh_machine program config) }
-{
-    let mut machine = Machine::new(alloc, program, config)?;
-    machine.reserve(EVENTS as u32)?;
-    Ok(machine)
-}
-
 // Applies an event, and the driver counts it.
 fn apply(machine: &mut Machine, driver: &mut Driver, event: &Event)
     requires fits { event_fits machine.old.config.nodes event.now ≡ true }
@@ -75,7 +61,7 @@ fn led_by(alloc: Global, program: &Image, config: Config, events: &[Event]) -> R
     ensures driver { IfOk result (λ led. led.driver ≡ driver_of (fresh_machine program.now config) events.now) }
 {
     let program = copy_of(alloc, program)?;
-    let mut machine = fresh_machine(alloc, program, config)?;
+    let mut machine = Machine::with_room(alloc, program, config, EVENTS as u32)?;
     let mut driver = Driver::new(usual_rules(), config.nodes);
     apply_all(&mut machine, &mut driver, events);
     Ok(Led { machine, driver })

@@ -1,6 +1,7 @@
-//! Machines that are driven by lines in memory.
-ghost use Rattle.std.specs.Prelude.{IfOk};
+//! Machines that are driven by lines in memory. Most tests play a row of text; what they share is in functions over it.
+ghost use Rattle.std.specs.Prelude.{◌≡◌, IfOk, None};
 ghost use Rattle.driven_replay.specs.Driven.{MayDrive};
+ghost use Rattle.driven_replay.specs.Pieces.{watch_of};
 ghost use Rattle.shown_states.specs.Shown.{MayBegin};
 
 use driven_replay::{Drive, DriveEnd, DriveFault, DriveShowing, drive};
@@ -21,37 +22,78 @@ const PUTS_A: &str = "04100513\n00100893\n00000073\n05d00893\n00000073\n";
 /// Each core adds 1 to the word at 0x80001000, in block 64.
 const ADDS: &str = "800012b7\n00100313\n0062a3af\n05d00893\n00000073\n";
 
-/// The first program on one node.
-fn job(rt: &impl Abort, alloc: Global) -> Result<Drive, Fail>
-    ensures { IfOk result (λ d. MayDrive d) }
-{
-    job_of(rt, alloc, 1, PUTS_A, ReportKind::Events)
+/// What is shown of each event: its lines, nothing, or its line of states.
+#[derive(Clone, Copy)]
+enum Shows {
+    Events,
+    Summary,
+    States,
 }
 
-/// A program on so many nodes.
-fn job_of(
-    rt: &impl Abort,
-    alloc: Global,
+/// A program on so many nodes, what is shown, and the lines that come.
+#[derive(Clone, Copy)]
+struct Row {
     nodes: u8,
-    program: &str,
-    report: ReportKind,
-) -> Result<Drive, Fail>
+    program: &'static str,
+    shows: Shows,
+    lines: &'static str,
+    /// Which call for a line fails; 0 is none.
+    fails: u64,
+    /// What the report begins with.
+    begins: &'static str,
+}
+
+/// The first program on one node.
+const ONE: Row = Row {
+    nodes: 1,
+    program: PUTS_A,
+    shows: Shows::Events,
+    lines: "",
+    fails: 0,
+    begins: "",
+};
+
+/// The second on two.
+const TWO: Row = Row {
+    nodes: 2,
+    program: ADDS,
+    shows: Shows::Summary,
+    lines: "",
+    fails: 0,
+    begins: "",
+};
+
+fn showing_of(shows: Shows) -> DriveShowing
+    ensures { watch_of result ≡ None }
+{
+    match shows {
+        Shows::Events => DriveShowing::Replay(Showing {
+            report: ReportKind::Events,
+            watch: None,
+        }),
+        Shows::Summary => DriveShowing::Replay(Showing {
+            report: ReportKind::Summary,
+            watch: None,
+        }),
+        Shows::States => DriveShowing::States(None),
+    }
+}
+
+fn job_of(rt: &impl Abort, alloc: Global, row: &Row) -> Result<Drive, Fail>
     ensures { IfOk result (λ d. MayDrive d) }
 {
     let config = Config {
-        nodes,
+        nodes: row.nodes,
         sets: 16,
         ways: 4,
         log: 256,
     };
     assert!(rt; config.fits());
+    let showing = showing_of(row.shows);
     Ok(Drive {
-        program: load(alloc, program.as_bytes())?,
+        program: load(alloc, row.program.as_bytes())?,
         config,
-        showing: DriveShowing::Replay(Showing {
-            report,
-            watch: None,
-        }),
+        showing,
     })
 }
 
@@ -66,71 +108,121 @@ fn driven(
     requires { MayDrive job }
 {
     let mut probes = ProbeSet::new(Vec::new(alloc));
-    drive(alloc, job, lines, &mut probes, console, report)
+    let ended = drive(alloc, job, lines, &mut probes, console, report);
+    drop(probes);
+    ended
+}
+
+/// How a row's lines drive its machine.
+fn plays(
+    rt: &impl Abort,
+    alloc: Global,
+    row: &Row,
+    report: &mut MemSink,
+) -> Result<Result<DriveEnd, DriveFault>, Fail> {
+    let job = job_of(rt, alloc, row)?;
+    let mut lines = MemLines::new(row.lines.as_bytes());
+    lines.fail_call(row.fails);
+    match MemSink::with_room(alloc, 8) {
+        Ok(mut console) => {
+            let ended = driven(alloc, job, &mut lines, &mut console, report);
+            drop(console);
+            Ok(ended)
+        }
+        Err(lacks) => {
+            drop(job);
+            Err(lacks.into())
+        }
+    }
+}
+
+/// Whether a row's lines drive its machine to this end, and the report begins as it says.
+fn comes_to(
+    rt: &impl Abort,
+    alloc: Global,
+    row: &Row,
+    wanted: Result<DriveEnd, DriveFault>,
+) -> Result<bool, Fail> {
+    let mut report = MemSink::with_room(alloc, 65_536)?;
+    let ended = plays(rt, alloc, row, &mut report);
+    let begins = report.bytes().starts_with(row.begins.as_bytes());
+    drop(report);
+    let ended = ended?;
+    Ok(begins && ended == wanted)
+}
+
+/// A row's lines drive its machine to their end, and the report begins as it says.
+fn is_answered(rt: &impl Abort, alloc: Global, row: &Row) -> Result<(), Fail> {
+    let is_so = comes_to(rt, alloc, row, Ok(DriveEnd::Whole))?;
+    assert!(rt; is_so);
+    Ok(())
 }
 
 #[test]
 fn lines_that_are_no_events_are_refused_with_their_numbers_and_change_nothing(
     rt: HostRuntime,
 ) -> Result<(), Fail> {
-    let alloc = rt.alloc();
-    let mut console = MemSink::with_room(alloc, 8)?;
-    let mut report = MemSink::with_room(alloc, 4_096)?;
-    let mut lines = MemLines::new(b"# no event\n\nstep\nstep 1\nfall 0\n");
-    let job = job(&rt, alloc)?;
-    let ended = driven(alloc, job, &mut lines, &mut console, &mut report);
-    assert!(rt; ended == Ok(DriveEnd::Whole));
-    assert!(rt;
-        report
-            .bytes()
-            .starts_with(b"badline 3\noutofrange 4\nbadline 5\nevents 0\n")
-    );
-    Ok(())
+    const ROW: Row = Row {
+        lines: "# no event\n\nstep\nstep 1\nfall 0\n",
+        begins: "badline 3\noutofrange 4\nbadline 5\nevents 0\n",
+        ..ONE
+    };
+    is_answered(&rt, rt.alloc(), &ROW)
 }
 
 #[test]
 fn what_is_foreseen_of_an_event_is_what_it_then_comes_to(rt: HostRuntime) -> Result<(), Fail> {
-    let alloc = rt.alloc();
-    let mut console = MemSink::with_room(alloc, 8)?;
-    let mut report = MemSink::with_room(alloc, 4_096)?;
-    let mut lines = MemLines::new(b"foresee validate\nforesee edge 0\nvalidate\nedge 0");
-    let job = job(&rt, alloc)?;
-    let ended = driven(alloc, job, &mut lines, &mut console, &mut report);
-    assert!(rt; ended == Ok(DriveEnd::Whole));
-    let wanted: &[u8] =
-        b"1 validate: notready 0\n1 edge 0: edged 1\n1 validate: notready 0\n2 edge 0: edged 1\n";
-    assert!(rt; report.bytes().starts_with(wanted));
-    Ok(())
+    const ROW: Row = Row {
+        lines: "foresee validate\nforesee edge 0\nvalidate\nedge 0",
+        begins: "1 validate: notready 0\n1 edge 0: edged 1\n1 validate: notready 0\n2 edge 0: edged 1\n",
+        ..ONE
+    };
+    is_answered(&rt, rt.alloc(), &ROW)
 }
 
 #[test]
 fn a_source_that_fails_ends_it_once_what_was_read_is_answered(rt: HostRuntime) -> Result<(), Fail> {
-    let alloc = rt.alloc();
-    let mut console = MemSink::with_room(alloc, 8)?;
-    let mut report = MemSink::with_room(alloc, 4_096)?;
-    let mut lines = MemLines::new(b"validate\nvalidate\n");
-    lines.fail_call(2);
-    let job = job(&rt, alloc)?;
-    let ended = driven(alloc, job, &mut lines, &mut console, &mut report);
-    assert!(rt; ended == Err(DriveFault::Input));
-    assert!(rt; report.bytes() == b"1 validate: notready 0\n".as_slice());
+    const ROW: Row = Row {
+        lines: "validate\nvalidate\n",
+        fails: 2,
+        begins: "1 validate: notready 0\n",
+        ..ONE
+    };
+    let is_so = comes_to(&rt, rt.alloc(), &ROW, Err(DriveFault::Input))?;
+    assert!(rt; is_so);
     Ok(())
+}
+
+/// Whether two drives of the same lines, of which the report's second call fails, end so: the first at that call, and the
+/// second, which takes the lines that are left, at their end.
+fn ends_at_the_call(rt: &impl Abort, alloc: Global, report: &mut MemSink) -> Result<bool, Fail> {
+    report.fail_call(2)?;
+    let first = job_of(rt, alloc, &ONE)?;
+    let second = job_of(rt, alloc, &ONE)?;
+    let mut lines = MemLines::new(b"validate\nfall\nvalidate\n");
+    match MemSink::with_room(alloc, 8) {
+        Ok(mut console) => {
+            let ended = driven(alloc, first, &mut lines, &mut console, report);
+            let is_one = report.bytes() == b"1 validate: notready 0\n".as_slice();
+            let goes_on = driven(alloc, second, &mut lines, &mut console, report);
+            drop(console);
+            Ok(is_one && ended == Err(DriveFault::Sink) && goes_on == Ok(DriveEnd::Whole))
+        }
+        Err(lacks) => {
+            drop(first);
+            drop(second);
+            Err(lacks.into())
+        }
+    }
 }
 
 #[test]
 fn a_report_that_fails_ends_it_before_another_line_is_read(rt: HostRuntime) -> Result<(), Fail> {
-    let alloc = rt.alloc();
-    let mut console = MemSink::with_room(alloc, 8)?;
-    let mut report = MemSink::with_room(alloc, 4_096)?;
-    report.fail_call(2)?;
-    let mut lines = MemLines::new(b"validate\nfall\nvalidate\n");
-    let first = job(&rt, alloc)?;
-    let ended = driven(alloc, first, &mut lines, &mut console, &mut report);
-    assert!(rt; ended == Err(DriveFault::Sink));
-    assert!(rt; report.bytes() == b"1 validate: notready 0\n".as_slice());
-    let second = job(&rt, alloc)?;
-    let ended = driven(alloc, second, &mut lines, &mut console, &mut report);
-    assert!(rt; ended == Ok(DriveEnd::Whole));
+    let mut report = MemSink::with_room(rt.alloc(), 4_096)?;
+    let ended = ends_at_the_call(&rt, rt.alloc(), &mut report);
+    drop(report);
+    let is_ended = ended?;
+    assert!(rt; is_ended);
     Ok(())
 }
 
@@ -150,29 +242,22 @@ events 0\n";
 
 #[test]
 fn looks_show_parts_of_the_state_and_change_nothing(rt: HostRuntime) -> Result<(), Fail> {
-    let alloc = rt.alloc();
-    let mut console = MemSink::with_room(alloc, 8)?;
-    let mut report = MemSink::with_room(alloc, 4_096)?;
-    let mut lines = MemLines::new(b"core 0\nblock 0\nflights\nshow\n");
-    let job = job(&rt, alloc)?;
-    let ended = driven(alloc, job, &mut lines, &mut console, &mut report);
-    assert!(rt; ended == Ok(DriveEnd::Whole));
-    assert!(rt; report.bytes().starts_with(LOOKS_AT_START.as_bytes()));
-    Ok(())
+    const ROW: Row = Row {
+        lines: "core 0\nblock 0\nflights\nshow\n",
+        begins: LOOKS_AT_START,
+        ..ONE
+    };
+    is_answered(&rt, rt.alloc(), &ROW)
 }
 
 #[test]
 fn a_look_at_what_is_not_there_is_refused(rt: HostRuntime) -> Result<(), Fail> {
-    let alloc = rt.alloc();
-    let mut console = MemSink::with_room(alloc, 8)?;
-    let mut report = MemSink::with_room(alloc, 4_096)?;
-    let mut lines = MemLines::new(b"node 1\ncore\nblock 65536\nshow \ncore 00\n");
-    let job = job(&rt, alloc)?;
-    let ended = driven(alloc, job, &mut lines, &mut console, &mut report);
-    assert!(rt; ended == Ok(DriveEnd::Whole));
-    let wanted: &[u8] = b"outofrange 1\nbadline 2\noutofrange 3\nbadline 4\nbadline 5\nevents 0\n";
-    assert!(rt; report.bytes().starts_with(wanted));
-    Ok(())
+    const ROW: Row = Row {
+        lines: "node 1\ncore\nblock 65536\nshow \ncore 00\n",
+        begins: "outofrange 1\nbadline 2\noutofrange 3\nbadline 4\nbadline 5\nevents 0\n",
+        ..ONE
+    };
+    is_answered(&rt, rt.alloc(), &ROW)
 }
 
 /// A message from node 1 to node 0, before and after its hop.
@@ -184,152 +269,125 @@ events 4\n";
 
 #[test]
 fn a_message_has_arrived_once_it_stands_at_its_receiver(rt: HostRuntime) -> Result<(), Fail> {
-    let alloc = rt.alloc();
-    let mut console = MemSink::with_room(alloc, 8)?;
-    let mut report = MemSink::with_room(alloc, 4_096)?;
-    let mut lines = MemLines::new(b"step 1\nstep 1\nstep 1\nflights\nhop 1\nflights");
-    let job = job_of(&rt, alloc, 2, ADDS, ReportKind::Summary)?;
-    let ended = driven(alloc, job, &mut lines, &mut console, &mut report);
-    assert!(rt; ended == Ok(DriveEnd::Whole));
-    assert!(rt; report.bytes().starts_with(ON_ITS_WAY.as_bytes()));
-    Ok(())
+    const ROW: Row = Row {
+        lines: "step 1\nstep 1\nstep 1\nflights\nhop 1\nflights",
+        begins: ON_ITS_WAY,
+        ..TWO
+    };
+    is_answered(&rt, rt.alloc(), &ROW)
 }
 
 #[test]
 fn what_is_due_to_a_worker_is_told_and_not_done(rt: HostRuntime) -> Result<(), Fail> {
-    let alloc = rt.alloc();
-    let mut console = MemSink::with_room(alloc, 8)?;
-    let mut report = MemSink::with_room(alloc, 4_096)?;
-    let mut lines = MemLines::new(b"due 1 0\ndue 1 0\nkill a0\nkill b0\nrecover\ndue 1 0\n");
-    let job = job_of(&rt, alloc, 2, ADDS, ReportKind::Summary)?;
-    let ended = driven(alloc, job, &mut lines, &mut console, &mut report);
-    assert!(rt; ended == Ok(DriveEnd::Whole));
-    let wanted: &[u8] =
-        b"{\"event\":\"step 1\"}\n{\"event\":\"step 1\"}\n{\"event\":null}\nevents 3\n";
-    assert!(rt; report.bytes().starts_with(wanted));
-    Ok(())
+    const ROW: Row = Row {
+        lines: "due 1 0\ndue 1 0\nkill a0\nkill b0\nrecover\ndue 1 0\n",
+        begins: "{\"event\":\"step 1\"}\n{\"event\":\"step 1\"}\n{\"event\":null}\nevents 3\n",
+        ..TWO
+    };
+    is_answered(&rt, rt.alloc(), &ROW)
 }
 
 #[test]
 fn a_worker_or_a_number_that_is_not_there_is_refused(rt: HostRuntime) -> Result<(), Fail> {
-    let alloc = rt.alloc();
-    let mut console = MemSink::with_room(alloc, 8)?;
-    let mut report = MemSink::with_room(alloc, 4_096)?;
-    let mut lines = MemLines::new(
-        b"due 1 0\ndue 0\ndue 0 4294967296\ndue 0 4294967295\ndue 0 01\n",
-    );
-    let job = job(&rt, alloc)?;
-    let ended = driven(alloc, job, &mut lines, &mut console, &mut report);
-    assert!(rt; ended == Ok(DriveEnd::Whole));
-    let wanted: &[u8] =
-        b"outofrange 1\nbadline 2\noutofrange 3\n{\"event\":\"step 0\"}\nbadline 5\nevents 0\n";
-    assert!(rt; report.bytes().starts_with(wanted));
-    Ok(())
+    const ROW: Row = Row {
+        lines: "due 1 0\ndue 0\ndue 0 4294967296\ndue 0 4294967295\ndue 0 01\n",
+        begins: "outofrange 1\nbadline 2\noutofrange 3\n{\"event\":\"step 0\"}\nbadline 5\nevents 0\n",
+        ..ONE
+    };
+    is_answered(&rt, rt.alloc(), &ROW)
 }
 
 #[test]
 fn a_mark_is_the_number_of_events_and_not_of_lines(rt: HostRuntime) -> Result<(), Fail> {
-    let alloc = rt.alloc();
-    let mut console = MemSink::with_room(alloc, 8)?;
-    let mut report = MemSink::with_room(alloc, 4_096)?;
-    let mut lines = MemLines::new(b"mark\nfall\nvalidate\n\nflights\nvalidate\nmark\n");
-    let job = job_of(&rt, alloc, 1, PUTS_A, ReportKind::Summary)?;
-    let ended = driven(alloc, job, &mut lines, &mut console, &mut report);
-    assert!(rt; ended == Ok(DriveEnd::Whole));
-    let wanted: &[u8] = b"{\"mark\":0}\nbadline 2\n{\"flights\":[]}\n{\"mark\":2}\nevents 2\n";
-    assert!(rt; report.bytes().starts_with(wanted));
-    Ok(())
+    const ROW: Row = Row {
+        shows: Shows::Summary,
+        lines: "mark\nfall\nvalidate\n\nflights\nvalidate\nmark\n",
+        begins: "{\"mark\":0}\nbadline 2\n{\"flights\":[]}\n{\"mark\":2}\nevents 2\n",
+        ..ONE
+    };
+    is_answered(&rt, rt.alloc(), &ROW)
 }
 
 #[test]
 fn after_a_way_back_to_the_start_the_first_event_is_done_again(
     rt: HostRuntime,
 ) -> Result<(), Fail> {
-    let alloc = rt.alloc();
-    let mut console = MemSink::with_room(alloc, 8)?;
-    let mut report = MemSink::with_room(alloc, 4_096)?;
-    let mut lines = MemLines::new(b"validate\nedge 0\nback 0\nmark\nedge 0\n");
-    let job = job(&rt, alloc)?;
-    let ended = driven(alloc, job, &mut lines, &mut console, &mut report);
-    assert!(rt; ended == Ok(DriveEnd::Whole));
-    let wanted: &[u8] = b"1 validate: notready 0\n2 edge 0: edged 1\n{\"back\":0}\n{\"mark\":0}\n\
-1 edge 0: edged 1\nevents 1\n";
-    assert!(rt; report.bytes().starts_with(wanted));
-    Ok(())
+    const ROW: Row = Row {
+        lines: "validate\nedge 0\nback 0\nmark\nedge 0\n",
+        begins: "1 validate: notready 0\n2 edge 0: edged 1\n{\"back\":0}\n{\"mark\":0}\n\
+1 edge 0: edged 1\nevents 1\n",
+        ..ONE
+    };
+    is_answered(&rt, rt.alloc(), &ROW)
 }
 
-/// What comes after two steps of node 1.
-const GOES_ON: &[u8] = b"edge 0\nstep 0\nshow\ndue 0 3\nback 3\nstep 0\nshow\nmark\n";
+/// What two rows' lines put to their reports; both must come to their end.
+fn both_play(
+    rt: &impl Abort,
+    alloc: Global,
+    rows: [&Row; 2],
+    first: &mut MemSink,
+    second: &mut MemSink,
+) -> Result<bool, Fail> {
+    let one = plays(rt, alloc, rows[0], first)?;
+    let other = plays(rt, alloc, rows[1], second)?;
+    Ok(one == Ok(DriveEnd::Whole) && other == Ok(DriveEnd::Whole))
+}
+
+/// Two steps of node 1, and what comes after them.
+const STRAIGHT: Row = Row {
+    lines: "step 1\nstep 1\nedge 0\nstep 0\nshow\ndue 0 3\nback 3\nstep 0\nshow\nmark\n",
+    ..TWO
+};
+
+/// The same, between which more is done and taken back.
+const RETURNED: Row = Row {
+    lines: "step 1\nstep 1\nstep 1\nhop 1\nkill a1\nrecover\nback 2\n\
+edge 0\nstep 0\nshow\ndue 0 3\nback 3\nstep 0\nshow\nmark\n",
+    ..TWO
+};
 
 #[test]
 fn after_a_way_back_all_goes_on_as_if_the_others_had_not_been(rt: HostRuntime) -> Result<(), Fail> {
     let alloc = rt.alloc();
-    let mut console = MemSink::with_room(alloc, 8)?;
     let mut straight = MemSink::with_room(alloc, 65_536)?;
     let mut returned = MemSink::with_room(alloc, 65_536)?;
-    let mut text = Vec::with_capacity(alloc, 256)?;
-    text.extend_from_slice(b"step 1\nstep 1\n")?;
-    text.extend_from_slice(GOES_ON)?;
-    let first = job_of(&rt, alloc, 2, ADDS, ReportKind::Summary)?;
-    let mut lines = MemLines::new(text.as_slice());
-    let ended = driven(alloc, first, &mut lines, &mut console, &mut straight);
-    assert!(rt; ended == Ok(DriveEnd::Whole));
-    text.clear();
-    text.extend_from_slice(b"step 1\nstep 1\nstep 1\nhop 1\nkill a1\nrecover\nback 2\n")?;
-    text.extend_from_slice(GOES_ON)?;
-    let second = job_of(&rt, alloc, 2, ADDS, ReportKind::Summary)?;
-    let mut lines = MemLines::new(text.as_slice());
-    let ended = driven(alloc, second, &mut lines, &mut console, &mut returned);
-    assert!(rt; ended == Ok(DriveEnd::Whole));
-    assert!(rt;
-        returned.bytes().strip_prefix(b"{\"back\":2}\n".as_slice()) == Some(straight.bytes())
+    let ended = both_play(
+        &rt,
+        alloc,
+        [&STRAIGHT, &RETURNED],
+        &mut straight,
+        &mut returned,
     );
+    let rest = returned.bytes().strip_prefix(b"{\"back\":2}\n".as_slice());
+    let is_same = rest == Some(straight.bytes());
+    drop(returned);
+    drop(straight);
+    let is_ended = ended?;
+    assert!(rt; is_ended && is_same);
     Ok(())
 }
 
 #[test]
 fn a_way_back_to_more_events_than_are_done_is_refused(rt: HostRuntime) -> Result<(), Fail> {
-    let alloc = rt.alloc();
-    let mut console = MemSink::with_room(alloc, 8)?;
-    let mut report = MemSink::with_room(alloc, 4_096)?;
-    let mut lines = MemLines::new(
-        b"validate\nback 2\nback 4294967295\nmark\nback 4294967296\nback 01\nback\nback 1\n",
-    );
-    let job = job_of(&rt, alloc, 1, PUTS_A, ReportKind::Summary)?;
-    let ended = driven(alloc, job, &mut lines, &mut console, &mut report);
-    assert!(rt; ended == Ok(DriveEnd::Whole));
-    let wanted: &[u8] =
-        b"outofrange 2\noutofrange 3\n{\"mark\":1}\nbadline 5\nbadline 6\nbadline 7\n\
-{\"back\":1}\nevents 1\n";
-    assert!(rt; report.bytes().starts_with(wanted));
-    Ok(())
+    const ROW: Row = Row {
+        shows: Shows::Summary,
+        lines: "validate\nback 2\nback 4294967295\nmark\nback 4294967296\nback 01\nback\nback 1\n",
+        begins: "outofrange 2\noutofrange 3\n{\"mark\":1}\nbadline 5\nbadline 6\nbadline 7\n\
+{\"back\":1}\nevents 1\n",
+        ..ONE
+    };
+    is_answered(&rt, rt.alloc(), &ROW)
 }
 
-/// The same, whose states are shown.
-fn with_states(job: Drive) -> Drive
-    requires { MayDrive job }
-    ensures { MayDrive result }
-{
-    Drive {
-        program: job.program,
-        config: job.config,
-        showing: DriveShowing::States(None),
-    }
-}
+/// A step, an edge, a report, and a recovery while it is on its way, of which the states are shown.
+const RECOVERS: Row = Row {
+    shows: Shows::States,
+    lines: "step 0\nedge 0\nreport 0\nrecover\n",
+    ..ONE
+};
 
-/// Whether the first program's machine is driven by these lines to their end, and its states are shown.
-fn shows(rt: &impl Abort, alloc: Global, lines: &[u8], report: &mut MemSink) -> Result<bool, Fail> {
-    let mut console = MemSink::with_room(alloc, 8)?;
-    let mut lines = MemLines::new(lines);
-    let job = with_states(job(rt, alloc)?);
-    let ended = driven(alloc, job, &mut lines, &mut console, report);
-    Ok(ended == Ok(DriveEnd::Whole))
-}
-
-/// A step, an edge, a report, and a recovery while it is on its way, as lines.
-const RECOVERS: &[u8] = b"step 0\nedge 0\nreport 0\nrecover\n";
-
-/// The same as a replay on that machine, whose states are shown.
+/// The same as a replay that shows them.
 fn recovers(rt: &impl Abort, alloc: Global) -> Result<StatesReplay, Fail>
     ensures { IfOk result (λ r. MayBegin r) }
 {
@@ -358,10 +416,31 @@ fn recovers(rt: &impl Abort, alloc: Global) -> Result<StatesReplay, Fail>
 /// Whether that replay comes to its end.
 fn is_replayed(rt: &impl Abort, alloc: Global, report: &mut MemSink) -> Result<bool, Fail> {
     let job = recovers(rt, alloc)?;
-    let mut console = MemSink::with_room(alloc, 8)?;
-    let mut probes = ProbeSet::new(Vec::new(alloc));
-    let ended = replay_states(alloc, job, &mut probes, &mut console, report);
-    Ok(ended == Ok(()))
+    match MemSink::with_room(alloc, 8) {
+        Ok(mut console) => {
+            let mut probes = ProbeSet::new(Vec::new(alloc));
+            let ended = replay_states(alloc, job, &mut probes, &mut console, report);
+            drop(probes);
+            drop(console);
+            Ok(ended == Ok(()))
+        }
+        Err(lacks) => {
+            drop(job);
+            Err(lacks.into())
+        }
+    }
+}
+
+/// Whether that replay and the drive come to their ends.
+fn both_recover(
+    rt: &impl Abort,
+    alloc: Global,
+    wanted: &mut MemSink,
+    report: &mut MemSink,
+) -> Result<bool, Fail> {
+    let replayed = is_replayed(rt, alloc, wanted)?;
+    let ended = plays(rt, alloc, &RECOVERS, report)?;
+    Ok(replayed && ended == Ok(DriveEnd::Whole))
 }
 
 #[test]
@@ -369,9 +448,12 @@ fn where_states_are_shown_it_puts_what_a_replay_puts(rt: HostRuntime) -> Result<
     let alloc = rt.alloc();
     let mut wanted = MemSink::with_room(alloc, 16_384)?;
     let mut report = MemSink::with_room(alloc, 16_384)?;
-    let replayed = is_replayed(&rt, alloc, &mut wanted)?;
-    let driven = shows(&rt, alloc, RECOVERS, &mut report)?;
-    assert!(rt; replayed && driven && report.bytes() == wanted.bytes());
+    let ended = both_recover(&rt, alloc, &mut wanted, &mut report);
+    let is_same = report.bytes() == wanted.bytes();
+    drop(report);
+    drop(wanted);
+    let is_ended = ended?;
+    assert!(rt; is_ended && is_same);
     Ok(())
 }
 
@@ -394,18 +476,32 @@ fn behind_both(text: &[u8]) -> Option<&[u8]> {
     }
 }
 
+/// The same, where an edge is done and taken back before.
+const RETURNS: Row = Row {
+    shows: Shows::States,
+    lines: "edge 0\nback 0\nstep 0\nedge 0\nreport 0\nrecover\n",
+    ..ONE
+};
+
 #[test]
 fn states_after_a_way_back_are_those_of_the_events_that_are_left(
     rt: HostRuntime,
 ) -> Result<(), Fail> {
     let alloc = rt.alloc();
-    let mut wanted = MemSink::with_room(alloc, 16_384)?;
-    let mut report = MemSink::with_room(alloc, 16_384)?;
-    let lines: &[u8] = b"edge 0\nback 0\nstep 0\nedge 0\nreport 0\nrecover\n";
-    let straight = shows(&rt, alloc, RECOVERS, &mut wanted)?;
-    let returned = shows(&rt, alloc, lines, &mut report)?;
-    let rest = behind_both(report.bytes());
-    assert!(rt; straight && returned && rest.is_some());
-    assert!(rt; wanted.bytes().strip_prefix(FIRST.as_bytes()) == rest);
+    let mut straight = MemSink::with_room(alloc, 16_384)?;
+    let mut returned = MemSink::with_room(alloc, 16_384)?;
+    let ended = both_play(
+        &rt,
+        alloc,
+        [&RECOVERS, &RETURNS],
+        &mut straight,
+        &mut returned,
+    );
+    let rest = behind_both(returned.bytes());
+    let is_same = rest.is_some() && straight.bytes().strip_prefix(FIRST.as_bytes()) == rest;
+    drop(returned);
+    drop(straight);
+    let is_ended = ended?;
+    assert!(rt; is_ended && is_same);
     Ok(())
 }

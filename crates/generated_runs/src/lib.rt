@@ -9,8 +9,6 @@
 mod replaying;
 mod schedule;
 mod starting;
-#[cfg(test)]
-mod tests;
 
 pub use replaying::replay_generated;
 pub use schedule::Generated;

@@ -65,7 +65,6 @@ pub fn start(alloc: Global, size: u32) -> Result<Machine, Memory>
         ways: 4,
         log: 256,
     };
-    let mut machine = Machine::new(alloc, image, config)?;
-    machine.reserve(size)?;
+    let machine = Machine::with_room(alloc, image, config, size)?;
     Ok(machine)
 }

@@ -10,6 +10,3 @@ mod texts;
 
 pub use page::{Page, page_of};
 pub use texts::show;
-
-#[cfg(test)]
-mod tests;

@@ -1,46 +1,206 @@
--- A line that has begun, byte by byte.
-use Rattle.std.proofs.Common.{◌≡◌, ℕ, ◌+◌, ◌<◌, ◌≤◌, Bool, true, false, not, cond, List, [], ◌∷◌, ◌++◌, take, length, refl, ap, sym, subst, ◌∙◌}
-use Rattle.std.proofs.Common.{append_assoc, append-nil, length-append, arith}
+-- A line that has begun, piece by piece.
+use Rattle.std.proofs.Common.{◌≡◌, ℕ, zero, suc, ◌+◌, ◌-◌, ◌<◌, ◌≤◌, Bool, true, false, cond, List, [], ◌∷◌, ◌++◌, take, drop, length, refl, ap, sym, subst, ◌∙◌}
+use Rattle.std.proofs.Common.{append_assoc, append-nil, length-append, get_or, get_or-take, arith}
 use Rattle.std.proofs.lemmas.Bool.Decides.{nat_tests}
-use Rattle.std.proofs.lemmas.List.{length-take}
-use Rattle.std.specs.Prelude.{Option, Some, None, IfSome, nat_le, nat_eq, slice_index, ◌-◌}
+use Rattle.std.proofs.lemmas.List.{length-take, take_all, take-append-drop, take-append-le, take-take}
+use Rattle.std.proofs.lemmas.List.Elements.{All-head, All-tail}
+use Rattle.std.proofs.lemmas.List.Quantifiers.{position-Some}
+use Rattle.std.proofs.lemmas.List.Sums.{fails_before_first}
+use Rattle.std.proofs.Math.Seq.{take-append-add}
+use Rattle.std.specs.Prelude.{Option, Some, None, IfSome, nat_le, nat_lt, nat_eq, slice_index, min}
+use Rattle.std.specs.List.{position, position_or_len}
+use Rattle.std.specs.Io.{StartsWith}
+use Rattle.std.specs.Io.KnownBytes.{Keeps}
+use Rattle.std.specs.Io.BufRead.{DropsConsumable}
 use Rattle.text_lines.specs.Lines.{is_line_feed, without_return}
-use Rattle.line_source.specs.Lines.{LineRead, as_read}
-use Rattle.line_source.specs.Reading.{first_from, line_in, TakesByte, StandsFor}
-use Rattle.line_source.specs.declared.room.TheConstants.{LINE_MOST}
+use Rattle.line_source.specs.Lines.{LineRead, as_read, TooLong}
+use Rattle.line_source.specs.Reading.{first_from, line_in, kept_of, HasNoEnd, TakesPiece}
+use Rattle.line_source.specs.declared.reader_lines.Piece.{Piece}
+use Rattle.line_source.specs.declared.reader_lines.Piece.TheVariants.{Ended, Open, Over}
+use Rattle.line_source.specs.declared.room.TheConstants.{LINE_MOST, ROOM}
 
--- the room has all bytes of what has begun, or is full and not all
-abbrev pub Holds : List ℕ → Bool → List ℕ → Type 0
-Holds room false begun = room ≡ begun
-Holds room true begun = (LINE_MOST + 1 ≤ length room) × (LINE_MOST + 1 < length begun)
+-- what a reader holds
+
+at-feed : (byte : ℕ) → is_line_feed byte ≡ true → byte ≡ 10
+at-feed byte is = grind (arith, nat_tests)
+
+-- an end among the bytes that it holds
+held-ended : (held others : List ℕ) (n : ℕ) → n < length held → is_line_feed (get_or held n 0) ≡ true →
+    held ++ others ≡ take n held ++ 10 ∷ drop (suc n) (held ++ others)
+held-ended [] others n few feed = absurd (omega arith)
+held-ended (x ∷ xs) others zero few feed = ap (λ b. b ∷ (xs ++ others)) (at-feed x feed)
+held-ended (x ∷ xs) others (suc n) few feed = ap (λ t. x ∷ t) (held-ended xs others n (omega arith) feed)
+
+none-before : (held : List ℕ) (n : ℕ) → ((k d : ℕ) → k < n → is_line_feed (get_or held k d) ≡ false) → HasNoEnd (take n held)
+none-before held n others = λ k d h.
+    let few : k < n = omega (arith, h, length-take n held) in
+    ap is_line_feed (get_or-take n held k d few) ∙ others k d few
+
+not-found : (text : List ℕ) → position is_line_feed text ≡ None → length text ≤ position_or_len is_line_feed text
+not-found text e = by_test (nat_lt (position_or_len is_line_feed text) (length text)) refl e where
+  by_test : (b : Bool) → nat_lt (position_or_len is_line_feed text) (length text) ≡ b →
+      cond b (Some (position_or_len is_line_feed text)) None ≡ (let none : Option ℕ = None in none) →
+      length text ≤ position_or_len is_line_feed text
+  by_test false t h = grind (arith, nat_tests, t)
+  by_test true t h = absurd (cc)
+
+module _ (bytes held : List ℕ) (front : take (length held) bytes ≡ held) where
+  held-first : held ++ drop (length held) bytes ≡ bytes
+  held-first = ap (λ t. t ++ drop (length held) bytes) (sym front) ∙ take-append-drop (length held) bytes
+
+  module _ (n : ℕ) (is : position is_line_feed held ≡ Some n) where
+    end-inside : n + 1 ≤ length held
+    end-inside = let p = position-Some is_line_feed held n 0 is in omega (arith, p.0)
+
+    takes-ended : (left : Option (List ℕ)) (room filled : List ℕ) → left ≡ Some (drop (n + 1) bytes) → filled ≡ kept_of (room ++ take n held) →
+        TakesPiece bytes left room filled Ended
+    takes-ended left room filled dropped added =
+        let p = position-Some is_line_feed held n 0 is in
+        let one : suc n ≡ n + 1 = omega arith in (
+          take n held,
+          drop (n + 1) bytes,
+          none-before held n (λ k d h. (position-Some is_line_feed held n d is).2 k h),
+          sym held-first ∙ held-ended held (drop (length held) bytes) n p.0 p.1
+              ∙ ap (λ t. take n held ++ 10 ∷ drop (suc n) t) held-first
+              ∙ ap (λ m. take n held ++ 10 ∷ drop m bytes) one,
+          dropped,
+          added,
+        )
+
+  takes-open : position is_line_feed held ≡ None → (left : Option (List ℕ)) (room filled : List ℕ) →
+      left ≡ Some (drop (length held) bytes) → filled ≡ kept_of (room ++ held) → TakesPiece bytes left room filled Open
+  takes-open is left room filled dropped added = (
+    held,
+    drop (length held) bytes,
+    λ k d h. fails_before_first is_line_feed held k d (omega (arith, h, not-found held is)),
+    sym held-first,
+    dropped,
+    added,
+  )
+
+-- the same, where the bytes may be known
+
+within : (limit : Option ℕ) (a b : ℕ) → a ≤ b → IfSome limit (λ m. b ≤ m) → IfSome limit (λ m. a ≤ m)
+within None a b less h = tt
+within (Some m) a b less h = omega (arith, less, h)
+
+pub known-over : (known left : Option (List ℕ)) (held room : List ℕ) → Keeps known left → IfSome known (λ xs. length held ≡ 0 → xs ≡ []) →
+    length held ≡ 0 → IfSome known (λ bytes. TakesPiece bytes left room room Over)
+known-over None left held room same end none = tt
+known-over (Some xs) None held room same end none = absurd same
+known-over (Some xs) (Some ys) held room same end none = (end none, ap (λ (t : List ℕ). Some t) (same ∙ end none), refl)
+
+module _ (limit : Option ℕ) (left : Option (List ℕ)) (held room filled : List ℕ) where
+  pub known-ended : (known mid : Option (List ℕ)) (n : ℕ) → Keeps known mid → IfSome known (λ _. IfSome limit (λ m. length held ≤ m)) →
+      DropsConsumable mid left limit (n + 1) → IfSome known (λ xs. StartsWith xs held) → position is_line_feed held ≡ Some n →
+      filled ≡ kept_of (room ++ take n held) → IfSome known (λ bytes. TakesPiece bytes left room filled Ended)
+  known-ended None mid n same most drops front is added = tt
+  known-ended (Some xs) None n same most drops front is added = absurd same
+  known-ended (Some xs) (Some ys) n same most drops front is added =
+      takes-ended xs held front n is left room filled
+      (drops (within limit (n + 1) (length held) (end-inside xs held front n is) most) ∙ ap (λ (t : List ℕ). Some (drop (n + 1) t)) same) added
+
+  pub known-open : (known mid : Option (List ℕ)) → Keeps known mid → IfSome known (λ _. IfSome limit (λ m. length held ≤ m)) →
+      DropsConsumable mid left limit (length held) → IfSome known (λ xs. StartsWith xs held) → position is_line_feed held ≡ None →
+      filled ≡ kept_of (room ++ held) → IfSome known (λ bytes. TakesPiece bytes left room filled Open)
+  known-open None mid same most drops front is added = tt
+  known-open (Some xs) None same most drops front is added = absurd same
+  known-open (Some xs) (Some ys) same most drops front is added =
+      takes-open xs held front is left room filled
+      (drops (within limit (length held) (length held) (omega arith) most) ∙ ap (λ (t : List ℕ). Some (drop (length held) t)) same) added
+
+-- what the room keeps of a line
+
+take-over : (room piece : List ℕ) → length room ≤ ROOM → room ++ take (min (length piece) (ROOM - length room)) piece ≡ kept_of (room ++ piece)
+take-over room piece few =
+    let whole : length room + (ROOM - length room) ≡ ROOM = omega (arith, few) in
+    ap (λ t. room ++ t) (cut (ROOM - length room)) ∙ sym (take-append-add room piece (ROOM - length room))
+    ∙ ap (λ n. take n (room ++ piece)) whole
+  where
+    cut : (free : ℕ) → take (min (length piece) free) piece ≡ take free piece
+    cut free = by_test (nat_le (length piece) free) refl where
+      by_test : (t : Bool) → nat_le (length piece) free ≡ t → take (min (length piece) free) piece ≡ take free piece
+      by_test true is =
+          let less : length piece ≤ free = grind (arith, nat_tests, is) in
+          take_all (min (length piece) free) piece (omega (arith, less)) ∙ sym (take_all free piece less)
+      by_test false is =
+          let more : free < length piece = grind (arith, nat_tests, is) in
+          let same : min (length piece) free ≡ free = omega (arith, more) in
+          ap (λ n. take n piece) same
+
+pub added-is : (room piece fitting : List ℕ) (n free : ℕ) → length room ≤ ROOM → free ≡ ROOM - length room → n ≡ min (length piece) free →
+    fitting ≡ take n piece → room ++ fitting ≡ kept_of (room ++ piece)
+added-is room piece fitting n free few f m t =
+    ap (λ (l : List ℕ). room ++ l) (t ∙ ap (λ k. take k piece) (m ∙ ap (λ k. min (length piece) k) f)) ∙ take-over room piece few
+
+kept-more : (begun part : List ℕ) → kept_of (kept_of begun ++ part) ≡ kept_of (begun ++ part)
+kept-more begun part = by_test (nat_le (length begun) ROOM) refl where
+  by_test : (t : Bool) → nat_le (length begun) ROOM ≡ t → kept_of (kept_of begun ++ part) ≡ kept_of (begun ++ part)
+  by_test true is =
+      let few : length begun ≤ ROOM = grind (arith, nat_tests, is) in
+      ap (λ t. kept_of (t ++ part)) (take_all ROOM begun few)
+  by_test false is =
+      let many : ROOM < length begun = grind (arith, nat_tests, is) in
+      let full : ROOM ≤ length (take ROOM begun) = omega (arith, many, length-take ROOM begun) in
+      take-append-le ROOM (take ROOM begun) part full ∙ take-take ROOM ROOM begun (omega arith)
+      ∙ sym (take-append-le ROOM begun part (omega (arith, many)))
+
+length-cut : (t : Bool) (line : List ℕ) → length line ≤ length (cond t (take (length line - 1) line) line) + 1
+length-cut true line = omega (arith, length-take (length line - 1) line)
+length-cut false line = omega arith
+
+is-long : (line : List ℕ) → LINE_MOST < length line → as_read line ≡ TooLong
+is-long line long = by_test (nat_le (length line) LINE_MOST) refl where
+  by_test : (t : Bool) → nat_le (length line) LINE_MOST ≡ t → as_read line ≡ TooLong
+  by_test true is = absurd (grind (arith, nat_tests, is, long))
+  by_test false is = rw is refl
+
+long-cut : (line : List ℕ) → LINE_MOST + 1 < length line → as_read (without_return line) ≡ TooLong
+long-cut line long =
+    is-long (without_return line) (omega (arith, long, length-cut (nat_eq (slice_index line (length line - 1)) 13) line))
+
+-- a line is told alike by what is kept of it
+kept-cut : (line : List ℕ) → as_read (without_return (kept_of line)) ≡ as_read (without_return line)
+kept-cut line = by_test (nat_le (length line) ROOM) refl where
+  by_test : (t : Bool) → nat_le (length line) ROOM ≡ t → as_read (without_return (kept_of line)) ≡ as_read (without_return line)
+  by_test true is =
+      let few : length line ≤ ROOM = grind (arith, nat_tests, is) in
+      ap (λ t. as_read (without_return t)) (take_all ROOM line few)
+  by_test false is =
+      let many : ROOM < length line = grind (arith, nat_tests, is) in
+      let full : LINE_MOST + 1 < length (take ROOM line) = omega (arith, many, length-take ROOM line) in
+      long-cut (take ROOM line) full ∙ sym (long-cut line (omega (arith, many)))
+
+kept-whole : (line : List ℕ) → as_read (kept_of line) ≡ as_read line
+kept-whole line = by_test (nat_le (length line) ROOM) refl where
+  by_test : (t : Bool) → nat_le (length line) ROOM ≡ t → as_read (kept_of line) ≡ as_read line
+  by_test true is =
+      let few : length line ≤ ROOM = grind (arith, nat_tests, is) in
+      ap (λ t. as_read t) (take_all ROOM line few)
+  by_test false is =
+      let many : ROOM < length line = grind (arith, nat_tests, is) in
+      let full : LINE_MOST < length (take ROOM line) = omega (arith, many, length-take ROOM line) in
+      is-long (take ROOM line) full ∙ sym (is-long line (omega (arith, many)))
 
 -- a line of these bytes has begun, and these are left
-pub record HasBegun (bytes : List ℕ) (left : Option (List ℕ)) (room : List ℕ) (is_longer : Bool) : Type 0 where
+pub record HasBegun (bytes : List ℕ) (left : Option (List ℕ)) (room : List ℕ) : Type 0 where
   pub begun : List ℕ
   pub rest : List ℕ
   pub left_is : left ≡ Some rest
   pub whole : begun ++ rest ≡ bytes
   pub same : first_from begun rest ≡ first_from [] bytes
-  pub holds : Holds room is_longer begun
+  pub holds : room ≡ kept_of begun
 
-pub begun-starts : (bytes room : List ℕ) (left : Option (List ℕ)) → left ≡ Some bytes → room ≡ [] → HasBegun bytes left room false
+pub begun-starts : (bytes room : List ℕ) (left : Option (List ℕ)) → left ≡ Some bytes → room ≡ [] → HasBegun bytes left room
 begun-starts bytes room left is empty = record { begun = []; rest = bytes; left_is = is; whole = refl; same = refl; holds = empty }
 
--- a byte more
-holds-more : (room begun : List ℕ) (is_longer t : Bool) (byte : ℕ) → nat_le (length room) LINE_MOST ≡ t → Holds room is_longer begun →
-    Holds (cond t (room ++ byte ∷ []) room) (not t) (begun ++ byte ∷ [])
-holds-more room begun false true byte test h = ap (λ t. t ++ byte ∷ []) h
-holds-more room begun true true byte test h = absurd (grind (arith, nat_tests, test, h.0))
-holds-more room begun false false byte test h = (
-  grind (arith, nat_tests, test),
-  grind (arith, nat_tests, test, ap length h, length-append begun (byte ∷ [])),
-)
-holds-more room begun true false byte test h = (h.0, omega (arith, h.1, length-append begun (byte ∷ [])))
-
-first-more : (begun rest : List ℕ) (byte : ℕ) → is_line_feed byte ≡ false →
-    first_from begun (byte ∷ rest) ≡ first_from (begun ++ byte ∷ []) rest
+first-more : (part begun rest : List ℕ) → HasNoEnd part → first_from begun (part ++ rest) ≡ first_from (begun ++ part) rest
 unfolding first_from
-first-more begun rest byte other = rw other refl
+first-more [] begun rest none = ap (λ t. first_from t rest) (sym (append-nil begun))
+first-more (byte ∷ part) begun rest none =
+    rw (All-head (λ b. is_line_feed b ≡ false) byte part none)
+    (first-more part (begun ++ byte ∷ []) rest (All-tail (λ b. is_line_feed b ≡ false) byte part none)
+    ∙ ap (λ t. first_from t rest) (append_assoc begun (byte ∷ []) part))
 
 first-ended : (begun rest : List ℕ) → first_from begun (10 ∷ rest) ≡ (without_return begun, rest)
 unfolding first_from
@@ -55,152 +215,130 @@ line-there : (bytes : List ℕ) → 1 ≤ length bytes → line_in bytes ≡ as_
 line-there [] some = absurd (omega (arith, some))
 line-there (byte ∷ bytes) some = refl
 
-length-cut : (t : Bool) (line : List ℕ) → length line ≤ length (cond t (take (length line - 1) line) line) + 1
-length-cut true line = omega (arith, length-take (length line - 1) line)
-length-cut false line = omega arith
-
-stands-cut : (room begun : List ℕ) (is_longer : Bool) → Holds room is_longer begun →
-    StandsFor (without_return room) is_longer (without_return begun)
-stands-cut room begun false h = ap without_return h
-stands-cut room begun true h = omega (arith, h.1, length-cut (nat_eq (slice_index begun (length begun - 1)) 13) begun)
-
-stands-whole : (room begun : List ℕ) (is_longer : Bool) → Holds room is_longer begun → StandsFor room is_longer begun
-stands-whole room begun false h = h
-stands-whole room begun true h = omega (arith, h.1)
-
--- nothing has begun where the room is empty
-none-begun : (room begun : List ℕ) (is_longer : Bool) → Holds room is_longer begun → length room ≡ 0 → length begun ≡ 0
-none-begun room begun false h empty = ap length (sym h) ∙ empty
-none-begun room begun true h empty = absurd (omega (arith, h.0, empty))
-
-some-begun : (room begun : List ℕ) (is_longer : Bool) → Holds room is_longer begun → 1 ≤ length room → 1 ≤ length begun
-some-begun room begun false h some = omega (arith, ap length h, some)
-some-begun room begun true h some = omega (arith, h.1)
+no-line : (all : List ℕ) → length all ≡ 0 → [] ≡ line_in all
+no-line [] none = refl
+no-line (byte ∷ all) none = absurd (omega (arith, none))
 
 taken-rest : (left : Option (List ℕ)) (rest : List ℕ) → left ≡ Some rest → (P : List ℕ → Type 0) → IfSome left P → P rest
 taken-rest None rest is P h = cc
 taken-rest (Some bytes) rest is P h = let same : bytes ≡ rest = cc in subst P same h
 
-no-line : (all : List ℕ) → length all ≡ 0 → [] ≡ line_in all
-no-line [] none = refl
-no-line (byte ∷ all) none = absurd (omega (arith, none))
+module _ (bytes : List ℕ) (left after : Option (List ℕ)) (room filled : List ℕ) (h : HasBegun bytes left room) where
+  room-is : (part : List ℕ) → filled ≡ kept_of (room ++ part) → filled ≡ kept_of (h.begun ++ part)
+  room-is part added = added ∙ ap (λ t. kept_of (t ++ part)) h.holds ∙ kept-more h.begun part
 
-module _ (bytes : List ℕ) (left after : Option (List ℕ)) (room : List ℕ) (is_longer : Bool) (h : HasBegun bytes left room is_longer) where
-  -- a byte that ends no line
-  pub begun-more : (byte : ℕ) (more : List ℕ) (longer : Bool) → IfSome left (λ rest. TakesByte rest after (Some byte)) →
-      is_line_feed byte ≡ false → more ≡ cond (nat_le (length room) LINE_MOST) (room ++ byte ∷ []) room →
-      longer ≡ not (nat_le (length room) LINE_MOST) → HasBegun bytes after more longer
-  begun-more byte more longer took other added full =
+  -- a piece more
+  pub begun-more : IfSome left (λ rest. TakesPiece rest after room filled Open) → HasBegun bytes after filled
+  begun-more took =
       let t = taken-rest left h.rest h.left_is _ took in
       record {
-        begun = h.begun ++ byte ∷ [];
-        rest = t.0;
-        left_is = t.2;
-        whole = append_assoc h.begun (byte ∷ []) t.0 ∙ ap (λ r. h.begun ++ r) (sym t.1) ∙ h.whole;
-        same = sym (first-more h.begun t.0 byte other) ∙ ap (first_from h.begun) (sym t.1) ∙ h.same;
-        holds = subst (λ m. Holds m longer (h.begun ++ byte ∷ [])) (sym added)
-            (subst (λ b. Holds (cond (nat_le (length room) LINE_MOST) (room ++ byte ∷ []) room) b (h.begun ++ byte ∷ [])) (sym full)
-            (holds-more room h.begun is_longer (nat_le (length room) LINE_MOST) byte refl h.holds));
+        begun = h.begun ++ t.0;
+        rest = t.1;
+        left_is = t.4;
+        whole = append_assoc h.begun t.0 t.1 ∙ ap (λ r. h.begun ++ r) (sym t.3) ∙ h.whole;
+        same = sym (first-more t.0 h.begun t.1 t.2) ∙ ap (first_from h.begun) (sym t.3) ∙ h.same;
+        holds = room-is t.0 t.5;
       }
 
-  -- an LF
-  module _ (took : IfSome left (λ rest. TakesByte rest after (Some 10))) where
-    ended : first_from [] bytes ≡ (without_return h.begun, (taken-rest left h.rest h.left_is (λ rest. TakesByte rest after (Some 10)) took).0)
+  -- the line's end
+  module _ (took : IfSome left (λ rest. TakesPiece rest after room filled Ended)) where
+    abbrev last : List ℕ
+    last = (taken-rest left h.rest h.left_is (λ rest. TakesPiece rest after room filled Ended) took).0
+
+    abbrev others : List ℕ
+    others = (taken-rest left h.rest h.left_is (λ rest. TakesPiece rest after room filled Ended) took).1
+
+    ended : first_from [] bytes ≡ (without_return (h.begun ++ last), others)
     ended =
-        let t = taken-rest left h.rest h.left_is _ took in
-        sym h.same ∙ ap (first_from h.begun) t.1 ∙ first-ended h.begun t.0
+        let t = taken-rest left h.rest h.left_is (λ rest. TakesPiece rest after room filled Ended) took in
+        sym h.same ∙ ap (first_from h.begun) t.3 ∙ first-more t.0 h.begun (10 ∷ t.1) t.2 ∙ first-ended (h.begun ++ t.0) t.1
 
     pub ended-rest : after ≡ Some (first_from [] bytes).1
     ended-rest =
-        let t = taken-rest left h.rest h.left_is _ took in
-        t.2 ∙ ap (λ (p : List ℕ × List ℕ). Some p.1) (sym ended)
+        let t = taken-rest left h.rest h.left_is (λ rest. TakesPiece rest after room filled Ended) took in
+        t.4 ∙ ap (λ (p : List ℕ × List ℕ). Some p.1) (sym ended)
 
     some-bytes : 1 ≤ length bytes
     some-bytes =
-        let t = taken-rest left h.rest h.left_is _ took in
-        omega (arith, ap length h.whole, length-append h.begun h.rest, ap length t.1)
+        let t = taken-rest left h.rest h.left_is (λ rest. TakesPiece rest after room filled Ended) took in
+        omega (arith, ap length h.whole, length-append h.begun h.rest, ap length t.3, length-append t.0 (10 ∷ t.1))
 
-    pub ended-line : as_read (without_return h.begun) ∷ [] ≡ line_in bytes
-    ended-line = ap (λ (p : List ℕ × List ℕ). as_read p.0 ∷ []) (sym ended) ∙ sym (line-there bytes some-bytes)
-
-    pub ended-stands : StandsFor (without_return room) is_longer (without_return h.begun)
-    ended-stands = stands-cut room h.begun is_longer h.holds
+    pub ended-line : as_read (without_return filled) ∷ [] ≡ line_in bytes
+    ended-line =
+        let t = taken-rest left h.rest h.left_is (λ rest. TakesPiece rest after room filled Ended) took in
+        ap (λ l. as_read (without_return l) ∷ []) (room-is t.0 t.5) ∙ ap (λ l. l ∷ []) (kept-cut (h.begun ++ t.0))
+        ∙ ap (λ (p : List ℕ × List ℕ). as_read p.0 ∷ []) (sym ended) ∙ sym (line-there bytes some-bytes)
 
   -- no byte is left
-  module _ (took : IfSome left (λ rest. TakesByte rest after None)) where
+  module _ (took : IfSome left (λ rest. TakesPiece rest after room filled Over)) where
     begun-all : h.begun ≡ bytes
     begun-all =
-        let t = taken-rest left h.rest h.left_is _ took in
+        let t = taken-rest left h.rest h.left_is (λ rest. TakesPiece rest after room filled Over) took in
         sym (append-nil h.begun) ∙ ap (λ r. h.begun ++ r) (sym t.0) ∙ h.whole
 
     over : first_from [] bytes ≡ (h.begun, [])
     over =
-        let t = taken-rest left h.rest h.left_is _ took in
+        let t = taken-rest left h.rest h.left_is (λ rest. TakesPiece rest after room filled Over) took in
         sym h.same ∙ ap (first_from h.begun) t.0 ∙ first-last h.begun
 
     pub over-rest : after ≡ Some (first_from [] bytes).1
     over-rest =
-        let t = taken-rest left h.rest h.left_is _ took in
+        let t = taken-rest left h.rest h.left_is (λ rest. TakesPiece rest after room filled Over) took in
         t.1 ∙ ap (λ (p : List ℕ × List ℕ). Some p.1) (sym over)
 
-    pub over-line : 1 ≤ length room → as_read h.begun ∷ [] ≡ line_in bytes
+    filled-is : filled ≡ kept_of h.begun
+    filled-is =
+        let t = taken-rest left h.rest h.left_is (λ rest. TakesPiece rest after room filled Over) took in
+        t.2 ∙ h.holds
+
+    some-begun : 1 ≤ length filled → 1 ≤ length bytes
+    some-begun some = omega (arith, some, ap length filled-is, length-take ROOM h.begun, ap length begun-all)
+
+    none-begun : length filled ≡ 0 → length bytes ≡ 0
+    none-begun none = omega (arith, none, ap length filled-is, length-take ROOM h.begun, ap length begun-all)
+
+    pub over-line : 1 ≤ length filled → as_read filled ∷ [] ≡ line_in bytes
     over-line some =
-        ap (λ (p : List ℕ × List ℕ). as_read p.0 ∷ []) (sym over)
-        ∙ sym (line-there bytes (subst (λ b. 1 ≤ length b) begun-all (some-begun room h.begun is_longer h.holds some)))
+        ap (λ l. as_read l ∷ []) filled-is ∙ ap (λ l. l ∷ []) (kept-whole h.begun)
+        ∙ ap (λ (p : List ℕ × List ℕ). as_read p.0 ∷ []) (sym over) ∙ sym (line-there bytes (some-begun some))
 
-    pub over-stands : StandsFor room is_longer h.begun
-    over-stands = stands-whole room h.begun is_longer h.holds
-
-    pub over-none : length room ≡ 0 → [] ≡ line_in bytes
-    over-none empty = no-line bytes (ap length (sym begun-all) ∙ none-begun room h.begun is_longer h.holds empty)
+    pub over-none : length filled ≡ 0 → [] ≡ line_in bytes
+    over-none empty = no-line bytes (none-begun empty)
 
 -- the same, where the bytes may be known
 
-not-feed : (byte : ℕ) → (byte ≡ 10 → ⊥) → is_line_feed byte ≡ false
-not-feed byte other = by_test (is_line_feed byte) refl where
-  by_test : (b : Bool) → nat_eq byte 10 ≡ b → b ≡ false
-  by_test true e = absurd (other (grind (arith, nat_tests, e)))
-  by_test false e = refl
+module _ (left after : Option (List ℕ)) (room filled : List ℕ) (piece : Piece) (took : IfSome left (λ rest. TakesPiece rest after room filled piece)) where
+  abbrev took-so : (kind : Piece) → piece ≡ kind → IfSome left (λ rest. TakesPiece rest after room filled kind)
+  took-so kind is = subst (λ (k : Piece). IfSome left (λ rest. TakesPiece rest after room filled k)) is took
 
-pub known-more : (known left after : Option (List ℕ)) (room more : List ℕ) (is_longer longer : Bool) (read : Option ℕ) (byte : ℕ) →
-    IfSome known (λ bytes. HasBegun bytes left room is_longer) → IfSome left (λ rest. TakesByte rest after read) →
-    read ≡ Some byte → (byte ≡ 10 → ⊥) → more ≡ cond (nat_le (length room) LINE_MOST) (room ++ byte ∷ []) room →
-    longer ≡ not (nat_le (length room) LINE_MOST) → IfSome known (λ bytes. HasBegun bytes after more longer)
-known-more None left after room more is_longer longer read byte h took is other added full = tt
-known-more (Some bytes) left after room more is_longer longer read byte h took is other added full =
-    begun-more bytes left after room is_longer h byte more longer
-    (subst (λ (b : Option ℕ). IfSome left (λ rest. TakesByte rest after b)) is took) (not-feed byte other) added full
+  pub known-more : (known : Option (List ℕ)) → piece ≡ Open → IfSome known (λ bytes. HasBegun bytes left room) →
+      IfSome known (λ bytes. HasBegun bytes after filled)
+  known-more None is h = tt
+  known-more (Some bytes) is h = begun-more bytes left after room filled h (took-so Open is)
 
-module _ (left after : Option (List ℕ)) (room : List ℕ) (is_longer : Bool) (read : Option ℕ) (took : IfSome left (λ rest. TakesByte rest after read)) where
-  module _ (is : read ≡ Some 10) where
-    pub known-ended-line : (known : Option (List ℕ)) (cut : List ℕ) (said : List LineRead) →
-        IfSome known (λ bytes. HasBegun bytes left room is_longer) → cut ≡ without_return room →
-        ((line : List ℕ) → StandsFor cut is_longer line → said ≡ as_read line ∷ []) → IfSome known (λ bytes. said ≡ line_in bytes)
-    known-ended-line None cut said h cut_is says = tt
-    known-ended-line (Some bytes) cut said h cut_is says =
-        let feed = subst (λ (b : Option ℕ). IfSome left (λ rest. TakesByte rest after b)) is took in
-        says (without_return h.begun)
-        (subst (λ (r : List ℕ). StandsFor r is_longer (without_return h.begun)) (sym cut_is)
-        (ended-stands bytes left after room is_longer h feed))
-        ∙ ended-line bytes left after room is_longer h feed
+  pub known-ended-line : (known : Option (List ℕ)) (cut : List ℕ) (said : List LineRead) → piece ≡ Ended →
+      IfSome known (λ bytes. HasBegun bytes left room) → cut ≡ without_return filled → said ≡ as_read cut ∷ [] →
+      IfSome known (λ bytes. said ≡ line_in bytes)
+  known-ended-line None cut said is h cut_is says = tt
+  known-ended-line (Some bytes) cut said is h cut_is says =
+      says ∙ ap (λ (l : List ℕ). as_read l ∷ []) cut_is ∙ ended-line bytes left after room filled h (took-so Ended is)
 
-    pub known-ended-rest : (known : Option (List ℕ)) → IfSome known (λ bytes. HasBegun bytes left room is_longer) →
-        IfSome known (λ bytes. after ≡ Some (first_from [] bytes).1)
-    known-ended-rest None h = tt
-    known-ended-rest (Some bytes) h =
-        ended-rest bytes left after room is_longer h (subst (λ (b : Option ℕ). IfSome left (λ rest. TakesByte rest after b)) is took)
+  pub known-ended-rest : (known : Option (List ℕ)) → piece ≡ Ended → IfSome known (λ bytes. HasBegun bytes left room) →
+      IfSome known (λ bytes. after ≡ Some (first_from [] bytes).1)
+  known-ended-rest None is h = tt
+  known-ended-rest (Some bytes) is h = ended-rest bytes left after room filled h (took-so Ended is)
 
-  module _ (is : read ≡ None) where
-    pub known-over-line : (known : Option (List ℕ)) (said : List LineRead) → IfSome known (λ bytes. HasBegun bytes left room is_longer) →
-        1 ≤ length room → ((line : List ℕ) → StandsFor room is_longer line → said ≡ as_read line ∷ []) →
-        IfSome known (λ bytes. said ≡ line_in bytes)
-    known-over-line None said h some says = tt
-    known-over-line (Some bytes) said h some says =
-        let over = subst (λ (b : Option ℕ). IfSome left (λ rest. TakesByte rest after b)) is took in
-        says h.begun (over-stands bytes left after room is_longer h over) ∙ over-line bytes left after room is_longer h over some
+  pub known-over-line : (known : Option (List ℕ)) (said : List LineRead) → piece ≡ Over → IfSome known (λ bytes. HasBegun bytes left room) →
+      1 ≤ length filled → said ≡ as_read filled ∷ [] → IfSome known (λ bytes. said ≡ line_in bytes)
+  known-over-line None said is h some says = tt
+  known-over-line (Some bytes) said is h some says = says ∙ over-line bytes left after room filled h (took-so Over is) some
 
-    pub known-over-rest : (known : Option (List ℕ)) → IfSome known (λ bytes. HasBegun bytes left room is_longer) →
-        IfSome known (λ bytes. after ≡ Some (first_from [] bytes).1)
-    known-over-rest None h = tt
-    known-over-rest (Some bytes) h =
-        over-rest bytes left after room is_longer h (subst (λ (b : Option ℕ). IfSome left (λ rest. TakesByte rest after b)) is took)
+  pub known-over-none : (known : Option (List ℕ)) → piece ≡ Over → IfSome known (λ bytes. HasBegun bytes left room) → length filled ≡ 0 →
+      IfSome known (λ bytes. [] ≡ line_in bytes)
+  known-over-none None is h none = tt
+  known-over-none (Some bytes) is h none = over-none bytes left after room filled h (took-so Over is) none
+
+  pub known-over-rest : (known : Option (List ℕ)) → piece ≡ Over → IfSome known (λ bytes. HasBegun bytes left room) →
+      IfSome known (λ bytes. after ≡ Some (first_from [] bytes).1)
+  known-over-rest None is h = tt
+  known-over-rest (Some bytes) is h = over-rest bytes left after room filled h (took-so Over is)

@@ -1,8 +1,10 @@
 -- The first line of the bytes that a reader has left.
-use Rattle.std.specs.Prelude.{◌≡◌, ℕ, ◌<◌, Bool, true, false, length, List, [], ◌∷◌, ◌++◌, if◌then◌else◌, Option, Some, None}
+use Rattle.std.specs.Prelude.{◌≡◌, ℕ, false, List, [], ◌∷◌, ◌++◌, take, All, if◌then◌else◌, Option, Some}
 use Rattle.text_lines.specs.Lines.{is_line_feed, without_return}
 use Rattle.line_source.specs.Lines.{LineRead, as_read}
-use Rattle.line_source.specs.declared.room.TheConstants.{LINE_MOST}
+use Rattle.line_source.specs.declared.reader_lines.Piece.{Piece}
+use Rattle.line_source.specs.declared.reader_lines.Piece.TheVariants.{Ended, Open, Over}
+use Rattle.line_source.specs.declared.room.TheConstants.{ROOM}
 
 -- the line without its end, and the bytes after it, where the line has begun
 unfoldable pub first_from : List ℕ → List ℕ → List ℕ × List ℕ
@@ -15,12 +17,18 @@ abbrev pub line_in : List ℕ → List LineRead
 line_in [] = []
 line_in (byte ∷ bytes) = as_read (first_from [] (byte ∷ bytes)).0 ∷ []
 
--- what a read of one byte makes of the bytes that are left
-abbrev pub TakesByte : List ℕ → Option (List ℕ) → Option ℕ → Type 0
-TakesByte bytes left None = (bytes ≡ []) × (left ≡ Some [])
-TakesByte bytes left (Some byte) = (rest : List ℕ) × (bytes ≡ byte ∷ rest) × (left ≡ Some rest)
+-- what the room keeps of a line
+abbrev pub kept_of : List ℕ → List ℕ
+kept_of begun = take ROOM begun
 
--- what is in the room stands for a line: it is the line, or the line is longer than may be
-abbrev pub StandsFor : List ℕ → Bool → List ℕ → Type 0
-StandsFor room false line = room ≡ line
-StandsFor room true line = LINE_MOST < length line
+-- no end of a line is among these bytes
+abbrev pub HasNoEnd : List ℕ → Type 0
+HasNoEnd bytes = All (λ byte. is_line_feed byte ≡ false) bytes
+
+-- what a piece that is taken makes of the bytes that are left, and of the room
+abbrev pub TakesPiece : List ℕ → Option (List ℕ) → List ℕ → List ℕ → Piece → Type 0
+TakesPiece bytes left room filled Ended = (part : List ℕ) × (rest : List ℕ)
+    × HasNoEnd part × (bytes ≡ part ++ 10 ∷ rest) × (left ≡ Some rest) × (filled ≡ kept_of (room ++ part))
+TakesPiece bytes left room filled Open = (part : List ℕ) × (rest : List ℕ)
+    × HasNoEnd part × (bytes ≡ part ++ rest) × (left ≡ Some rest) × (filled ≡ kept_of (room ++ part))
+TakesPiece bytes left room filled Over = (bytes ≡ []) × (left ≡ Some []) × (filled ≡ room)

@@ -1,24 +1,27 @@
 //! A source over a reader: a trusted edge.
-ghost use Rattle.std.specs.Prelude.{◌≡◌, ℕ, List, [], ◌∷◌, Some, Ok, IfOk, IfSome, OnOk, ◌≤◌, length};
-ghost use Rattle.line_source.specs.Lines.{as_read, taken_by};
-ghost use Rattle.line_source.specs.Reading.{TakesByte, StandsFor, first_from, line_in};
+ghost use Rattle.std.specs.Prelude.{◌≡◌, [], Some, Ok, IfOk, IfSome, OnOk, ◌≤◌, length};
+ghost use Rattle.std.specs.List.{position};
+ghost use Rattle.text_lines.specs.Lines.{is_line_feed};
+ghost use Rattle.line_source.specs.Lines.{taken_by};
+ghost use Rattle.line_source.specs.Reading.{TakesPiece, first_from, line_in};
 ghost use Rattle.line_source.specs.declared.room.TheConstants.{LINE_MOST};
 
 use crate::room::LineRoom;
 use crate::source::{Lines, ReadFailed, Taken};
-use std::io::Read;
+use std::io::BufRead;
 
-/// Lines of any reader, each ended by LF, or by CR and LF. It tells nothing of them. An error of the reader is a failure.
+/// Lines of any reader that holds bytes ready, each ended by LF, or by CR and LF. It tells nothing of them. An error of the
+/// reader is a failure.
 ///
-/// It reads a byte at a time and none past the end of the line, so that it waits for no byte that the line doesn't need. A
-/// reader that holds bytes ready, as a `BufReader`, spares a call of the system for each.
+/// It takes what the reader holds of a line in one piece, and asks it for more only where the line's end isn't among what it
+/// holds: so it waits for no byte that the line doesn't need.
 #[derive(Drop)]
-pub struct ReaderLines<R: Read + Drop> {
+pub struct ReaderLines<R: BufRead + Drop> {
     reader: R,
     faults: u64,
 }
 
-impl<R: Read + Drop> ReaderLines<R> {
+impl<R: BufRead + Drop> ReaderLines<R> {
     pub fn new(reader: R) -> ReaderLines<R>
         ensures { result ≡ record { reader = reader; faults = 0 } }
     {
@@ -26,52 +29,72 @@ impl<R: Read + Drop> ReaderLines<R> {
     }
 }
 
-// The next byte; None at the end.
-fn next_byte<R: Read>(reader: &mut R) -> Result<Option<u8>, ReadFailed>
-    ensures { IfSome (R.remaining reader.old) (λ bytes. IfOk result (TakesByte bytes (R.remaining reader.new))) }
+/// How a piece of a line ends.
+#[derive(Clone, Copy, PartialEq, Eq, Debug)]
+enum Piece {
+    /// By an LF, the line's end.
+    Ended,
+    /// Where the reader holds no more; the line goes on.
+    Open,
+    /// No byte is left.
+    Over,
+}
+
+// Where the LF is that ends the line.
+fn end_of_line(held: &[u8]) -> Option<usize>
+    ensures { result ≡ position is_line_feed held.now }
 {
-    let mut byte = [0u8];
-    match reader.read(&mut byte) {
-        Ok(0) => Ok(None),
-        Ok(_) => Ok(Some(byte[0])),
-        Err(_) => Err(ReadFailed),
+    held.iter().position(|byte| *byte == b'\n')
+}
+
+// Takes into the room what the reader holds of the line.
+fn take_piece<R: BufRead>(reader: &mut R, into: &mut LineRoom) -> Result<Piece, ReadFailed>
+    ensures { IfSome (R.remaining reader.old) (λ bytes. IfOk result (TakesPiece bytes (R.remaining reader.new) into.old into.new)) }
+{
+    let held = match reader.fill_buf() {
+        Ok(held) => held,
+        Err(_) => return Err(ReadFailed),
+    };
+    if held.is_empty() {
+        return Ok(Piece::Over);
+    }
+    match end_of_line(held) {
+        Some(end) => {
+            into.add(&held[..end]);
+            reader.consume(end + 1);
+            Ok(Piece::Ended)
+        }
+        None => {
+            let count = held.len();
+            into.add(held);
+            reader.consume(count);
+            Ok(Piece::Open)
+        }
     }
 }
 
-// What there is to say of a line whose bytes have all come, of which the room has as many as it may.
-fn taken(into: &mut LineRoom, is_longer: bool) -> Taken
-    ensures line { (line : List ℕ) → StandsFor into.old is_longer line → taken_by (Ok result) into.new ≡ as_read line ∷ [] }
-    ensures short { result ≡ Taken.Whole → length into.new ≤ LINE_MOST }
-{
-    if is_longer {
-        return Taken::Longer;
-    }
-    into.judge()
-}
-
-// Reads the first line of those that are left. It gives up after 2^64 bytes.
-fn read_line<R: Read>(reader: &mut R, into: &mut LineRoom) -> Result<Taken, ReadFailed>
+// Reads the first line of those that are left. It gives up after 2^64 pieces.
+fn read_line<R: BufRead>(reader: &mut R, into: &mut LineRoom) -> Result<Taken, ReadFailed>
     ensures line { IfSome (R.remaining reader.old) (λ bytes. IfOk result (λ taken. taken_by (Ok taken) into.new ≡ line_in bytes)) }
     ensures rest { OnOk result (IfSome (R.remaining reader.old) (λ bytes. R.remaining reader.new ≡ Some (first_from [] bytes).1)) }
     ensures short { result ≡ Ok Taken.Whole → length into.new ≤ LINE_MOST }
 {
     into.clear();
-    let mut is_longer = false;
     'reading: for _ in 0..u64::MAX {
-        match next_byte(reader)? {
-            Some(b'\n') => {
+        match take_piece(reader, into)? {
+            Piece::Ended => {
                 into.cut_return();
-                return Ok(taken(into, is_longer));
+                return Ok(into.judge());
             }
-            Some(byte) => is_longer = !into.add(byte),
-            None if into.bytes().is_empty() => return Ok(Taken::End),
-            None => return Ok(taken(into, is_longer)),
+            Piece::Open => {}
+            Piece::Over if into.bytes().is_empty() => return Ok(Taken::End),
+            Piece::Over => return Ok(into.judge()),
         }
     }
     Err(ReadFailed)
 }
 
-impl<R: Read + Drop> Lines for ReaderLines<R> {
+impl<R: BufRead + Drop> Lines for ReaderLines<R> {
     ghost use Rattle.std.specs.Prelude.{None};
 
     ghost read = { λ s. None };

@@ -1,7 +1,8 @@
 //! The room for a line.
-ghost use Rattle.std.specs.Prelude.{◌≡◌, ◌≤◌, [], ◌∷◌, ◌++◌, length, Ok, IfOk, nat_le, if◌then◌else◌};
+ghost use Rattle.std.specs.Prelude.{◌≡◌, ◌≤◌, [], ◌∷◌, ◌++◌, length, Ok, IfOk};
 ghost use Rattle.text_lines.specs.Lines.{without_return};
 ghost use Rattle.line_source.specs.Lines.{as_read, taken_by};
+ghost use Rattle.line_source.specs.Reading.{kept_of};
 
 use crate::source::{ReadFailed, Taken};
 use sn_base::Memory;
@@ -11,8 +12,10 @@ use std::marker::Model;
 /// The most bytes that a line may have, without its end: 1 MiB. No line of a script that says anything has as many as 40.
 pub const LINE_MOST: usize = 1_048_576;
 
-/// The room for a line and for one byte more, which may belong to its end. It has all its memory from the start. Contracts
-/// see the bytes of the line that is in it.
+// The most bytes that are kept of a line: one more shows that it is longer than may be, and one more may be the CR of its end.
+const ROOM: usize = 1_048_578;
+
+/// The room for a line and its end. It has all its memory from the start. Contracts see the bytes that are in it.
 #[derive(Drop)]
 pub struct LineRoom {
     bytes: Vec<u8>,
@@ -20,20 +23,20 @@ pub struct LineRoom {
 
 impl Model for LineRoom {
     ghost use Rattle.std.specs.Prelude.{ℕ, List, ◌+◌, ◌≤◌, vec_len, vec_capacity};
-    ghost use Rattle.line_source.specs.declared.room.TheConstants.{LINE_MOST};
+    ghost use Rattle.line_source.specs.declared.room.TheConstants.{ROOM};
 
     ghost Value = { List ℕ };
 
     ghost view = { λ r. r.bytes.items };
 
-    ghost invariant = { λ r. (LINE_MOST + 1 ≤ vec_capacity r.bytes) × (vec_len r.bytes ≤ LINE_MOST + 1) };
+    ghost invariant = { λ r. (ROOM ≤ vec_capacity r.bytes) × (vec_len r.bytes ≤ ROOM) };
 }
 
 impl LineRoom {
     pub fn new(alloc: Global) -> Result<LineRoom, Memory>
         ensures { IfOk result (λ room. room ≡ []) }
     {
-        let bytes = Vec::with_capacity(alloc, LINE_MOST + 1)?;
+        let bytes = Vec::with_capacity(alloc, ROOM)?;
         Ok(LineRoom { bytes })
     }
 
@@ -50,16 +53,13 @@ impl LineRoom {
         self.bytes.clear();
     }
 
-    /// Adds a byte to the line where there is room; whether there was.
-    pub(crate) fn add(&mut self, byte: u8) -> bool
-        ensures fits { result ≡ nat_le (length self.old) LINE_MOST }
-        ensures added { self.new ≡ if nat_le (length self.old) LINE_MOST then self.old ++ byte ∷ [] else self.old }
+    /// Adds a piece of the line, or as much of it as there is room for.
+    pub(crate) fn add(&mut self, piece: &[u8])
+        ensures { self.new ≡ kept_of (self.old ++ piece.now) }
     {
-        if self.bytes.len() > LINE_MOST {
-            return false;
-        }
-        self.bytes.push(byte).unwrap();
-        true
+        let free = ROOM - self.bytes.len();
+        let fitting = &piece[..piece.len().min(free)];
+        self.bytes.extend_from_slice(fitting).unwrap();
     }
 
     /// Takes away the CR at the end of a line that an LF ended.

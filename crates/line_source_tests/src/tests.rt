@@ -1,6 +1,7 @@
 //! Lines of texts in memory and of readers, with each kind of end, too long ones and failures.
 use line_source::{LINE_MOST, LineRoom, Lines, MemLines, ReadFailed, ReaderLines, Taken};
-use std::io;
+use std::alloc::Global;
+use std::io::{self, BufReader};
 use std::test::Fail;
 
 /// Gives its bytes one at a read, and then its end.
@@ -64,16 +65,30 @@ fn a_call_that_is_named_fails_and_takes_no_line(rt: HostRuntime) -> Result<(), F
     Ok(())
 }
 
+/// Lines with each kind of end, the last of them without one.
+const LINES: &[u8] = b"\r1\n\n\r\r\nhop\x001\r\nstep 0";
+
+/// Whether a reader that holds so many bytes at once gives those lines and then its end.
+fn gives_all(alloc: Global, held: usize) -> Result<bool, Fail> {
+    let reader = BufReader::with_capacity(alloc, held, LINES)?;
+    let mut lines = ReaderLines::new(reader);
+    let mut room = LineRoom::new(alloc)?;
+    Ok(
+        gives(&mut lines, &mut room, b"\r1")
+            && gives(&mut lines, &mut room, b"")
+            && gives(&mut lines, &mut room, b"\r")
+            && gives(&mut lines, &mut room, b"hop\x001")
+            && gives(&mut lines, &mut room, b"step 0")
+            && comes_to(&mut lines, &mut room, Ok(Taken::End)),
+    )
+}
+
 #[test]
-fn a_reader_gives_each_line_and_the_last_without_an_end(rt: HostRuntime) -> Result<(), Fail> {
-    let mut room = LineRoom::new(rt.alloc())?;
-    let left = Vec::from_slice(rt.alloc(), b"0 pets\n\r\r\n\n1\r")?;
-    let mut lines = ReaderLines::new(Slow { left, end: Ok(()) });
-    assert!(rt; gives(&mut lines, &mut room, b"\r1"));
-    assert!(rt; gives(&mut lines, &mut room, b""));
-    assert!(rt; gives(&mut lines, &mut room, b"\r"));
-    assert!(rt; gives(&mut lines, &mut room, b"step 0"));
-    assert!(rt; comes_to(&mut lines, &mut room, Ok(Taken::End)));
+fn a_reader_gives_each_line_whatever_it_holds_at_once(rt: HostRuntime) -> Result<(), Fail> {
+    for held in [1, 2, 3, 4, 5, 6, 7, 11, 12, 13, 64] {
+        let is_so = gives_all(rt.alloc(), held)?;
+        assert!(rt; is_so, "with {held}");
+    }
     Ok(())
 }
 
@@ -82,34 +97,42 @@ fn a_reader_that_fails_within_a_line_gives_nothing_of_it(rt: HostRuntime) -> Res
     let mut room = LineRoom::new(rt.alloc())?;
     let left = Vec::from_slice(rt.alloc(), b"ets\nb")?;
     let end = Err(io::ErrorKind::Other);
-    let mut lines = ReaderLines::new(Slow { left, end });
+    let reader = BufReader::with_capacity(rt.alloc(), 8, Slow { left, end })?;
+    let mut lines = ReaderLines::new(reader);
     assert!(rt; gives(&mut lines, &mut room, b"b"));
     assert!(rt; comes_to(&mut lines, &mut room, Err(ReadFailed)));
     Ok(())
 }
 
-/// So many letters, and behind them an end and a line, from the last byte to the first.
-fn long_text(alloc: std::alloc::Global, letters: usize) -> Result<Vec<u8>, Fail> {
-    let mut left = Vec::from_slice(alloc, b"b\n\r")?;
-    left.resize(letters.saturating_add(3), b'a')?;
-    Ok(left)
+/// So many letters, and behind them an end and a line.
+fn long_text(alloc: Global, letters: usize) -> Result<Vec<u8>, Fail> {
+    let mut text = Vec::with_capacity(alloc, letters.saturating_add(3))?;
+    text.resize(letters, b'a')?;
+    text.extend_from_slice(b"\r\nb")?;
+    Ok(text)
+}
+
+/// Whether the first line of such a text comes to this, and the second is given.
+fn long_line_comes_to(alloc: Global, letters: usize, wanted: Taken) -> Result<bool, Fail> {
+    let text = long_text(alloc, letters)?;
+    let reader = BufReader::with_capacity(alloc, 1_000, text.as_slice())?;
+    let mut lines = ReaderLines::new(reader);
+    let mut room = LineRoom::new(alloc)?;
+    Ok(comes_to(&mut lines, &mut room, Ok(wanted)) && gives(&mut lines, &mut room, b"b"))
 }
 
 #[test]
 fn a_line_of_the_most_bytes_is_given_and_a_longer_one_is_told_and_skipped(
     rt: HostRuntime,
 ) -> Result<(), Fail> {
-    let mut room = LineRoom::new(rt.alloc())?;
     for (letters, wanted) in [
         (LINE_MOST, Taken::Whole),
         (LINE_MOST + 1, Taken::Longer),
         (LINE_MOST + 2, Taken::Longer),
         (3 * LINE_MOST, Taken::Longer),
     ] {
-        let left = long_text(rt.alloc(), letters)?;
-        let mut lines = ReaderLines::new(Slow { left, end: Ok(()) });
-        assert!(rt; comes_to(&mut lines, &mut room, Ok(wanted)));
-        assert!(rt; gives(&mut lines, &mut room, b"b"));
+        let is_so = long_line_comes_to(rt.alloc(), letters, wanted)?;
+        assert!(rt; is_so, "with {letters}");
     }
     Ok(())
 }

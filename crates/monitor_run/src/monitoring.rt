@@ -83,7 +83,10 @@ fn run_watched<T: Threads + Wait + Sync>(rt: &T, started: Started) -> Option<Lef
     watcher.learn(monitored.receipt());
     look(&mut watcher, &mut looks);
     let machine = monitored.end(rt);
+    drop(watcher);
     let Stop::Finished(finish) = stop else {
+        drop(machine);
+        drop(turns);
         return None;
     };
     take_seen(turns.published.as_slice(), looks.as_slice(), &mut seen);
@@ -138,7 +141,7 @@ pub fn monitor<T: Threads + Wait + Sync, C: Sink, R: Sink>(
         unreachable!()
     };
     tell(&left.turns.journal, &left.turns.answers, probes);
-    match put_all(
+    let put = put_all(
         &mut line,
         &left.machine,
         left.seen.as_slice(),
@@ -146,7 +149,10 @@ pub fn monitor<T: Threads + Wait + Sync, C: Sink, R: Sink>(
         probes,
         console,
         report,
-    ) {
+    );
+    drop(left);
+    drop(line);
+    match put {
         Ok(()) => Ok(ending),
         Err(_) => Err(RunFault::Sink),
     }

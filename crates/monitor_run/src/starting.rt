@@ -30,8 +30,16 @@ pub(crate) struct Started {
     pub seen: Vec<Mark>,
 }
 
+// What the turns fill, and the watcher's marks.
+#[derive(Drop)]
+struct Room {
+    turns: Turns,
+    looks: Vec<Mark>,
+    seen: Vec<Mark>,
+}
+
 // What the turns of so many workers fill.
-fn room_for(alloc: Global, seed: u64, budget: u32, workers: u8) -> Result<Turns, Memory>
+fn turns_for(alloc: Global, seed: u64, budget: u32, workers: u8) -> Result<Turns, Memory>
     requires { budget ≤ EVENTS }
     ensures new { IfOk result (λ t. IsNew workers t) }
     ensures same { IfOk result (λ t. (t.seed ≡ seed) × (t.budget ≡ budget)) }
@@ -44,6 +52,19 @@ fn room_for(alloc: Global, seed: u64, budget: u32, workers: u8) -> Result<Turns,
         seed,
         budget,
     })
+}
+
+fn room_for(alloc: Global, seed: u64, budget: u32, workers: u8) -> Result<Room, Memory>
+    requires { budget ≤ EVENTS }
+    ensures new { IfOk result (λ room. IsNew workers room.turns) }
+    ensures same { IfOk result (λ room. (room.turns.seed ≡ seed) × (room.turns.budget ≡ budget)) }
+    ensures looks { IfOk result (λ room. (room.looks.items ≡ []) × (budget + 1 ≤ vec_capacity room.looks)) }
+    ensures seen { IfOk result (λ room. (room.seen.items ≡ []) × (budget + 1 ≤ vec_capacity room.seen)) }
+{
+    let looks = Vec::with_capacity(alloc, budget as usize + 1)?;
+    let seen = Vec::with_capacity(alloc, budget as usize + 1)?;
+    let turns = turns_for(alloc, seed, budget, workers)?;
+    Ok(Room { turns, looks, seen })
 }
 
 // The watched run of a machine at its start, with the start's snapshot noted.
@@ -78,7 +99,10 @@ fn begin(
             note_last(&mut monitored, &mut turns.published);
             Ok((monitored, watcher))
         }
-        Err(_) => Err(Memory),
+        Err(refused) => {
+            drop(refused);
+            Err(Memory)
+        }
     }
 }
 
@@ -99,18 +123,23 @@ pub(crate) fn start(rt: &impl Wait, alloc: Global, job: Monitor) -> Result<Start
         budget,
         watch,
     } = job;
-    let looks = Vec::with_capacity(alloc, budget as usize + 1)?;
-    let seen = Vec::with_capacity(alloc, budget as usize + 1)?;
-    let mut turns = room_for(alloc, seed, budget, config.nodes)?;
-    let machine = machine_for(alloc, program, config, budget)?;
-    let (monitored, watcher) = begin(
-        rt,
-        alloc,
-        machine,
-        rules,
-        watch.unwrap_or(RAM_START),
-        &mut turns,
-    )?;
+    let Ok(room) = room_for(alloc, seed, budget, config.nodes) else {
+        return Err(Memory);
+    };
+    let Ok(machine) = machine_for(alloc, program, config, budget) else {
+        drop(room);
+        return Err(Memory);
+    };
+    let Room {
+        mut turns,
+        looks,
+        seen,
+    } = room;
+    let watch = watch.unwrap_or(RAM_START);
+    let Ok((monitored, watcher)) = begin(rt, alloc, machine, rules, watch, &mut turns) else {
+        drop(turns);
+        return Err(Memory);
+    };
     Ok(Started {
         monitored,
         watcher,

@@ -98,12 +98,17 @@ pub fn run<T: Threads + Wait + Sync, C: Sink + Send, R: Sink, G: Gate + Sync>(
         return Err(RunFault::Memory);
     };
     let Some(shared) = shared_for(alloc, program, config, rules, seed, budget) else {
+        drop(room);
         return Err(RunFault::Memory);
     };
     let Ok(finished) = run_nodes(rt, alloc, shared, gate, console, probes) else {
+        drop(room);
         return Err(RunFault::Memory);
     };
-    match put_ended(&mut room, &finished, &showing, probes, report) {
+    let ended = put_ended(&mut room, &finished, &showing, probes, report);
+    drop(finished);
+    drop(room);
+    match ended {
         Some(ending) => Ok(ending),
         None => Err(RunFault::Sink),
     }

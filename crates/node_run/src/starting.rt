@@ -1,14 +1,14 @@
 //! A machine before the first turn of a run on its caller's thread.
 ghost use Rattle.std.specs.Prelude.{◌≡◌, ◌+◌, ◌≤◌, true, IfOk};
 ghost use Rattle.sn_base.specs.Config.{config_fits};
-ghost use Rattle.sn_model.specs.Machine.{start_of};
+ghost use Rattle.sn_machine.specs.Machine.{machine_with_room};
 ghost use Rattle.sn_base.specs.declared.limits.TheConstants.{EVENTS};
 
 use sn_base::{Config, Image, Memory};
 use sn_machine::Machine;
 use std::alloc::Global;
 
-/// A machine of these sizes at the start of the program, with room for the events.
+/// A machine of these sizes at the start of the program, with room for a run of so many events.
 pub fn machine_for(
     alloc: Global,
     program: Image,
@@ -17,12 +17,8 @@ pub fn machine_for(
 ) -> Result<Machine, Memory>
     requires sizes { config_fits config ≡ true }
     requires few { budget ≤ EVENTS }
-    ensures program { IfOk result (λ m. (m.image ≡ program) × (m.config ≡ config)) }
-    ensures start { IfOk result (λ m. (m.applied ≡ 0) × (m.state ≡ start_of program config.nodes)) }
-    ensures room { IfOk result (λ m. budget + 1 ≤ m.spare) }
+    ensures { IfOk result (λ m. m ≡ machine_with_room program config (budget + 1)) }
 {
-    let mut machine = Machine::new(alloc, program, config)?;
     // One event more than the run does, so that it may always be asked for one.
-    machine.reserve(budget + 1)?;
-    Ok(machine)
+    Machine::with_room(alloc, program, config, budget + 1)
 }

@@ -136,7 +136,10 @@ fn run_named<L: RunName + Send + Sync, T: Threads + Wait + Sync, C: Sink + Send,
 {
     let nodes = shared.workers();
     let (book, mut all) = blank.open::<L>();
-    let mut slots = make_slots(alloc, nodes, &mut all)?;
+    let Ok(mut slots) = make_slots(alloc, nodes, &mut all) else {
+        drop(shared);
+        return Err(Memory);
+    };
     let mut inbox = inbox;
     let lock = Mutex::new(shared.begin(book, outbox));
     let drained = turns(rt, &lock, slots.as_mut_slice(), &mut inbox, console, gate);
@@ -163,9 +166,12 @@ pub fn run_nodes<T: Threads + Wait + Sync, C: Sink + Send, G: Gate + Sync>(
     ensures later { C.faults console.old ≤ C.faults console.new }
     ensures memory { OnErr result ((console.new ≡ console.old) × (probes.new ≡ probes.old)) }
 {
-    let (outbox, inbox) = outbox(alloc, ROOM)?;
+    let Ok((outbox, inbox)) = outbox(alloc, ROOM) else {
+        drop(shared);
+        return Err(Memory);
+    };
     let parts = u64::from(shared.workers()) + 1;
-    let finished = run_named::<Brand, T, C, G>(
+    let Ok(finished) = run_named::<Brand, T, C, G>(
         rt,
         alloc,
         shared,
@@ -174,7 +180,9 @@ pub fn run_nodes<T: Threads + Wait + Sync, C: Sink + Send, G: Gate + Sync>(
         outbox,
         inbox,
         Blank::new(parts),
-    )?;
+    ) else {
+        return Err(Memory);
+    };
     tell(&finished.journal, &finished.answers, probes);
     Ok(finished)
 }

@@ -20,6 +20,3 @@ pub use places::{Places, read_places};
 pub use run::{RunRules, RunWords};
 pub use seeds::{MOST_SEEDS, Seeds, read_seeds};
 pub use sizes::{SizeWords, read_nodes};
-
-#[cfg(test)]
-mod tests;

@@ -117,11 +117,15 @@ pub fn run<C: Sink, R: Sink>(
         return Err(RunFault::Memory);
     };
     let Ok(course) = start(alloc, program, config, rules, seed, budget, order) else {
+        drop(room);
         return Err(RunFault::Memory);
     };
     let finished = finish(course, console);
     tell(&finished.journal, &finished.answers, probes);
-    match put_ended(&mut room, &finished, &showing, probes, report) {
+    let ended = put_ended(&mut room, &finished, &showing, probes, report);
+    drop(finished);
+    drop(room);
+    match ended {
         Some(ending) => Ok(ending),
         None => Err(RunFault::Sink),
     }

@@ -59,8 +59,13 @@ pub(crate) fn start(
     ensures fresh { IfOk result (λ c. c.machine.state.released ≡ []) }
 {
     let nodes = config.nodes;
-    let room = room_for(alloc, seed, budget, nodes)?;
-    let machine = machine_for(alloc, program, config, budget)?;
+    let Ok(room) = room_for(alloc, seed, budget, nodes) else {
+        return Err(Memory);
+    };
+    let Ok(machine) = machine_for(alloc, program, config, budget) else {
+        drop(room);
+        return Err(Memory);
+    };
     let driver = Driver::new(rules, nodes);
     let scheduler = Scheduler::new(order, seed, nodes);
     let Room {

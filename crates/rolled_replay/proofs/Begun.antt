@@ -3,10 +3,10 @@ use Rattle.std.proofs.Common.{◌≡◌, ℕ, ◌+◌, List, length, ap, sym, �
 use Rattle.sn_base.specs.Image.{ImageData}
 use Rattle.sn_base.specs.declared.config.Config.{Config}
 use Rattle.sn_base.specs.declared.event.Event.{Event}
-use Rattle.sn_machine.specs.Machine.{MachineData}
+use Rattle.sn_machine.specs.Machine.{MachineData, machine_with_room}
 use Rattle.rolling_recovery.specs.declared.controls.Control.{Control}
 use Rattle.rolled_replay.specs.declared.job.Roll.{Roll}
-use Rattle.rolled_replay.specs.Pieces.{machine_with_room, machine_for}
+use Rattle.rolled_replay.specs.Pieces.{machine_for}
 use Rattle.rolled_replay.specs.Rolled.{roll_of}
 
 module _ (m : MachineData) (image : ImageData) (config : Config) (room : ℕ) (is : m ≡ machine_with_room image config room) where

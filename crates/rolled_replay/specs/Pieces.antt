@@ -3,8 +3,7 @@ use Rattle.std.specs.Prelude.{ℕ, ◌+◌, List, [], ◌∷◌, ◌++◌, lengt
 use Rattle.sn_base.specs.Image.{ImageData}
 use Rattle.sn_base.specs.declared.config.Config.{Config}
 use Rattle.sn_base.specs.declared.event.Event.{Event}
-use Rattle.sn_model.specs.Machine.{start_of}
-use Rattle.sn_machine.specs.Machine.{MachineData}
+use Rattle.sn_machine.specs.Machine.{MachineData, machine_with_room}
 use Rattle.sink_pieces.specs.Pieces.{Piece, Report}
 use Rattle.script_replay.specs.declared.job.Showing.{Showing}
 use Rattle.script_replay.specs.declared.job.ReportKind.TheVariants.{Summary}
@@ -17,17 +16,7 @@ use Rattle.rolled_replay.specs.declared.stage.Stage.TheVariants.{UnderWay}
 use Rattle.rolled_replay.specs.Stages.{reply_to, next_stage, stage_after, machine_of}
 use Rattle.rolled_replay.specs.Text.{control_line}
 
--- a machine at the start of a program with room for so many events, for these and a recovery, and what they leave of it
-abbrev pub machine_with_room : ImageData → Config → ℕ → MachineData
-machine_with_room image config room = record {
-  image = image;
-  config = config;
-  state = start_of image config.nodes;
-  sent = [];
-  applied = 0;
-  spare = room;
-}
-
+-- a machine at the start of a program with room for these events and a recovery, and what they leave of it
 abbrev pub machine_for : ImageData → Config → List Event → MachineData
 machine_for image config events = machine_with_room image config (length events + 1)
 

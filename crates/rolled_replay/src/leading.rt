@@ -2,6 +2,7 @@
 ghost use Rattle.std.specs.Prelude.{◌≡◌, ℕ, ◌+◌, ◌^◌, ◌≤◌, ◌⊎◌, List, [], ◌∷◌, true, Option, Err, OnOk, OnErr, IfOk, IfSome, length};
 ghost use Rattle.std.specs.List.{All};
 ghost use Rattle.sn_base.specs.Config.{config_fits};
+ghost use Rattle.sn_machine.specs.Machine.{machine_with_room};
 ghost use Rattle.consistent_cuts.specs.Runs.{AllFit};
 ghost use Rattle.sn_io.specs.Outside.{Rose};
 ghost use Rattle.sink_pieces.specs.Pieces.{Report, ends, after, Breaks};
@@ -10,7 +11,7 @@ ghost use Rattle.script_replay.specs.Played.{turns_left, told_left, StopsAt, IsW
 ghost use Rattle.rolling_recovery.specs.Controls.{control_fits};
 ghost use Rattle.rolled_replay.specs.Stages.{IsNumbered, machine_of, next_stage, reply_to, stage_after};
 ghost use Rattle.rolled_replay.specs.Text.{control_line};
-ghost use Rattle.rolled_replay.specs.Pieces.{after_events, control_pieces, machine_with_room, quietly};
+ghost use Rattle.rolled_replay.specs.Pieces.{after_events, control_pieces, quietly};
 ghost use Rattle.sn_base.specs.declared.limits.TheConstants.{EVENTS};
 
 use crate::lines::write_line;
@@ -42,24 +43,6 @@ pub struct Ready {
     pub room: Room,
 }
 
-// A machine of these sizes at the start of the program, with room for so many events.
-fn machine_for(alloc: Global, program: Image, config: Config, events: u32) -> Option<Machine>
-    requires sizes { config_fits config ≡ true }
-    requires few { events ≤ EVENTS + 1 }
-    ensures { IfSome result (λ m. m ≡ machine_with_room program config events) }
-{
-    let Ok(mut machine) = Machine::new(alloc, program, config) else {
-        return None;
-    };
-    match machine.reserve(events) {
-        Ok(()) => Some(machine),
-        Err(_) => {
-            drop(machine);
-            None
-        }
-    }
-}
-
 // A line, and the room of a recovery.
 fn room_for(alloc: Global) -> Option<(Line, Room)> {
     let Ok(line) = Line::new(alloc) else {
@@ -80,13 +63,16 @@ pub fn ready_for(alloc: Global, program: Image, config: Config, events: u32) -> 
     let Some((line, room)) = room_for(alloc) else {
         return None;
     };
-    match machine_for(alloc, program, config, events + 1) {
-        Some(machine) => Some(Ready {
+    match Machine::with_room(alloc, program, config, events + 1) {
+        Ok(machine) => Some(Ready {
             machine,
             line,
             room,
         }),
-        None => None,
+        Err(_) => {
+            drop(room);
+            None
+        }
     }
 }
 

@@ -10,10 +10,10 @@ use Rattle.sn_base.specs.declared.config.Config.{Config}
 use Rattle.sn_base.specs.declared.event.Event.{Event}
 use Rattle.sn_base.specs.declared.event.Answer.{Answer}
 use Rattle.sn_base.specs.declared.event.Answer.TheVariants.{Recovered}
-use Rattle.sn_model.specs.Machine.{State, start_of}
+use Rattle.sn_model.specs.Machine.{start_of}
 use Rattle.sn_model.specs.MachineEvents.{is_recovered}
 use Rattle.sn_model.specs.Trace.{entry_at}
-use Rattle.sn_machine.specs.Machine.{MachineData, IsApplied, next_of}
+use Rattle.sn_machine.specs.Machine.{MachineData, IsApplied, machine_with_room, next_of}
 use Rattle.consistent_cuts.specs.Headline.{IsStepOfRun}
 use Rattle.consistent_cuts.specs.Lists.{retirement_of}
 use Rattle.consistent_cuts.specs.Runs.{AllFit}
@@ -24,7 +24,6 @@ use Rattle.run_statistics.specs.declared.owned.TouchedLines.{TouchedLines}
 use Rattle.run_statistics.specs.Numbers.{no_numbers}
 use Rattle.run_statistics.specs.Owned.{named_blocks, touched_lines, owned_among, AreThere, with_lines, AreOwned}
 use Rattle.run_statistics.specs.Statistics.{no_statistics, before_of, statistics_with, statistics_from, statistics_of}
-use Rattle.run_statistics.specs.Counted.{IsAtStart}
 use Rattle.run_statistics.proofs.Pending.{pending-stays}
 use Rattle.run_statistics.proofs.Waiting.{waiting-follows}
 use Rattle.run_statistics.proofs.Owners.{FollowsLines}
@@ -160,13 +159,13 @@ counted-all start first events left m x owned none h =
 few_nodes : (config : Config) → config_fits config ≡ true → config.nodes ≤ 16
 few_nodes config fits = grind (arith, nat_tests, fits)
 
-pub owned-first : (m : MachineData) (program : ImageData) (config : Config) (room : ℕ) (numbers : List ℕ) → IsAtStart m program config room →
-    config_fits config ≡ true → numbers ≡ no_numbers → AreOwned m.config.nodes m.state.fabric numbers
-owned-first m program config room numbers at fits new =
+pub owned-first : (m : MachineData) (program : ImageData) (config : Config) (room : ℕ) (numbers : List ℕ) →
+    m ≡ machine_with_room program config room → config_fits config ≡ true → numbers ≡ no_numbers →
+    AreOwned m.config.nodes m.state.fabric numbers
+owned-first m program config room numbers is fits new =
     subst (AreOwned m.config.nodes m.state.fabric) (sym new)
-    (subst (λ (t : State). AreOwned m.config.nodes t.fabric no_numbers) (sym at.start)
-    (subst (λ (t : Config). AreOwned t.nodes (start_of program config.nodes).fabric no_numbers) (sym at.sizes)
-    (none-owned program config.nodes (few_nodes config fits))))
+    (subst (λ (t : MachineData). AreOwned t.config.nodes t.state.fabric no_numbers) (sym is)
+    (none-owned program config.nodes (few_nodes config fits)))
 
 -- the nodes and switches that events of a run name are there: for callers that know a run by `IsRun`
 pub fits-all : (nodes : ℕ) (events : List Event) → AllFit nodes events → All (λ (e : Event). event_fits nodes e ≡ true) events
@@ -176,11 +175,9 @@ fits-all nodes (e ∷ events) fit (suc k) d below = fits-all nodes events fit.1 
 
 -- all events of a run were counted, from its start
 pub counted-of : (m : MachineData) (program : ImageData) (config : Config) (room : ℕ) (events : List Event) (first x : Statistics) →
-    IsAtStart m program config room → first ≡ no_statistics → x ≡ statistics_from m.image m.config m.state events first →
+    m ≡ machine_with_room program config room → first ≡ no_statistics → x ≡ statistics_from m.image m.config m.state events first →
     x ≡ statistics_of program config events
 unfolding statistics_of
-counted-of m program config room events first x at new counted =
-    counted ∙ ap (λ (t : ImageData). statistics_from t m.config m.state events first) at.program
-    ∙ ap (λ (t : Config). statistics_from program t m.state events first) at.sizes
-    ∙ ap (λ (t : State). statistics_from program config t events first) at.start
+counted-of m program config room events first x is new counted =
+    counted ∙ ap (λ (t : MachineData). statistics_from t.image t.config t.state events first) is
     ∙ ap (statistics_from program config (start_of program config.nodes) events) new

@@ -11,5 +11,4 @@ pub mod Puts
 pub mod Bytes
 pub mod Recoveries
 pub mod Statistics
-pub mod Counted
 pub mod Lines

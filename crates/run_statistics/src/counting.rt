@@ -7,7 +7,6 @@ ghost use Rattle.sn_machine.specs.Machine.{next_of};
 ghost use Rattle.run_statistics.specs.Instructions.{waiting_by_node};
 ghost use Rattle.run_statistics.specs.Owned.{AreOwned};
 ghost use Rattle.run_statistics.specs.Statistics.{before_of, statistics_with, statistics_from, statistics_of};
-ghost use Rattle.run_statistics.specs.Counted.{IsAtStart};
 
 use crate::numbers::Numbers;
 use crate::owned::OwnedBefore;
@@ -64,22 +63,6 @@ fn apply_all(
     Ok(())
 }
 
-// A machine of these sizes at the start of the program, with room for so many events.
-fn machine_for(
-    alloc: Global,
-    program: Image,
-    config: Config,
-    events: u32,
-) -> Result<Machine, Memory>
-    requires sizes { config_fits config ≡ true }
-    requires few { events ≤ EVENTS }
-    ensures { IfOk result (λ m. IsAtStart m program config events) }
-{
-    let mut machine = Machine::new(alloc, program, config)?;
-    machine.reserve(events)?;
-    Ok(machine)
-}
-
 // The statistics of events that are there, of a program that is given away.
 fn count(
     alloc: Global,
@@ -92,11 +75,18 @@ fn count(
     requires few { length events.now ≤ EVENTS }
     ensures { IfOk result (λ x. x ≡ statistics_of program config events.now) }
 {
-    let mut machine = machine_for(alloc, program, config, events.len() as u32)?;
+    let mut machine = Machine::with_room(alloc, program, config, events.len() as u32)?;
     let mut statistics = Statistics::new(alloc);
     let mut owned = Numbers::new();
-    apply_all(&mut statistics, &mut owned, &mut machine, events)?;
-    Ok(statistics)
+    let counted = apply_all(&mut statistics, &mut owned, &mut machine, events);
+    drop(machine);
+    match counted {
+        Ok(()) => Ok(statistics),
+        Err(_) => {
+            drop(statistics);
+            Err(Memory)
+        }
+    }
 }
 
 /// The statistics of a run of events that are there: they are applied to a machine of its own, at the program's start. An error is

@@ -106,7 +106,9 @@ pub fn statistics_text(
 {
     let nodes = config.nodes;
     let statistics = statistics_of_run(alloc, program, config, events)?;
-    text_of(alloc, &statistics, nodes)
+    let text = text_of(alloc, &statistics, nodes);
+    drop(statistics);
+    text
 }
 
 /// Counts a run anew, and puts its statistics to the report in one piece.

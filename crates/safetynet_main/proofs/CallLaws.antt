@@ -19,13 +19,10 @@ use Rattle.turn_orders.specs.declared.order.Order.{Order}
 use Rattle.ordered_run.specs.Ordered.{ordered_journal}
 use Rattle.seed_runs.specs.declared.job.SeedRuns.{SeedRuns}
 use Rattle.seed_runs.specs.Shown.{IsCountedByThreads, IsBrokenByThreads, IsDoneCounted, IsBrokenCounted, AreShown as AreSeedsShown, AreBrokenOff as AreSeedsBroken}
-use Rattle.seed_runs.specs.Shown.{AreLeftOff as AreSeedsLeft}
 use Rattle.ordered_run.specs.Shown.{IsDone as IsOrderDone, IsBrokenOff as IsOrderBroken}
 use Rattle.monitor_run.specs.declared.job.Monitor.{Monitor}
 use Rattle.monitor_run.specs.Shown.{IsDone as IsWatchDone, IsBrokenOff as IsWatchBroken}
 use Rattle.safetynet_main.specs.LoadPlan.{Loads}
-use Rattle.shown_states.specs.declared.job.StatesReplay.{StatesReplay}
-use Rattle.shown_states.specs.Shown.{IsShown as AreStatesShown, IsShownInPart as AreStatesShownInPart, IsCutShort as AreStatesCutShort}
 use Rattle.call_files.specs.Fetches.{Fetches}
 use Rattle.call_files.proofs.Found.{if_some-intro}
 use Rattle.safetynet_main.specs.Call.{AsksNothing, plan_of, due_of, EndsIn, Follows, Comes, IsCutShort, EndsInTheMiddle}
@@ -33,7 +30,7 @@ use Rattle.safetynet_main.specs.Outcome.{Outcome, Finished, Judged, JudgedAccess
 use Rattle.safetynet_main.specs.Outcome.{access_status, ending_status, status_of}
 use Rattle.safetynet_main.specs.declared.job.Check.{Check}
 use Rattle.safetynet_main.specs.declared.job.Job.{Job}
-use Rattle.safetynet_main.specs.declared.job.Job.TheVariants.{States as StatesJob, Run as RunJob, OrderedRun as OrderedJob, Monitor as MonitorJob}
+use Rattle.safetynet_main.specs.declared.job.Job.TheVariants.{Run as RunJob, OrderedRun as OrderedJob, Monitor as MonitorJob}
 use Rattle.safetynet_main.specs.declared.job.Job.TheVariants.{CountedByThreads as CountedByThreadsJob, CountedRun as CountedRunJob, Seeds as SeedsJob}
 use Rattle.safetynet_main.specs.declared.job.Job.TheVariants.{Check as CheckJob, Judge as JudgeJob}
 use Rattle.safetynet_main.specs.declared.job.Verdict.{Verdict}
@@ -235,23 +232,7 @@ pub follows-accesses_broken : (probes : List Meter) (said : Said) (verdict : Acc
 follows-accesses_broken probes said verdict status was is c old new s h =
     inl (JudgedAccesses verdict, (h.right, inr (s, h.breaks c, tt)))
 
-pub follows-states_done : (probes : List Meter) (job : Job) (r : StatesReplay) (was is : ℕ) (before behind : Ends) → job ≡ StatesJob r →
-    AreStatesShown r probes before behind → Follows probes (Ok job) Done was is before behind
-follows-states_done probes job r was is before behind e h =
-    subst (λ (j : Job). Follows probes (Ok j) Done was is before behind) (sym e) (inl (Finished, (refl, inl (refl, h.put, h))))
-
-pub follows-states_broken : (probes : List Meter) (job : Job) (r : StatesReplay) (was is : ℕ) (before behind : Ends) → job ≡ StatesJob r →
-    AreStatesShownInPart r probes before behind → Follows probes (Ok job) SinkFault was is before behind
-follows-states_broken probes job r was is before behind e h =
-    subst (λ (j : Job). Follows probes (Ok j) SinkFault was is before behind) (sym e) (inl (Finished, (refl, inr (refl, h.broken, h))))
-
--- memory was lacking: nothing is written, or the states of some first events are
-pub states-cut_short : (probes told : List Meter) (job : Job) (r : StatesReplay) (before behind : Ends) (C R P : Type 0) → job ≡ StatesJob r →
-    (C × R × P) ⊎ AreStatesCutShort r probes before behind told → (C × R) ⊎ ((Memory ≡ Memory) × IsCutShort probes job before behind)
-states-cut_short probes told job r before behind C R P e (inl (c, r_same, p)) = inl (c, r_same)
-states-cut_short probes told job r before behind C R P e (inr h) =
-    inr (refl, subst (λ (j : Job). IsCutShort probes j before behind) (sym e) (told, h))
-
+-- where memory was lacking nothing is written, or the job was cut short that the words asked for
 pub middle-some : {S : Type 0} (fetches : S → List ℕ → ℕ → Found → S → Type 0) (probes : List Meter) (ask : Option Request) (r : Request)
     (job : Job) (status : Status) (old new : S) (before behind : Ends) (A : Type 0) → ask ≡ Some r →
     Loads fetches (plan_of (Some r)) (Ok job) old new → A ⊎ ((status ≡ Memory) × IsCutShort probes job before behind) →
@@ -363,7 +344,3 @@ pub follows-seeds_broken : (probes : List Meter) (job : Job) (r : SeedRuns) (sta
     job ≡ SeedsJob r → status ≡ SinkFault → AreSeedsBroken r before behind → Follows probes (Ok job) status was is before behind
 follows-seeds_broken probes job r status was is before behind e s h =
     subst (λ (j : Job). Follows probes (Ok j) status was is before behind) (sym e) (inl (Finished, (refl, inr (s, h.broken, h))))
-
-pub seeds-cut_short : (probes : List Meter) (job : Job) (r : SeedRuns) (before behind : Ends) (A : Type 0) → job ≡ SeedsJob r →
-    AreSeedsLeft r before behind → A ⊎ ((Memory ≡ Memory) × IsCutShort probes job before behind)
-seeds-cut_short probes job r before behind A e h = inr (refl, subst (λ (j : Job). IsCutShort probes j before behind) (sym e) h)

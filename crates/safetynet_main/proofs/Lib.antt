@@ -4,3 +4,4 @@ pub mod Watched
 pub mod Verdicts
 pub mod Loading
 pub mod Demos
+pub mod JobEnds

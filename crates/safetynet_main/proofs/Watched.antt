@@ -1,6 +1,6 @@
 -- Rules that fit are ones that so many nodes can keep, and what was read may begin.
 use Rattle.std.proofs.Common.{◌≡◌, ℕ, ◌≤◌, ◌<◌, ◌*◌, true, List, length, Option, Some, None, arith}
-use Rattle.std.specs.Prelude.{Bool, false, if◌then◌else◌, IfSome, IfOk, Result, Ok, Err}
+use Rattle.std.specs.Prelude.{Bool, false, if◌then◌else◌, All, IfSome, IfOk, Result, Ok, Err}
 use Rattle.std.proofs.lemmas.Bool.Decides.{nat_tests}
 use Rattle.sn_base.specs.Config.{config_fits}
 use Rattle.sn_base.specs.declared.config.Config.{Config}
@@ -16,13 +16,18 @@ use Rattle.command_words.specs.Request.{watch_fits}
 use Rattle.command_words.specs.declared.request.ReplayReport.{ReplayReport}
 use Rattle.command_words.specs.declared.request.ReplayReport.TheVariants as replayed
 use Rattle.call_files.proofs.Watched.{watched_is}
+use Rattle.rolling_recovery.specs.Controls.{control_fits}
+use Rattle.rolling_recovery.specs.declared.controls.Control.{Control}
+use Rattle.rolled_replay.specs.Rolled.{MayRoll}
 use Rattle.node_run.specs.declared.job.Run.{Run}
 use Rattle.node_run.specs.Shown.{MayBegin as MayRun}
+use Rattle.monitor_run.specs.Shown.{MayBegin as MayMonitor}
+use Rattle.sn_base.specs.declared.report.RunReport.{RunReport}
 use Rattle.turn_orders.specs.declared.order.Order.{Order}
 use Rattle.command_words.specs.Request.{scope_fits}
 use Rattle.command_words.specs.declared.request.RunScope.{RunScope}
 use Rattle.command_words.specs.declared.request.RunScope.TheVariants as asked_scope
-use Rattle.safetynet_main.specs.Call.{are_there, replay_job, ordered_job, IsRead}
+use Rattle.safetynet_main.specs.Call.{are_there, replay_job, ordered_job, run_of, monitor_of, IsRead}
 use Rattle.safetynet_main.specs.declared.job.Job.{Job}
 use Rattle.safetynet_main.specs.declared.job.Job.TheVariants.{States as StatesJob}
 use Rattle.call_status.specs.declared.status.Status.{Status}
@@ -51,6 +56,18 @@ replay_may_begin config replayed.Accesses watch image events fits all few watche
 replay_may_begin config (replayed.States only) watch image events fits all few watched =
     states-may_begin (are_there only (length events)) config only watch image events fits all few watched
 
+pub roll_may_begin : (config : Config) (watch : Option ℕ) (image : ImageData) (events : List Event) (controls : List Control) →
+    config_fits config ≡ true → AllFit config.nodes events → length events ≤ EVENTS →
+    All (λ call. control_fits config.nodes call ≡ true) controls → length controls ≤ EVENTS → watch_fits watch ≡ true →
+    MayRoll (record { program = image; config = config; watch = watch; script = events; controls = controls })
+roll_may_begin config watch image events controls fits all few fit short watched = record {
+  run = record { fits = fits; events_fit = all };
+  few = few;
+  fit = fit;
+  short = short;
+  watched = watched_is watch watched;
+}
+
 kill-is : (nodes : ℕ) (kill : Option (ℕ × ℕ)) → kill_fits nodes kill ≡ true → IfSome kill (λ rule. rule.0 < 2 * nodes)
 kill-is nodes None e = tt
 kill-is nodes (Some rule) e = grind (arith, nat_tests)
@@ -70,6 +87,26 @@ rules_are config rules fits ruled = record {
 
 pub budget_is : (nodes : ℕ) (rules : RunRules) → run_rules_fit nodes rules ≡ true → rules.budget ≤ 1000000
 budget_is nodes rules ruled = grind (arith, nat_tests)
+
+pub run_may_begin : (config : Config) (rules : RunRules) (report : RunReport) (watch : Option ℕ) (image : ImageData) →
+    config_fits config ≡ true → run_rules_fit config.nodes rules ≡ true → watch_fits watch ≡ true →
+    MayRun (run_of config rules report watch image)
+run_may_begin config rules report watch image fits ruled watched = record {
+  fits = fits;
+  ruled = rules_are config rules fits ruled;
+  few = budget_is config.nodes rules ruled;
+  watched = watched_is watch watched;
+}
+
+pub monitor_may_begin : (config : Config) (rules : RunRules) (watch : Option ℕ) (image : ImageData) →
+    config_fits config ≡ true → run_rules_fit config.nodes rules ≡ true → watch_fits watch ≡ true →
+    MayMonitor (monitor_of config rules watch image)
+monitor_may_begin config rules watch image fits ruled watched = record {
+  fits = fits;
+  ruled = rules_are config rules fits ruled;
+  few = budget_is config.nodes rules ruled;
+  watched = watched_is watch watched;
+}
 
 -- a run in an order may begin that is read, and so may one for each seed of a range
 pub ordered_may_begin : (order : Order) (scope : RunScope) (r : Run) → MayRun r → scope_fits scope ≡ true → IsRead (ordered_job scope order r)

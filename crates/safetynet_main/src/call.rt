@@ -10,7 +10,7 @@ ghost use Rattle.safetynet_main.specs.Call.{Comes, Follows, AsksNothing, due_of,
 
 use crate::checking::check;
 use crate::demo::demo;
-use crate::ended::ended_as;
+use crate::ended::{replay_status, roll_status, run_status, seeds_status, states_status};
 use crate::files::load;
 use crate::job::Job;
 use crate::judging::judge;
@@ -19,12 +19,12 @@ use call_status::Status;
 use command_words::{Request, WordsFault, read_words};
 use counted_replay::replay_counted;
 use monitor_run::monitor;
-use node_run::{RunFault, run};
+use node_run::run;
 use ordered_run::run as run_in_order;
-use rolled_replay::{RollFault, roll};
-use script_replay::{ReplayFault, replay};
-use seed_runs::{SeedsFault, run_counted, run_counted_by_threads, run_seeds};
-use shown_states::{StatesFault, replay_states};
+use rolled_replay::roll;
+use script_replay::replay;
+use seed_runs::{run_counted, run_counted_by_threads, run_seeds};
+use shown_states::replay_states;
 use sink_pieces::put_console;
 use sn_io::{Gate, Sink, Store};
 use sn_probe::{Probe, ProbeSet};
@@ -53,67 +53,23 @@ fn perform<T: Threads + Wait + Sync, C: Sink + Send, R: Sink, G: Gate + Sync>(
         → Rose (C.faults console.old) (C.faults console.new) ⊎ Rose (R.faults report.old) (R.faults report.new) }
 {
     match job {
-        Job::Replay(job) => match replay(alloc, job, probes, console, report) {
-            Ok(()) => Status::Done,
-            Err(ReplayFault::Sink) => Status::SinkFault,
-            Err(ReplayFault::Memory) => Status::Memory,
-        },
-        Job::Counted(job) => match replay_counted(alloc, job, probes, console, report) {
-            Ok(()) => Status::Done,
-            Err(ReplayFault::Sink) => Status::SinkFault,
-            Err(ReplayFault::Memory) => Status::Memory,
-        },
-        Job::Accesses(job) => match replay_accesses(alloc, job, probes, console, report) {
-            Ok(()) => Status::Done,
-            Err(ReplayFault::Sink) => Status::SinkFault,
-            Err(ReplayFault::Memory) => Status::Memory,
-        },
-        Job::States(job) => match replay_states(alloc, job, probes, console, report) {
-            Ok(()) => Status::Done,
-            Err(StatesFault::Sink) => Status::SinkFault,
-            Err(StatesFault::Memory) => Status::Memory,
-        },
-        Job::Roll(job) => match roll(alloc, job, probes, console, report) {
-            Ok(()) => Status::Done,
-            Err(RollFault::Sink) => Status::SinkFault,
-            Err(RollFault::Memory) => Status::Memory,
-        },
-        Job::Run(job) => match run(rt, alloc, job, probes, console, report, gate) {
-            Ok(ending) => ended_as(ending),
-            Err(RunFault::Sink) => Status::SinkFault,
-            Err(RunFault::Memory) => Status::Memory,
-        },
+        Job::Replay(job) => replay_status(replay(alloc, job, probes, console, report)),
+        Job::Counted(job) => replay_status(replay_counted(alloc, job, probes, console, report)),
+        Job::Accesses(job) => replay_status(replay_accesses(alloc, job, probes, console, report)),
+        Job::States(job) => states_status(replay_states(alloc, job, probes, console, report)),
+        Job::Roll(job) => roll_status(roll(alloc, job, probes, console, report)),
+        Job::Run(job) => run_status(run(rt, alloc, job, probes, console, report, gate)),
         Job::CountedByThreads(job) => {
-            match run_counted_by_threads(rt, alloc, job, probes, console, report, gate) {
-                Ok(ending) => ended_as(ending),
-                Err(RunFault::Sink) => Status::SinkFault,
-                Err(RunFault::Memory) => Status::Memory,
-            }
+            run_status(run_counted_by_threads(rt, alloc, job, probes, console, report, gate))
         }
-        Job::Monitor(job) => match monitor(rt, alloc, job, probes, console, report) {
-            Ok(ending) => ended_as(ending),
-            Err(RunFault::Sink) => Status::SinkFault,
-            Err(RunFault::Memory) => Status::Memory,
-        },
+        Job::Monitor(job) => run_status(monitor(rt, alloc, job, probes, console, report)),
         Job::OrderedRun(job, order) => {
-            match run_in_order(alloc, job, order, probes, console, report) {
-                Ok(ending) => ended_as(ending),
-                Err(RunFault::Sink) => Status::SinkFault,
-                Err(RunFault::Memory) => Status::Memory,
-            }
+            run_status(run_in_order(alloc, job, order, probes, console, report))
         }
         Job::CountedRun(job, order) => {
-            match run_counted(alloc, job, order, probes, console, report) {
-                Ok(ending) => ended_as(ending),
-                Err(RunFault::Sink) => Status::SinkFault,
-                Err(RunFault::Memory) => Status::Memory,
-            }
+            run_status(run_counted(alloc, job, order, probes, console, report))
         }
-        Job::Seeds(job) => match run_seeds(rt, alloc, job, console, report) {
-            Ok(()) => Status::Done,
-            Err(SeedsFault::Sink) => Status::SinkFault,
-            Err(SeedsFault::Memory) => Status::Memory,
-        },
+        Job::Seeds(job) => seeds_status(run_seeds(rt, alloc, job, console, report)),
         Job::Check(job) => check(rt, alloc, &job, report, gate),
         Job::Judge(list) => judge(alloc, &list, report),
         Job::Text(text) => match put_console(console, text.bytes()) {
@@ -154,9 +110,13 @@ fn answer<T: Threads + Wait + Sync, S: Store, C: Sink + Send, R: Sink, G: Gate +
         Err(WordsFault::Memory) => return Status::Memory,
     };
     if let Request::Demo(size) = &request {
-        return demo(alloc, *size, console, report, probes);
+        let ended = demo(alloc, *size, console, report, probes);
+        drop(request);
+        return ended;
     }
-    match load(alloc, store, &request) {
+    let loaded = load(alloc, store, &request);
+    drop(request);
+    match loaded {
         Ok(job) => perform(rt, alloc, job, console, report, probes, gate),
         Err(status) => status,
     }

@@ -2,11 +2,12 @@
 ghost use Rattle.std.specs.Prelude.{◌≡◌, ◌≢◌, ◌≤◌, ℕ, true, All, length, Some, Ok, Err, IfOk, string_bytes};
 ghost use Rattle.sn_base.specs.Config.{lies_in, config_fits};
 ghost use Rattle.node_run.specs.Shown.{MayBegin as MayRun};
+ghost use Rattle.monitor_run.specs.Shown.{MayBegin as MayMonitor};
 ghost use Rattle.command_words.specs.Request.{as_request, watch_fits, scope_fits, request_fits};
 ghost use Rattle.option_values.specs.Runs.{run_rules_fit};
 ghost use Rattle.safetynet_main.specs.LoadPlan.{Loads};
 ghost use Rattle.call_files.specs.Fetches.{Fetches};
-ghost use Rattle.safetynet_main.specs.Call.{replay_with, are_there, states_job, replay_job, ordered_job, threads_job, plan_of, replay_plan, roll_plan};
+ghost use Rattle.safetynet_main.specs.Call.{replay_with, are_there, states_job, replay_job, ordered_job, threads_job, run_of, run_job, monitor_of, plan_of, replay_plan, roll_plan};
 ghost use Rattle.safetynet_main.specs.Call.{run_plan, monitor_plan, check_plan, judge_plan, assembly_plan, listing_plan, IsRead, AsksNothing};
 ghost use Rattle.sn_base.specs.declared.limits.TheConstants.{EVENTS};
 
@@ -70,6 +71,8 @@ fn states_job(
 {
     let events = script.events().len() as u32;
     if !are_there(&only, events) {
+        drop(script);
+        drop(program);
         return Err(Status::BadPlaces(events));
     }
     Ok(Job::States(StatesReplay {
@@ -126,7 +129,6 @@ fn replay_job(
 }
 
 // The program and the script of a replay, in this order.
-#[tactic(auto, using(call_files::proofs::Watched::watched_is, crate::proofs::Watched::replay_may_begin))]
 fn load_replay<S: Store>(
     alloc: Global,
     store: &mut S,
@@ -149,12 +151,14 @@ fn load_replay<S: Store>(
     let (report, watch) = (asked.report, asked.watch);
     match fetch_script(alloc, store, asked.script.as_str(), config.nodes) {
         Ok(script) => replay_job(config, report, watch, program, script),
-        Err(status) => Err(status),
+        Err(status) => {
+            drop(program);
+            Err(status)
+        }
     }
 }
 
 // The program, the script and the control file of a recovery node by node, in this order.
-#[tactic(auto, using(call_files::proofs::Watched::watched_is))]
 fn load_roll<S: Store>(
     alloc: Global,
     store: &mut S,
@@ -178,7 +182,10 @@ fn load_roll<S: Store>(
     let watch = asked.watch;
     let script = match fetch_script(alloc, store, asked.script.as_str(), config.nodes) {
         Ok(script) => script,
-        Err(status) => return Err(status),
+        Err(status) => {
+            drop(program);
+            return Err(status);
+        }
     };
     match fetch_control(alloc, store, asked.control.as_str(), config.nodes) {
         Ok(controls) => Ok(Job::Roll(Roll {
@@ -188,7 +195,11 @@ fn load_roll<S: Store>(
             script,
             controls,
         })),
-        Err(status) => Err(status),
+        Err(status) => {
+            drop(script);
+            drop(program);
+            Err(status)
+        }
     }
 }
 
@@ -229,8 +240,45 @@ fn threads_job(scope: &RunScope, run: Run) -> Job
     }
 }
 
+// A run of the program that was read.
+fn run_of(asked: &command_words::Run, program: Image) -> Run
+    requires sizes { config_fits asked.now.config ≡ true }
+    requires ruled { run_rules_fit asked.now.config.nodes asked.now.rules ≡ true }
+    requires watched { watch_fits asked.now.watch ≡ true }
+    ensures same { result ≡ run_of asked.now.config asked.now.rules asked.now.report asked.now.watch program }
+    ensures may { MayRun result }
+{
+    let report = asked.report;
+    let showing = RunShowing {
+        report,
+        watch: asked.watch,
+    };
+    Run {
+        program,
+        config: asked.config,
+        rules: asked.rules.rules,
+        seed: asked.rules.seed,
+        budget: asked.rules.budget,
+        showing,
+    }
+}
+
+// The job of that run.
+fn run_job(asked: &command_words::Run, run: Run) -> Job
+    requires may { MayRun run }
+    requires scoped { scope_fits asked.now.scope ≡ true }
+    ensures same { result ≡ run_job asked.now.order asked.now.scope run }
+    ensures read { IsRead result }
+{
+    let (order, scope) = (asked.order, asked.scope);
+    match order {
+        RunOrder::Threads => threads_job(&scope, run),
+        RunOrder::Round => ordered_job(scope, Order::Round, run),
+        RunOrder::Drawn => ordered_job(scope, Order::Drawn, run),
+    }
+}
+
 // The program of a run.
-#[tactic(auto, using(call_files::proofs::Watched::watched_is, crate::proofs::Watched::rules_are, crate::proofs::Watched::budget_is))]
 fn load_run<S: Store>(
     alloc: Global,
     store: &mut S,
@@ -248,37 +296,34 @@ fn load_run<S: Store>(
     ensures files { S.files store.new ≡ S.files store.old }
     ensures stays_sure { S.sure store.old → S.sure store.new }
 {
-    let program = match fetch_program(alloc, store, asked.program.as_str()) {
-        Ok(program) => program,
-        Err(status) => return Err(status),
-    };
-    let config = asked.config;
-    let rules = asked.rules.rules;
-    let seed = asked.rules.seed;
-    let budget = asked.rules.budget;
-    let asked_report = asked.report;
-    let showing = RunShowing {
-        report: asked_report,
-        watch: asked.watch,
-    };
-    let run = Run {
+    match fetch_program(alloc, store, asked.program.as_str()) {
+        Ok(program) => {
+            let run = run_of(asked, program);
+            Ok(run_job(asked, run))
+        }
+        Err(status) => Err(status),
+    }
+}
+
+// A run that is watched, of the program that was read.
+fn monitor_of(asked: &command_words::Monitor, program: Image) -> Monitor
+    requires sizes { config_fits asked.now.config ≡ true }
+    requires ruled { run_rules_fit asked.now.config.nodes asked.now.rules ≡ true }
+    requires watched { watch_fits asked.now.watch ≡ true }
+    ensures same { result ≡ monitor_of asked.now.config asked.now.rules asked.now.watch program }
+    ensures may { MayMonitor result }
+{
+    Monitor {
         program,
-        config,
-        rules,
-        seed,
-        budget,
-        showing,
-    };
-    let (order, scope) = (asked.order, asked.scope);
-    match order {
-        RunOrder::Threads => Ok(threads_job(&scope, run)),
-        RunOrder::Round => Ok(ordered_job(scope, Order::Round, run)),
-        RunOrder::Drawn => Ok(ordered_job(scope, Order::Drawn, run)),
+        config: asked.config,
+        rules: asked.rules.rules,
+        seed: asked.rules.seed,
+        budget: asked.rules.budget,
+        watch: asked.watch,
     }
 }
 
 // The program of a run that is watched.
-#[tactic(auto, using(call_files::proofs::Watched::watched_is, crate::proofs::Watched::rules_are, crate::proofs::Watched::budget_is))]
 fn load_monitor<S: Store>(
     alloc: Global,
     store: &mut S,
@@ -294,18 +339,10 @@ fn load_monitor<S: Store>(
     ensures files { S.files store.new ≡ S.files store.old }
     ensures stays_sure { S.sure store.old → S.sure store.new }
 {
-    let program = match fetch_program(alloc, store, asked.program.as_str()) {
-        Ok(program) => program,
-        Err(status) => return Err(status),
-    };
-    Ok(Job::Monitor(Monitor {
-        program,
-        config: asked.config,
-        rules: asked.rules.rules,
-        seed: asked.rules.seed,
-        budget: asked.rules.budget,
-        watch: asked.watch,
-    }))
+    match fetch_program(alloc, store, asked.program.as_str()) {
+        Ok(program) => Ok(Job::Monitor(monitor_of(asked, program))),
+        Err(status) => Err(status),
+    }
 }
 
 // The program and the trace of a check, in this order.
@@ -332,7 +369,10 @@ fn load_check<S: Store>(
             nodes,
             trace,
         })),
-        Err(status) => Err(status),
+        Err(status) => {
+            drop(program);
+            Err(status)
+        }
     }
 }
 
@@ -373,7 +413,9 @@ fn load_listing<S: Store>(alloc: Global, store: &mut S, program: &str) -> Result
         Ok(program) => program,
         Err(status) => return Err(status),
     };
-    match list_program(alloc, &program) {
+    let listed = list_program(alloc, &program);
+    drop(program);
+    match listed {
         Ok(text) => Ok(Job::Text(text)),
         Err(status) => Err(status),
     }

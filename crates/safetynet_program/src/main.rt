@@ -8,6 +8,7 @@
 #![tactic(auto)]
 
 mod terminal;
+mod tied;
 mod twice;
 mod why;
 
@@ -19,6 +20,7 @@ ghost use Rattle.call_status.specs.Status.{has_written};
 ghost use Rattle.sn_io.specs.Outside.{Rose, followed_by};
 
 use crate::terminal::{Console, Report};
+use crate::tied::{Answers, HeldBack, Input, Output};
 use crate::why::{write_notes_on, write_why};
 use call_status::Status;
 use help_pages::{Page, page_of, show};
@@ -41,6 +43,9 @@ use std::thread::Threads;
 
 /// How many bytes of the report are held back until they go out together.
 const HELD_BACK: usize = 65_536;
+
+/// How many bytes of a drive's input are read at once: as many as a pipe may hold.
+const AT_ONCE: usize = 65_536;
 
 // The page that the words ask for. Each command of the table by which the call reads its words has a page, in the same order.
 fn page_asked(words: &[String]) -> Option<Page>
@@ -79,46 +84,76 @@ fn finished<R: Write + Drop>(report: &mut StdSink<R>, status: Status) -> Status
     }
 }
 
-// Does what the words ask: a drive by its own call, and all else by the top call. One probe is told the events.
-fn call<T, I, S, C, R>(
+// Does what the words ask by the top call.
+fn call<T, S, C, R>(
     rt: &T,
+    alloc: Global,
+    words: &[String],
+    store: &mut S,
+    console: &mut Console<'_, C>,
+    report: BufWriter<Report<'_, R>>,
+    probes: Vec<Box<dyn Probe + Send>>,
+) -> Status
+where
+    T: Threads + Wait + Sync,
+    S: Store,
+    C: Write + Drop + Send,
+    R: Write + Drop,
+{
+    let mut console = StdSink::new(console);
+    let mut report = StdSink::new(report);
+    let gate = OpenGate::new();
+    let status = safetynet(
+        rt,
+        alloc,
+        words,
+        store,
+        &mut console,
+        &mut report,
+        probes,
+        &gate,
+    );
+    finished(&mut report, status)
+}
+
+// Drives a machine by its own call: what is held back of the report goes out before the input or the console goes on.
+fn drive<I, S, C, R>(
     alloc: Global,
     words: &[String],
     input: I,
     store: &mut S,
-    console: &mut C,
-    report: &mut R,
+    console: &mut Console<'_, C>,
+    report: BufWriter<Report<'_, R>>,
+    probes: Vec<Box<dyn Probe + Send>>,
 ) -> Status
 where
-    T: Threads + Wait + Sync,
     I: Read + Drop,
     S: Store,
-    C: Sink + Send,
-    R: Sink,
+    C: Write + Drop,
+    R: Write + Drop,
 {
-    let mut probes: Vec<Box<dyn Probe + Send>> = Vec::new(alloc);
-    let Ok(tally) = Box::new(alloc, EventTally::new()) else {
+    let held = HeldBack::new(report);
+    let Ok(reader) = BufReader::with_capacity(alloc, AT_ONCE, Input::new(input, &held)) else {
         return Status::Memory;
     };
-    if probes.push(tally).is_err() {
-        return Status::Memory;
-    }
-    if !is_drive(words) {
-        let gate = OpenGate::new();
-        return safetynet(rt, alloc, words, store, console, report, probes, &gate);
-    }
-    match BufReader::new(alloc, input) {
-        Ok(reader) => {
-            let mut lines = ReaderLines::new(reader);
-            safetynet_drive(alloc, words, store, &mut lines, console, report, probes)
-        }
-        Err(_) => Status::Memory,
-    }
+    let mut lines = ReaderLines::new(reader);
+    let mut console = StdSink::new(Output::new(console, &held));
+    let mut report = StdSink::new(Answers::new(&held));
+    let status = safetynet_drive(
+        alloc,
+        words,
+        store,
+        &mut lines,
+        &mut console,
+        &mut report,
+        probes,
+    );
+    finished(&mut report, status)
 }
 
 // Does a command over the system's files and streams. The report goes out in large pieces, which spares a call of the
-// system for each event, but at once where it goes to a terminal, or to whoever drives the machine. Where one terminal shows
-// both, the report, and what is said after it, begin on a line of their own.
+// system for each event, but at once where it goes to a terminal. Where one terminal shows both, the report, and what is said
+// after it, begin on a line of their own. One probe is told the events.
 fn perform<T, I, C, R>(
     rt: &T,
     alloc: Global,
@@ -133,29 +168,37 @@ where
     C: Write + IsTerminal + Drop + Send,
     R: Write + IsTerminal + Drop,
 {
-    let is_open = AtomicBool::new(false);
-    let is_shared = console.is_terminal() && report.is_terminal();
-    let is_awaited = report.is_terminal() || is_drive(words);
-    let held_back = if is_awaited { 0 } else { HELD_BACK };
-    let report = Report::new(report, &is_open);
-    let Ok(writer) = BufWriter::with_capacity(alloc, held_back, report) else {
+    let mut probes: Vec<Box<dyn Probe + Send>> = Vec::new(alloc);
+    let Ok(tally) = Box::new(alloc, EventTally::new()) else {
         return Status::Memory;
     };
-    let mut report = StdSink::new(writer);
-    let mut console = StdSink::new(Console::new(console, is_shared, &is_open));
+    if probes.push(tally).is_err() {
+        return Status::Memory;
+    }
+    let is_open = AtomicBool::new(false);
+    let is_shared = console.is_terminal() && report.is_terminal();
+    let held_back = if report.is_terminal() { 0 } else { HELD_BACK };
+    let report = Report::new(report, &is_open);
+    let Ok(report) = BufWriter::with_capacity(alloc, held_back, report) else {
+        return Status::Memory;
+    };
+    let mut console = Console::new(console, is_shared, &is_open);
     let mut store = FileStore::new(rt);
-    let status = call(
-        rt,
-        alloc,
-        words,
-        input,
-        &mut store,
-        &mut console,
-        &mut report,
-    );
-    let status = finished(&mut report, status);
+    let status = if is_drive(words) {
+        drive(
+            alloc,
+            words,
+            input,
+            &mut store,
+            &mut console,
+            report,
+            probes,
+        )
+    } else {
+        call(rt, alloc, words, &mut store, &mut console, report, probes)
+    };
     if is_open.load(Ordering::Relaxed) {
-        let _ = console.put(b"\n");
+        let _ = console.write_all(b"\n");
     }
     status
 }

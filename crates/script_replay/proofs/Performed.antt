@@ -4,7 +4,7 @@ use Rattle.sn_base.specs.Image.{ImageData}
 use Rattle.sn_base.specs.declared.config.Config.{Config}
 use Rattle.sn_base.specs.declared.event.Event.{Event}
 use Rattle.sn_model.specs.Machine.{State, start_of}
-use Rattle.sn_machine.specs.Machine.{MachineData}
+use Rattle.sn_machine.specs.Machine.{MachineData, machine_with_room}
 use Rattle.sn_model.specs.Step.{state_after}
 use Rattle.consistent_cuts.specs.Headline.{state_of_run}
 use Rattle.sn_text.specs.Written.{HasValues}
@@ -20,6 +20,17 @@ use Rattle.script_replay.specs.Played.{MayBegin, IsAtStart}
 use Rattle.script_replay.specs.Scheduled.{replay_of}
 use Rattle.script_replay.specs.Shown.{committed_by, pieces_due, IsReplayed, IsBrokenOff, BreaksAt, BreaksAtEnd, KnowApplied}
 use Rattle.script_replay.proofs.Shown.{shown-all, shown-part}
+
+-- a machine that was just made is at its program's start
+pub made-at_start : (m : MachineData) (image : ImageData) (config : Config) (room : ℕ) → m ≡ machine_with_room image config room →
+    IsAtStart m image config room
+made-at_start m image config room is = record {
+  program = ap (λ (t : MachineData). t.image) is;
+  sizes = ap (λ (t : MachineData). t.config) is;
+  start = ap (λ (t : MachineData). t.state) is;
+  new = ap (λ (t : MachineData). t.applied) is;
+  room = omega (arith, ap (λ (t : MachineData). t.spare) is);
+}
 
 -- what the probes are told from the start on
 ready-told : (m : MachineData) (image : ImageData) (config : Config) (events : List Event) (probes : List Meter) (room : ℕ) →

@@ -1,6 +1,5 @@
 //! A whole replay: all memory first, and then the events.
-ghost use Rattle.std.specs.Prelude.{◌≡◌, ◌≤◌, ◌⊎◌, true, length, OnOk, IfSome, Err};
-ghost use Rattle.sn_base.specs.Config.{config_fits};
+ghost use Rattle.std.specs.Prelude.{◌≡◌, ◌≤◌, ◌⊎◌, length, OnOk, Err};
 ghost use Rattle.sn_io.specs.Outside.{Rose};
 ghost use Rattle.sink_pieces.specs.Pieces.{ends};
 ghost use Rattle.sn_probe.specs.Probes.{meters_in};
@@ -8,12 +7,10 @@ ghost use Rattle.script_replay.specs.Played.{MayBegin, IsAtStart};
 ghost use Rattle.script_replay.specs.Probed.{told_all};
 ghost use Rattle.script_replay.specs.Scheduled.{left_on, replay_of};
 ghost use Rattle.script_replay.specs.Shown.{IsReplayed, IsBrokenOff, KnowApplied};
-ghost use Rattle.sn_base.specs.declared.limits.TheConstants.{EVENTS};
 
 use crate::job::{Replay, Showing};
 use crate::play::play;
 use crate::schedule::{Listed, Schedule};
-use sn_base::{Config, Image};
 use sn_io::Sink;
 use sn_machine::Machine;
 use sn_probe::ProbeSet;
@@ -26,21 +23,6 @@ pub enum ReplayFault {
     Sink,
     /// Memory was wanted and not given. No event was applied.
     Memory,
-}
-
-// A machine of these sizes at the start of the program, with room for so many events.
-fn machine_for(alloc: Global, program: Image, config: Config, events: u32) -> Option<Machine>
-    requires sizes { config_fits config ≡ true }
-    requires few { events ≤ EVENTS }
-    ensures { IfSome result (λ m. IsAtStart m program config events) }
-{
-    let Ok(mut machine) = Machine::new(alloc, program, config) else {
-        return None;
-    };
-    match machine.reserve(events) {
-        Ok(()) => Some(machine),
-        Err(_) => None,
-    }
 }
 
 /// Applies the events of a schedule on a machine that is at its program's start, tells each to every probe, puts the released
@@ -79,7 +61,7 @@ pub fn replay_on<S: Schedule, C: Sink, R: Sink>(
 {
     let mut machine = machine;
     let mut schedule = schedule;
-    play(
+    let put = play(
         alloc,
         &mut machine,
         &mut schedule,
@@ -87,7 +69,9 @@ pub fn replay_on<S: Schedule, C: Sink, R: Sink>(
         probes,
         console,
         report,
-    )
+    );
+    drop(machine);
+    put
 }
 
 /// Applies the events in order, tells each to every probe, puts the released bytes to the console, and puts what is to be
@@ -129,7 +113,7 @@ pub fn replay<C: Sink, R: Sink>(
         script,
     } = job;
     let events = script.events();
-    let Some(machine) = machine_for(alloc, program, config, events.len() as u32) else {
+    let Ok(machine) = Machine::with_room(alloc, program, config, events.len() as u32) else {
         return Err(ReplayFault::Memory);
     };
     replay_on(

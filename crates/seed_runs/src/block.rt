@@ -111,7 +111,9 @@ pub(crate) fn run_seed<C: Sink, R: Sink>(
     let Ok(mut played) = play_seed(alloc, job, seed) else {
         return Err(SeedsFault::Memory);
     };
-    match put_block(&mut played, job, seed, none, console, report) {
+    let put = put_block(&mut played, job, seed, none, console, report);
+    drop(played);
+    match put {
         Ok(()) => Ok(()),
         Err(_) => Err(SeedsFault::Sink),
     }

@@ -99,7 +99,9 @@ pub fn run_counted<C: Sink, R: Sink>(
     let Ok(mut played) = play(alloc, job, order, true) else {
         return Err(RunFault::Memory);
     };
-    match put_counted(&mut played, &showing, probes, console, report) {
+    let put = put_counted(&mut played, &showing, probes, console, report);
+    drop(played);
+    match put {
         Some(ending) => Ok(ending),
         None => Err(RunFault::Sink),
     }
@@ -140,7 +142,9 @@ pub fn run_counted_by_threads<T: Threads + Wait + Sync, C: Sink, R: Sink, G: Gat
     let Ok(mut played) = play_by_threads(rt, alloc, job, gate) else {
         return Err(RunFault::Memory);
     };
-    match put_counted(&mut played, &showing, probes, console, report) {
+    let put = put_counted(&mut played, &showing, probes, console, report);
+    drop(played);
+    match put {
         Some(ending) => Ok(ending),
         None => Err(RunFault::Sink),
     }

@@ -15,6 +15,7 @@ use sn_base::Memory;
 use sn_io::{Failed, Sink};
 use sn_probe::ProbeSet;
 use std::alloc::Global;
+use std::mem;
 use std::thread::Threads;
 
 // A place for each seed's run.
@@ -47,7 +48,10 @@ fn play_slots<T: Threads + Sync>(
         |number: usize, slot: &mut Option<Played>|
             requires { MayBegin job.now × (first_seed + number < 2 ^ 64) }
             ensures { IsOfSeed job.entry.now (first_seed + number) slot.new }
-        { *slot = play_seed(alloc, job, first_seed + number as u64).ok() },
+        {
+            let played = play_seed(alloc, job, first_seed + number as u64).ok();
+            drop(mem::replace(slot, played));
+        },
     );
 }
 
@@ -76,8 +80,12 @@ fn put_slot<C: Sink, R: Sink>(
     let Some(mut played) = slot else {
         return Ok(false);
     };
-    put_block(&mut played, job, seed, none, console, report)?;
-    Ok(true)
+    let put = put_block(&mut played, job, seed, none, console, report);
+    drop(played);
+    match put {
+        Ok(()) => Ok(true),
+        Err(_) => Err(Failed),
+    }
 }
 
 // Puts the blocks of the seeds from this one on, up to the first whose run isn't there: how many these are.

@@ -76,9 +76,12 @@ pub(crate) fn play(alloc: Global, job: Run, order: Order, counted: bool) -> Resu
         return Err(Memory);
     };
     let Ok(finished) = all_turns(alloc, job, order) else {
+        drop(room);
         return Err(Memory);
     };
     let Ok(statistics) = statistics_if(alloc, counted, &finished) else {
+        drop(finished);
+        drop(room);
         return Err(Memory);
     };
     Ok(Played {
@@ -129,9 +132,12 @@ pub(crate) fn play_by_threads<T: Threads + Wait + Sync, G: Gate + Sync>(
         return Err(Memory);
     };
     let Ok(finished) = turns_by_threads(rt, alloc, job, gate) else {
+        drop(room);
         return Err(Memory);
     };
     let Ok(statistics) = statistics_by(alloc, &finished) else {
+        drop(finished);
+        drop(room);
         return Err(Memory);
     };
     Ok(Played {

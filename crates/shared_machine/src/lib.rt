@@ -11,8 +11,6 @@ mod locked;
 mod picker;
 mod run_name;
 mod shared;
-#[cfg(test)]
-mod tests;
 
 pub use finish::Finish;
 pub use locked::{Ended, Locked};

@@ -109,6 +109,7 @@ impl SharedMachine {
     {
         let mut machine = machine;
         let Ok(room) = room_for(alloc, &mut machine, budget, seed) else {
+            drop(machine);
             return Err(Memory);
         };
         let Room {

@@ -1,35 +1,16 @@
 //! A whole replay that shows states.
-ghost use Rattle.std.specs.Prelude.{◌≡◌, ◌≤◌, ◌⊎◌, true, length, OnOk, IfSome, Err};
-ghost use Rattle.sn_base.specs.Config.{config_fits};
+ghost use Rattle.std.specs.Prelude.{◌≡◌, ◌≤◌, ◌⊎◌, OnOk, Err};
 ghost use Rattle.sn_io.specs.Outside.{Rose};
 ghost use Rattle.sink_pieces.specs.Pieces.{ends};
 ghost use Rattle.sn_probe.specs.Probes.{meters_in};
-ghost use Rattle.script_replay.specs.Played.{IsAtStart};
 ghost use Rattle.shown_states.specs.Shown.{MayBegin, told_script, IsShown, IsShownInPart, KnowApplied, IsCutShort};
-ghost use Rattle.sn_base.specs.declared.limits.TheConstants.{EVENTS};
 
 use crate::job::StatesReplay;
 use crate::play::{StatesFault, play};
-use sn_base::{Config, Image};
 use sn_io::Sink;
 use sn_machine::Machine;
 use sn_probe::ProbeSet;
 use std::alloc::Global;
-
-// A machine of these sizes at the start of the program, with room for so many events.
-fn machine_for(alloc: Global, program: Image, config: Config, events: u32) -> Option<Machine>
-    requires sizes { config_fits config ≡ true }
-    requires few { events ≤ EVENTS }
-    ensures { IfSome result (λ m. IsAtStart m program config events) }
-{
-    let Ok(mut machine) = Machine::new(alloc, program, config) else {
-        return None;
-    };
-    match machine.reserve(events) {
-        Ok(()) => Some(machine),
-        Err(_) => None,
-    }
-}
 
 /// Applies the events in order, tells each to every probe, puts the released bytes to the console, and puts to the report a line
 /// for each event that is shown, between the first line and the summary.
@@ -74,10 +55,10 @@ pub fn replay_states<C: Sink, R: Sink>(
         script,
     } = job;
     let events = script.events();
-    let Some(mut machine) = machine_for(alloc, program, config, events.len() as u32) else {
+    let Ok(mut machine) = Machine::with_room(alloc, program, config, events.len() as u32) else {
         return Err(StatesFault::Memory);
     };
-    play(
+    let put = play(
         alloc,
         &mut machine,
         events,
@@ -86,5 +67,7 @@ pub fn replay_states<C: Sink, R: Sink>(
         probes,
         console,
         report,
-    )
+    );
+    drop(machine);
+    put
 }

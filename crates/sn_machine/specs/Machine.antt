@@ -1,5 +1,5 @@
 -- A machine as a value, what an event makes of it, and what is promised of it at every moment.
-use Rattle.std.specs.Prelude.{◌≡◌, ℕ, ◌+◌, ◌-◌, List, length}
+use Rattle.std.specs.Prelude.{◌≡◌, ℕ, ◌+◌, ◌-◌, List, [], length}
 use Rattle.sn_base.specs.Image.{ImageData}
 use Rattle.sn_base.specs.declared.config.Config.{Config}
 use Rattle.sn_base.specs.declared.event.Event.{Event}
@@ -8,7 +8,7 @@ use Rattle.rv_core.specs.Flat.{FlatState}
 use Rattle.rv_core.specs.Execution.{end_of}
 use Rattle.sn_model.specs.declared.net.Sent.{Sent}
 use Rattle.sn_model.specs.Instructions.{MachineStep}
-use Rattle.sn_model.specs.Machine.{State}
+use Rattle.sn_model.specs.Machine.{State, start_of}
 use Rattle.sn_model.specs.Step.{step_of}
 use Rattle.consistent_cuts.specs.Headline.{IsRun, IsConsistent, state_of_run, retirements}
 
@@ -21,6 +21,17 @@ pub record MachineData : Type 0 where
   pub sent : List Sent
   pub applied : ℕ
   pub spare : ℕ
+
+-- a machine of these sizes at the start of a program, with room for so many events
+abbrev pub machine_with_room : ImageData → Config → ℕ → MachineData
+machine_with_room image config events = record {
+  image = image;
+  config = config;
+  state = start_of image config.nodes;
+  sent = [];
+  applied = 0;
+  spare = events;
+}
 
 -- what an event comes to
 abbrev pub next_of : MachineData → Event → MachineStep

@@ -3,10 +3,9 @@ ghost use Rattle.std.specs.Prelude.{◌≡◌, ◌+◌, ◌≤◌, max, true, Li
 ghost use Rattle.sn_base.specs.Config.{config_fits};
 ghost use Rattle.sn_base.specs.Events.{event_fits};
 ghost use Rattle.sn_base.specs.declared.event.Event.{Event};
-ghost use Rattle.sn_model.specs.Machine.{start_of};
 ghost use Rattle.sn_model.specs.Refusals.{is_refusal};
 ghost use Rattle.consistent_cuts.specs.Headline.{IsStepOfRun};
-ghost use Rattle.sn_machine.specs.Machine.{IsApplied, HasRun, IsConsistentWithItsRun, next_of};
+ghost use Rattle.sn_machine.specs.Machine.{IsApplied, HasRun, IsConsistentWithItsRun, machine_with_room, next_of};
 
 use crate::hardware::Hardware;
 use crate::view::View;
@@ -49,14 +48,7 @@ impl Machine {
     /// A machine of these sizes at the start of a program, with room for no event.
     pub fn new(alloc: Global, image: Image, config: Config) -> Result<Machine, Memory>
         requires fits { config_fits config ≡ true }
-        ensures start { IfOk result (λ m. m ≡ record {
-          image = image;
-          config = config;
-          state = start_of image config.nodes;
-          sent = [];
-          applied = 0;
-          spare = 0;
-        }) }
+        ensures start { IfOk result (λ m. m ≡ machine_with_room image config 0) }
         ensures led { IfOk result (λ m. HasRun m []) }
     {
         let hardware = Hardware::new(alloc, &image, config)?;
@@ -67,6 +59,28 @@ impl Machine {
             applied: 0,
             spare: 0,
         })
+    }
+
+    /// A machine of these sizes at the start of a program, with room for so many events.
+    pub fn with_room(
+        alloc: Global,
+        image: Image,
+        config: Config,
+        events: u32,
+    ) -> Result<Machine, Memory>
+        requires fits { config_fits config ≡ true }
+        requires few { events ≤ 4000000000 }
+        ensures start { IfOk result (λ m. m ≡ machine_with_room image config events) }
+        ensures led { IfOk result (λ m. HasRun m []) }
+    {
+        let mut machine = Machine::new(alloc, image, config)?;
+        match machine.reserve(events) {
+            Ok(()) => Ok(machine),
+            Err(_) => {
+                drop(machine);
+                Err(Memory)
+            }
+        }
     }
 
     /// Makes room for at least so many more events; a machine takes 4,000,000,000 in its life.

@@ -24,6 +24,3 @@ mod tagged_effects;
 mod verdict;
 
 pub use verdict::{CheckFault, check};
-
-#[cfg(test)]
-mod tests;

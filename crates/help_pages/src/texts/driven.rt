@@ -39,11 +39,11 @@ writes:
                    and its number, and for one that names what isn't there
                    \"outofrange\" and its number. At the end the summary
 
-Each answer goes out at once, so another program can hold the machine at the end
-of two pipes. An empty line, and one that begins with #, has no answer. Bytes that
-were put out aren't taken back: after \"back K\" they may be put out again. The end
-of the input ends the drive; so does an event after 1,000,000 that are done, with
-the line \"toomany\" before the summary.
+Answers go out before a line is waited for, so another program can hold the
+machine at the end of two pipes. An empty line, and one that begins with #, has
+no answer. Bytes that were put out aren't taken back: after \"back K\" they may be
+put out again. The end of the input ends the drive; so does an event after
+1,000,000 that are done, with the line \"toomany\" before the summary.
 
 exit status: 0 done, 1 usage, 2 store, 3 program, 5 sink, 6 budget (1,000,000
              events), 7 memory, 14 input (help statuses)

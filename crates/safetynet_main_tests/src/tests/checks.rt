@@ -1,6 +1,5 @@
 //! Traces that are judged.
-use super::{Case, each_is_left};
-use call_status::Status;
+use super::{Case, End, each_is_left};
 use calls_in_memory::{ADDED, COUNTS, ECHOES, Faults, NO_FAULT, UNSEEN};
 use sn_text::ScriptCause;
 use std::test::Fail;
@@ -18,13 +17,13 @@ const BROKEN: Faults = Faults {
     report: 1,
 };
 
-const VERDICTS: [Case; 4] = [
+const VERDICTS: &[Case] = &[
     Case {
         words: TWO_NODES,
         program: COUNTS,
         script: ADDED,
         faults: NO_FAULT,
-        status: Status::Done,
+        end: End::Done,
         console: "",
         report: "legal 6\n",
     },
@@ -33,7 +32,7 @@ const VERDICTS: [Case; 4] = [
         program: COUNTS,
         script: UNSEEN,
         faults: NO_FAULT,
-        status: Status::Refused(6),
+        end: End::Refused(6),
         console: "",
         report: "refused 6\n",
     },
@@ -42,7 +41,7 @@ const VERDICTS: [Case; 4] = [
         program: COUNTS,
         script: "2 00000000 0\n",
         faults: NO_FAULT,
-        status: Status::BadScript(ScriptCause::OutOfRange(1)),
+        end: End::BadScript(ScriptCause::OutOfRange(1)),
         console: "",
         report: "",
     },
@@ -51,7 +50,7 @@ const VERDICTS: [Case; 4] = [
         program: ECHOES,
         script: UNREAD,
         faults: BROKEN,
-        status: Status::SinkFault,
+        end: End::SinkFault,
         console: "",
         report: "",
     },
@@ -59,5 +58,5 @@ const VERDICTS: [Case; 4] = [
 
 #[test]
 fn a_trace_is_judged_by_its_first_record_without_a_step(rt: HostRuntime) -> Result<(), Fail> {
-    each_is_left(&rt, rt.alloc(), &VERDICTS)
+    each_is_left(&rt, rt.alloc(), VERDICTS)
 }

@@ -3,6 +3,7 @@ mod commands;
 mod refusals;
 
 use self::commands::COMMANDS;
+use super::{End, status_of};
 use call_status::Status;
 use calls_in_memory::{Faults, Given, Left, call};
 use sn_base::Memory;
@@ -23,7 +24,7 @@ enum Outside {
 /// What a command puts in one call of a sink, and of which.
 type Piece = (Outside, &'static str);
 
-/// A line of words, the files a.hex and a.script that they may name, how many of them are fetched, the status where nothing fails, the
+/// A line of words, the files a.hex and a.script that they may name, how many of them are fetched, how it ends where nothing fails, the
 /// pieces in their order, and how many of them the console and the report get.
 #[derive(Clone, Copy)]
 struct Command {
@@ -31,7 +32,7 @@ struct Command {
     program: &'static str,
     script: &'static str,
     fetches: u64,
-    status: Status,
+    end: End,
     pieces: &'static [Piece],
     console: u64,
     report: u64,
@@ -88,12 +89,12 @@ fn have_pieces(left: &Left, pieces: &[Piece], failing: &Failing) -> bool {
     console.is_empty() && report.is_empty()
 }
 
-/// The status that a command ends in, and the pieces that it puts as far as no sink fails.
-fn due(command: &Command, failing: &Failing) -> (Status, &'static [Piece]) {
+/// How a command ends, and the pieces that it puts as far as no sink fails.
+fn due(command: &Command, failing: &Failing) -> (End, &'static [Piece]) {
     match (failing.number, failing.of) {
-        (0, _) => (command.status, command.pieces),
-        (_, Outside::Store) => (Status::StoreFault, &[]),
-        _ => (Status::SinkFault, command.pieces),
+        (0, _) => (command.end, command.pieces),
+        (_, Outside::Store) => (End::StoreFault, &[]),
+        _ => (End::SinkFault, command.pieces),
     }
 }
 
@@ -123,8 +124,8 @@ fn is_broken_off(
         script: command.script.as_bytes(),
         faults: faults_of(failing),
     };
-    let (status, pieces) = due(command, failing);
-    ends_so(rt, alloc, &given, &status, pieces, failing)
+    let (end, pieces) = due(command, failing);
+    ends_so(rt, alloc, &given, &status_of(&end), pieces, failing)
 }
 
 /// First none fails, and then each of so many in turn.
@@ -147,7 +148,7 @@ fn each_of_all_fails(
     alloc: Global,
     of: Outside,
 ) -> Result<(), Fail> {
-    for command in &COMMANDS {
+    for command in COMMANDS {
         let calls = match of {
             Outside::Store => command.fetches,
             Outside::Console => command.console,

@@ -1,6 +1,5 @@
 //! Accesses that are judged by themselves.
-use super::{Case, each_is_left};
-use call_status::Status;
+use super::{Case, End, each_is_left};
 use calls_in_memory::{Faults, NO_FAULT};
 use sn_text::ScriptCause;
 use std::test::Fail;
@@ -11,34 +10,34 @@ const PASSED: Case = Case {
     program: "",
     script: "init 80001000 00000007\n0 w 80001000 4 0000002a\n1 r 80001000 4 0000002a\n",
     faults: NO_FAULT,
-    status: Status::Done,
+    end: End::Done,
     console: "",
     report: "legal 2\n",
 };
 
-const VERDICTS: [Case; 6] = [
+const VERDICTS: &[Case] = &[
     PASSED,
     Case {
         script: "init 80001000 00000007\n0 w 80001000 4 0000002a\n1 r 80001000 4 00000007\n",
-        status: Status::Refused(2),
+        end: End::Refused(2),
         report: "refused 2\nexpected 0000002a since 1\n",
         ..PASSED
     },
     Case {
         script: "1 sc 80001000 4 00000001\n",
-        status: Status::Refused(1),
+        end: End::Refused(1),
         report: "refused 1\nunreserved since 0\n",
         ..PASSED
     },
     Case {
         script: "16 r 80001000 4 00000000\n",
-        status: Status::BadScript(ScriptCause::OutOfRange(1)),
+        end: End::BadScript(ScriptCause::OutOfRange(1)),
         report: "",
         ..PASSED
     },
     Case {
         words: "safetynet judge b.script",
-        status: Status::StoreFault,
+        end: End::StoreFault,
         report: "",
         ..PASSED
     },
@@ -47,7 +46,7 @@ const VERDICTS: [Case; 6] = [
             report: 1,
             ..NO_FAULT
         },
-        status: Status::SinkFault,
+        end: End::SinkFault,
         report: "",
         ..PASSED
     },
@@ -55,5 +54,5 @@ const VERDICTS: [Case; 6] = [
 
 #[test]
 fn accesses_are_judged_by_the_first_that_is_not_legal(rt: HostRuntime) -> Result<(), Fail> {
-    each_is_left(&rt, rt.alloc(), &VERDICTS)
+    each_is_left(&rt, rt.alloc(), VERDICTS)
 }

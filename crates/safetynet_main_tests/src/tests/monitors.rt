@@ -1,6 +1,5 @@
 //! Runs that are watched, on one node, of which one cut is published or none: so what is seen doesn't hang on when the watcher looks.
-use super::{Case, each_is_left};
-use call_status::Status;
+use super::{Case, End, each_is_left};
 use calls_in_memory::{Faults, LOOPS, NO_FAULT, PUTS_A};
 use std::test::Fail;
 
@@ -26,17 +25,17 @@ const ENDED: Case = Case {
     program: PUTS_A,
     script: "",
     faults: NO_FAULT,
-    status: Status::Done,
+    end: End::Done,
     console: "A",
     report: ENDED_REPORT,
 };
 
-const SHOWN: [Case; 2] = [
+const SHOWN: &[Case] = &[
     ENDED,
     Case {
         words: "safetynet monitor --nodes=1 --budget 50 a.hex",
         program: LOOPS,
-        status: Status::Budget,
+        end: End::Budget,
         console: "",
         report: SPENT_REPORT,
         ..ENDED
@@ -45,16 +44,16 @@ const SHOWN: [Case; 2] = [
 
 #[test]
 fn the_last_cut_is_seen_unless_none_was_validated(rt: HostRuntime) -> Result<(), Fail> {
-    each_is_left(&rt, rt.alloc(), &SHOWN)
+    each_is_left(&rt, rt.alloc(), SHOWN)
 }
 
-const BROKEN_OFF: [Case; 2] = [
+const BROKEN_OFF: &[Case] = &[
     Case {
         faults: Faults {
             console: 1,
             ..NO_FAULT
         },
-        status: Status::SinkFault,
+        end: End::SinkFault,
         console: "",
         report: "",
         ..ENDED
@@ -64,7 +63,7 @@ const BROKEN_OFF: [Case; 2] = [
             report: 2,
             ..NO_FAULT
         },
-        status: Status::SinkFault,
+        end: End::SinkFault,
         report: "seen 1 5\n",
         ..ENDED
     },
@@ -72,5 +71,5 @@ const BROKEN_OFF: [Case; 2] = [
 
 #[test]
 fn what_was_seen_is_reported_after_the_console_has_all(rt: HostRuntime) -> Result<(), Fail> {
-    each_is_left(&rt, rt.alloc(), &BROKEN_OFF)
+    each_is_left(&rt, rt.alloc(), BROKEN_OFF)
 }

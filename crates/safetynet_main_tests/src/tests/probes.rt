@@ -3,6 +3,7 @@ ghost use Rattle.std.specs.Prelude.{[], ◌∷◌};
 ghost use Rattle.sn_probe.specs.Tally.{tally_with_one};
 ghost use Rattle.safetynet_main_tests.specs.Held.{place_of_held};
 
+use super::{End, status_of};
 use call_status::{ProgramCause, Status};
 use calls_in_memory::{
     COUNTS, Faults, Given, NO_FAULT, PUTS_A, Probes, VALIDATED, WORDS, call_with,
@@ -165,7 +166,7 @@ struct Ending {
     program: &'static str,
     faults: Faults,
     probes: u64,
-    status: Status,
+    end: End,
 }
 
 const DONE: Ending = Ending {
@@ -173,7 +174,7 @@ const DONE: Ending = Ending {
     program: PUTS_A,
     faults: NO_FAULT,
     probes: 0,
-    status: Status::Done,
+    end: End::Done,
 };
 
 const BROKEN_OFF: Ending = Ending {
@@ -181,17 +182,17 @@ const BROKEN_OFF: Ending = Ending {
         report: 1,
         ..NO_FAULT
     },
-    status: Status::SinkFault,
+    end: End::SinkFault,
     ..DONE
 };
 
 const REFUSED: Ending = Ending {
     program: "",
-    status: Status::BadProgram(ProgramCause::Load(LoadCause::Empty)),
+    end: End::BadProgram(ProgramCause::Load(LoadCause::Empty)),
     ..DONE
 };
 
-const ENDS: [Ending; 13] = [
+const ENDS: &[Ending] = &[
     DONE,
     Ending { probes: 1, ..DONE },
     Ending {
@@ -219,19 +220,19 @@ const ENDS: [Ending; 13] = [
     Ending {
         words: "safetynet fly",
         probes: 100,
-        status: Status::Usage,
+        end: End::Usage,
         ..DONE
     },
     Ending {
         words: "safetynet run --nodes 1 --budget 5 a.hex",
         probes: 100,
-        status: Status::Budget,
+        end: End::Budget,
         ..DONE
     },
     Ending {
         words: "safetynet monitor --nodes 1 --budget 5 a.hex",
         probes: 100,
-        status: Status::Budget,
+        end: End::Budget,
         ..DONE
     },
     Ending {
@@ -246,7 +247,7 @@ const ENDS: [Ending; 13] = [
 ];
 
 /// How a call ends whose probes count their drops there.
-fn status_of(
+fn status_left(
     rt: &(impl Threads + Wait + Sync),
     alloc: Global,
     ending: &Ending,
@@ -263,26 +264,22 @@ fn status_of(
     Ok(left.status)
 }
 
-/// How a call ends, and how many of its probes it drops.
-fn ended(
+/// Whether a call ends so, and has dropped each of its probes once.
+fn drops_each(
     rt: &(impl Threads + Wait + Sync),
     alloc: Global,
     ending: &Ending,
-) -> Result<(Status, u64), Memory> {
+) -> Result<bool, Memory> {
     let drops = Arc::new(alloc, AtomicU64::new(0))?;
-    let status = status_of(rt, alloc, ending, &drops)?;
-    Ok((status, drops.load(Ordering::SeqCst)))
+    let status = status_left(rt, alloc, ending, &drops)?;
+    Ok(status == status_of(&ending.end) && drops.load(Ordering::SeqCst) == ending.probes)
 }
 
 #[test]
 fn each_probe_is_dropped_once_however_the_call_ends(rt: HostRuntime) -> Result<(), Fail> {
-    for ending in &ENDS {
-        let (status, dropped) = ended(&rt, rt.alloc(), ending)?;
-        assert!(rt;
-            status == ending.status && dropped == ending.probes,
-            "of {}",
-            ending.words
-        );
+    for ending in ENDS {
+        let is_so = drops_each(&rt, rt.alloc(), ending)?;
+        assert!(rt; is_so, "of {}", ending.words);
     }
     Ok(())
 }

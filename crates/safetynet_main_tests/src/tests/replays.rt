@@ -1,5 +1,5 @@
 //! Replays: what they put, what their options show, and what is there where a sink fails.
-use super::{Case, each_is_left, leaves};
+use super::{Case, End, each_is_left, leaves};
 use call_status::Status;
 use calls_in_memory::{ECHOES, Faults, Given, LATE_BYTE, NO_FAULT, PUTS_A, VALIDATED, WORDS};
 use std::test::Fail;
@@ -75,19 +75,19 @@ const RELEASED: Case = Case {
     program: PUTS_A,
     script: VALIDATED,
     faults: NO_FAULT,
-    status: Status::Done,
+    end: End::Done,
     console: "A",
     report: VALIDATED_REPORT,
 };
 
-const SHOWN: [Case; 4] = [
+const SHOWN: &[Case] = &[
     RELEASED,
     Case {
         words: "safetynet replay a.hex --watch=80000000 --nodes=1 a.script",
         program: PUTS_A,
         script: RECOVERED,
         faults: NO_FAULT,
-        status: Status::Done,
+        end: End::Done,
         console: "",
         report: WATCHED_REPORT,
     },
@@ -96,7 +96,7 @@ const SHOWN: [Case; 4] = [
         program: ECHOES,
         script: LATE_BYTE,
         faults: NO_FAULT,
-        status: Status::Done,
+        end: End::Done,
         console: "A",
         report: LATE_TRACE,
     },
@@ -105,7 +105,7 @@ const SHOWN: [Case; 4] = [
         program: PUTS_A,
         script: VALIDATED,
         faults: NO_FAULT,
-        status: Status::Done,
+        end: End::Done,
         console: "A",
         report: STATES_REPORT,
     },
@@ -113,7 +113,7 @@ const SHOWN: [Case; 4] = [
 
 #[test]
 fn a_replay_shows_what_its_options_ask(rt: HostRuntime) -> Result<(), Fail> {
-    each_is_left(&rt, rt.alloc(), &SHOWN)
+    each_is_left(&rt, rt.alloc(), SHOWN)
 }
 
 /// The ELF file of `PUTS_A`, as a linker writes it.
@@ -145,13 +145,13 @@ fn an_elf_file_is_run_as_its_words_are(rt: HostRuntime) -> Result<(), Fail> {
     )
 }
 
-const BROKEN_OFF: [Case; 4] = [
+const BROKEN_OFF: &[Case] = &[
     Case {
         faults: Faults {
             store: 1,
             ..NO_FAULT
         },
-        status: Status::StoreFault,
+        end: End::StoreFault,
         console: "",
         report: "",
         ..RELEASED
@@ -161,7 +161,7 @@ const BROKEN_OFF: [Case; 4] = [
             console: 1,
             ..NO_FAULT
         },
-        status: Status::SinkFault,
+        end: End::SinkFault,
         console: "",
         report: VALIDATED_EVENTS,
         ..RELEASED
@@ -171,7 +171,7 @@ const BROKEN_OFF: [Case; 4] = [
             report: 2,
             ..NO_FAULT
         },
-        status: Status::SinkFault,
+        end: End::SinkFault,
         console: "",
         report: "1 step 0: retired\n",
         ..RELEASED
@@ -181,7 +181,7 @@ const BROKEN_OFF: [Case; 4] = [
             report: 7,
             ..NO_FAULT
         },
-        status: Status::SinkFault,
+        end: End::SinkFault,
         report: VALIDATED_EVENTS,
         ..RELEASED
     },
@@ -189,5 +189,5 @@ const BROKEN_OFF: [Case; 4] = [
 
 #[test]
 fn a_call_that_fails_leaves_the_beginning_of_each_text(rt: HostRuntime) -> Result<(), Fail> {
-    each_is_left(&rt, rt.alloc(), &BROKEN_OFF)
+    each_is_left(&rt, rt.alloc(), BROKEN_OFF)
 }

@@ -1,5 +1,5 @@
 //! Runs by workers, on one node, where each is the same.
-use super::{Case, each_is_left, leaves};
+use super::{Case, End, each_is_left, leaves};
 use call_status::Status;
 use calls_in_memory::{Faults, Given, LOOPS, NO_FAULT, PUTS_A};
 use rv_core::Cause;
@@ -54,12 +54,12 @@ const SPENT_RUN: Case = Case {
     program: LOOPS,
     script: "",
     faults: NO_FAULT,
-    status: Status::Budget,
+    end: End::Budget,
     console: "",
     report: SPENT_REPORT,
 };
 
-const SPENT: [Case; 2] = [
+const SPENT: &[Case] = &[
     SPENT_RUN,
     Case {
         words: "safetynet run --journal --nodes 1 --budget 3 a.hex",
@@ -70,7 +70,7 @@ const SPENT: [Case; 2] = [
 
 #[test]
 fn a_run_ends_with_its_budget(rt: HostRuntime) -> Result<(), Fail> {
-    each_is_left(&rt, rt.alloc(), &SPENT)
+    each_is_left(&rt, rt.alloc(), SPENT)
 }
 
 const ENDED: Case = Case {
@@ -78,18 +78,20 @@ const ENDED: Case = Case {
     program: PUTS_A,
     script: "",
     faults: NO_FAULT,
-    status: Status::Done,
+    end: End::Done,
     console: "A",
     report: ENDED_REPORT,
 };
 
+const EXITED: &[Case] = &[ENDED];
+
 #[test]
 fn a_run_ends_with_all_exits(rt: HostRuntime) -> Result<(), Fail> {
-    each_is_left(&rt, rt.alloc(), &[ENDED])
+    each_is_left(&rt, rt.alloc(), EXITED)
 }
 
 /// On one node each order gives its turns to the one worker.
-const ORDERED: [Case; 4] = [
+const ORDERED: &[Case] = &[
     Case {
         words: "safetynet run --nodes 1 --order round a.hex",
         ..ENDED
@@ -109,7 +111,7 @@ const ORDERED: [Case; 4] = [
             console: 1,
             ..NO_FAULT
         },
-        status: Status::SinkFault,
+        end: End::SinkFault,
         console: "",
         report: "",
         ..ENDED
@@ -118,7 +120,7 @@ const ORDERED: [Case; 4] = [
 
 #[test]
 fn a_run_has_its_turns_in_an_order(rt: HostRuntime) -> Result<(), Fail> {
-    each_is_left(&rt, rt.alloc(), &ORDERED)
+    each_is_left(&rt, rt.alloc(), ORDERED)
 }
 
 #[test]
@@ -134,18 +136,18 @@ fn a_run_ends_with_its_least_trap(rt: HostRuntime) -> Result<(), Fail> {
     leaves(&rt, rt.alloc(), &given, &status, "", TRAPPED_REPORT)
 }
 
-const BROKEN_OFF: Case = Case {
+const BROKEN_OFF: &[Case] = &[Case {
     faults: Faults {
         console: 1,
         ..NO_FAULT
     },
-    status: Status::SinkFault,
+    end: End::SinkFault,
     console: "",
     report: "",
     ..ENDED
-};
+}];
 
 #[test]
 fn a_run_whose_console_fails_reports_nothing(rt: HostRuntime) -> Result<(), Fail> {
-    each_is_left(&rt, rt.alloc(), &[BROKEN_OFF])
+    each_is_left(&rt, rt.alloc(), BROKEN_OFF)
 }

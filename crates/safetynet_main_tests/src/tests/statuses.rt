@@ -1,4 +1,5 @@
 //! The numbers and words of the statuses.
+use super::{End, status_of};
 use call_status::{ProgramCause, Status};
 use elf_load::LoadCause;
 use rv_asm::AsmCause;
@@ -7,30 +8,22 @@ use sn_base::NodeId;
 use sn_text::{ScriptCause, trap_name};
 use std::process::Abort;
 
-const STATUSES: [(Status, u8, &str); 11] = [
-    (Status::Done, 0, "done"),
-    (Status::Usage, 1, "usage"),
-    (Status::StoreFault, 2, "store"),
+const STATUSES: &[(End, u8, &str)] = &[
+    (End::Done, 0, "done"),
+    (End::Usage, 1, "usage"),
+    (End::StoreFault, 2, "store"),
     (
-        Status::BadProgram(ProgramCause::Load(LoadCause::BadHexLine(1))),
+        End::BadProgram(ProgramCause::Load(LoadCause::BadHexLine(1))),
         3,
         "program badhexline",
     ),
-    (Status::BadScript(ScriptCause::TooLong), 4, "script toolong"),
-    (
-        Status::BadScript(ScriptCause::BadLine(2)),
-        4,
-        "script badline",
-    ),
-    (Status::SinkFault, 5, "sink"),
-    (Status::Budget, 6, "budget"),
-    (Status::Memory, 7, "memory"),
-    (
-        Status::BadAsm(AsmCause::LabelTwice(4)),
-        13,
-        "asm labeltwice",
-    ),
-    (Status::InputFault, 14, "input"),
+    (End::BadScript(ScriptCause::TooLong), 4, "script toolong"),
+    (End::BadScript(ScriptCause::BadLine(2)), 4, "script badline"),
+    (End::SinkFault, 5, "sink"),
+    (End::Budget, 6, "budget"),
+    (End::Memory, 7, "memory"),
+    (End::BadAsm(AsmCause::LabelTwice(4)), 13, "asm labeltwice"),
+    (End::InputFault, 14, "input"),
 ];
 
 const TRAPS: &[(Cause, &str)] = &[
@@ -52,8 +45,8 @@ fn is_shown(rt: &impl Abort, status: Status, number: u8, word: &str) {
 
 #[test]
 fn a_status_has_its_number_and_word(rt: HostRuntime) {
-    for (status, number, word) in &STATUSES {
-        is_shown(&rt, *status, *number, word);
+    for (end, number, word) in STATUSES {
+        is_shown(&rt, status_of(end), *number, word);
     }
 }
 

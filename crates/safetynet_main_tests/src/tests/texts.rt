@@ -1,6 +1,5 @@
 //! Commands that need no script: words from a text, a text from words, and a generated run.
-use super::{Case, each_is_left};
-use call_status::Status;
+use super::{Case, End, each_is_left};
 use calls_in_memory::{COUNTER, NO_FAULT, PUTS_A};
 use std::test::Fail;
 
@@ -26,13 +25,13 @@ addi x17, x0, 93
 ecall
 ";
 
-const TEXTS: [Case; 3] = [
+const TEXTS: &[Case] = &[
     Case {
         words: "safetynet asm a.hex",
         program: COUNTER,
         script: "",
         faults: NO_FAULT,
-        status: Status::Done,
+        end: End::Done,
         console: COUNTER_WORDS,
         report: "",
     },
@@ -41,7 +40,7 @@ const TEXTS: [Case; 3] = [
         program: PUTS_A,
         script: "",
         faults: NO_FAULT,
-        status: Status::Done,
+        end: End::Done,
         console: LISTING,
         report: "",
     },
@@ -50,7 +49,7 @@ const TEXTS: [Case; 3] = [
         program: "",
         script: "",
         faults: NO_FAULT,
-        status: Status::Done,
+        end: End::Done,
         console: "",
         report: DEMO_REPORT,
     },
@@ -58,5 +57,5 @@ const TEXTS: [Case; 3] = [
 
 #[test]
 fn other_commands_put_their_texts(rt: HostRuntime) -> Result<(), Fail> {
-    each_is_left(&rt, rt.alloc(), &TEXTS)
+    each_is_left(&rt, rt.alloc(), TEXTS)
 }

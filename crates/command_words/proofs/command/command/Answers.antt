@@ -1,17 +1,15 @@
-use Rattle.std.proofs.Common.{◌∙◌, ap₂}
-use Rattle.std.proofs.lemmas.Result.{IfOk-weaker}
-use Rattle.command_words.specs.Command.{with_command}
+use Rattle.command_words.specs.Command.{named_app, replay_app, drive_app, roll_app, run_app, monitor_app, check_app, judge_app, demo_app, asm_app, dis_app}
 use Rattle.command_words.proofs.command.command.Goals as goal
 
 pub returns : goal.returns
 returns c =
-    let one = c.in_ok-command.ensures ∙ ap₂ with_command c.named.ensures c.in_ok-replay.ensures.app in
-    let two = c.in_ok-command-2.ensures ∙ ap₂ with_command one c.in_ok-drive.ensures.app in
-    let three = c.in_ok-command-3.ensures ∙ ap₂ with_command two c.in_ok-roll.ensures.app in
-    let four = c.in_ok-command-4.ensures ∙ ap₂ with_command three c.in_ok-run.ensures.app in
-    let five = c.in_ok-command-5.ensures ∙ ap₂ with_command four c.in_ok-monitor.ensures.app in
-    let six = c.in_ok-command-6.ensures ∙ ap₂ with_command five c.in_ok-check.ensures.app in
-    let seven = c.in_ok-command-7.ensures ∙ ap₂ with_command six c.in_ok-judge.ensures.app in
-    let eight = c.in_ok-command-8.ensures ∙ ap₂ with_command seven c.in_ok-demo.ensures.app in
-    let nine = c.in_ok-command-9.ensures ∙ ap₂ with_command eight c.in_ok-asm.ensures.app in
-    IfOk-weaker c.with_command-10.result _ _ (λ r is. is ∙ ap₂ with_command nine c.in_ok-dis.ensures.app) c.with_command-10.ensures
+    let one = c.with_command-table.ensures named_app replay_app c.named.ensures c.replay.ensures.app in
+    let two = c.with_command-table-2.ensures _ drive_app one c.drive.ensures.app in
+    let three = c.with_command-table-3.ensures _ roll_app two c.roll.ensures.app in
+    let four = c.with_command-table-4.ensures _ run_app three c.run.ensures.app in
+    let five = c.with_command-table-5.ensures _ monitor_app four c.monitor.ensures.app in
+    let six = c.with_command-table-6.ensures _ check_app five c.check.ensures.app in
+    let seven = c.with_command-table-7.ensures _ judge_app six c.judge.ensures.app in
+    let eight = c.with_command-table-8.ensures _ demo_app seven c.demo.ensures.app in
+    let nine = c.with_command-table-9.ensures _ asm_app eight c.asm.ensures.app in
+    c.with_command.ensures _ dis_app nine c.dis.ensures.app

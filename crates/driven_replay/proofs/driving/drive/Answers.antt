@@ -9,18 +9,18 @@ use Rattle.driven_replay.proofs.driving.drive.Goals as goal
 
 pub returns-clause-ok : goal.returns-clause-ok
 returns-clause-ok g c =
-    of-end _ c.args.job _ _ _ _ _ _ _ (ap (λ (m : MachineData). drive_on m c.args.job.showing) c.in-Some.ensures.machine) c.drive_all.ensures.ok
+    of-end _ c.args.job _ _ _ _ _ _ _ (ap (λ (m : MachineData). drive_on m c.args.job.showing) c.in-Some.ensures.machine) c.drive_all-ended.ensures.ok
 
 pub returns-clause-input : goal.returns-clause-input
 returns-clause-input g c = λ e.
     of-left _ c.args.job _ _ _ _ _ _
-    (λ (read : List LineRead). Rose (g.L.Lines.faults c.args.lines.now) (g.L.Lines.faults c.drive_all.new.lines) ⊎ (2 ^ 64 - 1 ≤ length read))
-    (ap (λ (m : MachineData). drive_on m c.args.job.showing) c.in-Some.ensures.machine) (c.drive_all.ensures.input e)
+    (λ (read : List LineRead). Rose (g.L.Lines.faults c.args.lines.now) (g.L.Lines.faults c.drive_all-ended.new.lines) ⊎ (2 ^ 64 - 1 ≤ length read))
+    (ap (λ (m : MachineData). drive_on m c.args.job.showing) c.in-Some.ensures.machine) (c.drive_all-ended.ensures.input e)
 
 pub returns-clause-sink : goal.returns-clause-sink
 returns-clause-sink g c = λ e.
-    of-job _ _ c.args.job _ _ _ _ _ _ (ap (λ (m : MachineData). drive_on m c.args.job.showing) c.in-Some.ensures.machine) (c.drive_all.ensures.sink e)
+    of-job _ _ c.args.job _ _ _ _ _ _ (ap (λ (m : MachineData). drive_on m c.args.job.showing) c.in-Some.ensures.machine) (c.drive_all-ended.ensures.sink e)
 
 pub returns-clause-memory : goal.returns-clause-memory
 returns-clause-memory g c = λ e.
-    of-lack _ _ c.args.job _ _ _ _ _ _ (ap (λ (m : MachineData). drive_on m c.args.job.showing) c.in-Some.ensures.machine) (c.drive_all.ensures.memory e)
+    of-lack _ _ c.args.job _ _ _ _ _ _ (ap (λ (m : MachineData). drive_on m c.args.job.showing) c.in-Some.ensures.machine) (c.drive_all-ended.ensures.memory e)

@@ -1,33 +1,30 @@
-use Rattle.std.proofs.Common.{Some, ap, ◌∙◌, arith}
+use Rattle.std.proofs.Common.{arith}
 use Rattle.std.proofs.lemmas.Bool.Decides.{nat_tests}
-use Rattle.line_source.proofs.Begun.{known-more, known-ended-line, known-ended-rest, known-over-line, known-over-rest}
+use Rattle.line_source.proofs.Begun.{known-more, known-ended-line, known-ended-rest, known-over-line, known-over-none, known-over-rest}
 use Rattle.line_source.proofs.reader_lines.read_line.Goals as goal
 
 pub reading-preserved : goal.reading-preserved
-reading-preserved g c =
-    known-more _ _ _ c.reading.into _ c.reading.is_longer _ c.in_ok-next_byte.field-0 c.in-Some.byte c.reading.invariant c.in_ok-next_byte.ensures
-    c.in-Some.is c.in-Some.byte-test.1 c.add-is_longer.ensures.added (cc)
+reading-preserved g c = known-more _ _ _ _ _ c.in_ok-take_piece.ensures _ c.in-Open.is c.reading.invariant
 
-pub returns-in-Some-eq10-clause-line : goal.returns-in-Some-eq10-clause-line
-returns-in-Some-eq10-clause-line g c =
-    known-ended-line _ _ c.reading.into c.reading.is_longer c.in_ok-next_byte.field-0 c.in_ok-next_byte.ensures
-    (c.in-Some-eq10.is ∙ ap (λ t. Some t) c.in-Some-eq10.field-0-test) _ c.cut_return.new.self _ c.reading.invariant c.cut_return.ensures c.taken.ensures.line
+pub returns-in-Ended-clause-line : goal.returns-in-Ended-clause-line
+returns-in-Ended-clause-line g c =
+    known-ended-line _ _ _ _ _ c.in_ok-take_piece.ensures _ _ _ c.in-Ended.is c.reading.invariant c.cut_return.ensures c.judge.ensures.read
 
-pub returns-in-Some-eq10-clause-rest : goal.returns-in-Some-eq10-clause-rest
-returns-in-Some-eq10-clause-rest g c =
-    known-ended-rest _ _ c.reading.into c.reading.is_longer c.in_ok-next_byte.field-0 c.in_ok-next_byte.ensures (c.in-Some-eq10.is ∙ ap (λ t. Some t) c.in-Some-eq10.field-0-test)
-    _ c.reading.invariant
+pub returns-in-Ended-clause-rest : goal.returns-in-Ended-clause-rest
+returns-in-Ended-clause-rest g c = known-ended-rest _ _ _ _ _ c.in_ok-take_piece.ensures _ c.in-Ended.is c.reading.invariant
 
-pub returns-in-None-clause-rest : goal.returns-in-None-clause-rest
-returns-in-None-clause-rest g c =
-    known-over-rest _ _ c.reading.into c.reading.is_longer c.in_ok-next_byte.field-0 c.in_ok-next_byte.ensures c.in-None.is _ c.reading.invariant
+pub returns-in-Over-clause-line : goal.returns-in-Over-clause-line
+returns-in-Over-clause-line g c =
+    known-over-none _ _ _ _ _ c.in_ok-take_piece.ensures _ c.in-Over.is c.reading.invariant
+    (grind (arith, nat_tests, c.is_empty.ensures, c.bytes.ensures, c.if-is_empty.true))
 
-pub returns-in-None-2-clause-line : goal.returns-in-None-2-clause-line
-returns-in-None-2-clause-line g c =
-    known-over-line _ _ c.reading.into c.reading.is_longer c.in_ok-next_byte.field-0 c.in_ok-next_byte.ensures c.in-None-2.is _ _
-    c.reading.invariant (grind (arith, nat_tests, c.is_empty.ensures, c.bytes.ensures, c.if-is_empty.false)) c.taken-in-None-2.ensures.line
+pub returns-in-Over-clause-rest : goal.returns-in-Over-clause-rest
+returns-in-Over-clause-rest g c = known-over-rest _ _ _ _ _ c.in_ok-take_piece.ensures _ c.in-Over.is c.reading.invariant
 
-pub returns-in-None-2-clause-rest : goal.returns-in-None-2-clause-rest
-returns-in-None-2-clause-rest g c =
-    known-over-rest _ _ c.reading.into c.reading.is_longer c.in_ok-next_byte.field-0 c.in_ok-next_byte.ensures c.in-None-2.is _
-    c.reading.invariant
+pub returns-in-Over-2-clause-line : goal.returns-in-Over-2-clause-line
+returns-in-Over-2-clause-line g c =
+    known-over-line _ _ _ _ _ c.in_ok-take_piece.ensures _ _ c.in-Over-2.is c.reading.invariant
+    (grind (arith, nat_tests, c.is_empty.ensures, c.bytes.ensures, c.if-is_empty.false)) c.judge-in-Over-2.ensures.read
+
+pub returns-in-Over-2-clause-rest : goal.returns-in-Over-2-clause-rest
+returns-in-Over-2-clause-rest g c = known-over-rest _ _ _ _ _ c.in_ok-take_piece.ensures _ c.in-Over-2.is c.reading.invariant

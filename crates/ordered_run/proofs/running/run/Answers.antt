@@ -10,8 +10,8 @@ use Rattle.ordered_run.proofs.running.run.Goals as goal
 pub tell-requires : goal.tell-requires
 tell-requires g c = ap (λ (l : List Answer). length l) c.finish-finished.ensures.run.answers_are ∙ length-answers_of _ _
 
-pub put_ended-requires-clause-start : goal.put_ended-requires-clause-start
-put_ended-requires-clause-start g c =
+pub put_ended-ended-requires-clause-start : goal.put_ended-ended-requires-clause-start
+put_ended-ended-requires-clause-start g c =
     let left = c.finish-finished.result in
     cores-at_start c.args.job (its_start c.in-Ok-start.course) left.machine left.journal.items left.answers.items
     c.in-Ok-start.ensures.began c.finish-finished.ensures.run c.requires _ c.in-Ok.ensures
@@ -25,10 +25,10 @@ returns-in-Some-clause-ok g c =
     (run-reported c.args.job (its_start course) left.machine left.journal.items left.answers.items c.in-Ok-start.ensures.began
     c.finish-finished.ensures.run c.requires left.finish (g.C.Sink.faults c.args.console.now) (g.C.Sink.faults c.finish-finished.new.console)
     (g.C.Sink.written c.args.console.now) (g.C.Sink.written c.finish-finished.new.console) (g.R.Sink.written c.args.report.now)
-    (g.R.Sink.written c.put_ended.new.report) _ _ c.finish-finished.ensures.ends c.tell.ensures c.in-Some.ending c.in-Some.ensures.some)
+    (g.R.Sink.written c.put_ended-ended.new.report) _ _ c.finish-finished.ensures.ends c.tell.ensures c.in-Some.ending c.in-Some.ensures.some)
 
-pub returns-clause-sink : goal.returns-clause-sink
-returns-clause-sink g c = λ no.
+pub returns-in-None-clause-sink : goal.returns-in-None-clause-sink
+returns-in-None-clause-sink g c = λ no.
     let course = c.in-Ok-start.course in let left = c.finish-finished.result in
     ordered-broken c.args.order c.args.job left.journal.items
     (ordered-by course.scheduler.order c.args.order (its_start course) (begins c.args.job) left.journal.items c.in-Ok-start.ensures.order
@@ -37,10 +37,10 @@ returns-clause-sink g c = λ no.
     (run-unreported c.args.job (its_start course) left.machine left.journal.items left.answers.items c.in-Ok-start.ensures.began
     c.finish-finished.ensures.run c.requires left.finish (g.C.Sink.faults c.args.console.now) (g.C.Sink.faults c.finish-finished.new.console)
     (g.C.Sink.written c.args.console.now) (g.C.Sink.written c.finish-finished.new.console) (g.R.Sink.written c.args.report.now)
-    (g.R.Sink.written c.put_ended.new.report) _ _ c.finish-finished.ensures.ends c.tell.ensures (c.in-None.ensures.none refl))
+    (g.R.Sink.written c.put_ended-ended.new.report) _ _ c.finish-finished.ensures.ends c.tell.ensures (c.in-None.ensures.none refl))
 
-pub returns-clause-cause : goal.returns-clause-cause
-returns-clause-cause g c = λ no.
+pub returns-in-None-clause-cause : goal.returns-in-None-clause-cause
+returns-in-None-clause-cause g c = λ no.
     let left = c.finish-finished.result in
     cause-by (its_start c.in-Ok-start.course) left.machine.config.nodes _ left.journal.items left.finish left.machine.state.released
     (g.C.Sink.written c.args.console.now) (g.C.Sink.written c.finish-finished.new.console) (g.C.Sink.faults c.args.console.now)

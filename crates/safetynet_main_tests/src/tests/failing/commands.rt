@@ -1,7 +1,6 @@
 //! The commands, each with all that it puts.
-use super::Command;
 use super::Outside::{Console, Report};
-use call_status::Status;
+use super::{Command, End};
 use calls_in_memory::{
     ADDED, COUNTER, COUNTS, ECHOES, LATE_BYTE, LOOPS, PUTS_A, UNSEEN, VALIDATED,
 };
@@ -9,13 +8,13 @@ use calls_in_memory::{
 /// A recovery undoes a request that stands at its receiver.
 const RECOVERED: &str = "step 0\nstep 1\nstep 1\nstep 1\nhop 1\nrecover\nedge 0\n";
 
-pub const COMMANDS: [Command; 13] = [
+pub const COMMANDS: &[Command] = &[
     Command {
         words: "safetynet replay --nodes 1 a.hex a.script",
         program: PUTS_A,
         script: VALIDATED,
         fetches: 2,
-        status: Status::Done,
+        end: End::Done,
         pieces: &[
             (Report, "1 step 0: retired\n"),
             (Report, "2 step 0: retired\n"),
@@ -56,7 +55,7 @@ core 0 8000000c running x10=00000041 x17=00000001
         program: COUNTS,
         script: RECOVERED,
         fetches: 2,
-        status: Status::Done,
+        end: End::Done,
         pieces: &[
             (Report, "1 step 0: retired\n"),
             (Report, "2 step 1: retired\n"),
@@ -100,7 +99,7 @@ watch 80001000 00000000
         program: ECHOES,
         script: LATE_BYTE,
         fetches: 2,
-        status: Status::Done,
+        end: End::Done,
         pieces: &[
             (Console, "A"),
             (Report, "0 00000000 0\n"),
@@ -126,7 +125,7 @@ watch 80001000 00000000
         program: COUNTS,
         script: ADDED,
         fetches: 2,
-        status: Status::Done,
+        end: End::Done,
         pieces: &[(Report, "legal 6\n")],
         console: 0,
         report: 1,
@@ -136,7 +135,7 @@ watch 80001000 00000000
         program: COUNTS,
         script: UNSEEN,
         fetches: 2,
-        status: Status::Refused(6),
+        end: End::Refused(6),
         pieces: &[(Report, "refused 6\n")],
         console: 0,
         report: 1,
@@ -146,7 +145,7 @@ watch 80001000 00000000
         program: "",
         script: "1 sc 80001000 4 00000001\n",
         fetches: 1,
-        status: Status::Refused(1),
+        end: End::Refused(1),
         pieces: &[(Report, "refused 1\nunreserved since 0\n")],
         console: 0,
         report: 1,
@@ -156,7 +155,7 @@ watch 80001000 00000000
         program: COUNTER,
         script: "",
         fetches: 1,
-        status: Status::Done,
+        end: End::Done,
         pieces: &[(
             Console,
             "\
@@ -172,7 +171,7 @@ ffdff06f
         program: PUTS_A,
         script: "",
         fetches: 1,
-        status: Status::Done,
+        end: End::Done,
         pieces: &[(
             Console,
             "\
@@ -192,7 +191,7 @@ ecall
         program: "",
         script: "",
         fetches: 0,
-        status: Status::Done,
+        end: End::Done,
         pieces: &[(
             Report,
             "\
@@ -214,7 +213,7 @@ core 3 80000000 running x10=00000003
         program: PUTS_A,
         script: "",
         fetches: 1,
-        status: Status::Done,
+        end: End::Done,
         pieces: &[
             (Console, "A"),
             (
@@ -236,7 +235,7 @@ core 0 80000010 exited 65 x10=00000041 x17=0000005d
         program: PUTS_A,
         script: "",
         fetches: 1,
-        status: Status::Done,
+        end: End::Done,
         pieces: &[
             (Console, "A"),
             (Report, "0 00000000 0\n"),
@@ -263,7 +262,7 @@ core 0 80000010 exited 65 x10=00000041 x17=0000005d
         program: PUTS_A,
         script: "",
         fetches: 1,
-        status: Status::Done,
+        end: End::Done,
         pieces: &[
             (Console, "A"),
             (Report, "seen 1 5\n"),
@@ -286,7 +285,7 @@ core 0 80000010 exited 65 x10=00000041 x17=0000005d
         program: LOOPS,
         script: "",
         fetches: 1,
-        status: Status::Budget,
+        end: End::Budget,
         pieces: &[
             (
                 Report,

@@ -1,6 +1,6 @@
 //! Words and files that are refused, with nothing written.
-use super::{Failing, Outside, ends_so};
-use call_status::{ProgramCause, Status};
+use super::{End, Failing, Outside, ends_so, status_of};
+use call_status::ProgramCause;
 use calls_in_memory::{Given, NO_FAULT, PUTS_A, VALIDATED, WORDS};
 use elf_load::LoadCause;
 use rv_asm::AsmCause;
@@ -41,7 +41,7 @@ fn writes_nothing(
     words: &str,
     program: &[u8],
     script: &[u8],
-    status: &Status,
+    end: &End,
 ) -> Result<(), Fail> {
     let given = Given {
         words,
@@ -49,7 +49,7 @@ fn writes_nothing(
         script,
         faults: NO_FAULT,
     };
-    let is_so = ends_so(rt, alloc, &given, status, &[], &NONE)?;
+    let is_so = ends_so(rt, alloc, &given, &status_of(end), &[], &NONE)?;
     assert!(rt; is_so, "{words}");
     Ok(())
 }
@@ -58,34 +58,34 @@ fn writes_nothing(
 fn words_that_are_no_command_are_usage(rt: HostRuntime) -> Result<(), Fail> {
     let (program, script) = (PUTS_A.as_bytes(), VALIDATED.as_bytes());
     for words in NO_COMMANDS {
-        writes_nothing(&rt, rt.alloc(), words, program, script, &Status::Usage)?;
+        writes_nothing(&rt, rt.alloc(), words, program, script, &End::Usage)?;
     }
     Ok(())
 }
 
-const NO_WORDS: Status = Status::BadProgram(ProgramCause::Load(LoadCause::Empty));
+const NO_WORDS: End = End::BadProgram(ProgramCause::Load(LoadCause::Empty));
 
 /// Words, a program or a text, and a script, and how the call ends.
-const REFUSED: [(&str, &str, &str, Status); 9] = [
+const REFUSED: &[(&str, &str, &str, End)] = &[
     (
         "safetynet replay b.hex a.script",
         PUTS_A,
         VALIDATED,
-        Status::StoreFault,
+        End::StoreFault,
     ),
     (
         "safetynet replay a.hex b.script",
         PUTS_A,
         VALIDATED,
-        Status::StoreFault,
+        End::StoreFault,
     ),
-    ("safetynet run b.hex", PUTS_A, VALIDATED, Status::StoreFault),
+    ("safetynet run b.hex", PUTS_A, VALIDATED, End::StoreFault),
     ("safetynet run a.hex", "", VALIDATED, NO_WORDS),
     (
         "safetynet monitor b.hex",
         PUTS_A,
         VALIDATED,
-        Status::StoreFault,
+        End::StoreFault,
     ),
     ("safetynet monitor a.hex", "", VALIDATED, NO_WORDS),
     (WORDS, "", "step 1\n", NO_WORDS),
@@ -93,21 +93,21 @@ const REFUSED: [(&str, &str, &str, Status); 9] = [
         WORDS,
         PUTS_A,
         "step 1\n",
-        Status::BadScript(ScriptCause::OutOfRange(1)),
+        End::BadScript(ScriptCause::OutOfRange(1)),
     ),
     (
         "safetynet asm a.hex",
         "fly x1\n",
         "",
-        Status::BadAsm(AsmCause::BadLine(1)),
+        End::BadAsm(AsmCause::BadLine(1)),
     ),
 ];
 
 #[test]
 fn a_file_that_is_refused_is_refused_by_its_first_cause(rt: HostRuntime) -> Result<(), Fail> {
-    for (words, program, script, status) in &REFUSED {
+    for (words, program, script, end) in REFUSED {
         let (program, script) = (program.as_bytes(), script.as_bytes());
-        writes_nothing(&rt, rt.alloc(), words, program, script, status)?;
+        writes_nothing(&rt, rt.alloc(), words, program, script, end)?;
     }
     Ok(())
 }
@@ -118,26 +118,26 @@ fn comment(alloc: Global, length: usize) -> Result<Vec<u8>, AllocError> {
 }
 
 /// Calls whose program or text is a comment of so many bytes, and how they end: 16 MiB are the most.
-const LONG_PROGRAMS: [(&str, usize, Status); 4] = [
-    ("safetynet asm a.hex", 16_777_216, Status::Done),
+const LONG_PROGRAMS: &[(&str, usize, End)] = &[
+    ("safetynet asm a.hex", 16_777_216, End::Done),
     (
         "safetynet asm a.hex",
         16_777_217,
-        Status::BadAsm(AsmCause::TooLong),
+        End::BadAsm(AsmCause::TooLong),
     ),
     (
         WORDS,
         16_777_216,
-        Status::BadProgram(ProgramCause::Load(LoadCause::BadEntry(0x8000_0000))),
+        End::BadProgram(ProgramCause::Load(LoadCause::BadEntry(0x8000_0000))),
     ),
-    (WORDS, 16_777_217, Status::BadProgram(ProgramCause::TooLong)),
+    (WORDS, 16_777_217, End::BadProgram(ProgramCause::TooLong)),
 ];
 
 #[test]
 fn a_program_or_a_text_has_at_most_16_mebibytes(rt: HostRuntime) -> Result<(), Fail> {
-    for (words, length, status) in &LONG_PROGRAMS {
+    for (words, length, end) in LONG_PROGRAMS {
         let file = comment(rt.alloc(), *length)?;
-        writes_nothing(&rt, rt.alloc(), words, file.as_slice(), b"", status)?;
+        writes_nothing(&rt, rt.alloc(), words, file.as_slice(), b"", end)?;
     }
     Ok(())
 }
@@ -149,7 +149,7 @@ const LONG_SCRIPTS: &[&str] = &[WORDS, "safetynet check --nodes 1 a.hex a.script
 fn a_script_or_a_trace_has_at_most_32_mebibytes(rt: HostRuntime) -> Result<(), Fail> {
     let file = comment(rt.alloc(), 33_554_433)?;
     for words in LONG_SCRIPTS {
-        let want = Status::BadScript(ScriptCause::TooLong);
+        let want = End::BadScript(ScriptCause::TooLong);
         writes_nothing(
             &rt,
             rt.alloc(),

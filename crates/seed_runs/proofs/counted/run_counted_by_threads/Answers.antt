@@ -2,11 +2,11 @@ use Rattle.std.proofs.Common.{refl}
 use Rattle.seed_runs.proofs.Puts.{answered-each}
 use Rattle.seed_runs.proofs.counted.run_counted_by_threads.Goals as goal
 
-pub put_counted-requires-clause-start : goal.put_counted-requires-clause-start
-put_counted-requires-clause-start g c = c.in-Ok.ensures.room
+pub put_counted-put-requires-clause-start : goal.put_counted-put-requires-clause-start
+put_counted-put-requires-clause-start g c = c.in-Ok.ensures.room
 
-pub put_counted-requires-clause-answered : goal.put_counted-requires-clause-answered
-put_counted-requires-clause-answered g c = answered-each c.args.job _ _ c.in-Ok.played c.in-Ok.ensures
+pub put_counted-put-requires-clause-answered : goal.put_counted-put-requires-clause-answered
+put_counted-put-requires-clause-answered g c = answered-each c.args.job _ _ c.in-Ok.played c.in-Ok.ensures
 
 pub returns-in-Some-clause-ok : goal.returns-in-Some-clause-ok
 returns-in-Some-clause-ok g c = (
@@ -14,11 +14,11 @@ returns-in-Some-clause-ok g c = (
   c.in-Some.ensures.some c.args.job _ c.requires c.in-Ok.ensures refl,
 )
 
-pub returns-clause-sink : goal.returns-clause-sink
-returns-clause-sink g c = λ e. (
+pub returns-in-None-clause-sink : goal.returns-in-None-clause-sink
+returns-in-None-clause-sink g c = λ e. (
   c.in-Ok.played.finished.journal.items,
   c.in-None.ensures.none c.args.job _ c.requires c.in-Ok.ensures refl refl,
 )
 
-pub returns-clause-cause : goal.returns-clause-cause
-returns-clause-cause g c = λ e. c.in-None.ensures.cause c.args.job _ c.requires c.in-Ok.ensures refl
+pub returns-in-None-clause-cause : goal.returns-in-None-clause-cause
+returns-in-None-clause-cause g c = λ e. c.in-None.ensures.cause c.args.job _ c.requires c.in-Ok.ensures refl

@@ -1,7 +1,7 @@
 use Rattle.std.proofs.Common.{◌∙◌}
 use Rattle.sn_console.specs.Ends.{SameOutbox}
 use Rattle.shared_machine.specs.Shared.{begins_with}
-use Rattle.shared_machine.proofs.tests.a_run_ends_once_its_program_is_over_or_its_budget_is_spent.Given as goal
+use Rattle.shared_machine_tests.proofs.tests.a_run_ends_once_its_program_is_over_or_its_budget_is_spent.Given as goal
 
 abbrev pub ghosts-turns-L-Ledger : goal.ghosts-turns-L-Ledger
 ghosts-turns-L-Ledger g a = record { name = a.blank.name; parts = a.blank.parts }

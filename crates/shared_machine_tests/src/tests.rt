@@ -3,7 +3,7 @@ ghost use Rattle.std.specs.Prelude.{◌≡◌, ◌<◌, [], IfOk};
 ghost use Rattle.sn_console.specs.Ends.{bytes_passed};
 ghost use Rattle.shared_machine.specs.Shared.{begins_with};
 
-use crate::{Finish, RunName, SharedMachine};
+use shared_machine::{Finish, RunName, SharedMachine};
 use sn_base::{Config, Event, Image, NodeId, Rules, Segment};
 use sn_console::{Outbox, outbox};
 use sn_driver::Driver;

@@ -1,5 +1,5 @@
 //! Texts of values, and what they mean; None where they break their rule.
-use super::{
+use option_values::{
     LOG, Places, RunRules, RunWords, SizeWords, read_demo_size, read_nodes, read_places, read_watch,
 };
 use sn_base::{Config, NodeId, Rules, SwitchId};

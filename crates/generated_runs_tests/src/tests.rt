@@ -1,7 +1,7 @@
 //! Runs of a few sizes, beside what the reference simulator makes of the same.
 ghost use Rattle.std.specs.Prelude.{◌≤◌};
 
-use crate::replay_generated;
+use generated_runs::replay_generated;
 use script_replay::{ReplayFault, ReportKind, Showing};
 use sn_base::Memory;
 use sn_io::MemSink;

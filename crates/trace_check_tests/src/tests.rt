@@ -1,7 +1,6 @@
 //! Traces that are executions, and such that were spoiled.
 ghost use Rattle.std.specs.Prelude.{◌≤◌};
 
-use crate::{CheckFault, check};
 use rv_core::Record;
 use sn_base::{Image, Memory, NodeId, Segment};
 use sn_io::{Gate, OpenGate};
@@ -9,6 +8,7 @@ use std::alloc::Global;
 use std::sync::atomic::{AtomicU64, Ordering};
 use std::test::Fail;
 use std::thread::Threads;
+use trace_check::{CheckFault, check};
 
 /// A record as a line of a trace has it: core, word seen, whether an SC was done, and the byte read.
 type Row = (u8, u32, bool, Option<u8>);

@@ -1,5 +1,5 @@
 //! Lines of words, the page that they ask for, and what a page puts.
-use super::{Page, page_of, show};
+use help_pages::{Page, page_of, show};
 use sn_io::{Failed, MemSink};
 use std::alloc::{AllocError, Global};
 use std::process::Abort;

@@ -1,5 +1,5 @@
 //! Statuses with their numbers, words and places.
-use crate::{ProgramCause, Status};
+use call_status::{ProgramCause, Status};
 use elf_load::LoadCause;
 use rv_asm::AsmCause;
 use rv_core::Cause;
