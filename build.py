@@ -13,7 +13,8 @@ A library is built as its statements, which the crates above load in place of it
 apart from the libraries of rt's other commands, which hold their proofs: NAME.rlib, and in NAME.of sums of what it was made from and of
 what it is. One that is of the present text, over the present libraries below it, isn't proved again, so a build that failed or was
 interrupted goes on with the crates that it hadn't proved. Nor is a crate that the gate has proved on this machine of the same text over the
-same libraries: rt keeps what that made, by the sums of all that it read, and gives it.
+same libraries: rt keeps what that made, by the sums of all that it read, and gives it. An rt that keeps nothing has left the libraries of
+the gate's last run where they were made; they are taken if nothing that they are made from was touched since that run began.
 
 The program is put into the folder TO, where the gate doesn't take it away, under the name `safetynet`. TO/current is written only once all
 is proved and built: its lines are the files and folders that the program was built from, its date is that of the build's beginning.
@@ -23,6 +24,7 @@ Whatever changed later, or during the build, is newer than it. Where the program
 import contextlib
 import copy
 import fcntl
+import functools
 import hashlib
 import importlib.machinery
 import importlib.util
@@ -181,10 +183,10 @@ class FirstAnswer:
         return 125
 
 
-def is_taken(handle):
-    """Whether a folder is locked by somebody else; locks it otherwise."""
+def is_taken(handle, how=fcntl.LOCK_EX):
+    """Whether a file or folder is locked by somebody else; locks it otherwise, for itself or to be shared."""
     try:
-        fcntl.flock(handle, fcntl.LOCK_EX | fcntl.LOCK_NB)
+        fcntl.flock(handle, how | fcntl.LOCK_NB)
     except BlockingIOError:
         return True
     return False
@@ -221,6 +223,9 @@ def rt_itself(toolchain):
     rt.rtlib.guarded()
     rt.rtlib.Crate = rt.Crate
     rt.Crate.allowed = rt.handles_of(str(HERE))
+    # rt walks each path through crates.txt anew at every call
+    below = functools.lru_cache(maxsize=None)(rt.Crate.below)
+    rt.Crate.below = lambda crate: [*below(crate)]
     return rt
 
 
@@ -234,7 +239,12 @@ def reaches_beyond(rt, crate):
 
 
 def is_given(rt, crate, out):
-    """Whether the gate has made the same on this machine, and rt gives it. rt keeps a crate's product by all that it was made from."""
+    """Whether the gate has made the same on this machine, which is then put into its place. A newer rt keeps what it made, an older leaves it."""
+    return is_kept(rt, crate, out) if hasattr(rt, "STORE") else is_left(crate)
+
+
+def is_kept(rt, crate, out):
+    """Whether rt gives what the gate has made of the same: it keeps a crate's product by all that it was made from."""
     if not any(Path(rt.STORE).glob(f"proof-{crate.name}-*")):
         return False
     # rt is to find each library, and to put what it gives, where this keeps it
@@ -245,6 +255,38 @@ def is_given(rt, crate, out):
     for it in crate.below():
         kept.is_built(here[it.name])
     return kept.give(here[crate.name], False, kept.key(crate))
+
+
+def left_by_gate(crate, begun):
+    """The library in a crate's folder if a run of the gate that began then has made it, else None. As a run begins rt puts away all that
+    stood there, and what its other commands build has their stamp beside it."""
+    made = folder_of(crate) / "out/rlib" / f"{crate}.rlib"
+    is_made = (made / "format").is_file() and (made / "format").stat().st_mtime_ns > begun
+    return made if is_made and not (made.parent / "stamp").exists() else None
+
+
+def is_left(crate):
+    """Whether the gate's last run has left a library that is of the present text, over the libraries that stand here. rt holds a lock while it
+    runs, whose date is that of the run's beginning."""
+    lock = HERE / ".git/rt-ci.lock"
+    if crate.is_program or not lock.is_file():
+        return False
+    with lock.open() as handle:
+        # shared with the other crates' processes
+        if is_taken(handle, fcntl.LOCK_SH):
+            return False
+        begun = lock.stat().st_mtime_ns
+        below, made = [it.name for it in crate.below()], left_by_gate(crate.name, begun)
+        changes = [(HERE / it).stat().st_ctime_ns for it in ("crates.txt", "HANDLES") if (HERE / it).is_file()]
+        changes += [when for it in [*below, crate.name] for _, when in changes_of(it)]
+        if made is None or max(changes) >= begun:
+            return False
+        for it in crate.below():
+            other = left_by_gate(it.name, begun)
+            if other is None or (other / "format").read_bytes() != Path(it.rlib, "format").read_bytes():
+                return False
+        shutil.copytree(made, crate.rlib)
+        return True
 
 
 def prove(name, jobs, program, toolchain):

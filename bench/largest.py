@@ -49,6 +49,15 @@ def filled(lines):
     return (text + "#" * (SCRIPT_LIMIT - len(text))).encode()
 
 
+def largest_save():
+    """As many records and bytes given as may be saved, and all blocks in the largest caches of 16 nodes."""
+    lines = ["safetynet-save 1", "config 16 256 16 4096", "marks 1 1 3000000000"]
+    lines += [f"owner {block} {block // 4096}" for block in range(65536)]
+    lines += [f"given {place * 16 // EVENT_LIMIT} 41" for place in range(EVENT_LIMIT)]
+    lines += [f"rec {place % 16} 00000000 0" for place in range(EVENT_LIMIT)]
+    return "".join(f"{line}\n" for line in [*lines, "end"]).encode()
+
+
 def checkpoints(nodes):
     """Steps of all nodes, and now and then a checkpoint that is validated: all of what waits is committed."""
     lines, message = [], 1
@@ -102,6 +111,8 @@ RUNS = [
      lambda: image(LETTER).encode(), lambda: filled(checkpoints(16))),
     ("replay, 1,000,000 bytes of input for one of 16 nodes", ["replay", *LARGE, "a", "b"],
      lambda: image(LETTER).encode(), lambda: filled(f"input {place % 16} 41" for place in range(EVENT_LIMIT))),
+    ("resume, 1,000,000 records, as many bytes given, and all blocks in the largest caches of 16 nodes, an ELF file of 16 MiB",
+     ["resume", "a", "b", "/dev/null"], whole_memory_elf, largest_save),
     ("check, 1,000,000 records of 16 nodes", ["check", "--nodes", "16", "a", "b"],
      whole_memory_image, lambda: filled(f"{place % 16} 00000000 0" for place in range(EVENT_LIMIT))),
     ("the same with an ELF file", ["check", "--nodes", "16", "a", "b"],

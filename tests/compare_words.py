@@ -27,6 +27,8 @@ from outcomes import is_explained, seen_last, without_reason
 COMMANDS = {
     "replay": (["program", "events.script"], ["nodes", "sets", "ways", "log", "watch"], ["trace"]),
     "roll": (["program", "events.script", "calls.control"], ["nodes", "sets", "ways", "log", "watch"], []),
+    "save": (["program", "events.script"], ["nodes", "sets", "ways", "log"], []),
+    "resume": (["program", "point.save", "events.script"], ["watch"], []),
     "run": (["program"], ["nodes", "sets", "ways", "log", "watch", "interval", "wait", "lose-every", "kill", "budget", "seed"], ["trace", "journal"]),
     "monitor": (["program"], ["nodes", "sets", "ways", "log", "watch", "interval", "wait", "lose-every", "kill", "budget", "seed"], []),
     "check": (["program", "records.trace"], ["nodes"], []),
@@ -40,6 +42,7 @@ FILES = {
     "events.script": "step 0\nstep 0\nstep 0\ndeliver 1\ndeliver 2\ndeliver 3\nstep 0\nedge 0\nreport 0\nrecover\n",
     "calls.control": "order 0\nrepeat 1\ndeliver 2\nlose 1\ndeliver 3\nfinish\nfinish\n",
     "records.trace": "0 00000000 0\n0 00000000 0\n0 00000000 0\n",
+    "point.save": "safetynet-save 1\nconfig 2 16 4 256\nmarks 1 4 9\nowner 64 0\nrec 0 00000000 0\nrec 0 00000000 0\nrec 0 00000000 0\nend\n",
     "text.s": "loop:\naddi t0, t0, 1\njal zero, loop\n",
     "bad": "fly\n",
     "-odd": "80000137\n",

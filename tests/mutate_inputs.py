@@ -1,5 +1,5 @@
 #!/usr/bin/env python3
-"""Gives the program spoiled programs, scripts, control files, traces, texts and words for as long as it is told.
+"""Gives the program spoiled programs, scripts, control files, save files, traces, texts and words for as long as it is told.
 
     tests/mutate_inputs.py PROGRAM SIMULATOR COUNT [SEED] [PROCESSES]
 
@@ -25,13 +25,17 @@ import compare_replay  # noqa: E402
 from outcomes import seen_last, without_reason  # noqa: E402
 from served_program import ServedProgram, built_server  # noqa: E402
 
-STATUSES = {0, 1, 2, 3, 4, 5, 6, 7, 8, 9, 10, 13}
+STATUSES = {0, 1, 2, 3, 4, 5, 6, 7, 8, 9, 10, 12, 13}
 
 # The longest that a case may take.
 SECONDS = 60
 
 # How often each command comes, of those that the program's page names.
-SHARES = {"replay": 50, "roll": 15, "check": 20, "judge": 12, "asm": 12, "dis": 14, "demo": 4, "run": 10, "monitor": 8}
+SHARES = {"replay": 50, "roll": 15, "save": 10, "resume": 40, "check": 20, "judge": 12, "asm": 12, "dis": 14, "demo": 4, "run": 10, "monitor": 8}
+
+# Words of which the simulator knows nothing, and commands that aren't its own.
+OWN_WORDS = {"--help", "-h", "help", "--version", "--order", "--states", "--only", "--statistics", "--accesses", "--seeds"}
+OWN_COMMANDS = {"judge", "drive"}
 
 LETTERS = b" \t\r\n#0123456789abcdefABCDEF-=@xx" + bytes([0, 0x7F, 0x80, 0xEF, 0xBB, 0xBF, 0xFF])
 
@@ -42,6 +46,9 @@ STATEMENTS = [b"addi a0, zero, 65", b"lui t0, 0x80001", b"amoadd.w t2, t1, (t0)"
               b"jal zero, loop", b"beq a0, a1, loop", b".word 0x12345678", b"# a line", b"lr.w a2, (t0)", b"sc.w a3, a2, (t0)", b"nop"]
 
 CONTROLS = [b"order 0", b"order 1", b"repeat 1", b"repeat 2", b"lose 1", b"lose 3", b"deliver 1", b"deliver 2", b"deliver 3", b"deliver 4", b"finish", b"# a step"]
+
+SAVED = [b"owner 64 0", b"owner 64 1", b"owner 128 0", b"given 0 41", b"given 1 00", b"dead a0", b"dead b1", b"rec 0 00000000 0", b"rec 1 00000000 0",
+         b"rec 0 00000000 0 41", b"rec 0 00000001 0"]
 
 RECORDS = [b"0 00000000 0", b"1 00000000 0", b"0 00000001 0", b"1 00000001 0", b"0 00000000 1", b"0 00000000 0 41", b"3 00000000 0", b"# a record"]
 
@@ -88,6 +95,14 @@ def lines(choose, kinds, most):
     return b"".join(choose.choice(kinds) + end for _ in range(choose.randrange(most)))
 
 
+def saved(choose, nodes):
+    """A save file that is one of a machine at its start, or near it."""
+    applied = choose.choice([0, 1, 4, 20])
+    items = sorted(choose.sample(SAVED, choose.randrange(5)), key=lambda line: [b"d", b"o", b"g", b"r"].index(line[:1])) if applied else []
+    head = [b"safetynet-save 1", f"config {nodes} 16 4 256".encode(), f"marks {min(applied, choose.randrange(3))} {1 + applied} {applied}".encode()]
+    return b"".join(line + b"\n" for line in [*head, *items, b"end"])
+
+
 def script(choose, nodes):
     return b"".join(compare_replay.event(choose, nodes, place // 3).encode() + b"\n" for place in range(choose.randrange(30)))
 
@@ -103,7 +118,7 @@ def spoiled_words(choose, words):
         elif kind == 1 and words:
             del words[min(place, len(words) - 1)]
         elif kind == 2 and words:
-            words[min(place, len(words) - 1)] = choose.choice(["replay", "roll", "monitor", "check", "judge", "asm", "dis", "demo", "fly", "a", "nowhere", "1", "é"])
+            words[min(place, len(words) - 1)] = choose.choice(["replay", "roll", "save", "resume", "monitor", "check", "judge", "asm", "dis", "demo", "fly", "a", "nowhere", "1", "é"])
         elif words:
             words.insert(place, words[min(place, len(words) - 1)])
     return words
@@ -133,6 +148,13 @@ def case_of(choose, commands):
         files["b"] = maybe_changed(choose, script(choose, nodes), chance / 2)
         files["c"] = maybe_changed(choose, lines(choose, CONTROLS, 20), chance)
         words = [kind, "--nodes", str(nodes), "a", "b", "c"]
+    elif kind == "save":
+        files["b"] = maybe_changed(choose, script(choose, nodes), chance)
+        words = [kind, "--nodes", str(nodes), "a", "b"]
+    elif kind == "resume":
+        files["b"] = maybe_changed(choose, saved(choose, nodes), chance)
+        files["c"] = maybe_changed(choose, script(choose, nodes), chance / 2)
+        words = [kind, "a", "b", "c"]
     elif kind == "check":
         files["b"] = maybe_changed(choose, lines(choose, RECORDS, 12), chance)
         words = [kind, f"--nodes={nodes}", "a", "b"]
@@ -160,8 +182,8 @@ def commands_of(built):
 
 
 def is_own(words):
-    """Whether the program answers by itself, with its own pages."""
-    return not words or any(word in ("--help", "-h", "help", "--version") for word in words)
+    """Whether the program answers by itself: with its own pages, or what the simulator doesn't know or knows as something else."""
+    return not words or words[0] in OWN_COMMANDS or any(word.split("=")[0] in OWN_WORDS for word in words)
 
 
 def has_one_outcome(words):

@@ -38,6 +38,7 @@ RECOVERY = b"step 0\nstep 0\nstep 1\nstep 1\nstep 1\nrecover\nedge 0\n"
 TRACE = b"0 00000000 0\n" * 3 + b"1 00000000 0\n" * 2 + b"1 00000001 0\n"
 ACCESSES = b"init 80001000 0000002a\n0 r 80001000 4 0000002a\n1 w 80001004 1 07\n"
 FOUR_NODES = ["run", "--nodes", "4", "--watch", "80001000"]
+SAVED = b"safetynet-save 1\nconfig 1 16 4 256\nmarks 1 3 7\n" + b"rec 0 00000000 0\n" * 3 + b"end\n"
 TEXT = b"start:\naddi a0, zero, 65\njal zero, start\n"
 
 
@@ -60,6 +61,10 @@ RUNS = [
     ("replay, two nodes and a recovery", ["replay", "--nodes", "2", "--watch", "80001000", "a", "b"], {"a": COUNTING, "b": RECOVERY}),
     ("replay with the trace", ["replay", "--nodes", "1", "--trace", "a", "b"], {"a": LETTER, "b": SCRIPT}),
     ("replay of a bad script", ["replay", "--nodes", "1", "a", "b"], {"a": LETTER, "b": b"step 1\n"}),
+    ("save", ["save", "--nodes", "1", "a", "b"], {"a": LETTER, "b": SCRIPT}),
+    ("save, two nodes and a recovery", ["save", "--nodes", "2", "a", "b"], {"a": COUNTING, "b": RECOVERY}),
+    ("resume", ["resume", "--watch", "80001000", "a", "b", "c"], {"a": LETTER, "b": SAVED, "c": b"step 0\nstep 0\n"}),
+    ("resume of a bad save file", ["resume", "a", "b", "c"], {"a": LETTER, "b": SAVED.replace(b"00000000 0\nend", b"00000001 0\nend"), "c": b"step 0\n"}),
     ("check", ["check", "--nodes", "2", "a", "b"], {"a": COUNTING, "b": TRACE}),
     ("check, refused", ["check", "--nodes", "2", "a", "b"], {"a": COUNTING, "b": TRACE[:-13] + b"1 00000000 0\n"}),
     ("judge", ["judge", "a"], {"a": ACCESSES}),

@@ -32,6 +32,7 @@ _WORDS: Dict[int, str] = {
     8: "cutoff",
     9: "refused",
     10: "trapped",
+    12: "save",
     13: "asm",
     14: "input",
 }

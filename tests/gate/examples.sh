@@ -1,7 +1,7 @@
 #!/usr/bin/env bash
 # Runs each example by the README's first command and compares console, report and status with the files beside it: the first
 # program once as hexadecimal words and once as an ELF file, and those of examples/shared, examples/asm, examples/lessons,
-# examples/traces and examples/roll by the words that their scripts, traces and control files begin with. Of runs that are watched the
+# examples/traces, examples/roll and examples/save by the words that their scripts, traces and control files begin with. Of runs that are watched the
 # last cut that was seen is compared. What a replay shows as its trace is to be legal, and a file may be empty. Then runs programs, scripts and words that are refused, and compares the
 # status and its word.
 set -u
@@ -47,6 +47,21 @@ for control in examples/roll/*.control; do
   read -ra words <<<"$line"
   last=$((${#words[@]} - 1))
   shows "$control" "${words[@]:0:last-1}" "${control%/*}/${words[last-1]}" "${control%/*}/${words[last]}"
+done
+
+# A script in examples/save begins with the words of its save, whose report is the save file, or of its resume.
+for script in examples/save/*.script; do
+  read -r _ line <"$script"
+  read -ra words <<<"$line"
+  last=$((${#words[@]} - 1))
+  if [ "${words[0]}" = save ]; then
+    cp "${script%.script}.save" "$work/saved.report"
+    cp "${script%.script}.console" "$work/saved.console"
+    cp "$script" "$work/saved.script"
+    shows "$work/saved.script" "${words[@]:0:last-1}" "examples/save/${words[last-1]}"
+  else
+    shows "$script" "${words[@]:0:last-2}" "examples/save/${words[last-2]}" "examples/save/${words[last-1]}"
+  fi
 done
 
 # A run that is watched: its report begins with what was seen. Which cuts those are before the last is left to the threads, but their points
@@ -262,6 +277,35 @@ yes finish | head -n 1000001 >"$work/control"
 refused_control 'script toomany' "$moved"
 cp "$work/script" "$work/control"
 refused_control 'script toolong' "$moved"
+
+# A save file is refused before the script is looked at.
+refused_save() { # word, program, save file
+  ./safetynet resume "$2" "$3" "$work/bad" >"$work/console" 2>"$work/report"
+  local status=$?
+  if [ "$status" -eq 12 ] && [ ! -s "$work/console" ] && says_why "$1"; then
+    passed=$((passed + 1))
+  else
+    echo "a save file that is refused as $1: status $status, or something else was written" >&2
+    failed=$((failed + 1))
+  fi
+}
+letters=examples/save/letters.hex
+refused_save 'save notlegal' "$letters" examples/save/spoiled.save
+refused_save 'save setfull' "$letters" examples/save/crowded.save
+sed '$d' examples/save/once.save >"$work/save"
+refused_save 'save badline' "$letters" "$work/save"
+{ cat examples/save/once.save; echo end; } >"$work/save"
+refused_save 'save badline' "$letters" "$work/save"
+sed '4s/.*/dead a0\ndead b0/' examples/save/once.save >"$work/save"
+refused_save 'save cutoff' "$letters" "$work/save"
+sed '3s/.*/marks 2 24 1/' examples/save/once.save >"$work/save"
+refused_save 'save outofrange' "$letters" "$work/save"
+sed 's/ 00000000 0$/ 00000000 0 41/' examples/save/first.save >"$work/save"
+refused_save 'save notlegal' examples/first/a.hex "$work/save"
+printf 'safetynet-save 1\nconfig 1 16 4 256\nmarks 1 1 4\ngiven 0 42\nrec 0 00000000 0\nrec 0 00000000 0 41\nend\n' >"$work/save"
+refused_save 'save unread' examples/shared/echo.hex "$work/save"
+head -c 67108865 /dev/zero >"$work/save"
+refused_save 'save toolong' "$letters" "$work/save"
 
 printf '2 00000000 0\n' >"$work/trace"
 refused 4 'script outofrange' examples/shared/count.hex "$work/trace" 2 check

@@ -207,7 +207,60 @@ mv "$repo" "$work/repo"
 repo=$work/repo
 libraries=$repo/crates/safetynet_program/out/rlib
 
-# What the gate has kept: here two of the three libraries, and another text of the third.
+# What the gate has left, with a toolchain that keeps nothing: here all three libraries. The program is proved again in any case.
+gate_has_run() {
+  local crate
+  for crate in low left right; do
+    rm -rf "$repo/crates/$crate/out/rlib"
+    mkdir -p "$repo/crates/$crate/out/rlib"
+    cp -r "$work/left/$crate.rlib" "$repo/crates/$crate/out/rlib"
+  done
+}
+mkdir "$work/left" "$repo/.git"
+check "the libraries of the text that the gate is to prove" 7 "fourth:x" 0 x
+cp -r "$libraries"/*.rlib "$work/left"
+forget() {
+  rm -rf "$libraries" "$repo/build"
+}
+# What it shows, and the crates that are proved again.
+left_again() {
+  forget
+  check "$1" 7 "fourth:x" 1 x
+  shift
+  is_so "where these are proved and no others" diff - <(calls) <<<"$(printf '%s\n' "$@")"
+}
+sleep 0.05
+: >"$repo/.git/rt-ci.lock"
+sleep 0.05
+gate_has_run
+left_again "what a run of the gate has left of the present text" safetynet_program
+touch "$repo/crates/left/out/rlib/stamp"
+left_again "a library that another command of rt has built since" left safetynet_program
+gate_has_run
+rm -r "$repo/crates/left/out/rlib/left.rlib"
+left_again "one that isn't there" left safetynet_program
+gate_has_run
+touch -d "1 hour ago" "$repo/crates/right/out/rlib/right.rlib/format"
+left_again "one from before the gate's last run" right safetynet_program
+gate_has_run
+touch "$repo/crates/right/src/lib.rt"
+left_again "of a text that was touched since the run began" right safetynet_program
+touch "$repo/crates/low/src/lib.rt"
+left_again "and of one whose lower library is of such a text" left low right safetynet_program
+: >"$repo/.git/rt-ci.lock"
+sleep 0.05
+gate_has_run
+left_again "the next run" safetynet_program
+exec {held}<"$repo/.git/rt-ci.lock"
+python3 -c 'import fcntl, sys; fcntl.flock(int(sys.argv[1]), fcntl.LOCK_EX)' "$held"
+left_again "while a run of the gate goes on" left low right safetynet_program
+exec {held}<&-
+sleep 0.05
+touch "$repo/crates.txt"
+left_again "where another line of crates.txt may stand" left low right safetynet_program
+rm -r "$repo/.git" "$repo"/crates/{low,left,right}/out
+
+# What the gate has kept, with a toolchain that keeps what it proved: here two of the three libraries, and another text of the third.
 mkdir "$work/kept"
 for crate in low left; do
   cp -r "$libraries/$crate.rlib" "$work/kept/proof-$crate-$(cat "$libraries/$crate.rlib/format")"
@@ -254,7 +307,7 @@ for words in '' --help -h help; do
   check "the overview that '$words' asks for needs no build" 0 "$(./safetynet --help)" 0 $words
 done
 page_calls=("events=help events" "formats=help formats" "statuses=help statuses" "version=--version")
-for command in replay drive roll run monitor check judge demo asm dis; do
+for command in replay drive roll save resume run monitor check judge demo asm dis; do
   page_calls+=("$command=$command --help" "$command=$command -h" "$command=$command help" "$command=help $command" "version=$command --version")
 done
 for call in "${page_calls[@]}"; do

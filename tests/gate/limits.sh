@@ -84,6 +84,20 @@ yes '0 r 80000000 4 00000000' | head -n 1000000 >"$work/accesses"
 ends 0 'legal 1000000' judge "$work/accesses"
 echo '0 r 80000000 4 00000000' >>"$work/accesses"
 refused 4 'script toomany' judge "$work/accesses"
+# As many bytes given and records as a save file may have, and one more of either.
+saved() { # how many bytes given, how many records
+  printf 'safetynet-save 1\nconfig 1 16 4 256\nmarks 1 1 3000000000\n'
+  yes 'given 0 41' | head -n "$1"
+  yes 'rec 0 00000000 0' | head -n "$2"
+  echo end
+}
+saved 1000000 1000000 >"$work/save"
+ends 0 'probe 0 9 0' resume "$work/spin" "$work/save" /dev/null
+has 1 '^committed 1000000$'
+saved 1000001 0 >"$work/save"
+refused 12 'save outofrange' resume "$work/spin" "$work/save" /dev/null
+saved 0 1000001 >"$work/save"
+refused 12 'save outofrange' resume "$work/spin" "$work/save" /dev/null
 # As many turns as a run may have, with a watcher beside them.
 ends 6 '# safetynet: budget' monitor --nodes 1 "$work/spin"
 has 1 '^events 1000000$'
@@ -97,6 +111,11 @@ ends 0 'legal 0' judge "$work/accesses"
 printf '#' >>"$work/accesses"
 refused 4 'script toolong' judge "$work/accesses"
 rm "$work/accesses"
+bytes 67108864 '#' >"$work/save"
+refused 12 'save badline' resume "$first" "$work/save" /dev/null
+printf '#' >>"$work/save"
+refused 12 'save toolong' resume "$first" "$work/save" /dev/null
+rm "$work/save"
 { cat "$first"; bytes 16777216 '#'; } | head -c 16777216 >"$work/program"
 ends 0 'probe 0 9 0' replay --nodes 1 "$work/program" examples/first/a.script
 bytes 16777216 '#' >"$work/text"
@@ -117,6 +136,7 @@ refused 3 'program toomanywords' dis "$work/program"
 refused 3 'program toolong' dis /dev/zero
 refused 4 'script toolong' replay --nodes 1 "$first" /dev/zero
 refused 4 'script toolong' check --nodes 1 "$first" /dev/zero
+refused 12 'save toolong' resume "$first" /dev/zero /dev/null
 refused 4 'script toolong' judge /dev/zero
 refused 13 'asm toolong' asm /dev/zero
 refused 2 store dis "$work"

@@ -8,6 +8,7 @@ cd "$(dirname "$0")/../.." || exit 1
 ./safetynet --build || { echo "the program was not built" >&2; exit 1; }
 
 program=$PWD/build/safetynet first=$PWD/examples/first/a.hex elf=$PWD/examples/first/a.elf count=$PWD/examples/shared/count.hex
+echoes=$PWD/examples/shared/echo.hex saves=$PWD/examples/save
 cd "$work" || exit 1
 
 # The call ends so, and its report ends with these two lines; why stands in it once.
@@ -74,6 +75,23 @@ says 4 'script outofrange' 'node.script:1: a machine of 2 nodes has no such node
 printf 'order 0\nordr 1\n' >wrong.control
 says 4 'script badline' 'wrong.control:2: this line is no control: "ordr 1"; did you mean order?' roll "$first" /dev/null wrong.control
 says 4 'script badline' 'wrong.script:3: this line is no event: "stepp 0"; did you mean step?' roll "$first" wrong.script wrong.control
+letters=$saves/letters.hex saved=$saves/once.save
+says 12 'save notlegal' "$saves/spoiled.save: this program doesn't do the instruction of \`rec\` line 11 after those before it" resume "$letters" "$saves/spoiled.save" /dev/null
+says 12 'save setfull' "$saves/crowded.save:5: the set of that block has no place left in the cache of that node: \"owner 65 0\"" resume "$letters" "$saves/crowded.save" /dev/null
+sed '$d' "$saved" >short.save
+says 12 'save badline' "short.save:$(wc -l <"$saved"): the file ends here, and not with the line \`end\` and its LF" resume "$letters" short.save /dev/null
+printf '%s' "$(cat "$saved")" >open.save
+says 12 'save badline' "open.save:$(wc -l <"$saved"): the file ends here, and not with the line \`end\` and its LF" resume "$letters" open.save /dev/null
+sed 's/$/\r/' "$saved" >return.save
+says 12 'save badline' 'return.save:1: no line of a save file that may stand here: "safetynet-save 1\x0d"' resume "$letters" return.save /dev/null
+sed '4s/.*/owner 64 2/' "$saved" >owner.save
+says 12 'save outofrange' 'owner.save:4: a number that no saved machine has, or a line that is one too many or out of its order: "owner 64 2"' resume "$letters" owner.save /dev/null
+sed '4s/.*/dead a1\ndead b1/' "$saved" >dead.save
+says 12 'save cutoff' 'dead.save: nodes 0 and 1 are cut off: no living switches join them' resume "$letters" dead.save /dev/null
+printf 'safetynet-save 1\nconfig 1 16 4 256\nmarks 1 1 4\ngiven 0 42\nrec 0 00000000 0\nrec 0 00000000 0 41\nend\n' >unread.save
+says 12 'save unread' 'unread.save: node 0 has read bytes that its `given` lines don'\''t give from the first on' resume "$echoes" unread.save /dev/null
+says 4 'script outofrange' 'node.script:1: a machine of 2 nodes has no such node, block or switch: "step 2"' resume "$letters" "$saved" node.script
+says 4 'script badline' 'wrong.script:3: this line is no event: "stepp 0"; did you mean step?' save "$first" wrong.script
 printf '0 00000000 0\n' >a.trace
 says 4 'script badline' 'a.trace:1: this line is no event: "0 00000000 0"; it is a trace'\''s, which check takes' replay "$first" a.trace
 { printf 'step '; head -c 1000 /dev/zero | tr '\0' '7'; echo; } >long.script

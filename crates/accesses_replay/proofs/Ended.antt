@@ -16,7 +16,7 @@ use Rattle.accesses_replay.specs.Pieces.{end_pieces}
 pub committed-executes : (shown m : MachineData) (image : ImageData) (nodes : ℕ) (records : List Record) → IsConsistentWithItsRun m →
     shown ≡ m → image ≡ m.image → nodes ≡ m.config.nodes → records ≡ shown.state.committed → IsExecution image nodes records
 committed-executes shown m image nodes records with_run is image_is nodes_is records_is =
-    let all : IsExecution m.image m.config.nodes m.state.committed = (with_run.consistent with_run.events with_run.led).execution in
+    let all : IsExecution m.image m.config.nodes m.state.committed = (with_run.consistent with_run.origin with_run.events with_run.led).execution in
     subst (λ (i : ImageData). IsExecution i nodes records) (sym image_is)
     (subst (λ (n : ℕ). IsExecution m.image n records) (sym nodes_is)
     (subst (λ (rs : List Record). IsExecution m.image m.config.nodes rs)

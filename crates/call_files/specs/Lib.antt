@@ -1,2 +1,3 @@
 pub mod Files
+pub mod Saves
 pub mod Fetches

@@ -1,17 +1,21 @@
 //! Files fetched from the store, and read.
-ghost use Rattle.std.specs.Prelude.{◌≡◌, ◌≢◌, ◌≤◌, All, length, Err, IfOk, true};
+ghost use Rattle.std.specs.Prelude.{◌≡◌, ◌≢◌, ◌≤◌, All, length, [], Err, IfOk, true};
 ghost use Rattle.sn_io.specs.Outside.{Found};
 ghost use Rattle.access_check.specs.Accesses.{IsFittingAccess, IsFittingWord};
 ghost use Rattle.consistent_cuts.specs.Runs.{AllFit};
 ghost use Rattle.rolling_recovery.specs.Controls.{control_fits};
+ghost use Rattle.sn_saved.specs.Saved.{Saved};
+ghost use Rattle.consistent_cuts.specs.Origins.{Resumed};
+ghost use Rattle.sn_machine.specs.Machine.{HasRunFrom};
+ghost use Rattle.call_files.specs.Saves.{machine_in};
 ghost use Rattle.call_files.specs.Files.{program_in, script_in, control_in, trace_in, accesses_in, assembly_in};
 ghost use Rattle.call_files.specs.Fetches.{Fetches, found_by};
 ghost use Rattle.sn_base.specs.declared.limits.TheConstants.{EVENTS};
 
 use crate::contents::{Text, Trace};
 use crate::reading::{
-    ACCESSES_LIMIT, PROGRAM_LIMIT, SCRIPT_LIMIT, read_accesses, read_assembly, read_control,
-    read_program, read_script, read_trace,
+    ACCESSES_LIMIT, PROGRAM_LIMIT, SAVE_LIMIT, SCRIPT_LIMIT, read_accesses, read_assembly,
+    read_control, read_program, read_save, read_script, read_trace,
 };
 use access_texts::AccessList;
 use call_status::{ProgramCause, Status};
@@ -20,6 +24,8 @@ use rv_asm::AsmCause;
 use script_replay::Script;
 use sn_base::Image;
 use sn_io::{Fetched, Store, StoreFault};
+use sn_machine::Machine;
+use sn_resume::SaveCause;
 use sn_text::ScriptCause;
 use std::alloc::Global;
 
@@ -86,6 +92,29 @@ pub fn fetch_script<S: Store>(
         Ok(bytes) => read_script(alloc, bytes.as_slice(), nodes),
         Err(Unread::Missing) => Err(Status::StoreFault),
         Err(Unread::TooLong) => Err(Status::BadScript(ScriptCause::TooLong)),
+        Err(Unread::Memory) => Err(Status::Memory),
+    }
+}
+
+/// Fetches a save file of a program, of at most 64 MiB, and makes the machine that goes on from it, with room for no event. An error
+/// is the status that says why there is none.
+pub fn fetch_save<S: Store>(
+    alloc: Global,
+    store: &mut S,
+    name: &str,
+    program: Image,
+) -> Result<Machine, Status>
+    ensures found { result ≢ Err Status.Memory → (found : Found)
+        × Fetches S.files S.sure S.faults S.gave store.old name.now 67108864 found store.new
+        × (result ≡ machine_in program found) }
+    ensures led { IfOk result (λ m. (saved : Saved) × HasRunFrom m (Resumed saved) []) }
+    ensures files { S.files store.new ≡ S.files store.old }
+    ensures stays_sure { S.sure store.old → S.sure store.new }
+{
+    match fetch_file(alloc, store, name, SAVE_LIMIT) {
+        Ok(bytes) => read_save(alloc, bytes.as_slice(), program),
+        Err(Unread::Missing) => Err(Status::StoreFault),
+        Err(Unread::TooLong) => Err(Status::BadSave(SaveCause::TooLong)),
         Err(Unread::Memory) => Err(Status::Memory),
     }
 }

@@ -1,9 +1,13 @@
 //! What the bytes of files are.
-ghost use Rattle.std.specs.Prelude.{◌≡◌, ◌≢◌, ◌≤◌, true, All, length, Ok, Err, IfOk};
+ghost use Rattle.std.specs.Prelude.{◌≡◌, ◌≢◌, ◌≤◌, true, All, length, [], Ok, Err, IfOk};
 ghost use Rattle.access_check.specs.Accesses.{IsFittingAccess, IsFittingWord};
 ghost use Rattle.consistent_cuts.specs.Runs.{AllFit};
 ghost use Rattle.asm_texts.specs.Texts.{words_text};
 ghost use Rattle.rolling_recovery.specs.Controls.{control_fits};
+ghost use Rattle.sn_saved.specs.Saved.{Saved};
+ghost use Rattle.consistent_cuts.specs.Origins.{Resumed};
+ghost use Rattle.sn_machine.specs.Machine.{HasRunFrom};
+ghost use Rattle.call_files.specs.Saves.{machine_of};
 ghost use Rattle.call_files.specs.Files.{program_of, events_of, steps_of, records_of, accesses_of, assembly_of, listing_of};
 ghost use Rattle.sn_base.specs.declared.limits.TheConstants.{EVENTS};
 
@@ -16,6 +20,8 @@ use rolled_replay::Controls;
 use rv_asm::{AsmCause, AsmFault, assemble};
 use script_replay::Script;
 use sn_base::Image;
+use sn_machine::Machine;
+use sn_resume::{SaveCause, SaveFault, resume};
 use sn_text::{ScriptCause, ScriptFault};
 use std::alloc::Global;
 
@@ -27,6 +33,9 @@ pub const SCRIPT_LIMIT: usize = 33_554_432;
 
 /// The most bytes of a list of accesses.
 pub const ACCESSES_LIMIT: usize = 67_108_864;
+
+/// The most bytes of a save file.
+pub const SAVE_LIMIT: usize = 67_108_864;
 
 /// The program that the bytes of a file are: an ELF file or a hexadecimal image, as the loader reads them.
 pub fn read_program(alloc: Global, bytes: &[u8]) -> Result<Image, Status>
@@ -56,6 +65,21 @@ pub fn read_script(alloc: Global, bytes: &[u8], nodes: u8) -> Result<Script, Sta
         Ok(events) => Ok(Script::new(events)),
         Err(ScriptFault::Refused(cause)) => Err(Status::BadScript(cause)),
         Err(ScriptFault::Memory) => Err(Status::Memory),
+    }
+}
+
+/// The machine that goes on from the save file of a program that the bytes of a file are.
+pub fn read_save(alloc: Global, bytes: &[u8], program: Image) -> Result<Machine, Status>
+    ensures read { result ≢ Err Status.Memory → result ≡ machine_of program bytes.now }
+    ensures led { IfOk result (λ m. (saved : Saved) × HasRunFrom m (Resumed saved) []) }
+{
+    if bytes.len() > SAVE_LIMIT {
+        return Err(Status::BadSave(SaveCause::TooLong));
+    }
+    match resume(alloc, program, bytes) {
+        Ok(machine) => Ok(machine),
+        Err(SaveFault::Refused(cause)) => Err(Status::BadSave(cause)),
+        Err(SaveFault::Memory) => Err(Status::Memory),
     }
 }
 

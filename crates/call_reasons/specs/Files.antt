@@ -5,6 +5,9 @@ use Rattle.rv_core.specs.declared.step.Record.{Record}
 use Rattle.sn_text.specs.Script.{script_of}
 use Rattle.sn_text.specs.Trace.{trace_of}
 use Rattle.sn_text.specs.declared.cause.ScriptCause.{ScriptCause}
+use Rattle.sn_saved.specs.Saved.{Saved}
+use Rattle.save_text.specs.Reading.{said_by}
+use Rattle.save_text.specs.declared.cause.SaveCause.{SaveCause}
 
 -- the bytes that can be shown: none of a file that is lacking now, or longer than may be
 abbrev pub bytes_in : Found → List ℕ
@@ -25,3 +28,11 @@ if_records (Err cause) = []
 
 abbrev pub records_in : ℕ → List ℕ → List Record
 records_in nodes bytes = if_records (trace_of nodes bytes)
+
+-- the number of nodes that a save file says, as it is found now, and as many as there may be where it says none
+abbrev pub nodes_said : Result Saved SaveCause → ℕ
+nodes_said (Ok saved) = saved.config.nodes
+nodes_said (Err cause) = 16
+
+abbrev pub nodes_in : Found → ℕ
+nodes_in found = nodes_said (said_by (bytes_in found))

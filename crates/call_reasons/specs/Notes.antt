@@ -7,9 +7,8 @@ use Rattle.sn_base.specs.Image.{ImageData}
 use Rattle.sn_base.specs.declared.config.Config.{Config}
 use Rattle.sn_base.specs.declared.event.Event.{Event}
 use Rattle.sn_base.specs.declared.event.Answer.{Answer}
-use Rattle.sn_model.specs.Machine.{start_of}
 use Rattle.sn_model.specs.Refusals.{is_refusal}
-use Rattle.sn_machine.specs.Machine.{MachineData, next_of}
+use Rattle.sn_machine.specs.Machine.{MachineData, machine_with_room, next_of}
 use Rattle.script_replay.specs.Played.{after_event}
 use Rattle.sn_text.specs.Text.{event_line}
 use Rattle.reasons.specs.Reason.{escaped_text, line_of_reason}
@@ -31,13 +30,9 @@ refusals_from m place r [] = r
 refusals_from m place r (event ∷ events) =
     refusals_from (after_event m event) (place + 1) (with_answer r place event (next_of m event).answer) events
 
--- a machine at the start of a program, with room for so many events
-abbrev pub machine_for : ImageData → Config → ℕ → MachineData
-machine_for image config room = record { image = image; config = config; state = start_of image config.nodes; sent = []; applied = 0; spare = room }
-
 -- the refusals of a replay
 abbrev pub refusals_of : ImageData → Config → List Event → Refusals
-refusals_of image config events = refusals_from (machine_for image config (length events)) 1 none_refused events
+refusals_of image config events = refusals_from (machine_with_room image config (length events)) 1 none_refused events
 
 -- the line of a refused event, without its end
 abbrev pub line_of : Refused → List ℕ

@@ -8,6 +8,8 @@ use Rattle.reasons.specs.Places.{record_line}
 use Rattle.reasons.specs.Programs.{program_reason}
 use Rattle.reasons.specs.Scripts.{script_reason, limit_of}
 use Rattle.reasons.specs.Assembly.{asm_reason}
+use Rattle.reasons.specs.Saves.{save_reason}
+use Rattle.save_text.specs.declared.cause.SaveCause.{SaveCause}
 use Rattle.reasons.specs.Verdicts.{record_place, verdict_reason}
 use Rattle.rv_asm.specs.declared.fault.AsmCause.{AsmCause}
 use Rattle.sn_text.specs.declared.cause.ScriptCause.{ScriptCause}
@@ -19,10 +21,10 @@ use Rattle.command_words.specs.Request.{Request, Replay, Drive, Check, Judge}
 use Rattle.call_status.specs.declared.status.ProgramCause.{ProgramCause}
 use Rattle.call_status.specs.declared.status.ProgramCause.TheVariants.{TooLong, Load}
 use Rattle.call_status.specs.declared.status.Status.{Status}
-use Rattle.call_status.specs.declared.status.Status.TheVariants.{Done, Usage, BadPlaces, StoreFault, BadProgram, BadScript, BadAsm, SinkFault, Budget}
-use Rattle.call_status.specs.declared.status.Status.TheVariants.{Memory, CutOff, Refused, Trapped, InputFault}
+use Rattle.call_status.specs.declared.status.Status.TheVariants.{Done, Usage, BadPlaces, StoreFault, BadProgram, BadScript, BadSave, BadAsm}
+use Rattle.call_status.specs.declared.status.Status.TheVariants.{SinkFault, Budget, Memory, CutOff, Refused, Trapped, InputFault}
 use Rattle.call_reasons.specs.Files.{bytes_in, records_in}
-use Rattle.call_reasons.specs.Blame.{Files, Blamed, program_of, assembly_of, budget_of, blamed_of}
+use Rattle.call_reasons.specs.Blame.{Files, Blamed, program_of, assembly_of, save_of, budget_of, blamed_of}
 use Rattle.call_reasons.specs.Verdict.{record_at, IsFound}
 use Rattle.call_reasons.specs.Accesses.{IsOfAccesses}
 
@@ -46,6 +48,11 @@ of_lines text held (Some blamed) cause =
 abbrev pub of_assembly : List ℕ → Files → Option (List ℕ) → AsmCause → List ℕ
 of_assembly text held None cause = text
 of_assembly text held (Some name) cause = line_of_reason (asm_reason (begun text) name (held_bytes held name 16777216) cause)
+
+-- the same of a save file
+abbrev pub of_save : List ℕ → Files → Option (List ℕ) → SaveCause → List ℕ
+of_save text held None cause = text
+of_save text held (Some name) cause = line_of_reason (save_reason (begun text) name (held_bytes held name 67108864) cause)
 
 -- the same of a run that had all events that it may have
 abbrev pub of_budget : List ℕ → Option ℕ → List ℕ
@@ -101,6 +108,7 @@ IsReason held ask (BadPlaces events) text new = new ≡ of_places text ask event
 IsReason held ask StoreFault text new = new ≡ text
 IsReason held ask (BadProgram cause) text new = new ≡ of_program text held (program_of ask) cause
 IsReason held ask (BadScript cause) text new = new ≡ of_lines text held (blamed_of held ask) cause
+IsReason held ask (BadSave cause) text new = new ≡ of_save text held (save_of ask) cause
 IsReason held ask (BadAsm cause) text new = new ≡ of_assembly text held (assembly_of ask) cause
 IsReason held ask SinkFault text new = new ≡ line_of_reason (lack_reason (begun text) lack.Output)
 IsReason held ask Budget text new = new ≡ of_spent text ask

@@ -1,7 +1,7 @@
 //! Which file a request names for what.
 ghost use Rattle.std.specs.Prelude.{◌≡◌, option_map};
 ghost use Rattle.command_words.specs.Request.{as_request};
-ghost use Rattle.call_reasons.specs.Blame.{program_of, assembly_of, budget_of, first_of, second_of, third_of, file_of};
+ghost use Rattle.call_reasons.specs.Blame.{program_of, assembly_of, save_of, budget_of, first_of, second_of, third_of, file_of};
 
 use command_words::Request;
 
@@ -13,6 +13,8 @@ pub fn program_of(request: &Request) -> Option<&str>
         Request::Replay(asked) => Some(asked.program.as_str()),
         Request::Drive(asked) => Some(asked.program.as_str()),
         Request::Roll(asked) => Some(asked.program.as_str()),
+        Request::Save(asked) => Some(asked.program.as_str()),
+        Request::Resume(asked) => Some(asked.program.as_str()),
         Request::Run(asked) => Some(asked.program.as_str()),
         Request::Monitor(asked) => Some(asked.program.as_str()),
         Request::Check(asked) => Some(asked.program.as_str()),
@@ -27,6 +29,16 @@ pub fn assembly_of(request: &Request) -> Option<&str>
 {
     match request {
         Request::Assemble(text) => Some(text.as_str()),
+        _ => None,
+    }
+}
+
+/// The name of the save file.
+pub fn save_of(request: &Request) -> Option<&str>
+    ensures { option_map (λ name. name.now) result ≡ save_of (as_request request.now) }
+{
+    match request {
+        Request::Resume(asked) => Some(asked.save.as_str()),
         _ => None,
     }
 }
@@ -58,6 +70,8 @@ fn second_of(request: &Request) -> Option<&str>
     match request {
         Request::Replay(asked) => Some(asked.script.as_str()),
         Request::Roll(asked) => Some(asked.script.as_str()),
+        Request::Save(asked) => Some(asked.script.as_str()),
+        Request::Resume(asked) => Some(asked.save.as_str()),
         Request::Check(asked) => Some(asked.trace.as_str()),
         _ => None,
     }
@@ -68,6 +82,7 @@ fn third_of(request: &Request) -> Option<&str>
 {
     match request {
         Request::Roll(asked) => Some(asked.control.as_str()),
+        Request::Resume(asked) => Some(asked.script.as_str()),
         _ => None,
     }
 }

@@ -2,9 +2,10 @@
 ghost use Rattle.std.specs.Prelude.{◌≡◌, ◌≤◌, ◌<◌, ◌^◌, ℕ, List, Option, Some, IfOk, length};
 ghost use Rattle.sn_io.specs.Outside.{found_in};
 ghost use Rattle.call_reasons.specs.Found.{found_of};
-ghost use Rattle.call_reasons.specs.Files.{bytes_in, is_refused, records_in};
+ghost use Rattle.call_reasons.specs.Files.{bytes_in, is_refused, nodes_in, records_in};
 
 use rv_core::Record;
+use save_text::{SaveFault, read_lines};
 use sn_base::Memory;
 use sn_io::{Fetched, Store, StoreFault};
 use sn_text::{ScriptFault, read_script, read_trace};
@@ -15,6 +16,9 @@ pub const PROGRAM_LIMIT: usize = 16_777_216;
 
 /// The most bytes of a script's file, of a control file and of a trace's.
 pub const SCRIPT_LIMIT: usize = 33_554_432;
+
+/// The most bytes of a save file.
+pub const SAVE_LIMIT: usize = 67_108_864;
 
 /// What a fetch found.
 #[derive(Drop)]
@@ -71,6 +75,18 @@ pub fn is_refused(alloc: Global, content: &Content, nodes: u8) -> Result<bool, M
         Ok(_) => Ok(false),
         Err(ScriptFault::Refused(_)) => Ok(true),
         Err(ScriptFault::Memory) => Err(Memory),
+    }
+}
+
+/// The number of nodes that a save file says, and 16 where it says none.
+pub fn nodes_in(alloc: Global, content: &Content) -> Result<u8, Memory>
+    requires short { length (bytes_in (found_of content.now)) < 2 ^ 62 }
+    ensures { IfOk result (λ nodes. nodes ≡ nodes_in (found_of content.now)) }
+{
+    match read_lines(alloc, content.bytes()) {
+        Ok(saved) => Ok(saved.config.nodes),
+        Err(SaveFault::Refused(_)) => Ok(16),
+        Err(SaveFault::Memory) => Err(Memory),
     }
 }
 

@@ -14,6 +14,7 @@ mod notes;
 mod programs;
 mod reason;
 mod refusals;
+mod saves;
 mod verdict;
 
 pub use blame::file_of;

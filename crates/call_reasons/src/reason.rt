@@ -8,6 +8,7 @@ use crate::accesses::write_accesses;
 use crate::blame::budget_of;
 use crate::lines::write_lines;
 use crate::programs::{write_assembly_of, write_program_of};
+use crate::saves::write_save_of;
 use crate::verdict::write_verdict;
 use call_status::Status;
 use command_words::{ReplayReport, Request};
@@ -127,6 +128,7 @@ pub fn write_reason<S: Store>(
         Status::BadPlaces(events) => write_places(reason, request, events),
         Status::BadProgram(cause) => write_program_of(alloc, store, reason, request, cause),
         Status::BadScript(cause) => write_lines(alloc, store, reason, request, cause),
+        Status::BadSave(cause) => write_save_of(alloc, store, reason, request, cause),
         Status::BadAsm(cause) => write_assembly_of(alloc, store, reason, request, cause),
         Status::SinkFault => write_lack(reason, Lack::Output),
         Status::Budget => write_spent_by(reason, request),

@@ -9,6 +9,7 @@ use elf_load::LoadCause;
 use reasons::Reason;
 use rv_asm::AsmCause;
 use rv_core::Cause;
+use save_text::SaveCause;
 use sn_base::{Memory, NodeId};
 use sn_io::MemStore;
 use sn_text::ScriptCause;
@@ -137,6 +138,50 @@ fn line_rows() -> [Row; 6] {
 
 /// Each core adds 1 to the word at 80001000.
 const COUNT: &[u8] = b"800012b7\n00100313\n0062a3af\n05d00893\n00000073\n";
+
+const SAVED: &[u8] =
+    b"safetynet-save 1\nconfig 2 1 1 256\nmarks 1 8 18\nowner 64 1\nowner 65 1\nend\n";
+
+fn save_rows() -> [Row; 6] {
+    [
+        Row {
+            words: "safetynet resume a.hex a.save a.script",
+            files: &[("a.save", b"safetynet-save 1\nconfig 2 1 1\nend\n")],
+            status: Status::BadSave(SaveCause::BadLine(2)),
+            line: "# why: a.save:2: no line of a save file that may stand here: \"config 2 1 1\"\n",
+        },
+        Row {
+            words: "safetynet resume a.hex a.save a.script",
+            files: &[("a.save", b"safetynet-save 1\n")],
+            status: Status::BadSave(SaveCause::BadLine(2)),
+            line: "# why: a.save:2: the file ends here, and not with the line `end` and its LF\n",
+        },
+        Row {
+            words: "safetynet resume a.hex a.save a.script",
+            files: &[("a.save", SAVED)],
+            status: Status::BadSave(SaveCause::SetFull(5)),
+            line: "# why: a.save:5: the set of that block has no place left in the cache of that node: \"owner 65 1\"\n",
+        },
+        Row {
+            words: "safetynet resume a.hex a.save a.script",
+            files: &[("a.save", SAVED)],
+            status: Status::BadSave(SaveCause::NotLegal(3)),
+            line: "# why: a.save: this program doesn't do the instruction of `rec` line 3 after those before it\n",
+        },
+        Row {
+            words: "safetynet resume a.hex a.save a.script",
+            files: &[("a.save", SAVED)],
+            status: Status::BadSave(SaveCause::TooLong),
+            line: "# why: a.save: more than 67108864 bytes\n",
+        },
+        Row {
+            words: "safetynet resume a.hex a.save a.script",
+            files: &[("a.save", SAVED), ("a.script", b"step 2\n")],
+            status: Status::BadScript(ScriptCause::OutOfRange(1)),
+            line: "# why: a.script:1: a machine of 2 nodes has no such node, block or switch: \"step 2\"\n",
+        },
+    ]
+}
 
 fn trace_rows() -> [Row; 3] {
     [
@@ -269,6 +314,9 @@ fn each_refusal_shows_its_place(rt: HostRuntime) -> Result<(), Fail> {
     for row in &line_rows() {
         says(&rt, rt.alloc(), row)?;
     }
+    for row in &save_rows() {
+        says(&rt, rt.alloc(), row)?;
+    }
     for row in &trace_rows() {
         says(&rt, rt.alloc(), row)?;
     }
@@ -323,6 +371,18 @@ const FETCHED: &[Fetched] = &[
         Some("a.hex"),
         Some("b.script"),
         Some("c.control"),
+    ),
+    (
+        "safetynet save a.hex b.script",
+        Some("a.hex"),
+        Some("b.script"),
+        None,
+    ),
+    (
+        "safetynet resume a.hex b.save c.script",
+        Some("a.hex"),
+        Some("b.save"),
+        Some("c.script"),
     ),
     ("safetynet run a.hex", Some("a.hex"), None, None),
     ("safetynet monitor a.hex", Some("a.hex"), None, None),

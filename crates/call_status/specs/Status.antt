@@ -9,11 +9,14 @@ use Rattle.rv_asm.specs.declared.fault.AsmCause.TheVariants.{TooLong as AsmTooLo
 use Rattle.rv_asm.specs.declared.fault.AsmCause.TheVariants.{LabelTwice, TooManyWords as AsmTooManyWords, NoLabel}
 use Rattle.sn_text.specs.declared.cause.ScriptCause.{ScriptCause}
 use Rattle.sn_text.specs.declared.cause.ScriptCause.TheVariants.{TooLong as ScriptTooLong, BadLine, OutOfRange, TooMany}
+use Rattle.save_text.specs.declared.cause.SaveCause.{SaveCause}
+use Rattle.save_text.specs.declared.cause.SaveCause.TheVariants.{TooLong as SaveTooLong, BadLine as SaveBadLine, OutOfRange as SaveOutOfRange}
+use Rattle.save_text.specs.declared.cause.SaveCause.TheVariants.{CutOff as SaveCutOff, SetFull, NotLegal, Unread}
 use Rattle.call_status.specs.declared.status.ProgramCause.{ProgramCause}
 use Rattle.call_status.specs.declared.status.ProgramCause.TheVariants.{TooLong, Load}
 use Rattle.call_status.specs.declared.status.Status.{Status}
-use Rattle.call_status.specs.declared.status.Status.TheVariants.{Done, Usage, BadPlaces, StoreFault, BadProgram, BadScript, BadAsm, SinkFault}
-use Rattle.call_status.specs.declared.status.Status.TheVariants.{Budget, Memory, CutOff, Refused, Trapped, InputFault}
+use Rattle.call_status.specs.declared.status.Status.TheVariants.{Done, Usage, BadPlaces, StoreFault, BadProgram, BadScript, BadSave, BadAsm}
+use Rattle.call_status.specs.declared.status.Status.TheVariants.{SinkFault, Budget, Memory, CutOff, Refused, Trapped, InputFault}
 
 abbrev pub number_of : Status → ℕ
 number_of Done = 0
@@ -28,6 +31,7 @@ number_of Memory = 7
 number_of (CutOff a b) = 8
 number_of (Refused place) = 9
 number_of (Trapped node cause) = 10
+number_of (BadSave cause) = 12
 number_of (BadAsm cause) = 13
 number_of InputFault = 14
 
@@ -56,6 +60,15 @@ script_name (BadLine line) = codes "badline"
 script_name (OutOfRange line) = codes "outofrange"
 script_name TooMany = codes "toomany"
 
+abbrev pub save_name : SaveCause → List ℕ
+save_name SaveTooLong = codes "toolong"
+save_name (SaveBadLine line) = codes "badline"
+save_name (SaveOutOfRange line) = codes "outofrange"
+save_name (SaveCutOff a b) = codes "cutoff"
+save_name (SetFull line) = codes "setfull"
+save_name (NotLegal place) = codes "notlegal"
+save_name (Unread node) = codes "unread"
+
 abbrev pub asm_name : AsmCause → List ℕ
 asm_name AsmTooLong = codes "toolong"
 asm_name (AsmBadLine line) = codes "badline"
@@ -71,6 +84,7 @@ word_of (BadPlaces events) = codes "usage"
 word_of StoreFault = codes "store"
 word_of (BadProgram cause) = codes "program " ++ program_name cause
 word_of (BadScript cause) = codes "script " ++ script_name cause
+word_of (BadSave cause) = codes "save " ++ save_name cause
 word_of (BadAsm cause) = codes "asm " ++ asm_name cause
 word_of SinkFault = codes "sink"
 word_of Budget = codes "budget"

@@ -1,10 +1,11 @@
 //! How a call ends.
 ghost use Rattle.std.specs.Prelude.{◌≡◌, ◌++◌, codes};
-ghost use Rattle.call_status.specs.Status.{number_of, load_name, program_name, script_name, asm_name, word_of, place_of};
+ghost use Rattle.call_status.specs.Status.{number_of, load_name, program_name, script_name, save_name, asm_name, word_of, place_of};
 
 use elf_load::LoadCause;
 use rv_asm::AsmCause;
 use rv_core::Cause;
+use save_text::SaveCause;
 use sn_base::NodeId;
 use sn_text::ScriptCause;
 
@@ -32,6 +33,8 @@ pub enum Status {
     BadProgram(ProgramCause),
     /// The script's file is too long, or isn't a list of events for so many nodes.
     BadScript(ScriptCause),
+    /// The save file is too long, or is refused for this program.
+    BadSave(SaveCause),
     /// The text that was to be assembled is too long, or is refused at a line.
     BadAsm(AsmCause),
     /// A sink failed: what was written is a prefix of the text.
@@ -94,6 +97,21 @@ fn script_word(cause: ScriptCause) -> &'static str
     }
 }
 
+// The word `save`, and the name of the cause.
+fn save_word(cause: SaveCause) -> &'static str
+    ensures { result.now ≡ codes "save " ++ save_name cause }
+{
+    match cause {
+        SaveCause::TooLong => "save toolong",
+        SaveCause::BadLine(_) => "save badline",
+        SaveCause::OutOfRange(_) => "save outofrange",
+        SaveCause::CutOff(_, _) => "save cutoff",
+        SaveCause::SetFull(_) => "save setfull",
+        SaveCause::NotLegal(_) => "save notlegal",
+        SaveCause::Unread(_) => "save unread",
+    }
+}
+
 // The word `asm`, and the name of the cause.
 fn asm_word(cause: AsmCause) -> &'static str
     ensures { result.now ≡ codes "asm " ++ asm_name cause }
@@ -125,6 +143,7 @@ impl Status {
             Status::CutOff(_, _) => 8,
             Status::Refused(_) => 9,
             Status::Trapped(_, _) => 10,
+            Status::BadSave(_) => 12,
             Status::BadAsm(_) => 13,
             Status::InputFault => 14,
         }
@@ -140,6 +159,7 @@ impl Status {
             Status::StoreFault => "store",
             Status::BadProgram(cause) => program_word(*cause),
             Status::BadScript(cause) => script_word(*cause),
+            Status::BadSave(cause) => save_word(*cause),
             Status::BadAsm(cause) => asm_word(*cause),
             Status::SinkFault => "sink",
             Status::Budget => "budget",

@@ -3,6 +3,7 @@ use call_status::{ProgramCause, Status};
 use elf_load::LoadCause;
 use rv_asm::AsmCause;
 use rv_core::Cause;
+use save_text::SaveCause;
 use sn_base::NodeId;
 use sn_text::ScriptCause;
 
@@ -13,6 +14,7 @@ fn a_status_has_its_number(rt: HostRuntime) {
         (Status::BadPlaces(7).number(), Status::InputFault.number()),
         (1, 14)
     );
+    assert_eq!(rt; Status::BadSave(SaveCause::TooLong).number(), 12);
     assert_eq!(rt;
         Status::Trapped(NodeId::numbered(2), Cause::Illegal).number(),
         10
@@ -25,6 +27,10 @@ fn a_refused_file_has_its_cause_as_a_second_word(rt: HostRuntime) {
     assert_eq!(rt;
         Status::BadScript(ScriptCause::BadLine(2)).word(),
         "script badline"
+    );
+    assert_eq!(rt;
+        Status::BadSave(SaveCause::SetFull(5)).word(),
+        "save setfull"
     );
     assert_eq!(rt; Status::BadAsm(AsmCause::NoLabel(3)).word(), "asm nolabel");
     assert_eq!(rt;

@@ -1,7 +1,7 @@
 //! One call, and what it leaves.
 ghost use Rattle.std.specs.Prelude.{◌≢◌, IfOk};
 
-use crate::given::Given;
+use crate::given::{Given, SAVED};
 use call_status::Status;
 use safetynet_main::safetynet;
 use sn_base::Memory;
@@ -33,6 +33,7 @@ fn store_of(alloc: Global, given: &Given<'_>) -> Result<MemStore, Memory> {
     let mut store = MemStore::new(alloc);
     store.add("a.hex", given.program)?;
     store.add("a.script", given.script)?;
+    store.add("a.save", SAVED.as_bytes())?;
     store.fail_call(given.faults.store)?;
     Ok(store)
 }

@@ -14,7 +14,7 @@ pub const NO_FAULT: Faults = Faults {
     report: 0,
 };
 
-/// The words, the files a.hex and a.script, and which calls of the outside fail.
+/// The words, the files a.hex and a.script beside `SAVED`, and which calls of the outside fail.
 #[derive(Clone, Copy)]
 pub struct Given<'a> {
     pub words: &'a str,
@@ -42,6 +42,11 @@ pub const COUNTER: &str = "loop:\naddi t0, t0, 1\njal zero, loop\n";
 
 /// A byte is put, and released at the end.
 pub const VALIDATED: &str = "step 0\nstep 0\nstep 0\nedge 0\nreport 0\ndeliver 1\nvalidate\n";
+
+/// The recovery point that `VALIDATED` leaves of `PUTS_A`, saved. It is the file a.save of each call.
+pub const SAVED: &str = "\
+safetynet-save 1\nconfig 1 16 4 256\nmarks 1 3 7\n\
+rec 0 00000000 0\nrec 0 00000000 0\nrec 0 00000000 0\nend\n";
 
 /// A byte is given late, and a recovery makes the core read it twice.
 pub const LATE_BYTE: &str = "\

@@ -10,7 +10,7 @@ mod traces;
 
 pub use calling::{Left, Probes, call, call_with};
 pub use given::{
-    ADDED, COUNTER, COUNTS, ECHOES, Faults, Given, LATE_BYTE, LOOPS, NO_FAULT, PUTS_A, UNSEEN,
-    VALIDATED, WORDS,
+    ADDED, COUNTER, COUNTS, ECHOES, Faults, Given, LATE_BYTE, LOOPS, NO_FAULT, PUTS_A, SAVED,
+    UNSEEN, VALIDATED, WORDS,
 };
 pub use traces::generated_trace;

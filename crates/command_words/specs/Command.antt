@@ -30,6 +30,14 @@ abbrev pub roll_app : App
 roll_app = command_app (codes "roll") (codes "program" ∷ codes "script" ∷ codes "control" ∷ [])
     (codes "nodes" ∷ codes "sets" ∷ codes "ways" ∷ codes "log" ∷ codes "watch" ∷ []) []
 
+abbrev pub save_app : App
+save_app = command_app (codes "save") (codes "program" ∷ codes "script" ∷ [])
+    (codes "nodes" ∷ codes "sets" ∷ codes "ways" ∷ codes "log" ∷ []) []
+
+-- the sizes are the save file's
+abbrev pub resume_app : App
+resume_app = command_app (codes "resume") (codes "program" ∷ codes "save" ∷ codes "script" ∷ []) (codes "watch" ∷ []) []
+
 -- the options of a machine that picks its own events
 abbrev pub run_options : List Text
 run_options =
@@ -69,4 +77,4 @@ with_command app command = with_subcommand app command.top
 abbrev pub the_app : App
 the_app =
     fold with_command named_app
-    (replay_app ∷ drive_app ∷ roll_app ∷ run_app ∷ monitor_app ∷ check_app ∷ judge_app ∷ demo_app ∷ asm_app ∷ dis_app ∷ [])
+    (replay_app ∷ drive_app ∷ roll_app ∷ save_app ∷ resume_app ∷ run_app ∷ monitor_app ∷ check_app ∷ judge_app ∷ demo_app ∷ asm_app ∷ dis_app ∷ [])

@@ -16,6 +16,8 @@ use Rattle.command_words.specs.Command.{the_app}
 use Rattle.command_words.specs.declared.request.Replay as code_replay
 use Rattle.command_words.specs.declared.request.Drive as code_drive
 use Rattle.command_words.specs.declared.request.Roll as code_roll
+use Rattle.command_words.specs.declared.request.Save as code_save
+use Rattle.command_words.specs.declared.request.Resume as code_resume
 use Rattle.command_words.specs.declared.request.Run as code_run
 use Rattle.command_words.specs.declared.request.Monitor as code_monitor
 use Rattle.sn_base.specs.declared.report.RunReport.{RunReport}
@@ -34,11 +36,13 @@ use Rattle.command_words.specs.declared.request.Request.TheVariants as asked
 use Rattle.sn_base.specs.declared.limits.TheConstants.{EVENTS}
 
 -- the sizes, the rules of a run, what of a replay, of a drive or of a run is to be shown, who has a run's turns, which word is to be watched, and the names of
--- files: of the program and of the script, the control or the trace, or of the accesses or the text
+-- files: of the program and of the script, the control, the save file or the trace, or of the accesses or the text
 pub data Request : Type 0 where
   Replay : Config → ReplayReport → Option ℕ → Text → Text → Request
   Drive : Config → DriveReport → Option ℕ → Text → Request
   Roll : Config → Option ℕ → Text → Text → Text → Request
+  Save : Config → Text → Text → Request
+  Resume : Option ℕ → Text → Text → Text → Request
   Run : Config → RunRules → RunReport → RunOrder → RunScope → Option ℕ → Text → Request
   Monitor : Config → RunRules → Option ℕ → Text → Request
   Check : ℕ → Text → Text → Request
@@ -93,6 +97,17 @@ roll_of entries =
     Roll config watch program script control)
     (first_of (codes "control") entries)) (first_of (codes "script") entries)) (first_of (codes "program") entries))
     (watch_by (first_of (codes "watch") entries))) (config_of entries)
+
+abbrev pub save_of : List Row → Option Request
+save_of entries =
+    option_and_then (λ config. option_and_then (λ program. option_map (λ script. Save config program script)
+    (first_of (codes "script") entries)) (first_of (codes "program") entries)) (config_of entries)
+
+abbrev pub resume_of : List Row → Option Request
+resume_of entries =
+    option_and_then (λ watch. option_and_then (λ program. option_and_then (λ save. option_map (λ script. Resume watch program save script)
+    (first_of (codes "script") entries)) (first_of (codes "save") entries)) (first_of (codes "program") entries))
+    (watch_by (first_of (codes "watch") entries))
 
 -- the rules of a run on so many nodes
 abbrev pub run_rules_of : ℕ → List Row → Option RunRules
@@ -175,6 +190,8 @@ request_of command entries =
     if bytes_eq command (codes "replay") then replay_of entries else
     if bytes_eq command (codes "drive") then drive_of entries else
     if bytes_eq command (codes "roll") then roll_of entries else
+    if bytes_eq command (codes "save") then save_of entries else
+    if bytes_eq command (codes "resume") then resume_of entries else
     if bytes_eq command (codes "run") then run_of entries else
     if bytes_eq command (codes "monitor") then monitor_of entries else
     if bytes_eq command (codes "check") then check_of entries else
@@ -198,6 +215,12 @@ as_drive d = Drive d.config d.report d.watch (string_bytes d.program)
 abbrev pub as_roll : code_roll.Roll → Request
 as_roll r = Roll r.config r.watch (string_bytes r.program) (string_bytes r.script) (string_bytes r.control)
 
+abbrev pub as_save : code_save.Save → Request
+as_save s = Save s.config (string_bytes s.program) (string_bytes s.script)
+
+abbrev pub as_resume : code_resume.Resume → Request
+as_resume r = Resume r.watch (string_bytes r.program) (string_bytes r.save) (string_bytes r.script)
+
 abbrev pub as_run : code_run.Run → Request
 as_run r = Run r.config r.rules r.report r.order r.scope r.watch (string_bytes r.program)
 
@@ -211,6 +234,8 @@ abbrev pub as_request : code_request.Request → Request
 as_request (asked.Replay r) = as_replay r
 as_request (asked.Drive d) = as_drive d
 as_request (asked.Roll r) = as_roll r
+as_request (asked.Save s) = as_save s
+as_request (asked.Resume r) = as_resume r
 as_request (asked.Run r) = as_run r
 as_request (asked.Monitor m) = as_monitor m
 as_request (asked.Check c) = as_check c
@@ -239,6 +264,8 @@ abbrev pub request_fits : Request → Bool
 request_fits (Replay config report watch program script) = config_fits config && (report_fits report && watch_fits watch)
 request_fits (Drive config report watch program) = config_fits config && watch_fits watch
 request_fits (Roll config watch program script control) = config_fits config && watch_fits watch
+request_fits (Save config program script) = config_fits config
+request_fits (Resume watch program save script) = watch_fits watch
 request_fits (Run config rules report order scope watch program) =
     config_fits config && (run_rules_fit config.nodes rules && (scope_fits scope && watch_fits watch))
 request_fits (Monitor config rules watch program) = config_fits config && (run_rules_fit config.nodes rules && watch_fits watch)

@@ -2,8 +2,8 @@
 ghost use Rattle.std.specs.Prelude.{◌≡◌, ◌↔◌, IfOk, IfErr, false, true, map, string_bytes};
 ghost use Rattle.clap.specs.Words.{App, app_of, rule_of, with_rule, takes, kind_of, subcommand_of, subcommand_rows_of};
 ghost use Rattle.clap.specs.declared.builder.command.Command.TheViews.{out-Command as fields_of};
-ghost use Rattle.command_words.specs.Command.{rule_by, with_args, command_app, replay_app, drive_app, roll_app, run_app, monitor_app};
-ghost use Rattle.command_words.specs.Command.{check_app, judge_app, demo_app, asm_app, dis_app, named_app, with_command, the_app};
+ghost use Rattle.command_words.specs.Command.{rule_by, with_args, command_app, replay_app, drive_app, roll_app, save_app, resume_app};
+ghost use Rattle.command_words.specs.Command.{run_app, monitor_app, check_app, judge_app, demo_app, asm_app, dis_app, named_app, with_command, the_app};
 
 use crate::request::WordsFault;
 use clap::error::ErrorKind;
@@ -105,6 +105,27 @@ fn roll<'a>(alloc: Global) -> Result<Command<'a>, AllocError>
         "roll",
         &["program", "script", "control"],
         &options,
+        &[],
+    )
+}
+
+fn save<'a>(alloc: Global) -> Result<Command<'a>, AllocError>
+    ensures app { IfOk result (λ c. app_of c ≡ save_app) }
+    ensures alone { IfOk result (λ c. (fields_of c).has_globals ≡ false) }
+{
+    let options = ["nodes", "sets", "ways", "log"];
+    command_by(alloc, "save", &["program", "script"], &options, &[])
+}
+
+fn resume<'a>(alloc: Global) -> Result<Command<'a>, AllocError>
+    ensures app { IfOk result (λ c. app_of c ≡ resume_app) }
+    ensures alone { IfOk result (λ c. (fields_of c).has_globals ≡ false) }
+{
+    command_by(
+        alloc,
+        "resume",
+        &["program", "save", "script"],
+        &["watch"],
         &[],
     )
 }
@@ -243,6 +264,8 @@ fn command<'a>(alloc: Global) -> Result<Command<'a>, AllocError>
     let table = with_command(Ok(named(alloc)), replay(alloc));
     let table = with_command(table, drive(alloc));
     let table = with_command(table, roll(alloc));
+    let table = with_command(table, save(alloc));
+    let table = with_command(table, resume(alloc));
     let table = with_command(table, run(alloc));
     let table = with_command(table, monitor(alloc));
     let table = with_command(table, check(alloc));

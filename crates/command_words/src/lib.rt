@@ -12,6 +12,6 @@ mod request;
 
 pub use reading::read_words;
 pub use request::{
-    Check, Drive, DriveReport, Monitor, Replay, ReplayReport, Request, Roll, Run, RunOrder,
-    RunScope, WordsFault,
+    Check, Drive, DriveReport, Monitor, Replay, ReplayReport, Request, Resume, Roll, Run, RunOrder,
+    RunScope, Save, WordsFault,
 };

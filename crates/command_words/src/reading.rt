@@ -7,14 +7,15 @@ ghost use Rattle.command_words.specs.Request.{ask_of, as_request, request_of, co
 ghost use Rattle.command_words.specs.Request.{replay_report_of, report_fits, drive_report_of};
 ghost use Rattle.command_words.specs.Request.{run_order_of, is_ordered, is_summary, run_scope_by, run_scope_of, scope_fits};
 ghost use Rattle.command_words.specs.Request.{run_of, monitor_of, check_of, demo_of, as_replay, as_drive, as_roll, as_run, as_monitor, as_check};
+ghost use Rattle.command_words.specs.Request.{save_of, resume_of, as_save, as_resume};
 ghost use Rattle.command_words.specs.Request.{watch_fits, request_fits};
 ghost use Rattle.sn_base.specs.declared.limits.TheConstants.{EVENTS};
 
 use crate::command::entries_of;
 use crate::entries::{command_of, has_flag, text_of};
 use crate::request::{
-    Check, Drive, DriveReport, Monitor, Replay, ReplayReport, Request, Roll, Run, RunOrder,
-    RunScope, WordsFault,
+    Check, Drive, DriveReport, Monitor, Replay, ReplayReport, Request, Resume, Roll, Run, RunOrder,
+    RunScope, Save, WordsFault,
 };
 use clap::ArgMatches;
 use option_values::{
@@ -122,6 +123,31 @@ fn roll(alloc: Global, entries: &ArgMatches<'_>) -> Result<Roll, WordsFault>
         program: name(alloc, entries, "program")?,
         script: name(alloc, entries, "script")?,
         control: name(alloc, entries, "control")?,
+    })
+}
+
+fn save(alloc: Global, entries: &ArgMatches<'_>) -> Result<Save, WordsFault>
+    ensures ok { IfOk result (λ save. save_of (rows_of (found_of entries.now)) ≡ Some (as_save save)) }
+    ensures usage { result ≡ Err WordsFault.Usage → save_of (rows_of (found_of entries.now)) ≡ None }
+    ensures fits { IfOk result (λ save. config_fits save.config ≡ true) }
+{
+    Ok(Save {
+        config: config(entries)?,
+        program: name(alloc, entries, "program")?,
+        script: name(alloc, entries, "script")?,
+    })
+}
+
+fn resume(alloc: Global, entries: &ArgMatches<'_>) -> Result<Resume, WordsFault>
+    ensures ok { IfOk result (λ resume. resume_of (rows_of (found_of entries.now)) ≡ Some (as_resume resume)) }
+    ensures usage { result ≡ Err WordsFault.Usage → resume_of (rows_of (found_of entries.now)) ≡ None }
+    ensures watched { IfOk result (λ resume. watch_fits resume.watch ≡ true) }
+{
+    Ok(Resume {
+        watch: read_watch(text_of(entries, "watch")).ok_or(WordsFault::Usage)?,
+        program: name(alloc, entries, "program")?,
+        save: name(alloc, entries, "save")?,
+        script: name(alloc, entries, "script")?,
     })
 }
 
@@ -309,6 +335,8 @@ fn request(alloc: Global, command: &str, entries: &ArgMatches<'_>) -> Result<Req
         "replay" => Ok(Request::Replay(replay(alloc, entries)?)),
         "drive" => Ok(Request::Drive(drive(alloc, entries)?)),
         "roll" => Ok(Request::Roll(roll(alloc, entries)?)),
+        "save" => Ok(Request::Save(save(alloc, entries)?)),
+        "resume" => Ok(Request::Resume(resume(alloc, entries)?)),
         "run" => Ok(Request::Run(run(alloc, entries)?)),
         "monitor" => Ok(Request::Monitor(monitor(alloc, entries)?)),
         "check" => Ok(Request::Check(check(alloc, entries)?)),

@@ -62,6 +62,25 @@ pub struct Roll {
     pub control: String,
 }
 
+/// The sizes, and the names of the files.
+#[derive(Drop)]
+pub struct Save {
+    pub config: Config,
+    pub program: String,
+    pub script: String,
+}
+
+/// What is shown, and the names of the files. The sizes are the save file's.
+#[derive(Drop)]
+pub struct Resume {
+    /// The address of the word that is shown after each recovery, and at the end.
+    pub watch: Option<u32>,
+    pub program: String,
+    /// The file that a recovery point was saved in.
+    pub save: String,
+    pub script: String,
+}
+
 /// Who has the next turn of a run.
 #[derive(Clone, Copy, PartialEq, Eq, Debug)]
 pub enum RunOrder {
@@ -122,6 +141,8 @@ pub enum Request {
     Replay(Replay),
     Drive(Drive),
     Roll(Roll),
+    Save(Save),
+    Resume(Resume),
     Run(Run),
     Monitor(Monitor),
     Check(Check),

@@ -62,6 +62,17 @@ fn shown(alloc: Global, request: &Request) -> Result<String, AllocError> {
                 r.program, r.script, r.control, c.nodes, c.sets, c.ways, c.log
             )
         }
+        Request::Save(s) => {
+            let c = &s.config;
+            format!(in alloc;
+                "save {} {} ({} nodes, {} sets, {} ways, log {})",
+                s.program, s.script, c.nodes, c.sets, c.ways, c.log
+            )
+        }
+        Request::Resume(r) => {
+            let watch = r.watch;
+            format!(in alloc; "resume {} {} {} {watch:?}", r.program, r.save, r.script)
+        }
         Request::Run(r) => {
             let rules = rules_shown(alloc, &r.config, &r.rules, r.watch)?;
             let (report, order, scope) = (r.report, r.order, r.scope);
@@ -196,6 +207,16 @@ const REQUESTS: &[(&str, &str)] = &[
     (
         "roll --nodes 2 --sets 3 --ways 5 --log 7 --watch 80000004 p s c",
         "roll p s c (2 nodes, 3 sets, 5 ways, log 7) Some(2147483652)",
+    ),
+    ("save p s", "save p s (4 nodes, 16 sets, 4 ways, log 256)"),
+    (
+        "save p --log=7 --ways 5 --sets 3 --nodes=2 s",
+        "save p s (2 nodes, 3 sets, 5 ways, log 7)",
+    ),
+    ("resume p v s", "resume p v s None"),
+    (
+        "resume --watch 80000004 p v s",
+        "resume p v s Some(2147483652)",
     ),
     (
         "run p",
@@ -369,6 +390,13 @@ const USAGE: &[&str] = &[
     "replay p s --states --only",
     "replay p s --states --only 1-2 --only 1-2",
     "roll p s c --states",
+    "save p",
+    "save p s c",
+    "save p s --watch 80000000",
+    "resume p v",
+    "resume p v s s",
+    "resume p v s --nodes 2",
+    "resume p v s --watch 80000001",
     "replay p s --trace=x",
     "replay p s --trace=true",
     "replay p s --trace=",

@@ -17,10 +17,10 @@ use Rattle.rv_core.proofs.CoreLaws.{write_fits}
 use Rattle.sn_model.specs.declared.cache.Need.TheVariants as need
 use Rattle.sn_model.specs.Access.{fabric_with_write}
 use Rattle.sn_model.specs.Caches.{block_count}
-use Rattle.sn_model.specs.Fabric.{Fabric, first_fabric}
+use Rattle.sn_model.specs.Fabric.{Fabric}
 use Rattle.sn_model.specs.FabricEvents.{FabricEvent, moved_by}
 use Rattle.sn_model.specs.FabricEvents as fabric
-use Rattle.sn_model.specs.Machine.{State, start_of, processor_at}
+use Rattle.sn_model.specs.Machine.{State, processor_at}
 use Rattle.sn_model.specs.Instructions.{found_at, step_of_retirement, step_of_instruction, written_by}
 use Rattle.sn_model.specs.MachineEvents.{validates, unready_node}
 use Rattle.sn_model.specs.Step.{step_of, state_after}
@@ -34,15 +34,18 @@ use Rattle.fabric_coherence.proofs.KeptStart.{start-kept}
 use Rattle.fabric_bounds.specs.Bounds.{HasLogRoom, IsServedRun, KeepsBounds}
 use Rattle.fabric_bounds.specs.Counts.{CountsTo}
 use Rattle.fabric_bounds.proofs.Runs.{start_bounded, run_keeps_bounds}
-use Rattle.fabric_bounds.proofs.Numbers.{start_counts, counts_from_the_start}
+use Rattle.fabric_bounds.proofs.Numbers.{start_counts, run_counts}
 use Rattle.consistent_cuts.specs.Accesses.{CanServe, CanServeWant, CanRetire, write_of}
 use Rattle.consistent_cuts.specs.RunInvariant.{RunInvariant, Holds}
 use Rattle.consistent_cuts.specs.OfFabric.{GoesBy}
 use Rattle.consistent_cuts.specs.Runs.{EventFits, AllFit}
 use Rattle.consistent_cuts.proofs.EachEvent.{all_reported}
 use Rattle.consistent_cuts.proofs.Half.{half}
-use Rattle.consistent_cuts.specs.Headline.{IsRun as HeadRun, state_of_run}
-use Rattle.consistent_cuts.proofs.Run.{step_holds, start_holds}
+use Rattle.sn_saved.specs.Resumed.{resumed}
+use Rattle.consistent_cuts.specs.Headline.{IsRun as HeadRun}
+use Rattle.consistent_cuts.specs.Origins.{Origin, Start, Resumed, MayBegin, state_at, entries_at, applied_at, reached_from}
+use Rattle.fabric_bounds.proofs.Resumed.{resumed_bounded, resumed_counts}
+use Rattle.consistent_cuts.proofs.Run.{step_holds, origin_holds}
 use Rattle.consistent_cuts.proofs.SteppedCases.{stepped_cases}
 
 -- no event, and one
@@ -154,26 +157,37 @@ run_goes image config nodes s trace (e ∷ events) h fits =
     first : Holds image nodes s trace → EventFits nodes e → GoesBy config s.fabric (step_of image config s e).state.fabric 1
     first (count, (r, list, j)) fit = event_goes image config s r list trace j e (subst (λ n. EventFits n e) (sym count) fit)
 
--- of a fitting configuration, from a program's start
-module _ (image : ImageData) (config : Config) (events : List Event) (run : HeadRun config events) where
-  some : config_fits config ≡ true → 1 ≤ config.nodes
-  some fits = grind (arith, nat_tests)
+-- what bounds there are where a run may begin
 
-  few : config_fits config ≡ true → config.nodes ≤ 16
-  few fits = grind (arith, nat_tests)
+pub origin_bounded : (image : ImageData) (config : Config) (origin : Origin) → MayBegin image config origin → config_fits config ≡ true →
+    KeepsBounds config (state_at image config origin).fabric
+origin_bounded image config Start may fits = (
+  first_ghost,
+  start-kept image config.nodes (grind (arith, nat_tests)) (grind (arith, nat_tests)),
+  start_bounded image config config.nodes,
+)
+origin_bounded image config (Resumed saved) may fits =
+    subst (λ (c : Config). KeepsBounds c (resumed image saved).fabric) may.0 (resumed_bounded image saved may.1)
 
-  pub reached_goes : GoesBy config (first_fabric image config.nodes) (state_of_run image config events).fabric (length events)
+pub origin_counts : (image : ImageData) (config : Config) (origin : Origin) → MayBegin image config origin →
+    CountsTo (applied_at origin) (state_at image config origin).fabric
+origin_counts image config Start may = start_counts image config.nodes
+origin_counts image config (Resumed saved) may = resumed_counts image saved may.1
+
+-- of a fitting configuration, from where a run may begin
+module _ (image : ImageData) (config : Config) (origin : Origin) (events : List Event) (may : MayBegin image config origin) (run : HeadRun config events) where
+  abbrev first : Fabric
+  first = (state_at image config origin).fabric
+
+  pub reached_goes : GoesBy config first (reached_from image config origin events).fabric (length events)
   reached_goes =
-      run_goes image config config.nodes (start_of image config.nodes) [] events
-      (start_holds image config.nodes (some run.fits) (few run.fits)) run.events_fit
+      run_goes image config config.nodes (state_at image config origin) (entries_at image origin) events
+      (origin_holds image config origin may run.fits) run.events_fit
 
-  pub reached_bounded : KeepsBounds config (state_of_run image config events).fabric
-  reached_bounded = subst (KeepsBounds config) reached_goes.after
-      (run_keeps_bounds config (first_fabric image config.nodes) reached_goes.events (
-        first_ghost,
-        start-kept image config.nodes (some run.fits) (few run.fits),
-        start_bounded image config config.nodes,
-      ) reached_goes.served)
+  pub reached_bounded : KeepsBounds config (reached_from image config origin events).fabric
+  reached_bounded =
+      subst (KeepsBounds config) reached_goes.after
+      (run_keeps_bounds config first reached_goes.events (origin_bounded image config origin may run.fits) reached_goes.served)
 
   more : (s : Fabric) (m n : ℕ) → m ≤ n → CountsTo m s → CountsTo n s
   more s m n l c = record {
@@ -182,9 +196,11 @@ module _ (image : ImageData) (config : Config) (events : List Event) (run : Head
     point = let a = c.point in omega (arith, a, l);
   }
 
-  pub reached_counts : CountsTo (length events) (state_of_run image config events).fabric
-  reached_counts = more (state_of_run image config events).fabric (length reached_goes.events) (length events) reached_goes.few
-      (subst (CountsTo (length reached_goes.events)) reached_goes.after
-      (counts_from_the_start config (first_fabric image config.nodes) reached_goes.events
-      (first_ghost, start-kept image config.nodes (some run.fits) (few run.fits)) (start_counts image config.nodes)
-      (served_run config (first_fabric image config.nodes) reached_goes.events reached_goes.served)))
+  pub reached_counts : CountsTo (applied_at origin + length events) (reached_from image config origin events).fabric
+  reached_counts =
+      let bounded = origin_bounded image config origin may run.fits in
+      more (reached_from image config origin events).fabric (applied_at origin + length reached_goes.events)
+      (applied_at origin + length events) (let l = reached_goes.few in omega (arith, l))
+      (subst (CountsTo (applied_at origin + length reached_goes.events)) reached_goes.after
+      (run_counts config (applied_at origin) first reached_goes.events (bounded.0, bounded.1) (origin_counts image config origin may)
+      (served_run config first reached_goes.events reached_goes.served)))

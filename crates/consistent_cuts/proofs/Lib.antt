@@ -21,12 +21,19 @@ pub mod NodesStay
 pub mod EachEvent
 pub mod Moments
 pub mod Start
+mod SavedEntries
+pub mod ResumedJoins
 pub mod Run
 pub mod RestSays
 pub mod Restored
+pub mod Resumption
+pub mod ResumedRestored
 pub mod Events
 pub mod Walk
 pub mod Written
 pub mod LostTransfer
 pub mod ByIntervals
 pub mod FabricRuns
+pub mod Adds
+pub mod GivenDead
+pub mod SavedForm

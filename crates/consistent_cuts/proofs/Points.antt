@@ -119,11 +119,11 @@ restored_at fabric k n (p ∷ ps) (suc i) d l =
     let e : n + 1 + i ≡ n + suc i = omega arith in
     restored_at fabric k (n + 1) ps i d (omega (arith, l)) ∙ ap (λ x. restored_processor (get_or ps i d) (node_at fabric x).known k) e
 
-restored_count : (fabric : Fabric) (k n : ℕ) (ps : List Processor) → length (restored_processors fabric k n ps) ≡ length ps
+pub restored_count : (fabric : Fabric) (k n : ℕ) (ps : List Processor) → length (restored_processors fabric k n ps) ≡ length ps
 restored_count fabric k n [] = refl
 restored_count fabric k n (p ∷ ps) = ap suc (restored_count fabric k (n + 1) ps)
 
-map_count : {A B : Type 0} (f : A → B) (xs : List A) → length (map f xs) ≡ length xs
+pub map_count : {A B : Type 0} (f : A → B) (xs : List A) → length (map f xs) ≡ length xs
 map_count f [] = refl
 map_count f (x ∷ xs) = ap suc (map_count f xs)
 

@@ -93,7 +93,7 @@ stays_there : (point interval : ℕ) (out : Option ℕ) (rest : List HeldByte) �
 stays_there point interval None rest is = refl
 stays_there point interval (Some byte) rest is = rw is refl
 
-out_cons : (out : Option ℕ) (e : TraceEntry) (rest : List TraceEntry) → e.out ≡ out →
+pub out_cons : (out : Option ℕ) (e : TraceEntry) (rest : List TraceEntry) → e.out ≡ out →
     filter_map (λ (x : TraceEntry). x.out) (e ∷ rest) ≡ option_to_list out ++ filter_map (λ (x : TraceEntry). x.out) rest
 out_cons None e rest is = rw is refl
 out_cons (Some byte) e rest is = rw is refl

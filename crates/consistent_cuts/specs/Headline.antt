@@ -1,5 +1,5 @@
 -- What is promised of every run: of each moment, and of each event. A run is a list of events that fit a fitting
--- configuration, from a program's start, in any order, with losses, dead switches and recoveries anywhere.
+-- configuration, from a program's start or from a saved recovery point, in any order, with losses, dead switches and recoveries anywhere.
 use Rattle.std.specs.Prelude.{◌≡◌, ◌≢◌, ◌⊎◌, ℕ, ◌+◌, ◌<◌, true, false, nat_eq, List, [], ◌∷◌, ◌++◌, length, filter, Some}
 use Rattle.sn_base.specs.Config.{config_fits}
 use Rattle.sn_base.specs.Image.{ImageData}
@@ -17,15 +17,15 @@ use Rattle.sn_model.specs.Caches.{block_count, line_of, is_present}
 use Rattle.sn_model.specs.Fabric.{node_at}
 use Rattle.sn_model.specs.NodeEvents.{step_of_eviction}
 use Rattle.sn_model.specs.NetEvents.{step_of_delivery}
-use Rattle.sn_model.specs.Machine.{State, start_of, processor_at}
+use Rattle.sn_model.specs.Machine.{State, processor_at}
 use Rattle.sn_model.specs.Instructions.{MachineStep, records_of}
 use Rattle.sn_model.specs.MachineEvents.{bytes_of}
 use Rattle.sn_model.specs.RecoveryPoint.{IsCut, IsRestored}
-use Rattle.sn_model.specs.Step.{state_after}
-use Rattle.sn_model.specs.Trace.{TraceEntry, entry_at, trace_after, committed_trace}
+use Rattle.sn_model.specs.Trace.{TraceEntry, entry_at, committed_trace}
 use Rattle.sn_consistency.specs.Committed.{Begins}
 use Rattle.fabric_coherence.specs.Coherent.{NothingUnfinished}
 use Rattle.consistent_cuts.specs.Lists.{retirement_of}
+use Rattle.consistent_cuts.specs.Origins.{Start, reached_from, retirements_from}
 use Rattle.consistent_cuts.specs.Runs.{AllFit}
 
 -- the premises: 1 to 16 nodes, 1 to 256 sets, 1 to 16 ways, a log of 4 to 4,096 entries; and events whose nodes, switches and
@@ -34,12 +34,12 @@ pub record IsRun (config : Config) (events : List Event) : Type 0 where
   pub fits : config_fits config ≡ true
   pub events_fit : AllFit config.nodes events
 
--- the machine after the events, and the instructions that have retired and were not taken back
+-- the machine after the events from a program's start, and the instructions that have retired and were not taken back
 abbrev pub state_of_run : ImageData → Config → List Event → State
-state_of_run image config events = state_after image config (start_of image config.nodes) events
+state_of_run image config events = reached_from image config Start events
 
 abbrev pub retirements : ImageData → Config → List Event → List TraceEntry
-retirements image config events = trace_after image config (start_of image config.nodes) events []
+retirements image config events = retirements_from image config Start events
 
 -- what holds at each moment
 pub record IsConsistent (image : ImageData) (nodes : ℕ) (s : State) (trace : List TraceEntry) : Type 0 where

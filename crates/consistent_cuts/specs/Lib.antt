@@ -3,6 +3,7 @@ pub mod Lists
 pub mod RunInvariant
 pub mod Accesses
 pub mod Runs
+pub mod Origins
 pub mod Headline
 pub mod Example
 pub mod OfFabric

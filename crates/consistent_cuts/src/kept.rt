@@ -1,10 +1,10 @@
 //! The same event by event, as a machine's type keeps it.
-ghost use Rattle.std.specs.Prelude.{◌≡◌, ℕ, ◌<◌, ◌≤◌, true, List, [], length};
+ghost use Rattle.std.specs.Prelude.{◌≡◌, ℕ, ◌<◌, ◌≤◌, true, List, length};
 ghost use Rattle.sn_base.specs.Image.{ImageData};
 ghost use Rattle.sn_base.specs.declared.config.Config.{Config};
 ghost use Rattle.sn_base.specs.declared.event.Event.{Event};
 ghost use Rattle.rv_core.specs.Core.{is_reserved};
-ghost use Rattle.sn_model.specs.Machine.{State, start_of, processor_at};
+ghost use Rattle.sn_model.specs.Machine.{State, processor_at};
 ghost use Rattle.sn_model.specs.Step.{step_of};
 ghost use Rattle.sn_model.specs.Trace.{TraceEntry, trace_after_event};
 ghost use Rattle.sn_coherence.specs.Records.{Records};
@@ -12,13 +12,17 @@ ghost use Rattle.sn_consistency.specs.Entries.{Entry as Sorted};
 ghost use Rattle.sn_consistency.specs.Sorted.{at_cut};
 ghost use Rattle.sn_consistency.specs.Outline.{AllPlaced};
 ghost use Rattle.consistent_cuts.specs.Headline.{IsConsistent, IsStepOfRun};
+ghost use Rattle.sn_base.specs.Config.{config_fits};
 ghost use Rattle.consistent_cuts.specs.RunInvariant.{RunInvariant, Holds};
+ghost use Rattle.consistent_cuts.specs.Origins.{Origin, MayBegin, state_at, entries_at};
 ghost use Rattle.consistent_cuts.specs.Outlines.{start_places, interval_of};
 ghost use Rattle.consistent_cuts.specs.Runs.{EventFits};
 
-/// A program's start has what is joined, with nothing retired.
-pub fn start_is_joined()
-    ensures { (image : ImageData) (nodes : ℕ) → 1 ≤ nodes → nodes ≤ 16 → Holds image nodes (start_of image nodes) [] }
+/// Where a run may begin there is what is joined: at a program's start with nothing retired, and where a saved machine goes on
+/// with what retired before.
+pub fn origin_is_joined()
+    ensures { (image : ImageData) (config : Config) (origin : Origin) → MayBegin image config origin → config_fits config ≡ true
+        → Holds image config.nodes (state_at image config origin) (entries_at image origin) }
 {}
 
 /// Each event keeps it, whatever its answer is, with the retirement that it adds or those that it takes back.

@@ -17,8 +17,12 @@ mod bounds;
 mod examples;
 mod kept;
 mod runs;
+mod saved;
 
 pub use bounds::every_run_is_one_of_the_fabric;
 pub use examples::some_runs_are_runs;
-pub use kept::{each_event_joins, joined_is_consistent, records_are_of_the_list, start_is_joined};
-pub use runs::{every_event_is_consistent, every_moment_is_consistent};
+pub use kept::{each_event_joins, joined_is_consistent, origin_is_joined, records_are_of_the_list};
+pub use runs::{
+    every_event_is_consistent, every_moment_is_consistent, every_run_adds_to_its_origin,
+};
+pub use saved::{recovery_resumes, resumed_is_restored, saved_is_in_form};

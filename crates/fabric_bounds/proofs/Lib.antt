@@ -7,5 +7,6 @@ mod Deliveries
 pub mod Events
 pub mod Cuts
 pub mod Runs
+pub mod Resumed
 pub mod Numbers
 mod Finds

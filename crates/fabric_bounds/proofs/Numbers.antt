@@ -115,7 +115,7 @@ one_more e s x count step counts = record {
     next_number : (old new sent : ℕ) → old ≤ most_sent * e + 1 → sent ≤ most_sent → new ≡ old + sent → new ≤ most_sent * (e + 1) + 1
     next_number old new sent h f g = omega arith
 
-run_counts : (config : Config) (e : ℕ) (s : Fabric) (events : List FabricEvent) → Keeps s → CountsTo e s → IsFabricRun config s events →
+pub run_counts : (config : Config) (e : ℕ) (s : Fabric) (events : List FabricEvent) → Keeps s → CountsTo e s → IsFabricRun config s events →
     CountsTo (e + length events) (fabric_after config s events)
 run_counts config e s [] keeps counts run = subst (λ k. CountsTo k s) (none_more e) counts
 run_counts config e s (event ∷ events) keeps counts run =

@@ -7,6 +7,8 @@ ghost use Rattle.sn_model.specs.Cuts.{holds_at};
 ghost use Rattle.sn_model.specs.Fabric.{Fabric, Flight, node_at, first_fabric};
 ghost use Rattle.sn_model.specs.FabricEvents.{FabricEvent, moved_by};
 ghost use Rattle.sn_model.specs.Net.{flight_of, net_limit};
+ghost use Rattle.sn_saved.specs.Resumed.{resumed};
+ghost use Rattle.sn_saved.specs.Saved.{Saved, IsAccepted};
 ghost use Rattle.fabric_coherence.specs.Coherent.{Keeps};
 ghost use Rattle.fabric_coherence.specs.Events.{MayBe};
 ghost use Rattle.fabric_coherence.specs.Runs.{IsFabricRun, fabric_after};
@@ -17,6 +19,12 @@ ghost use Rattle.fabric_bounds.specs.Counts.{SendsFew, CountsTo};
 pub fn start_is_bounded()
     ensures { (image : ImageData) (config : Config) (nodes : ℕ) → 1 ≤ nodes → nodes ≤ 16
         → KeepsBounds config (first_fabric image nodes) }
+{}
+
+/// And so they are where a saved machine goes on, whose numbers are none above what the events before it can have made of them.
+pub fn resumed_is_bounded()
+    ensures bounds { (image : ImageData) (saved : Saved) → IsAccepted image saved → KeepsBounds saved.config (resumed image saved).fabric }
+    ensures counts { (image : ImageData) (saved : Saved) → IsAccepted image saved → CountsTo saved.marks.applied (resumed image saved).fabric }
 {}
 
 /// Every event that can happen keeps them, whatever its answer is, where a write was served.

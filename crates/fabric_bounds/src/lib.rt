@@ -14,5 +14,6 @@ mod laws;
 
 pub use laws::{
     answers_find_their_frames, cuts_fit_the_sets, each_event_keeps_bounds, each_event_sends_few,
-    every_run_is_bounded, numbers_do_not_run_out, start_is_bounded, what_is_bounded,
+    every_run_is_bounded, numbers_do_not_run_out, resumed_is_bounded, start_is_bounded,
+    what_is_bounded,
 };

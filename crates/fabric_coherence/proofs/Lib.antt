@@ -31,6 +31,7 @@ pub mod Finished
 mod KeptOwn
 mod KeptReport
 pub mod KeptStart
+pub mod KeptResumed
 mod CacheOutcomes
 mod KeptCache
 pub mod KeptEvents

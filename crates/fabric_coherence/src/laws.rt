@@ -1,5 +1,5 @@
 //! The theorems on the fabric alone.
-ghost use Rattle.std.specs.Prelude.{◌≡◌, ℕ, ◌<◌, ◌≤◌, true, false, List, length};
+ghost use Rattle.std.specs.Prelude.{◌≡◌, ℕ, ◌<◌, ◌≤◌, Bool, true, false, List, length};
 ghost use Rattle.sn_base.specs.Image.{ImageData};
 ghost use Rattle.sn_base.specs.declared.config.Config.{Config};
 ghost use Rattle.sn_base.specs.declared.event.Answer.TheVariants.{Retired};
@@ -9,17 +9,26 @@ ghost use Rattle.sn_model.specs.Caches.{block_count, line_of};
 ghost use Rattle.sn_model.specs.Cuts.{is_unfinished};
 ghost use Rattle.sn_model.specs.Fabric.{Fabric, node_at, first_fabric};
 ghost use Rattle.sn_model.specs.FabricEvents.{FabricEvent, moved_by};
+ghost use Rattle.sn_saved.specs.Resumed.{fabric_resumed};
+ghost use Rattle.sn_saved.specs.Saved.{AreInside};
 ghost use Rattle.fabric_coherence.specs.Coherent.{FabricInvariant, Keeps, IsInTime};
 ghost use Rattle.fabric_coherence.specs.Events.{MayBe, CanUse};
 ghost use Rattle.fabric_coherence.specs.Holders.{IsCoherent};
 ghost use Rattle.fabric_coherence.specs.Leads.{KeepsFrames};
 ghost use Rattle.fabric_coherence.specs.Recorded.{IsOfFabric};
 ghost use Rattle.fabric_coherence.specs.Runs.{IsFabricRun, fabric_after};
+ghost use Rattle.fabric_coherence.specs.Start.{resumed_beside};
 ghost use Rattle.fabric_coherence.specs.View.{GhostState};
 
 /// At the start all sentences hold of every block.
 pub fn start_is_kept()
     ensures { (image : ImageData) (nodes : ℕ) → 1 ≤ nodes → nodes ≤ 16 → Keeps (first_fabric image nodes) }
+{}
+
+/// And so they do where it goes on from a recovery point, with the frames of what caches own there.
+pub fn resumed_is_kept()
+    ensures { (nodes point next : ℕ) (owners : List (ℕ × ℕ)) (content : ℕ → List ℕ) (dead : List Bool) → 1 ≤ nodes → nodes ≤ 16
+        → AreInside nodes owners → FabricInvariant (fabric_resumed nodes owners content point next dead) (resumed_beside owners) }
 {}
 
 /// Every event of the fabric that can happen keeps them, whatever its answer is.

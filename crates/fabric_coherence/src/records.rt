@@ -1,5 +1,5 @@
 //! The theorems on the fabric with the records of accesses beside it.
-ghost use Rattle.std.specs.Prelude.{◌≡◌, ℕ, ◌+◌, ◌<◌, ◌≤◌, true, length};
+ghost use Rattle.std.specs.Prelude.{◌≡◌, ℕ, ◌+◌, ◌<◌, ◌≤◌, Bool, true, List, length};
 ghost use Rattle.sn_base.specs.Image.{ImageData};
 ghost use Rattle.sn_base.specs.declared.block.Write.{Write};
 ghost use Rattle.sn_base.specs.declared.config.Config.{Config};
@@ -9,7 +9,9 @@ ghost use Rattle.sn_model.specs.Caches.{block_count, line_of, is_present};
 ghost use Rattle.sn_model.specs.Fabric.{Fabric, node_at, first_fabric, initial_block};
 ghost use Rattle.sn_model.specs.FabricEvents.{FabricEvent, moved_by};
 ghost use Rattle.sn_model.specs.NodeEvents.{ready_of};
-ghost use Rattle.sn_coherence.specs.Records.{Records, no_records, loads, loads_reserved, stores, stores_conditional, unreserves};
+ghost use Rattle.sn_saved.specs.Resumed.{fabric_resumed};
+ghost use Rattle.sn_saved.specs.Saved.{AreInside};
+ghost use Rattle.sn_coherence.specs.Records.{Records, no_records, resting_records, loads, loads_reserved, stores, stores_conditional, unreserves};
 ghost use Rattle.fabric_coherence.specs.Coherent.{NothingUnfinished};
 ghost use Rattle.fabric_coherence.specs.Events.{CanUse, CanWrite};
 ghost use Rattle.fabric_coherence.specs.Recorded.{KeepsRecords, MayBeRecorded, HaveReported, recorded_by, at_block};
@@ -19,6 +21,13 @@ ghost use Rattle.fabric_coherence.specs.Told.{Tells};
 pub fn start_is_recorded()
     ensures { (image : ImageData) (nodes : ℕ) → 1 ≤ nodes → nodes ≤ 16
         → KeepsRecords (first_fabric image nodes) (λ b. no_records (initial_block image b)) }
+{}
+
+/// Where it goes on from a recovery point all that was accessed was so in interval 0.
+pub fn resumed_is_recorded()
+    ensures { (nodes point next : ℕ) (owners : List (ℕ × ℕ)) (content : ℕ → List ℕ) (dead : List Bool) → 1 ≤ nodes → nodes ≤ 16
+        → AreInside nodes owners
+        → KeepsRecords (fabric_resumed nodes owners content point next dead) (λ b. resting_records nodes point (content b)) }
 {}
 
 /// Every event of the fabric that can happen keeps the sentences on the records, whatever its answer is.

@@ -3,7 +3,7 @@ use Rattle.std.specs.Prelude.{ℕ, List, [], ◌∷◌, Bool, codes, Option, Som
 use Rattle.std.specs.List.{list_any}
 use Rattle.std.specs.Option.{option_or}
 use Rattle.help_pages.specs.declared.page.Page.{Page}
-use Rattle.help_pages.specs.declared.page.Page.TheVariants.{Overview, Replay, Drive, Roll, Run, Monitor, Check, Judge, Demo, Asm, Dis}
+use Rattle.help_pages.specs.declared.page.Page.TheVariants.{Overview, Replay, Drive, Roll, Save, Resume, Run, Monitor, Check, Judge, Demo, Asm, Dis}
 use Rattle.help_pages.specs.declared.page.Page.TheVariants.{Events, Formats, Statuses, Version}
 
 abbrev pub Text : Type 0
@@ -12,7 +12,7 @@ Text = List ℕ
 -- the commands, in the order of the overview, each with its page
 abbrev pub command_pages : List (Text × Page)
 command_pages =
-    (codes "replay", Replay) ∷ (codes "drive", Drive) ∷ (codes "roll", Roll) ∷ (codes "run", Run) ∷ (codes "monitor", Monitor)
+    (codes "replay", Replay) ∷ (codes "drive", Drive) ∷ (codes "roll", Roll) ∷ (codes "save", Save) ∷ (codes "resume", Resume) ∷ (codes "run", Run) ∷ (codes "monitor", Monitor)
     ∷ (codes "check", Check) ∷ (codes "judge", Judge) ∷ (codes "demo", Demo) ∷ (codes "asm", Asm) ∷ (codes "dis", Dis) ∷ []
 
 -- what else has a page

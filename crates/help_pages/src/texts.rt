@@ -7,6 +7,7 @@ mod commands;
 mod driven;
 mod overview;
 mod runs;
+mod saves;
 mod schedules;
 mod topics;
 
@@ -15,6 +16,7 @@ use commands::{ASM, CHECK, DEMO, DIS, JUDGE};
 use driven::DRIVE;
 use overview::{OVERVIEW, VERSION};
 use runs::{MONITOR, RUN};
+use saves::{RESUME, SAVE};
 use schedules::{REPLAY, ROLL};
 use sn_io::{Failed, Sink};
 use topics::{EVENTS, FORMATS, STATUSES};
@@ -27,6 +29,8 @@ fn text_of(page: Page) -> &'static str
         Page::Replay => REPLAY,
         Page::Drive => DRIVE,
         Page::Roll => ROLL,
+        Page::Save => SAVE,
+        Page::Resume => RESUME,
         Page::Run => RUN,
         Page::Monitor => MONITOR,
         Page::Check => CHECK,

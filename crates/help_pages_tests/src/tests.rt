@@ -21,10 +21,12 @@ const OVERVIEW: &str = ";--help;-h;help";
 
 const ROLL: &str = "roll --help;roll -h;roll help;help roll";
 
+const RESUME: &str = "resume --help;resume -h;resume help;help resume";
+
 const TOPIC: &str = "help statuses";
 
 const VERSION: &str =
-    "--version;replay --version;drive --version;roll --version;run --version;monitor --version;\
+    "--version;replay --version;drive --version;roll --version;save --version;resume --version;run --version;monitor --version;\
 check --version;judge --version;demo --version;asm --version;dis --version";
 
 const NEITHER: &str = "\
@@ -50,6 +52,7 @@ fn all_ask_for(
 fn a_call_for_a_page_is_one_word_alone_or_after_a_command(rt: HostRuntime) -> Result<(), Fail> {
     all_ask_for(&rt, rt.alloc(), OVERVIEW, Some(Page::Overview))?;
     all_ask_for(&rt, rt.alloc(), ROLL, Some(Page::Roll))?;
+    all_ask_for(&rt, rt.alloc(), RESUME, Some(Page::Resume))?;
     all_ask_for(&rt, rt.alloc(), TOPIC, Some(Page::Statuses))?;
     all_ask_for(&rt, rt.alloc(), VERSION, Some(Page::Version))?;
     all_ask_for(&rt, rt.alloc(), NEITHER, None)

@@ -20,7 +20,7 @@ module _ (shown m : MachineData) (image : ImageData) (nodes : ℕ) (records : Li
   -- a machine's committed trace is an execution
   pub committed-executes : IsConsistentWithItsRun m → IsExecution image nodes records
   committed-executes with_run =
-      let all : IsExecution m.image m.config.nodes m.state.committed = (with_run.consistent with_run.events with_run.led).execution in
+      let all : IsExecution m.image m.config.nodes m.state.committed = (with_run.consistent with_run.origin with_run.events with_run.led).execution in
       subst (λ (i : ImageData). IsExecution i nodes records) (sym image_is)
       (subst (λ (n : ℕ). IsExecution m.image n records) (sym nodes_is)
       (subst (λ (rs : List Record). IsExecution m.image m.config.nodes rs) (sym its-records) all))

@@ -1,5 +1,13 @@
 -- Where a run in an order ends, and what it leaves.
-use Rattle.std.proofs.Common.{◌≡◌, ℕ, Bool, true, false, nat_le, if◌then◌else◌, List, [], length, Option, Some, None, refl, subst, ◌∙◌}
+use Rattle.std.proofs.Common.{◌≡◌, ℕ, Bool, true, false, not, ◌&&◌, nat_le, if◌then◌else◌, List, [], length, Option, Some, None, refl, sym, subst, ◌∙◌, true≢false}
+use Rattle.sn_base.specs.Config.{config_fits}
+use Rattle.sn_base.specs.Image.{ImageData}
+use Rattle.sn_base.specs.declared.config.Config.{Config}
+use Rattle.sn_machine.specs.Machine.{MachineData, machine_with_room}
+use Rattle.run_journals.specs.declared.entry.JournalEntry.{JournalEntry}
+use Rattle.run_journals.specs.Journal.{events_of}
+use Rattle.run_statistics.specs.declared.count.Count.{Count}
+use Rattle.run_statistics.specs.Counted.{Counts}
 use Rattle.sn_console.specs.Handed.{IsHandedOn, IsBegun}
 use Rattle.due_events.specs.Due.{is_over}
 use Rattle.shared_machine.specs.declared.finish.Finish.{Finish}
@@ -29,6 +37,22 @@ same-self c = record { start = refl; order = refl }
 
 pub same-then : (a b d : Course) → IsSameRun a b → IsSameRun b d → IsSameRun a d
 same-then a b d h k = record { start = k.start ∙ h.start; order = k.order ∙ h.order }
+
+-- before the first turn a new count has the events of the journal
+pub counts-first : (c : Course) (count : Count) (program : ImageData) (config : Config) (room : ℕ) → c.machine ≡ machine_with_room program config room →
+    c.journal.items ≡ [] → config_fits config ≡ true →
+    ((i : ImageData) (k : Config) (n : ℕ) → config_fits k ≡ true → Counts count (machine_with_room i k n) []) →
+    Counts count c.machine (events_of c.journal.items)
+counts-first c count program config room is none fits new =
+    subst (λ (m : MachineData). Counts count m (events_of c.journal.items)) (sym is)
+    (subst (λ (l : List JournalEntry). Counts count (machine_with_room program config room) (events_of l)) (sym none)
+    (new program config room fits))
+
+-- a count that was asked for, and that lacked no memory, is on
+pub on-by : (asked on lacks : Bool) → lacks ≡ (asked && not on) → lacks ≡ false → asked ≡ true → on ≡ true
+on-by true true lacks is none e = refl
+on-by true false lacks is none e = absurd (true≢false (sym is ∙ none))
+on-by false on lacks is none e = absurd cc
 
 module _ (c d : Course) (before behind : Option (List ℕ)) (was is : ℕ) where
   pub ends-refused : (found : Finish) → refusal_now d ≡ Some found →

@@ -1,8 +1,9 @@
 //! A run before its first turn.
-ghost use Rattle.std.specs.Prelude.{◌≡◌, ◌≤◌, true, [], length, vec_capacity, IfOk};
+ghost use Rattle.std.specs.Prelude.{◌≡◌, ◌≤◌, ◌+◌, true, [], length, vec_capacity, IfOk};
 ghost use Rattle.sn_base.specs.declared.limits.TheConstants.{EVENTS};
 ghost use Rattle.sn_base.specs.Config.{config_fits};
 ghost use Rattle.sn_base.specs.Rules.{AreRules};
+ghost use Rattle.sn_machine.specs.Machine.{machine_with_room};
 ghost use Rattle.turn_orders.specs.Drawn.{AreDrawn};
 ghost use Rattle.ordered_run.specs.Stands.{Stands, IsReady, its_start};
 
@@ -56,6 +57,8 @@ pub(crate) fn start(
     ensures began { IfOk result
         (λ c. its_start c ≡ record { image = program; config = config; rules = rules; seed = seed; budget = budget }) }
     ensures order { IfOk result (λ c. c.scheduler.order ≡ order) }
+    ensures machine { IfOk result (λ c. c.machine ≡ machine_with_room program config (budget + 1)) }
+    ensures journal { IfOk result (λ c. c.journal.items ≡ []) }
     ensures fresh { IfOk result (λ c. c.machine.state.released ≡ []) }
 {
     let nodes = config.nodes;

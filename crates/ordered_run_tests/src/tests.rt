@@ -3,7 +3,7 @@ ghost use Rattle.std.specs.Prelude.{IfOk};
 ghost use Rattle.node_run.specs.Shown.{MayBegin};
 
 use elf_load::load;
-use ordered_run::{Ending, Order, Run, RunFault, RunShowing, run};
+use ordered_run::{Ending, Order, Run, RunFault, RunShowing, all_turns, run};
 use sn_base::{Config, Rules, RunReport};
 use sn_io::MemSink;
 use sn_probe::ProbeSet;
@@ -189,6 +189,26 @@ fn the_same_run_leaves_the_same_bytes(rt: HostRuntime) -> Result<(), Fail> {
     let ended = ran(alloc, second, Order::Drawn, &mut console, &mut again);
     assert!(rt; is_spent(&ended));
     assert!(rt; once.bytes() == again.bytes());
+    Ok(())
+}
+
+#[test]
+fn all_turns_are_counted_where_that_is_asked_for(rt: HostRuntime) -> Result<(), Fail> {
+    let alloc = rt.alloc();
+    let job = job(&rt, alloc, LOOPS, 4, 2_000, RunReport::Summary)?;
+    let turned = all_turns(alloc, job, Order::Drawn, true)?;
+    assert!(rt; turned.finished.journal.len() == 2_000);
+    assert!(rt; turned.count.on && turned.count.statistics.events == 2_000);
+    Ok(())
+}
+
+#[test]
+fn turns_that_nobody_asks_to_count_are_had_uncounted(rt: HostRuntime) -> Result<(), Fail> {
+    let alloc = rt.alloc();
+    let job = job(&rt, alloc, LOOPS, 4, 100, RunReport::Summary)?;
+    let turned = all_turns(alloc, job, Order::Round, false)?;
+    assert!(rt; turned.finished.journal.len() == 100);
+    assert!(rt; turned.count.statistics.events == 0);
     Ok(())
 }
 

@@ -5,6 +5,7 @@ pub mod Hints
 pub mod Headers
 pub mod Programs
 pub mod Scripts
+pub mod Saves
 pub mod Assembly
 pub mod Verdicts
 pub mod Ends

@@ -1,6 +1,7 @@
 -- Where in a text a cause stands. Lines and records are counted from 1.
 use Rattle.std.specs.Prelude.{ℕ, ◌+◌, ◌-◌, Bool, true, nat_eq, nat_le, if◌then◌else◌, List, [], ◌∷◌, Option, Some, None}
-use Rattle.text_lines.specs.Lines.{lines_of}
+use Rattle.std.specs.List.{slice_split}
+use Rattle.text_lines.specs.Lines.{is_line_feed, lines_of}
 
 -- the line of a number in lines
 abbrev pub line_in : ℕ → List (List ℕ) → Option (List ℕ)
@@ -11,6 +12,16 @@ line_in number (line ∷ lines) = if nat_le number 1 then Some line else line_in
 unfoldable pub line_at : List ℕ → ℕ → Option (List ℕ)
 line_at [] number = None
 line_at (byte ∷ text) number = line_in number (lines_of (byte ∷ text))
+
+-- the line of a number in the parts between a text's LFs; what stands behind the last LF is no line
+abbrev pub ended_in : ℕ → List (List ℕ) → Option (List ℕ)
+ended_in number [] = None
+ended_in number (rest ∷ []) = None
+ended_in number (line ∷ next ∷ lines) = if nat_le number 1 then Some line else ended_in (number - 1) (next ∷ lines)
+
+-- the line of a number that an LF ends, as it stands before that
+unfoldable pub ended_line : List ℕ → ℕ → Option (List ℕ)
+ended_line text number = ended_in number (slice_split is_line_feed text)
 
 -- empty lines and comments say no record
 abbrev pub is_skipped : List ℕ → Bool

@@ -93,17 +93,24 @@ pub fn write_spent(reason: &mut Reason, budget: u32) -> Result<(), Memory>
     reason.end()
 }
 
-/// The line that says which nodes are cut off.
+/// Which nodes are cut off.
 #[tactic(auto, unfolding(crate::specs::Ends::cut_off))]
-pub fn write_cut_off(reason: &mut Reason, a: NodeId, b: NodeId) -> Result<(), Memory>
-    ensures { OnOk result (reason.new ≡ line_of_reason (cut_off (begun reason.old) a b)) }
+pub(crate) fn write_nodes_cut_off(reason: &mut Reason, a: NodeId, b: NodeId) -> Result<(), Memory>
+    ensures { OnOk result (reason.new ≡ cut_off reason.old a b) }
 {
-    reason.begin()?;
     reason.text("nodes ")?;
     reason.number(u64::from(a.number()))?;
     reason.text(" and ")?;
     reason.number(u64::from(b.number()))?;
-    reason.text(" are cut off: no living switches join them")?;
+    reason.text(" are cut off: no living switches join them")
+}
+
+/// The line that says which nodes are cut off.
+pub fn write_cut_off(reason: &mut Reason, a: NodeId, b: NodeId) -> Result<(), Memory>
+    ensures { OnOk result (reason.new ≡ line_of_reason (cut_off (begun reason.old) a b)) }
+{
+    reason.begin()?;
+    write_nodes_cut_off(reason, a, b)?;
     reason.end()
 }
 

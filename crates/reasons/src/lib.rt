@@ -14,6 +14,7 @@ mod near;
 mod place;
 mod program;
 mod reason;
+mod save;
 mod script;
 mod verdict;
 
@@ -26,5 +27,6 @@ pub use near::{is_near, nearest};
 pub use place::record_line;
 pub use program::write_program;
 pub use reason::Reason;
+pub use save::write_save;
 pub use script::{limit_of, write_script};
 pub use verdict::write_refused;

@@ -1,7 +1,8 @@
 //! Where in a text a cause stands.
 ghost use Rattle.std.specs.Prelude.{◌≡◌, ◌<◌, ◌^◌, length, option_map, Some};
-ghost use Rattle.text_lines.specs.Lines.{lines_of};
-ghost use Rattle.reasons.specs.Places.{line_at, record_line, is_skipped};
+ghost use Rattle.std.specs.List.{position};
+ghost use Rattle.text_lines.specs.Lines.{is_line_feed, lines_of};
+ghost use Rattle.reasons.specs.Places.{line_at, ended_line, record_line, is_skipped};
 
 use text_lines::lines_of;
 
@@ -19,6 +20,30 @@ pub fn line_at(text: &[u8], number: u64) -> Option<&[u8]>
         if left <= 1 {
             return Some(line);
         }
+        left -= 1;
+    }
+    None
+}
+
+// Where the LF is that ends the first line.
+fn end_of_line(text: &[u8]) -> Option<usize>
+    ensures { result ≡ position is_line_feed text.now }
+{
+    text.iter().position(|byte| *byte == b'\n')
+}
+
+/// The line of a number, counted from 1, where an LF ends it. A CR before that belongs to it.
+#[tactic(auto, unfolding(crate::specs::Places::ended_line))]
+pub fn ended_line(text: &[u8], number: u64) -> Option<&[u8]>
+    ensures { option_map (λ line. line.now) result ≡ ended_line text.entry.now number }
+{
+    let mut rest = text;
+    let mut left = number;
+    'lines: while let Some(end) = end_of_line(rest) {
+        if left <= 1 {
+            return Some(&rest[..end]);
+        }
+        rest = &rest[end + 1..];
         left -= 1;
     }
     None

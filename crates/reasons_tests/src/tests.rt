@@ -2,10 +2,12 @@
 use elf_load::{Field, LoadCause};
 use reasons::{
     Lack, Reason, TextKind, Unread, write_assembly, write_cut_off, write_lack, write_longer,
-    write_program, write_refused, write_script, write_spent, write_trapped, write_unread,
+    write_program, write_refused, write_save, write_script, write_spent, write_trapped,
+    write_unread,
 };
 use rv_asm::AsmCause;
 use rv_core::{Cause, Record};
+use save_text::SaveCause;
 use sn_base::{Memory, NodeId};
 use sn_text::ScriptCause;
 use std::alloc::Global;
@@ -281,6 +283,87 @@ fn a_script_is_refused_with_what_it_is_near_to(rt: HostRuntime) -> Result<(), Fa
     for (kind, bytes, cause, wanted) in SCRIPTS {
         let mut reason = Reason::new(rt.alloc());
         write_script(&mut reason, *kind, 2, "a.script", bytes, *cause)?;
+        says(&rt, &reason, wanted);
+    }
+    Ok(())
+}
+
+/// The bytes of a save file, the line of another form, and the line that says why.
+const SAVES: &[(&[u8], u64, &str)] = &[
+    (
+        b"safetynet-save 1\nconfig 2 1 1\nend\n",
+        2,
+        "# why: a.save:2: no line of a save file that may stand here: \"config 2 1 1\"\n",
+    ),
+    (
+        b"safetynet-save 1\r\n",
+        1,
+        "# why: a.save:1: no line of a save file that may stand here: \"safetynet-save 1\\x0d\"\n",
+    ),
+    (
+        b"safetynet-save 1\nend",
+        2,
+        "# why: a.save:2: the file ends here, and not with the line `end` and its LF\n",
+    ),
+    (
+        b"safetynet-save 1\n",
+        2,
+        "# why: a.save:2: the file ends here, and not with the line `end` and its LF\n",
+    ),
+    (
+        b"",
+        2,
+        "# why: a.save:2: no line of a save file that may stand here\n",
+    ),
+];
+
+#[test]
+fn a_save_file_is_refused_at_a_line_or_at_its_end(rt: HostRuntime) -> Result<(), Fail> {
+    for (bytes, line, wanted) in SAVES {
+        let mut reason = Reason::new(rt.alloc());
+        write_save(&mut reason, "a.save", bytes, SaveCause::BadLine(*line))?;
+        says(&rt, &reason, wanted);
+    }
+    Ok(())
+}
+
+const SAVED: &[u8] =
+    b"safetynet-save 1\nconfig 2 1 1 256\nmarks 1 8 18\nowner 64 1\nowner 65 1\ngiven 0 41\nend\n";
+
+fn refusals() -> [(SaveCause, &'static str); 6] {
+    [
+        (
+            SaveCause::TooLong,
+            "# why: a.save: more than 67108864 bytes\n",
+        ),
+        (
+            SaveCause::OutOfRange(3),
+            "# why: a.save:3: a number that no saved machine has, or a line that is one too many or out of its order: \"marks 1 8 18\"\n",
+        ),
+        (
+            SaveCause::CutOff(NodeId::numbered(0), NodeId::numbered(1)),
+            "# why: a.save: nodes 0 and 1 are cut off: no living switches join them\n",
+        ),
+        (
+            SaveCause::SetFull(5),
+            "# why: a.save:5: the set of that block has no place left in the cache of that node: \"owner 65 1\"\n",
+        ),
+        (
+            SaveCause::NotLegal(3),
+            "# why: a.save: this program doesn't do the instruction of `rec` line 3 after those before it\n",
+        ),
+        (
+            SaveCause::Unread(NodeId::numbered(1)),
+            "# why: a.save: node 1 has read bytes that its `given` lines don't give from the first on\n",
+        ),
+    ]
+}
+
+#[test]
+fn what_a_save_file_says_is_refused_with_its_cause(rt: HostRuntime) -> Result<(), Fail> {
+    for (cause, wanted) in &refusals() {
+        let mut reason = Reason::new(rt.alloc());
+        write_save(&mut reason, "a.save", SAVED, *cause)?;
         says(&rt, &reason, wanted);
     }
     Ok(())

@@ -2,7 +2,8 @@
 //!
 //! At each edge of its clock a node keeps its core, under the number of the checkpoint that begins there. The layer
 //! above sees the cores by their numbers, without gaps, from the recovery point that the node knows to its newest
-//! checkpoint: at most five. A checkpoint keeps no reservation, since a recovery clears it. Only `new` takes memory.
+//! checkpoint: at most five. A checkpoint keeps no reservation, since a recovery clears it. Only `new` and
+//! `at` take memory.
 //!
 //! Source: register checkpoints of SafetyNet (Sorin, Martin, Hill, Wood, ISCA 2002).
 #![tactic(auto)]
@@ -55,9 +56,16 @@ impl RegCheckpoints {
     pub fn new(alloc: Global, first: CoreState) -> Result<RegCheckpoints, Memory>
         ensures { IfOk result (λ r. r ≡ record { first = 0; cores = without_reservation first ∷ [] }) }
     {
+        RegCheckpoints::at(alloc, 0, first)
+    }
+
+    /// Checkpoint k alone, from which a machine goes on.
+    pub fn at(alloc: Global, k: Interval, first: CoreState) -> Result<RegCheckpoints, Memory>
+        ensures { IfOk result (λ r. r ≡ record { first = k; cores = without_reservation first ∷ [] }) }
+    {
         let mut cores = HeapCircularBuffer::with_capacity(alloc, 5)?;
         append(&mut cores, without_reservation(first));
-        Ok(RegCheckpoints { first: 0, cores })
+        Ok(RegCheckpoints { first: k, cores })
     }
 
     /// Keeps a core as the next checkpoint.
@@ -137,6 +145,16 @@ mod tests {
         kept.take(3, core(24));
         kept.free_below(3);
         assert_eq!(rt; kept.get(3).pc, 24);
+        Ok(())
+    }
+
+    #[test]
+    fn checkpoints_begin_at_the_point(rt: HostRuntime) -> Result<(), Fail> {
+        let mut kept = RegCheckpoints::at(rt.alloc(), 7, core(28))?;
+        assert!(rt; kept.get(7).pc == 28 && kept.get(7).reservation.is_none());
+        kept.take(8, core(32));
+        kept.free_below(8);
+        assert_eq!(rt; kept.get(8).pc, 32);
         Ok(())
     }
 }

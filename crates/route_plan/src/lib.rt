@@ -14,6 +14,3 @@ mod routes;
 
 pub use dead::Dead;
 pub use routes::{PlanFault, Routes, cut_off, plan};
-
-#[cfg(test)]
-mod tests;

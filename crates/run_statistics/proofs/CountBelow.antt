@@ -4,14 +4,6 @@ use Rattle.std.proofs.Common.{◌⊎◌, inl, inr}
 use Rattle.std.proofs.lemmas.Bool.{cases_eq, eqb-true, eqb-false, eq-eqb, ne_eqb}
 use Rattle.run_statistics.specs.Owned.{one_if, count_below}
 
-pub none-below : (f : ℕ → Bool) → count_below f 0 ≡ 0
-unfolding count_below
-none-below f = refl
-
-pub one-more : (f : ℕ → Bool) (n : ℕ) → count_below f (n + 1) ≡ count_below f n + one_if (f n)
-unfolding count_below
-one-more f n = ap (count_below f) (let e : n + 1 ≡ suc n = omega arith in e)
-
 pub one-at-most : (test : Bool) → one_if test ≤ 1
 one-at-most true = omega arith
 one-at-most false = omega arith

@@ -1,9 +1,12 @@
 pub mod Pending
 pub mod Waiting
 pub mod CountBelow
+pub mod Greatest
+pub mod CountedBack
 pub mod Owners
 pub mod OwnersAfter
 pub mod OwnedCounts
+pub mod Covering
 pub mod TakenLines
 pub mod CountedSoFar
 pub mod Written

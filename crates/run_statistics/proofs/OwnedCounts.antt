@@ -1,25 +1,27 @@
 -- How many blocks each cache owns, from event to event: numbers that are moved by the lines that an event touched are right again.
 use Rattle.std.proofs.Common.{◌≡◌, ◌≢◌, ℕ, zero, suc, ◌+◌, ◌-◌, ◌<◌, ◌≤◌, Bool, true, false, if◌then◌else◌, nat_eq, List, length, Option, Some, None}
 use Rattle.std.proofs.Common.{refl, sym, ap, subst, ◌∙◌, arith, ◌⊎◌, inl, inr, length-set, get_or-set_same, get_or-set_other}
-use Rattle.std.specs.Prelude.{slice_index, slice_index_or, replicate}
+use Rattle.std.specs.Prelude.{slice_index, slice_index_or, replicate, max, is_some}
 use Rattle.std.proofs.lemmas.Bool.{cases_eq, eq-eqb, ne_eqb}
-use Rattle.std.proofs.lemmas.List.{get_or-replicate}
+use Rattle.std.proofs.lemmas.List.{get_or-replicate, length-map}
 use Rattle.sn_base.specs.Image.{ImageData}
-use Rattle.sn_model.specs.declared.home.Owner.{Owner}
 use Rattle.sn_model.specs.Caches.{Line, block_count, empty_lines, line_of, no_line, is_owned}
+use Rattle.sn_model.specs.Cuts.{names_at}
 use Rattle.sn_model.specs.Fabric.{Fabric, Node, first_fabric, first_node, home_of}
-use Rattle.sn_model.specs.Homes.{Holder, Itself, OfCache, is_owner}
-use Rattle.home_directory.specs.Home.{owner_of}
-use Rattle.sn_model.specs.RecoveryPoint.{IsOwned}
+use Rattle.sn_model.specs.Homes.{Holder, HomeEntry, Itself, OfCache, is_owner}
+use Rattle.sn_model.specs.PointEvents.{fabric_restored_to, restored_node}
+use Rattle.sn_model.specs.RecoveryPoint.{IsOwned, HasOneHolderWith}
+use Rattle.fabric_coherence.proofs.Recovery.{restored_home_at}
 use Rattle.run_statistics.specs.declared.owned.TouchedLines.{TouchedLines}
-use Rattle.run_statistics.specs.Numbers.{bounded_sum, with_more, with_change, no_numbers}
-use Rattle.run_statistics.specs.Owned.{one_if, count_below, owns, owned_blocks, named_blocks, owned_among, AreThere, with_lines, with_owner, AreOwned}
-use Rattle.run_statistics.proofs.CountBelow.{none-below, one-more, all-at-most, one-at-most, none-passes, same-below, two-differ}
+use Rattle.run_statistics.specs.Numbers.{bounded_sum, with_change, no_numbers}
+use Rattle.run_statistics.specs.Owned.{one_if, owns, owned_blocks, owns_at, owned_blocks_at, owned_at_point, owned_among, AreThere, with_lines, AreOwned}
+use Rattle.run_statistics.proofs.CountBelow.{all-at-most, one-at-most, none-passes, same-below, two-differ}
+use Rattle.run_statistics.proofs.Greatest.{length-greatest, greatest-at}
 use Rattle.run_statistics.proofs.Owners.{SameOwners, FollowsLines}
 
 -- nothing is owned at the start
 
-reads_default : {A : Type 0} (n i : ℕ) (x : A) → slice_index_or (replicate n x) i x ≡ x
+pub reads_default : {A : Type 0} (n i : ℕ) (x : A) → slice_index_or (replicate n x) i x ≡ x
 reads_default zero i x = refl
 reads_default (suc n) zero x = refl
 reads_default (suc n) (suc i) x = reads_default n i x
@@ -87,87 +89,55 @@ module _ (nodes : ℕ) (s t : Fabric) (old : List ℕ) (few : nodes ≤ 16) (h :
   moved-on None there follows = untouched follows
   moved-on (Some l) there follows = touched l there follows
 
--- after a recovery the homes name the owners
+-- after a recovery each cache owns what it owned at the recovery point: its one owner at the cut has a block, and its one owner after it
 
-named : (s : Fabric) (b : ℕ) (content : List ℕ) (holder : Holder) → IsOwned s b content holder → (n : ℕ) → n < length s.nodes →
+named_owner : (s : Fabric) (b : ℕ) (content : List ℕ) (holder : Holder) → IsOwned s b content holder → (n : ℕ) → n < length s.nodes →
     is_owner holder n ≡ owns s n b
-named s b content (Itself kept) is n l = sym (ap is_owned (is.1 n l))
-named s b content (OfCache owner) is n l = go (cases_eq owner n) where
+named_owner s b content (Itself kept) is n l = sym (ap is_owned (is.1 n l))
+named_owner s b content (OfCache owner) is n l = go (cases_eq owner n) where
   go : (owner ≡ n) ⊎ (owner ≡ n → ⊥) → nat_eq owner n ≡ owns s n b
   go (inl same) =
       eq-eqb owner n same ∙ sym (ap (λ (x : Line). is_owned x.state) (is.1)) ∙ ap (λ k. owns s k b) same
   go (inr other) = ne_eqb owner n other ∙ sym (ap is_owned (is.2 n l (λ e. other (sym e))))
 
--- counted block by block
-pub record AreNamedBelow (s : Fabric) (k : ℕ) (numbers : List ℕ) : Type 0 where
-  pub places : length numbers ≡ 32
-  pub counted : (n : ℕ) → n < 16 → slice_index numbers n ≡ count_below (λ b. is_owner (home_of s b).holder n) k
+named_then : (s : Fabric) (b k : ℕ) (content : List ℕ) (holder : Holder) → HasOneHolderWith s b k content holder → (n : ℕ) → n < length s.nodes →
+    is_owner holder n ≡ owns_at s k n b
+named_then s b k content (Itself kept) is n l = sym (ap is_some (is.1 n l))
+named_then s b k content (OfCache owner) is n l = go (cases_eq owner n) where
+  go : (owner ≡ n) ⊎ (owner ≡ n → ⊥) → nat_eq owner n ≡ owns_at s k n b
+  go (inl same) = eq-eqb owner n same ∙ sym (ap is_some (is.1)) ∙ ap (λ j. owns_at s k j b) same
+  go (inr other) = ne_eqb owner n other ∙ sym (ap is_some (is.2 n l (λ e. other (sym e))))
 
-pub none-named : (s : Fabric) → AreNamedBelow s 0 no_numbers
-none-named s = record {
-  places = refl;
-  counted = λ n l. get_or-replicate 32 n 0 0 (omega (arith, l)) ∙ sym (none-below (λ b. is_owner (home_of s b).holder n));
-}
+no_less : (k : ℕ) → max 0 k ≡ k
+no_less k = grind arith
 
-one_more : (c k : ℕ) → c ≤ k → k < 65536 → bounded_sum c 1 ≡ c + 1
-one_more c k few below = grind (arith, few, below)
+module _ (nodes : ℕ) (s t : Fabric) (content : ℕ → List ℕ) (same : t ≡ fabric_restored_to s s.point) (homes : length s.homes ≡ block_count)
+    (before : length s.nodes ≡ nodes)
+    (cut : (b : ℕ) → b < block_count → HasOneHolderWith s b s.point (content b) (names_at s b s.point))
+    (owned : (b : ℕ) → b < block_count → IsOwned t b (content b) (home_of t b).holder) where
+  name_kept : (b : ℕ) → b < block_count → (home_of (fabric_restored_to s s.point) b).holder ≡ names_at s b s.point
+  unfolding fabric_restored_to
+  name_kept b l = ap (λ (e : HomeEntry). e.holder) (restored_home_at s s.point b (subst (λ c. b < c) (sym homes) l))
 
-module _ (s : Fabric) (k : ℕ) (numbers : List ℕ) (below : k < 65536) (h : AreNamedBelow s k numbers) where
-  abbrev Counts : List ℕ → ℕ → Type 0
-  Counts numbers' n = slice_index numbers' n ≡ count_below (λ b. is_owner (home_of s b).holder n) (k + 1)
+  count_kept : length (fabric_restored_to s s.point).nodes ≡ length s.nodes
+  unfolding fabric_restored_to
+  count_kept = length-map s.nodes (restored_node s.point)
 
-  counts_on : (numbers' : List ℕ) (n : ℕ) (holder : Holder) → (home_of s k).holder ≡ holder →
-      slice_index numbers' n ≡ count_below (λ b. is_owner (home_of s b).holder n) k + one_if (is_owner holder n) → Counts numbers' n
-  counts_on numbers' n holder is e =
-      e ∙ ap (λ (x : Holder). count_below (λ b. is_owner (home_of s b).holder n) k + one_if (is_owner x n)) (sym is)
-      ∙ sym (one-more (λ b. is_owner (home_of s b).holder n) k)
+  after : length t.nodes ≡ nodes
+  after = ap (λ (x : Fabric). length x.nodes) same ∙ count_kept ∙ before
 
-  by_home : (content : List ℕ) → (home_of s k).holder ≡ Itself content → AreNamedBelow s (k + 1) numbers
-  by_home content is = record {
-    places = h.places;
-    counted = λ n l. counts_on numbers n (Itself content) is (let e = h.counted n l in omega (arith, e));
+  owner_kept : (n b : ℕ) → n < nodes → b < block_count → owns_at s s.point n b ≡ owns t n b
+  owner_kept n b l m =
+      sym (named_then s b s.point (content b) (names_at s b s.point) (cut b m) n (omega (arith, l, before)))
+      ∙ ap (λ h. is_owner h n) (sym (ap (λ (x : Fabric). (home_of x b).holder) same ∙ name_kept b m))
+      ∙ named_owner t b (content b) (home_of t b).holder (owned b m) n (omega (arith, l, after))
+
+  pub owned-again : nodes ≤ 16 → AreOwned nodes t (owned_at_point nodes s)
+  owned-again few = record {
+    places = length-greatest (owned_blocks_at s s.point) nodes no_numbers;
+    owned =
+        λ n l. greatest-at (owned_blocks_at s s.point) nodes n no_numbers l (omega (arith, few))
+        ∙ ap (λ k. max k (owned_blocks_at s s.point n)) (get_or-replicate 32 n 0 0 (omega (arith, l, few)))
+        ∙ no_less (owned_blocks_at s s.point n)
+        ∙ same-below (owns_at s s.point n) (owns t n) block_count (λ b m. owner_kept n b l m);
   }
-
-  by_cache : (owner : ℕ) → (home_of s k).holder ≡ OfCache owner → AreNamedBelow s (k + 1) (with_more numbers owner 1)
-  by_cache owner is = record {
-    places = length-set numbers owner _ ∙ h.places;
-    counted = λ n l. counts_on (with_more numbers owner 1) n (OfCache owner) is (go n l (cases_eq owner n));
-  } where
-    go : (n : ℕ) → n < 16 → (owner ≡ n) ⊎ (owner ≡ n → ⊥) →
-        slice_index (with_more numbers owner 1) n ≡ count_below (λ b. is_owner (home_of s b).holder n) k + one_if (nat_eq owner n)
-    go n l (inl same) =
-        ap (λ j. slice_index (with_more numbers j 1) n) same
-        ∙ get_or-set_same numbers n _ 0 (let p = h.places in omega (arith, p, l))
-        ∙ ap (λ c. bounded_sum c 1) (h.counted n l)
-        ∙ one_more _ k (all-at-most (λ b. is_owner (home_of s b).holder n) k) below
-        ∙ ap (λ t. count_below (λ b. is_owner (home_of s b).holder n) k + one_if t) (sym (eq-eqb owner n same))
-    go n l (inr other) =
-        let beside : slice_index (with_more numbers owner 1) n ≡ slice_index numbers n = get_or-set_other numbers owner n _ 0 (λ is. other (sym is)) in
-        let e = h.counted n l in
-        let none : one_if (nat_eq owner n) ≡ 0 = ap one_if (ne_eqb owner n other) in
-        omega (arith, beside, e, none)
-
-  pub named-next : (holder : Holder) → (home_of s k).holder ≡ holder → AreNamedBelow s (k + 1) (with_owner numbers (owner_of holder))
-  named-next (Itself content) is = by_home content is
-  named-next (OfCache owner) is = by_cache owner is
-
-pub next-home : (s : Fabric) (k : ℕ) (numbers more : List ℕ) (owner : Owner) (block : ℕ) → k < 65536 → AreNamedBelow s k numbers → block ≡ k →
-    owner ≡ owner_of (home_of s block).holder → more ≡ with_owner numbers owner → AreNamedBelow s (k + 1) more
-next-home s k numbers more owner block below h at is put =
-    subst (AreNamedBelow s (k + 1)) (sym (put ∙ ap (with_owner numbers) (is ∙ ap (λ b. owner_of (home_of s b).holder) at)))
-    (named-next s k numbers below h (home_of s k).holder refl)
-
-pub all-named : (s : Fabric) (k : ℕ) (numbers : List ℕ) → k ≡ 65536 → AreNamedBelow s k numbers → (n : ℕ) → n < 16 →
-    slice_index numbers n ≡ named_blocks s n
-all-named s k numbers e h n l = h.counted n l ∙ ap (count_below (λ b. is_owner (home_of s b).holder n)) e
-
-pub named-owned : (nodes : ℕ) (s : Fabric) (content : ℕ → List ℕ) (numbers : List ℕ) → length s.nodes ≡ nodes →
-    ((b : ℕ) → b < block_count → IsOwned s b (content b) (home_of s b).holder) → length numbers ≡ 32 →
-    ((n : ℕ) → n < nodes → slice_index numbers n ≡ named_blocks s n) → AreOwned nodes s numbers
-named-owned nodes s content numbers count owned places counted = record {
-  places = places;
-  owned =
-      λ n l. counted n l
-      ∙ same-below (λ b. is_owner (home_of s b).holder n) (owns s n) block_count
-      (λ b m. named s b (content b) (home_of s b).holder (owned b m) n (omega (arith, l, count)));
-}

@@ -1,7 +1,9 @@
--- What each event leaves of what the caches own: all of it, but the lines that a delivery touches and what a recovery makes anew.
+-- What each event leaves of the nodes and of what their caches own: all nodes but one, and all owners but by the lines that a delivery
+-- touches and what a recovery makes anew.
 use Rattle.std.proofs.Common.{◌≡◌, ◌≢◌, ℕ, zero, suc, Bool, true, false, not, if◌then◌else◌, List, [], ◌∷◌, Option, Some, None}
 use Rattle.std.proofs.Common.{refl, sym, ap, ◌∙◌, get_or-set_other}
 use Rattle.std.specs.Prelude.{nat_eq, nat_lt, slice_index_or, slice_set}
+use Rattle.std.proofs.lemmas.Bool.{eqb-false}
 use Rattle.sn_base.specs.declared.block.Write.{Write}
 use Rattle.sn_base.specs.declared.config.Config.{Config}
 use Rattle.sn_base.specs.declared.log.LogEntry.{LogEntry}
@@ -32,7 +34,9 @@ use Rattle.sn_model.specs.NetEvents.{Outcome, AtCache, AtHome, logged_at, hops, 
 use Rattle.sn_model.specs.NetEvents.{outcome_of, unless_busy, fits_in, node_after, node_after_news}
 use Rattle.sn_model.specs.PointEvents.{step_of_advance}
 use Rattle.run_statistics.specs.declared.owned.TouchedLines.{TouchedLines}
-use Rattle.run_statistics.specs.Owned.{owns, missed_block, lines_at, lines_of_flight}
+use Rattle.run_statistics.specs.declared.reach.Reach.{Reach}
+use Rattle.run_statistics.specs.declared.reach.Reach.TheVariants.{One}
+use Rattle.run_statistics.specs.Owned.{owns, missed_block, lines_at, lines_of_flight, reach_of_lines, is_reached}
 
 -- each cache owns what it owned
 abbrev pub SameOwners : Fabric → Fabric → Type 0
@@ -73,11 +77,20 @@ node_alike s k node alike n b =
     set_either (λ (x : Node). is_owned (line_of x.cache b).state ≡ owns s n b) s.nodes k n node first_node
     (λ same. alike b ∙ ap (λ j. owns s j b) (sym same)) refl
 
-record KeepsOwners (s : Fabric) (x : FabricStep) : Type 0 where
-  pub same : SameOwners s x.fabric
+-- each node but this one is as it was
+abbrev pub SameNodesBut : Fabric → ℕ → Fabric → Type 0
+SameNodesBut s k t = (n : ℕ) → n ≢ k → node_at t n ≡ node_at s n
 
-refused : (s : Fabric) (answer : Answer) → KeepsOwners s (step_refused s answer)
-refused s answer = record { same = λ n b. refl }
+node_beside : (s : Fabric) (k : ℕ) (node : Node) → SameNodesBut s k (with_node s k node)
+node_beside s k node n d = get_or-set_other s.nodes k n node first_node d
+
+record KeepsOwners (s : Fabric) (k : ℕ) (x : FabricStep) : Type 0 where
+  pub same : SameOwners s x.fabric
+  pub others : SameNodesBut s k x.fabric
+
+-- an event that leaves its node as it was, or changes it but not what its cache owns
+refused : (s : Fabric) (k : ℕ) (answer : Answer) → KeepsOwners s k (step_refused s answer)
+refused s k answer = record { same = λ n b. refl; others = λ n d. refl }
 
 -- an access, and a write to a line that may be written
 
@@ -88,27 +101,33 @@ writable_owned Owned e = refl
 writable_owned Modified e = refl
 writable_owned Exclusive e = refl
 
-missed : (s : Fabric) (n block : ℕ) (need : Need) → KeepsOwners s (step_of_miss s n block need)
-missed s n block need = record { same = node_alike s n (missing (node_at s n) block need) (λ b. refl) }
+missed : (s : Fabric) (n block : ℕ) (need : Need) → KeepsOwners s n (step_of_miss s n block need)
+missed s n block need = record {
+  same = node_alike s n (missing (node_at s n) block need) (λ b. refl);
+  others = node_beside s n (missing (node_at s n) block need);
+}
 
 served : (s : Fabric) (config : Config) (n block : ℕ) (need : Need) →
-    KeepsOwners s (if lacks_room config (node_at s n) block need then step_refused s LogFull else record { fabric = s; answer = Retired; sent = []; told = None })
-served s config n block need = either (KeepsOwners s) _ _ _ (refused s LogFull) (record { same = λ n b. refl })
+    KeepsOwners s n (if lacks_room config (node_at s n) block need then step_refused s LogFull else record { fabric = s; answer = Retired; sent = []; told = None })
+served s config n block need = either (KeepsOwners s n) _ _ _ (refused s n LogFull) (record { same = λ n b. refl; others = λ n d. refl })
 
-missing_line : (config : Config) (s : Fabric) (n block : ℕ) (need : Need) → KeepsOwners s (misses config s n block need)
+missing_line : (config : Config) (s : Fabric) (n block : ℕ) (need : Need) → KeepsOwners s n (misses config s n block need)
 missing_line config s n block need =
-    either (KeepsOwners s) _ _ _ (refused s NeedsEvict) (either (KeepsOwners s) _ _ _ (refused s NetFull) (missed s n block need))
+    either (KeepsOwners s n) _ _ _ (refused s n NeedsEvict) (either (KeepsOwners s n) _ _ _ (refused s n NetFull) (missed s n block need))
 
-found_line : (config : Config) (s : Fabric) (n block : ℕ) (need : Need) → KeepsOwners s (accesses config s n block need)
+found_line : (config : Config) (s : Fabric) (n block : ℕ) (need : Need) → KeepsOwners s n (accesses config s n block need)
 found_line config s n block need =
-    either (KeepsOwners s) _ _ _ (refused s Waits)
-    (either (KeepsOwners s) _ _ _ (served s config n block need) (missing_line config s n block need))
+    either (KeepsOwners s n) _ _ _ (refused s n Waits)
+    (either (KeepsOwners s n) _ _ _ (served s config n block need) (missing_line config s n block need))
 
-accessed : (config : Config) (s : Fabric) (n block : ℕ) (need : Need) → KeepsOwners s (step_of_access config s n block need)
-accessed config s n block need = either (KeepsOwners s) _ _ _ (refused s Waits) (found_line config s n block need)
+accessed : (config : Config) (s : Fabric) (n block : ℕ) (need : Need) → KeepsOwners s n (step_of_access config s n block need)
+accessed config s n block need = either (KeepsOwners s n) _ _ _ (refused s n Waits) (found_line config s n block need)
 
 pub access-owners : (config : Config) (s : Fabric) (n block : ℕ) (need : Need) → SameOwners s (step_of_access config s n block need).fabric
 access-owners config s n block need = (accessed config s n block need).same
+
+pub access-others : (config : Config) (s : Fabric) (n block : ℕ) (need : Need) → SameNodesBut s n (step_of_access config s n block need).fabric
+access-others config s n block need = (accessed config s n block need).others
 
 written_alike : (node : Node) (w : Write) → is_owned (line_of node.cache (block_of w.address)).state ≡ true →
     OwnsAlike node.cache (with_write node w).cache
@@ -119,69 +138,101 @@ written_alike node w e b =
 pub write-owners : (s : Fabric) (n : ℕ) (w : Write) → owns s n (block_of w.address) ≡ true → SameOwners s (with_node s n (with_write (node_at s n) w))
 write-owners s n w e = node_alike s n (with_write (node_at s n) w) (written_alike (node_at s n) w e)
 
+pub write-others : (s : Fabric) (n : ℕ) (w : Write) → SameNodesBut s n (with_node s n (with_write (node_at s n) w))
+write-others s n w = node_beside s n (with_write (node_at s n) w)
+
 -- an eviction
 
-put_begun : (s : Fabric) (n block : ℕ) → KeepsOwners s (begins_put s n block)
+put_begun : (s : Fabric) (n block : ℕ) → KeepsOwners s n (begins_put s n block)
 put_begun s n block =
-    either (KeepsOwners s) _ _ _ (refused s PutOpen)
-    (either (KeepsOwners s) _ _ _ (refused s NetFull) (record { same = node_alike s n (with_put (node_at s n) block) (λ b. refl) }))
+    either (KeepsOwners s n) _ _ _ (refused s n PutOpen)
+    (either (KeepsOwners s n) _ _ _ (refused s n NetFull) (record {
+      same = node_alike s n (with_put (node_at s n) block) (λ b. refl);
+      others = node_beside s n (with_put (node_at s n) block);
+    }))
 
-evicted : (s : Fabric) (n block : ℕ) (state : LineState) → (line_of (node_at s n).cache block).state ≡ state → KeepsOwners s (evicts s n block state)
-evicted s n block Absent e = refused s NotCached
+evicted : (s : Fabric) (n block : ℕ) (state : LineState) → (line_of (node_at s n).cache block).state ≡ state → KeepsOwners s n (evicts s n block state)
+evicted s n block Absent e = refused s n NotCached
 evicted s n block Shared e = record {
   same =
       node_alike s n (without_copy (node_at s n) block)
       (λ b. owned_set (node_at s n).cache.lines block b no_line (ap is_owned (sym e)));
+  others = node_beside s n (without_copy (node_at s n) block);
 }
 evicted s n block Owned e = put_begun s n block
 evicted s n block Modified e = put_begun s n block
 evicted s n block Exclusive e = put_begun s n block
 
-eviction : (s : Fabric) (n block : ℕ) → KeepsOwners s (step_of_eviction s n block)
+eviction : (s : Fabric) (n block : ℕ) → KeepsOwners s n (step_of_eviction s n block)
 eviction s n block =
-    either (KeepsOwners s) _ _ _ (refused s MissOpen) (evicted s n block (line_of (node_at s n).cache block).state refl)
+    either (KeepsOwners s n) _ _ _ (refused s n MissOpen) (evicted s n block (line_of (node_at s n).cache block).state refl)
 
 pub eviction-owners : (s : Fabric) (n block : ℕ) → SameOwners s (step_of_eviction s n block).fabric
 eviction-owners s n block = (eviction s n block).same
 
+pub eviction-others : (s : Fabric) (n block : ℕ) → SameNodesBut s n (step_of_eviction s n block).fabric
+eviction-others s n block = (eviction s n block).others
+
 -- an edge, a report, a hop, a loss, a kill, and a validation
 
-edge : (s : Fabric) (n : ℕ) → KeepsOwners s (step_of_edge s n)
-edge s n = either (KeepsOwners s) _ _ _ (refused s CheckpointsFull) (record { same = node_alike s n (after_edge (node_at s n)) (λ b. refl) })
+edge : (s : Fabric) (n : ℕ) → KeepsOwners s n (step_of_edge s n)
+edge s n =
+    either (KeepsOwners s n) _ _ _ (refused s n CheckpointsFull)
+    (record { same = node_alike s n (after_edge (node_at s n)) (λ b. refl); others = node_beside s n (after_edge (node_at s n)) })
 
 pub edge-owners : (s : Fabric) (n : ℕ) → SameOwners s (step_of_edge s n).fabric
 edge-owners s n = (edge s n).same
 
-report : (s : Fabric) (n : ℕ) → KeepsOwners s (step_of_report s n)
-report s n = either (KeepsOwners s) _ _ _ (refused s NetFull) (record { same = λ n b. refl })
+pub edge-others : (s : Fabric) (n : ℕ) → SameNodesBut s n (step_of_edge s n).fabric
+edge-others s n = (edge s n).others
 
-pub report-owners : (s : Fabric) (n : ℕ) → SameOwners s (step_of_report s n).fabric
-report-owners s n = (report s n).same
+-- these change no node
 
-hopped : (s : Fabric) (f : Option Flight) → KeepsOwners s (hops s f)
-hopped s None = refused s NoMessage
+abbrev pub SameNodes : Fabric → Fabric → Type 0
+SameNodes s t = t.nodes ≡ s.nodes
+
+pub same-owners : (s t : Fabric) → SameNodes s t → SameOwners s t
+same-owners s t e n b = ap (λ (nodes : List Node). is_owned (line_of (slice_index_or nodes n first_node).cache b).state) e
+
+pub same-nodes : (s t : Fabric) → SameNodes s t → (n : ℕ) → node_at t n ≡ node_at s n
+same-nodes s t e n = ap (λ (nodes : List Node). slice_index_or nodes n first_node) e
+
+record KeepsNodes (s : Fabric) (x : FabricStep) : Type 0 where
+  pub same : SameNodes s x.fabric
+
+declined : (s : Fabric) (answer : Answer) → KeepsNodes s (step_refused s answer)
+declined s answer = record { same = refl }
+
+report : (s : Fabric) (n : ℕ) → KeepsNodes s (step_of_report s n)
+report s n = either (KeepsNodes s) _ _ _ (declined s NetFull) (record { same = refl })
+
+pub report-nodes : (s : Fabric) (n : ℕ) → SameNodes s (step_of_report s n).fabric
+report-nodes s n = (report s n).same
+
+hopped : (s : Fabric) (f : Option Flight) → KeepsNodes s (hops s f)
+hopped s None = declined s NoMessage
 hopped s (Some f) =
-    either (KeepsOwners s) (is_there f) (step_refused s Arrived) (hops_to s f (next_switch (routes_of s) f)) (refused s Arrived)
-    (either (KeepsOwners s) (is_dead s.net.dead (next_switch (routes_of s) f)) _ _ (record { same = λ n b. refl }) (record { same = λ n b. refl }))
+    either (KeepsNodes s) (is_there f) (step_refused s Arrived) (hops_to s f (next_switch (routes_of s) f)) (declined s Arrived)
+    (either (KeepsNodes s) (is_dead s.net.dead (next_switch (routes_of s) f)) _ _ (record { same = refl }) (record { same = refl }))
 
-pub hop-owners : (s : Fabric) (f : Option Flight) → SameOwners s (hops s f).fabric
-hop-owners s f = (hopped s f).same
+pub hop-nodes : (s : Fabric) (f : Option Flight) → SameNodes s (hops s f).fabric
+hop-nodes s f = (hopped s f).same
 
-pub loss-owners : (s : Fabric) (f : Option Flight) → SameOwners s (loses s f).fabric
-loss-owners s None = λ n b. refl
-loss-owners s (Some f) = λ n b. refl
+pub loss-nodes : (s : Fabric) (f : Option Flight) → SameNodes s (loses s f).fabric
+loss-nodes s None = refl
+loss-nodes s (Some f) = refl
 
-killed : (s : Fabric) (switch : ℕ) → KeepsOwners s (step_of_kill s switch)
-killed s switch = either (KeepsOwners s) _ _ _ (refused s AlreadyDead) (record { same = λ n b. refl })
+killed : (s : Fabric) (switch : ℕ) → KeepsNodes s (step_of_kill s switch)
+killed s switch = either (KeepsNodes s) _ _ _ (declined s AlreadyDead) (record { same = refl })
 
-pub kill-owners : (s : Fabric) (switch : ℕ) → SameOwners s (step_of_kill s switch).fabric
-kill-owners s switch = (killed s switch).same
+pub kill-nodes : (s : Fabric) (switch : ℕ) → SameNodes s (step_of_kill s switch).fabric
+kill-nodes s switch = (killed s switch).same
 
-advanced : (s : Fabric) (k : ℕ) → KeepsOwners s (step_of_advance s k)
-advanced s k = either (KeepsOwners s) _ _ _ (refused s NetFull) (record { same = λ n b. refl })
+advanced : (s : Fabric) (k : ℕ) → KeepsNodes s (step_of_advance s k)
+advanced s k = either (KeepsNodes s) _ _ _ (declined s NetFull) (record { same = refl })
 
-pub advance-owners : (s : Fabric) (k : ℕ) → SameOwners s (step_of_advance s k).fabric
-advance-owners s k = (advanced s k).same
+pub advance-nodes : (s : Fabric) (k : ℕ) → SameNodes s (step_of_advance s k).fabric
+advance-nodes s k = (advanced s k).same
 
 -- a delivery: the rows of a cache, which write the line of the message's block and that of the miss
 
@@ -256,14 +307,15 @@ module _ (at : Logged) (home block now tag : ℕ) where
 
 record FollowsMessage (s : Fabric) (m : Message) (x : FabricStep) : Type 0 where
   pub same : FollowsLines s x.fabric (Some (lines_at s m))
+  pub others : SameNodesBut s m.to x.fabric
 
-declined : (s : Fabric) (m : Message) (answer : Answer) → FollowsMessage s m (step_refused s answer)
-declined s m answer = record { same = λ n b c. refl }
+kept_back : (s : Fabric) (m : Message) (answer : Answer) → FollowsMessage s m (step_refused s answer)
+kept_back s m answer = record { same = λ n b c. refl; others = λ n d. refl }
 
 fits : (config : Config) (s : Fabric) (m : Message) (log : List LogEntry) (sends : List Out) (done : FabricStep) → FollowsMessage s m done →
     FollowsMessage s m (fits_in config s log sends done)
 fits config s m log sends done good =
-    either (FollowsMessage s m) _ _ _ (declined s m LogFull) (either (FollowsMessage s m) _ _ _ (declined s m NetFull) good)
+    either (FollowsMessage s m) _ _ _ (kept_back s m LogFull) (either (FollowsMessage s m) _ _ _ (kept_back s m NetFull) good)
 
 record FollowsOutcome (config : Config) (s : Fabric) (m : Message) (outcome : Outcome) : Type 0 where
   pub good : FollowsMessage s m (delivers config s m outcome)
@@ -277,6 +329,7 @@ at_cache config s m reply leaves = record {
             λ n b c. set_either (λ (x : Node). is_owned (line_of x.cache b).state ≡ owns s n b) s.nodes m.to n (node_after (node_at s m.to) reply)
             first_node
             (λ is. ap (λ (x : Line). is_owned x.state) (leaves b ((c is).0) ((c is).1)) ∙ ap (λ j. owns s j b) (sym is)) refl;
+        others = node_beside s m.to (node_after (node_at s m.to) reply);
       });
 }
 
@@ -285,13 +338,14 @@ at_home config s m reply = record {
   good =
       fits config s m reply.after.log reply.sends _ (record {
         same = λ n b c. node_alike s m.to (record (node_at s m.to) { log = reply.after.log }) (λ k. refl) n b;
+        others = node_beside s m.to (record (node_at s m.to) { log = reply.after.log });
       });
 }
 
 request : (config : Config) (s : Fabric) (m : Message) (transaction : Option Transaction) (reply : HomeReply) →
     FollowsOutcome config s m (unless_busy transaction reply)
 request config s m None reply = at_home config s m reply
-request config s m (Some transaction) reply = record { good = declined s m HomeBusy }
+request config s m (Some transaction) reply = record { good = kept_back s m HomeBusy }
 
 by_body : (config : Config) (s : Fabric) (m : Message) (body : Body) → FollowsOutcome config s m (outcome_of s m body)
 by_body config s m GetS = request config s m (home_of s m.block).transaction _
@@ -310,9 +364,12 @@ by_body config s m PutReq = request config s m (home_of s m.block).transaction _
 by_body config s m PutGo = at_cache config s m _ (by_put (logged_at s m.to) (home_node s m.block) m.block (node_at s m.to).now 0)
 by_body config s m (PutData content) = at_home config s m _
 by_body config s m PutDone = at_cache config s m _ (by_end (logged_at s m.to) 0 m.block 0 0)
-by_body config s m (Ready k) = record { good = record { same = λ n b c. refl } }
+by_body config s m (Ready k) = record { good = record { same = λ n b c. refl; others = λ n d. refl } }
 by_body config s m (Advance k) = record {
-  good = record { same = λ n b c. node_alike s m.to (node_after_news (node_at s m.to) k) (λ j. refl) n b };
+  good = record {
+    same = λ n b c. node_alike s m.to (node_after_news (node_at s m.to) k) (λ j. refl) n b;
+    others = node_beside s m.to (node_after_news (node_at s m.to) k);
+  };
 }
 
 -- one that hasn't arrived touches nothing
@@ -321,11 +378,33 @@ by_place : (s : Fabric) (l : TouchedLines) (x : FabricStep) (there : Bool) → F
 by_place s l x true follows = follows
 by_place s l x false follows = λ n b. refl
 
+whole_delivery : (config : Config) (s : Fabric) (f : Flight) →
+    FollowsMessage s f.message
+    (if nat_lt (node_at s f.message.to).now f.message.tag then step_refused s Held
+    else delivers config s f.message (outcome_of s f.message f.message.body))
+whole_delivery config s f =
+    either (FollowsMessage s f.message) (nat_lt (node_at s f.message.to).now f.message.tag) (step_refused s Held)
+    (delivers config s f.message (outcome_of s f.message f.message.body)) (kept_back s f.message Held)
+    (by_body config s f.message f.message.body).good
+
 pub delivery-owners : (config : Config) (s : Fabric) (f : Option Flight) →
     FollowsLines s (delivers_flight config s f).fabric (lines_of_flight s f)
 delivery-owners config s None = λ n b. refl
-delivery-owners config s (Some f) =
-    by_place s (lines_at s f.message) _ (is_there f)
-    (either (FollowsMessage s f.message) (nat_lt (node_at s f.message.to).now f.message.tag) (step_refused s Held)
-    (delivers config s f.message (outcome_of s f.message f.message.body)) (declined s f.message Held)
-    (by_body config s f.message f.message.body).good).same
+delivery-owners config s (Some f) = by_place s (lines_at s f.message) _ (is_there f) (whole_delivery config s f).same
+
+-- and all nodes but the receiver are as they were
+abbrev pub SameUnreached : Fabric → Fabric → Reach → Type 0
+SameUnreached s t reach = (n : ℕ) → is_reached reach n ≡ false → node_at t n ≡ node_at s n
+
+pub one-reached : (s t : Fabric) (k : ℕ) → SameNodesBut s k t → SameUnreached s t (One k)
+one-reached s t k same n other = same n (λ is. eqb-false k n other (sym is))
+
+others_by_place : (s : Fabric) (l : TouchedLines) (x : FabricStep) (there : Bool) → SameNodesBut s l.node x.fabric →
+    SameUnreached s (if not there then step_refused s NotArrived else x).fabric (reach_of_lines (if there then Some l else None))
+others_by_place s l x true same = one-reached s x.fabric l.node same
+others_by_place s l x false same = λ n other. refl
+
+pub delivery-others : (config : Config) (s : Fabric) (f : Option Flight) →
+    SameUnreached s (delivers_flight config s f).fabric (reach_of_lines (lines_of_flight s f))
+delivery-others config s None = λ n other. refl
+delivery-others config s (Some f) = others_by_place s (lines_at s f.message) _ (is_there f) (whole_delivery config s f).others

@@ -1,4 +1,4 @@
--- What each event of the machine leaves of what the caches own.
+-- What each event of the machine leaves of the nodes, and of what their caches own.
 use Rattle.std.proofs.Common.{◌≡◌, ℕ, ◌+◌, ◌<◌, Bool, true, false, length, Option, Some, None, refl, sym, ap, ◌∙◌, true≢false}
 use Rattle.std.proofs.lemmas.Bool.{ltb-true}
 use Rattle.sn_base.specs.Events.{event_fits}
@@ -16,16 +16,19 @@ use Rattle.rv_core.proofs.CoreLaws.{write_fits}
 use Rattle.sn_model.specs.declared.cache.Need.TheVariants as need
 use Rattle.sn_model.specs.Fabric.{line_of_node}
 use Rattle.sn_model.specs.Net.{flight_of}
+use Rattle.sn_model.specs.NetEvents.{hops, loses, step_of_kill}
+use Rattle.sn_model.specs.NodeEvents.{step_of_eviction, step_of_edge, step_of_report}
 use Rattle.sn_model.specs.Machine.{State, processor_at}
 use Rattle.sn_model.specs.Instructions.{found_at, written_by, step_of_retirement, step_of_instruction}
 use Rattle.sn_model.specs.MachineEvents.{is_recovered, validates, unready_node, restores}
-use Rattle.sn_model.specs.PointEvents.{recovers}
+use Rattle.sn_model.specs.PointEvents.{recovers, fabric_restored_to}
 use Rattle.sn_model.specs.Step.{step_of}
 use Rattle.consistent_cuts.specs.Accesses.{CanServe, CanServeWant, CanRetire, write_of}
 use Rattle.consistent_cuts.proofs.SteppedCases.{stepped_cases}
-use Rattle.run_statistics.specs.Owned.{owns, touched_lines}
-use Rattle.run_statistics.proofs.Owners.{SameOwners, FollowsLines, writable_owned, write-owners, access-owners, eviction-owners, edge-owners, report-owners}
-use Rattle.run_statistics.proofs.Owners.{hop-owners, loss-owners, kill-owners, advance-owners, delivery-owners}
+use Rattle.run_statistics.specs.Owned.{owns, touched_lines, reach_of, is_recovery}
+use Rattle.run_statistics.proofs.Owners.{SameOwners, FollowsLines, SameNodes, SameNodesBut, SameUnreached, writable_owned, write-owners, write-others}
+use Rattle.run_statistics.proofs.Owners.{access-owners, access-others, eviction-owners, eviction-others, edge-owners, edge-others, report-nodes, hop-nodes}
+use Rattle.run_statistics.proofs.Owners.{loss-nodes, kill-nodes, advance-nodes, delivery-owners, delivery-others, same-owners, same-nodes, one-reached}
 
 -- an instruction writes to a line that owns its block
 module _ (config : Config) (s : State) (n : ℕ) where
@@ -60,28 +63,67 @@ module _ (config : Config) (s : State) (n : ℕ) where
       stepped_cases image config s n l (λ x. SameOwners s.fabric x.state.fabric) (retired_owners image)
       (λ block access low leaves. access-owners config s.fabric n block access) (λ answer leaves k b. refl)
 
-validation_owners : (s : State) (unready : Option ℕ) → SameOwners s.fabric (validates s unready).state.fabric
-validation_owners s (Some n) = λ k b. refl
-validation_owners s None = advance-owners s.fabric (s.fabric.point + 1)
+  written_others : (write : Option Write) → SameNodesBut s.fabric n (written_by s.fabric n write)
+  written_others None = λ k d. refl
+  written_others (Some x) = write-others s.fabric n x
+
+  stepped_others : (image : ImageData) → n < length s.fabric.nodes → SameNodesBut s.fabric n (step_of_instruction image config s n).state.fabric
+  stepped_others image l =
+      stepped_cases image config s n l (λ x. SameNodesBut s.fabric n x.state.fabric) (λ can. written_others (write_of image s n))
+      (λ block access low leaves. access-others config s.fabric n block access) (λ answer leaves k d. refl)
+
+validation_nodes : (s : State) (unready : Option ℕ) → SameNodes s.fabric (validates s unready).state.fabric
+validation_nodes s (Some n) = refl
+validation_nodes s None = advance-nodes s.fabric (s.fabric.point + 1)
 
 refused_recovery : (s : State) (k : ℕ) (cut : Option (ℕ × ℕ)) → is_recovered (restores s (recovers s.fabric k cut)).answer ≡ false →
     SameOwners s.fabric (restores s (recovers s.fabric k cut)).state.fabric
 refused_recovery s k (Some pair) calm = λ n b. refl
 refused_recovery s k None calm = absurd (true≢false calm)
 
+done_recovery : (s : State) (k : ℕ) (cut : Option (ℕ × ℕ)) → is_recovered (restores s (recovers s.fabric k cut)).answer ≡ true →
+    (restores s (recovers s.fabric k cut)).state.fabric ≡ fabric_restored_to s.fabric k
+done_recovery s k (Some pair) done = absurd (true≢false (sym done))
+done_recovery s k None done = refl
+
+-- a recovery that is done
+pub recovered-fabric : (image : ImageData) (config : Config) (s : State) (event : Event) → is_recovery event ≡ true →
+    is_recovered (step_of image config s event).answer ≡ true →
+    (step_of image config s event).state.fabric ≡ fabric_restored_to s.fabric s.fabric.point
+unfolding step_of
+recovered-fabric image config s Recover is done = done_recovery s s.fabric.point _ done
+recovered-fabric image config s _ is done = absurd (true≢false (sym is))
+
 -- any event but a recovery that is done
 pub lines-follow : (image : ImageData) (config : Config) (s : State) (event : Event) → event_fits (length s.fabric.nodes) event ≡ true →
-    is_recovered (step_of image config s event).answer ≡ false →
+    (is_recovery event ≡ true → is_recovered (step_of image config s event).answer ≡ false) →
     FollowsLines s.fabric (step_of image config s event).state.fabric (touched_lines s.fabric event)
 unfolding step_of
 lines-follow image config s (Step n) fits calm = stepped_owners config s n image (ltb-true n (length s.fabric.nodes) fits)
 lines-follow image config s (Evict n block) fits calm = eviction-owners s.fabric n block
 lines-follow image config s (Edge n) fits calm = edge-owners s.fabric n
-lines-follow image config s (Hop id) fits calm = hop-owners s.fabric (flight_of s.fabric.net.flights id)
+lines-follow image config s (Hop id) fits calm = same-owners s.fabric (hops s.fabric (flight_of s.fabric.net.flights id)).fabric (hop-nodes s.fabric (flight_of s.fabric.net.flights id))
 lines-follow image config s (Deliver id) fits calm = delivery-owners config s.fabric (flight_of s.fabric.net.flights id)
-lines-follow image config s (Lose id) fits calm = loss-owners s.fabric (flight_of s.fabric.net.flights id)
-lines-follow image config s (Kill switch) fits calm = kill-owners s.fabric switch
-lines-follow image config s (Report n) fits calm = report-owners s.fabric n
-lines-follow image config s Validate fits calm = validation_owners s (unready_node s)
-lines-follow image config s Recover fits calm = refused_recovery s s.fabric.point _ calm
+lines-follow image config s (Lose id) fits calm = same-owners s.fabric (loses s.fabric (flight_of s.fabric.net.flights id)).fabric (loss-nodes s.fabric (flight_of s.fabric.net.flights id))
+lines-follow image config s (Kill switch) fits calm = same-owners s.fabric (step_of_kill s.fabric switch).fabric (kill-nodes s.fabric switch)
+lines-follow image config s (Report n) fits calm = same-owners s.fabric (step_of_report s.fabric n).fabric (report-nodes s.fabric n)
+lines-follow image config s Validate fits calm = same-owners s.fabric (validates s (unready_node s)).state.fabric (validation_nodes s (unready_node s))
+lines-follow image config s Recover fits calm = refused_recovery s s.fabric.point _ (calm refl)
 lines-follow image config s (GivesInput n byte) fits calm = λ k b. refl
+
+-- and any event leaves the nodes that it doesn't reach
+pub others-stay : (image : ImageData) (config : Config) (s : State) (event : Event) → event_fits (length s.fabric.nodes) event ≡ true →
+    SameUnreached s.fabric (step_of image config s event).state.fabric (reach_of s.fabric event)
+unfolding step_of
+others-stay image config s (Step n) fits =
+    one-reached s.fabric (step_of_instruction image config s n).state.fabric n (stepped_others config s n image (ltb-true n (length s.fabric.nodes) fits))
+others-stay image config s (Evict n block) fits = one-reached s.fabric (step_of_eviction s.fabric n block).fabric n (eviction-others s.fabric n block)
+others-stay image config s (Edge n) fits = one-reached s.fabric (step_of_edge s.fabric n).fabric n (edge-others s.fabric n)
+others-stay image config s (Hop id) fits = λ n other. same-nodes s.fabric (hops s.fabric (flight_of s.fabric.net.flights id)).fabric (hop-nodes s.fabric (flight_of s.fabric.net.flights id)) n
+others-stay image config s (Deliver id) fits = delivery-others config s.fabric (flight_of s.fabric.net.flights id)
+others-stay image config s (Lose id) fits = λ n other. same-nodes s.fabric (loses s.fabric (flight_of s.fabric.net.flights id)).fabric (loss-nodes s.fabric (flight_of s.fabric.net.flights id)) n
+others-stay image config s (Kill switch) fits = λ n other. same-nodes s.fabric (step_of_kill s.fabric switch).fabric (kill-nodes s.fabric switch) n
+others-stay image config s (Report n) fits = λ m other. same-nodes s.fabric (step_of_report s.fabric n).fabric (report-nodes s.fabric n) m
+others-stay image config s Validate fits = λ n other. same-nodes s.fabric (validates s (unready_node s)).state.fabric (validation_nodes s (unready_node s)) n
+others-stay image config s Recover fits = λ n other. absurd (true≢false other)
+others-stay image config s (GivesInput n byte) fits = λ k other. refl

@@ -11,4 +11,6 @@ pub mod Puts
 pub mod Bytes
 pub mod Recoveries
 pub mod Statistics
+pub mod Covered
+pub mod Counted
 pub mod Lines

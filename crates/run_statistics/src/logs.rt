@@ -2,8 +2,11 @@
 ghost use Rattle.std.specs.Prelude.{◌≡◌, ◌<◌};
 ghost use Rattle.run_statistics.specs.Numbers.{with_greater};
 ghost use Rattle.run_statistics.specs.Logs.{no_logs, entries_of, checkpoints_of, logs_with};
+ghost use Rattle.run_statistics.specs.Owned.{ReachesNodes};
+ghost use Rattle.run_statistics.specs.Covered.{CoversOthers};
 
 use crate::numbers::Numbers;
+use crate::reach::Reach;
 use sn_base::{Entries, NodeId};
 use sn_machine::Machine;
 
@@ -39,12 +42,25 @@ impl LogStatistics {
         self.most_checkpoints.raise(place, u64::from(checkpoints));
     }
 
-    /// After an event that left this machine.
-    pub fn add(&mut self, machine: &Machine)
+    fn add_all(&mut self, machine: &Machine)
         ensures { self.new ≡ logs_with self.old machine.now.config.nodes machine.now.state.fabric }
     {
         'nodes: for number in 0..machine.config().nodes {
             self.add_node(machine, NodeId::numbered(number));
+        }
+    }
+
+    /// After an event that reached so far and left this machine.
+    pub fn add(&mut self, reach: &Reach, machine: &Machine)
+        requires reach { ReachesNodes machine.now.config.nodes reach.now }
+        requires entries { CoversOthers (entries_of machine.now.state.fabric) machine.now.config.nodes reach.now self.old.most_entries }
+        requires checkpoints { CoversOthers (checkpoints_of machine.now.state.fabric) machine.now.config.nodes reach.now self.old.most_checkpoints }
+        ensures { self.new ≡ logs_with self.old machine.now.config.nodes machine.now.state.fabric }
+    {
+        match reach {
+            Reach::Nobody => {}
+            Reach::One(node) => self.add_node(machine, *node),
+            Reach::Everybody => self.add_all(machine),
         }
     }
 }

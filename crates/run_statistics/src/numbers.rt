@@ -65,6 +65,13 @@ impl Numbers {
         self.counts[place] = self.counts[place].max(other);
     }
 
+    /// As others are.
+    pub fn set_to(&mut self, others: &Numbers)
+        ensures { self.new ≡ others.now }
+    {
+        self.counts = others.counts;
+    }
+
     /// One more for the node of each record.
     pub fn add_records(&mut self, records: &[Record])
         ensures { self.new ≡ with_one_each self.old (nodes_of records.now) }

@@ -1,52 +1,40 @@
-//! How many blocks each node's cache owns, from event to event. A delivery may change it by two lines, a recovery makes it anew, and no
-//! other event changes it; so no event but a recovery looks at all blocks.
-ghost use Rattle.std.specs.Prelude.{◌≡◌, ℕ, ◌<◌, ◌≤◌, true, false, length, slice_index, Some};
-ghost use Rattle.sn_model.specs.Caches.{block_count, is_owned};
+//! How many blocks each node's cache owns, from event to event. A delivery may change it by two lines, a recovery by what the logs keep,
+//! and no other event changes it; so no event looks at all blocks.
+ghost use Rattle.std.specs.Prelude.{◌≡◌, ◌<◌, ◌≤◌, ◌&&◌, true, false, length, slice_index, Some, is_some, IfSome};
+ghost use Rattle.sn_model.specs.Caches.{block_count};
 ghost use Rattle.sn_model.specs.MachineEvents.{is_recovered};
 ghost use Rattle.sn_model.specs.Net.{flight_of};
-ghost use Rattle.run_statistics.specs.Numbers.{with_greatest_below};
-ghost use Rattle.run_statistics.specs.Owned.{owns, owned_blocks, named_blocks, lines_at, lines_of_flight, touched_lines, owned_among, AreThere, with_lines, with_owner, AreOwned};
+ghost use Rattle.sn_model.specs.RecoveryPoint.{IsCut};
+ghost use Rattle.sn_machine.specs.Machine.{flat_of};
+ghost use Rattle.run_statistics.specs.Numbers.{with_greater, with_greatest_below};
+ghost use Rattle.run_statistics.specs.Owned.{owned_blocks, owned_at_point, lines_at, lines_of_flight, touched_lines, owned_among, AreThere, with_lines, AreOwned};
+ghost use Rattle.run_statistics.specs.Owned.{reach_of, ReachesNodes, is_recovery};
+ghost use Rattle.run_statistics.specs.Covered.{CoversOthers};
 
 use crate::numbers::Numbers;
-use sn_base::{Answer, BLOCKS, BlockNo, Event, MsgId, NodeId};
+use crate::reach::{Reach, reach_of};
+use crate::undone::{owned_at_point, owns};
+use sn_base::{Answer, BlockNo, Event, MsgId, NodeId};
 use sn_machine::Machine;
-use sn_model::{LineState, Owner};
 use sn_msg::Message;
 
 /// Lines of a node's cache, by which a delivery may change what the cache owns: that of the message's block, and that of the block on
 /// which the node's miss is open, which may complete. They may be the same line.
-#[derive(Clone, Copy, PartialEq, Eq, Debug)]
+#[derive(Clone, Copy)]
 pub struct TouchedLines {
     pub node: NodeId,
     pub block: BlockNo,
     pub missed: BlockNo,
 }
 
-/// The lines by which an event may change what a cache owns, and how many of them own their blocks before it.
-#[derive(Clone, Copy, PartialEq, Eq, Debug)]
+/// What an event may change of what the caches own: the lines that it may touch, and how many of them own their blocks before it; how many
+/// blocks each cache owned at the recovery point, where the event is a recovery; and how far it reaches.
+#[derive(Drop)]
 pub struct OwnedBefore {
     pub lines: Option<TouchedLines>,
     pub count: u64,
-}
-
-fn is_owned(state: &LineState) -> bool
-    ensures { result ≡ is_owned state.now }
-{
-    matches!(
-        state,
-        LineState::Owned | LineState::Modified | LineState::Exclusive
-    )
-}
-
-/// Whether a node's cache owns a block.
-fn owns(machine: &Machine, node: NodeId, block: BlockNo) -> bool
-    requires { node < machine.now.config.nodes }
-    ensures { result ≡ owns machine.now.state.fabric node block }
-{
-    match machine.line(node, block) {
-        Some(line) => is_owned(&line.state),
-        None => false,
-    }
+    pub at_point: Option<Numbers>,
+    pub reach: Reach,
 }
 
 /// How many of a node's lines own their blocks.
@@ -116,54 +104,60 @@ fn touched_lines(machine: &Machine, event: &Event) -> Option<TouchedLines>
     }
 }
 
-/// That the machine has its nodes, which are few. Nothing is done.
-fn has_its_nodes(machine: &Machine)
+/// That the machine has its nodes, which are few, and its homes, and that its recovery point is a cut. Nothing is done.
+fn is_whole(machine: &Machine)
     ensures nodes { length machine.now.state.fabric.nodes ≡ machine.now.config.nodes }
     ensures few { machine.now.config.nodes ≤ 16 }
+    ensures homes { length machine.now.state.fabric.homes ≡ block_count }
+    ensures cut { IsCut machine.now.state machine.now.state.fabric.point (flat_of machine.now) }
 {
     let view = machine.recovered();
     view.is_cut();
 }
 
-fn add_owner(numbers: &mut Numbers, owner: &Owner)
-    ensures { numbers.new ≡ with_owner numbers.old owner.now }
-{
-    if let Owner::Cache(node) = owner {
-        numbers.add(usize::from(node.number()), 1);
-    }
-}
-
-/// How many blocks the homes name each node's cache the owner of, which are those that it owns after a recovery.
-fn named_blocks(machine: &Machine) -> Numbers
-    ensures places { length result ≡ 32 }
-    ensures named { (n : ℕ) → n < 16 → slice_index result n ≡ named_blocks machine.now.state.fabric n }
-{
-    let mut numbers = Numbers::new();
-    'homes: for number in 0..BLOCKS {
-        add_owner(&mut numbers, &machine.owner(BlockNo::new(number as u16)));
-    }
-    numbers
-}
-
-fn is_recovery(answer: &Answer) -> bool
+fn is_recovered(answer: &Answer) -> bool
     ensures { result ≡ is_recovered answer.now }
 {
     matches!(answer, Answer::Recovered(_))
 }
 
+fn at_point(machine: &Machine, owned: &Numbers, event: &Event) -> Option<Numbers>
+    requires { AreOwned machine.now.config.nodes machine.now.state.fabric owned.now }
+    ensures some { IfSome result (λ numbers. numbers ≡ owned_at_point machine.now.config.nodes machine.now.state.fabric) }
+    ensures recovery { is_some result ≡ is_recovery event.now }
+{
+    match event {
+        Event::Recover => Some(owned_at_point(machine, owned)),
+        _ => None,
+    }
+}
+
 impl OwnedBefore {
-    /// Before this event.
-    pub fn of(machine: &Machine, event: &Event) -> OwnedBefore
+    /// Before this event, where each node's cache owns so many blocks.
+    pub fn of(machine: &Machine, owned: &Numbers, event: &Event) -> OwnedBefore
+        requires { AreOwned machine.now.config.nodes machine.now.state.fabric owned.now }
         ensures lines { result.lines ≡ touched_lines machine.now.state.fabric event.now }
         ensures count { result.count ≡ owned_among machine.now.state.fabric result.lines }
         ensures there { AreThere machine.now.config.nodes result.lines }
+        ensures point { IfSome result.at_point (λ numbers. numbers ≡ owned_at_point machine.now.config.nodes machine.now.state.fabric) }
+        ensures recovery { is_some result.at_point ≡ is_recovery event.now }
+        ensures reach { result.reach ≡ reach_of machine.now.state.fabric event.now }
         ensures nodes { length machine.now.state.fabric.nodes ≡ machine.now.config.nodes }
         ensures few { machine.now.config.nodes ≤ 16 }
+        ensures homes { length machine.now.state.fabric.homes ≡ block_count }
+        ensures cut { IsCut machine.now.state machine.now.state.fabric.point (flat_of machine.now) }
     {
-        has_its_nodes(machine);
+        is_whole(machine);
         let lines = touched_lines(machine, event);
         let count = owned_among(machine, &lines);
-        OwnedBefore { lines, count }
+        let reach = reach_of(event, &lines);
+        let at_point = at_point(machine, owned, event);
+        OwnedBefore {
+            lines,
+            count,
+            at_point,
+            reach,
+        }
     }
 
     // By the lines that were touched.
@@ -180,28 +174,46 @@ impl OwnedBefore {
     /// After the event, which had this answer and left this machine: how many blocks each node's cache owns.
     pub fn follow(&self, owned: &mut Numbers, answer: &Answer, machine: &Machine)
         requires { AreThere machine.now.config.nodes self.now.lines }
-        ensures moved { is_recovered answer.now ≡ false → owned.new
+        ensures moved { (is_some self.now.at_point && is_recovered answer.now) ≡ false → owned.new
             ≡ with_lines owned.old self.now.lines self.now.count (owned_among machine.now.state.fabric self.now.lines) }
-        ensures places { is_recovered answer.now ≡ true → length owned.new ≡ 32 }
-        ensures named { is_recovered answer.now ≡ true → (n : ℕ) → n < 16 → slice_index owned.new n ≡ named_blocks machine.now.state.fabric n }
-        ensures nodes { length machine.now.state.fabric.nodes ≡ machine.now.config.nodes }
+        ensures back { (is_some self.now.at_point && is_recovered answer.now) ≡ true → Some owned.new ≡ self.now.at_point }
     {
-        has_its_nodes(machine);
-        if is_recovery(answer) {
-            *owned = named_blocks(machine);
-        } else {
-            self.move_on(owned, machine);
+        if let Some(numbers) = &self.at_point {
+            if is_recovered(answer) {
+                owned.set_to(numbers);
+                return;
+            }
         }
+        self.move_on(owned, machine);
     }
 }
 
-/// The most that each node's cache owned, once it owns so many.
-pub fn raise_to_owned(most: &mut Numbers, owned: &Numbers, machine: &Machine)
-    requires owned { AreOwned machine.now.config.nodes machine.now.state.fabric owned.now }
+fn raise_one(most: &mut Numbers, owned: &Numbers, node: NodeId)
+    ensures { most.new ≡ with_greater most.old node (slice_index owned.now node) }
+{
+    let place = usize::from(node.number());
+    most.raise(place, owned.at(place));
+}
+
+fn raise_all(most: &mut Numbers, owned: &Numbers, machine: &Machine)
+    requires { AreOwned machine.now.config.nodes machine.now.state.fabric owned.now }
     ensures { most.new ≡ with_greatest_below (owned_blocks machine.now.state.fabric) machine.now.config.nodes most.old }
 {
     'nodes: for number in 0..machine.config().nodes {
-        let place = usize::from(NodeId::numbered(number).number());
-        most.raise(place, owned.at(place));
+        raise_one(most, owned, NodeId::numbered(number));
+    }
+}
+
+/// The most that each node's cache owned, once it owns so many, after an event that reached so far.
+pub fn raise_to_owned(most: &mut Numbers, owned: &Numbers, reach: &Reach, machine: &Machine)
+    requires owned { AreOwned machine.now.config.nodes machine.now.state.fabric owned.now }
+    requires reach { ReachesNodes machine.now.config.nodes reach.now }
+    requires covered { CoversOthers (owned_blocks machine.now.state.fabric) machine.now.config.nodes reach.now most.old }
+    ensures { most.new ≡ with_greatest_below (owned_blocks machine.now.state.fabric) machine.now.config.nodes most.old }
+{
+    match reach {
+        Reach::Nobody => {}
+        Reach::One(node) => raise_one(most, owned, *node),
+        Reach::Everybody => raise_all(most, owned, machine),
     }
 }

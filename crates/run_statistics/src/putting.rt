@@ -8,6 +8,7 @@ ghost use Rattle.sink_pieces.specs.Pieces.{Report, ends, after, Breaks};
 ghost use Rattle.run_statistics.specs.Statistics.{statistics_of};
 ghost use Rattle.run_statistics.specs.Lines.{answer_lines, message_lines, wait_lines, recovered_lines, node_lines, recovery_lines, statistics_lines};
 
+use crate::count::Count;
 use crate::counting::statistics_of_run;
 use crate::lines::{
     write_answer_lines, write_message_lines, write_node_lines, write_recovered_lines,
@@ -89,6 +90,20 @@ fn text_of(alloc: Global, x: &Statistics, nodes: u8) -> Result<Vec<u8>, Memory>
     add_nodes(&mut text, &mut line, x, nodes)?;
     add_recoveries(&mut text, &mut line, x.recoveries.all.all())?;
     Ok(text)
+}
+
+impl Count {
+    /// The lines of what it counted. An error is want of memory, now or while it counted.
+    pub fn text(&self, alloc: Global, nodes: u8) -> Result<Vec<u8>, Memory>
+        requires few { nodes ≤ 16 }
+        ensures on { OnOk result (self.now.on ≡ true) }
+        ensures lines { IfOk result (λ text. text.items ≡ statistics_lines nodes self.now.statistics) }
+    {
+        if !self.on {
+            return Err(Memory);
+        }
+        text_of(alloc, &self.statistics, nodes)
+    }
 }
 
 /// The lines of the statistics of a run, for whoever puts them later: no memory is wanted then. The run is counted anew. An error is

@@ -1,7 +1,8 @@
 //! All statistics of a run, and what one event adds.
 ghost use Rattle.std.specs.Prelude.{◌≡◌, drop, length, OnOk};
 ghost use Rattle.run_statistics.specs.Instructions.{waiting_by_node, waiting_after};
-ghost use Rattle.run_statistics.specs.Owned.{AreOwned};
+ghost use Rattle.run_statistics.specs.Owned.{AreOwned, ReachesNodes};
+ghost use Rattle.run_statistics.specs.Covered.{AreCovered};
 ghost use Rattle.run_statistics.specs.Statistics.{no_statistics, before_of, with_counts, with_lists, statistics_with};
 
 use crate::bytes::ByteStatistics;
@@ -12,6 +13,7 @@ use crate::messages::MessageStatistics;
 use crate::numbers::Numbers;
 use crate::owned::raise_to_owned;
 use crate::places::place_of_answer;
+use crate::reach::Reach;
 use crate::recoveries::RecoveryStatistics;
 use sn_base::{Answer, Event, Memory};
 use sn_machine::Machine;
@@ -19,7 +21,7 @@ use std::alloc::Global;
 
 /// What a machine has before an event: how many records are committed, and how many wait; how many bytes are held, and how many
 /// messages in flight.
-#[derive(Clone, Copy, PartialEq, Eq, Debug)]
+#[derive(Clone, Copy)]
 pub struct Before {
     pub committed: usize,
     pub waiting: u64,
@@ -94,11 +96,14 @@ impl Statistics {
         event: &Event,
         answer: &Answer,
         owned: &Numbers,
+        reach: &Reach,
         machine: &Machine,
     )
         requires waits { waiting_after self.old.instructions.waiting event.now answer.now machine.now.state.pending
             ≡ waiting_by_node machine.now.state.pending }
         requires owned { AreOwned machine.now.config.nodes machine.now.state.fabric owned.now }
+        requires reach { ReachesNodes machine.now.config.nodes reach.now }
+        requires covered { AreCovered self.old machine.now.config.nodes machine.now.state.fabric reach.now }
         ensures { self.new ≡ with_counts machine.now.config.nodes self.old before.now event.now
             (record { state = machine.now.state; answer = answer.now; sent = machine.now.sent }) }
     {
@@ -113,8 +118,8 @@ impl Statistics {
             since(view.committed(), before.committed),
             machine.pending(),
         );
-        self.logs.add(machine);
-        raise_to_owned(&mut self.most_owned, owned, machine);
+        self.logs.add(reach, machine);
+        raise_to_owned(&mut self.most_owned, owned, reach, machine);
     }
 
     // What may take memory.
@@ -140,22 +145,26 @@ impl Statistics {
             .add(number, before.waiting, answer, machine.sent())
     }
 
-    /// The machine's last event, before which it had so much, with its answer; and how many blocks each node's cache owns now.
+    /// The machine's last event, before which it had so much, with its answer; how many blocks each node's cache owns now; and how far the
+    /// event reached.
     pub fn add(
         &mut self,
         before: &Before,
         event: &Event,
         answer: &Answer,
         owned: &Numbers,
+        reach: &Reach,
         machine: &Machine,
     ) -> Result<(), Memory>
         requires waits { waiting_after self.old.instructions.waiting event.now answer.now machine.now.state.pending
             ≡ waiting_by_node machine.now.state.pending }
         requires owned { AreOwned machine.now.config.nodes machine.now.state.fabric owned.now }
+        requires reach { ReachesNodes machine.now.config.nodes reach.now }
+        requires covered { AreCovered self.old machine.now.config.nodes machine.now.state.fabric reach.now }
         ensures { OnOk result (self.new ≡ statistics_with machine.now.config.nodes self.old before.now event.now
             (record { state = machine.now.state; answer = answer.now; sent = machine.now.sent })) }
     {
-        self.add_counts(before, event, answer, owned, machine);
+        self.add_counts(before, event, answer, owned, reach, machine);
         self.add_lists(before, event, answer, machine)
     }
 }

@@ -1,6 +1,6 @@
 //! What is counted of a run, and how it is written.
 use elf_load::load;
-use run_statistics::{StatisticsFault, put_statistics, statistics_text};
+use run_statistics::{Count, StatisticsFault, put_statistics, statistics_text};
 use sn_base::Config;
 use sn_io::MemSink;
 use sn_text::read_script;
@@ -388,5 +388,23 @@ fn nothing_is_counted_of_a_run_without_an_event(rt: HostRuntime) -> Result<(), F
         text.as_slice()
             .starts_with(b"stat events 0\nstat retired 0\n".as_slice())
     );
+    Ok(())
+}
+
+#[test]
+fn a_count_that_was_told_of_nothing_has_the_text_of_a_run_without_an_event(
+    rt: HostRuntime,
+) -> Result<(), Fail> {
+    let text = text_of_none(&rt, rt.alloc(), &RECOVERS)?;
+    let count = Count::new(rt.alloc(), true);
+    let counted = count.text(rt.alloc(), RECOVERS.nodes)?;
+    assert!(rt; counted.as_slice() == text.as_slice());
+    Ok(())
+}
+
+#[test]
+fn a_count_that_is_not_asked_to_count_has_no_text(rt: HostRuntime) -> Result<(), Fail> {
+    let count = Count::new(rt.alloc(), false);
+    assert!(rt; count.text(rt.alloc(), 1).is_err());
     Ok(())
 }

@@ -36,7 +36,7 @@ use Rattle.safetynet_main.specs.declared.job.Job.TheVariants.{Check as CheckJob,
 use Rattle.safetynet_main.specs.declared.job.Verdict.{Verdict}
 use Rattle.safetynet_main.specs.declared.job.Verdict.TheVariants as verdict
 use Rattle.call_status.specs.declared.status.Status.{Status}
-use Rattle.call_status.specs.declared.status.Status.TheVariants.{Done, Usage, BadPlaces, StoreFault, BadProgram, BadScript, BadAsm, SinkFault}
+use Rattle.call_status.specs.declared.status.Status.TheVariants.{Done, Usage, BadPlaces, StoreFault, BadProgram, BadScript, BadSave, BadAsm, SinkFault}
 use Rattle.call_status.specs.declared.status.Status.TheVariants.{Budget, Memory, CutOff, Refused, Trapped, InputFault}
 use Rattle.safetynet_main.proofs.LoadPlans.{plan-of_words, loads-sure, loads-told, loads-rose, loads-usage, refused-at_once}
 
@@ -93,6 +93,7 @@ is_memory (BadPlaces events) = inr (λ e. cc)
 is_memory StoreFault = inr (λ e. cc)
 is_memory (BadProgram cause) = inr (λ e. cc)
 is_memory (BadScript cause) = inr (λ e. cc)
+is_memory (BadSave cause) = inr (λ e. cc)
 is_memory (BadAsm cause) = inr (λ e. cc)
 is_memory SinkFault = inr (λ e. cc)
 is_memory InputFault = inr (λ e. cc)

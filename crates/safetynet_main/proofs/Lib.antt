@@ -5,3 +5,4 @@ pub mod Verdicts
 pub mod Loading
 pub mod Demos
 pub mod JobEnds
+pub mod Saves

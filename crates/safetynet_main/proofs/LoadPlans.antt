@@ -16,7 +16,7 @@ use Rattle.sn_text.specs.declared.cause.ScriptCause.{ScriptCause}
 use Rattle.sn_text.specs.declared.cause.ScriptCause.TheVariants.{TooLong as ScriptTooLong}
 use Rattle.rolling_recovery.specs.Controls.{controls_of}
 use Rattle.rolling_recovery.specs.declared.controls.Control.{Control}
-use Rattle.command_words.specs.Request.{Request, Replay, Drive, Roll, Run, Monitor, Check, Judge, Demo, Assemble, Disassemble}
+use Rattle.command_words.specs.Request.{Request, Replay, Drive, Roll, Save, Resume, Run, Monitor, Check, Judge, Demo, Assemble, Disassemble}
 use Rattle.sn_base.specs.declared.report.RunReport.{RunReport}
 use Rattle.option_values.specs.declared.run.RunRules.{RunRules}
 use Rattle.command_words.specs.declared.request.RunOrder.{RunOrder}
@@ -27,17 +27,25 @@ use Rattle.asm_texts.specs.Texts.{words_text}
 use Rattle.counting_program.specs.Program.{counting_words}
 use Rattle.call_files.specs.Files.{program_limit, script_limit, accesses_limit, program_of, if_read, events_of, steps_of, records_of}
 use Rattle.call_files.specs.Files.{if_said, accesses_of, if_assembled, assembly_of, listing_of}
+use Rattle.call_files.specs.Saves.{save_limit, if_accepted, machine_of}
+use Rattle.save_text.specs.Judged.{judged_of}
+use Rattle.save_text.specs.declared.cause.SaveCause.{SaveCause}
+use Rattle.save_text.specs.declared.cause.SaveCause.TheVariants.{TooLong as SaveTooLong}
+use Rattle.save_text.specs.Reading.{said_by as saved_by}
+use Rattle.sn_machine.specs.Machine.{MachineData}
+use Rattle.sn_saved.specs.Saved.{Saved}
 use Rattle.safetynet_main.specs.LoadPlan.{LoadPlan, Due, Fetch, due_by, Loads}
 use Rattle.call_files.specs.Fetches.{Fetches}
 use Rattle.call_files.proofs.Found.{IsOfBytes, program-of_bytes}
 use Rattle.safetynet_main.specs.Call.{are_there, replay_job, job_with, roll_with, run_with, monitor_with, check_with, judge_with, text_job}
-use Rattle.safetynet_main.specs.Call.{script_plan, control_plan, rolled_plan, trace_plan}
+use Rattle.safetynet_main.specs.Call.{save_with, resume_with}
+use Rattle.safetynet_main.specs.Call.{script_plan, control_plan, rolled_plan, later_plan, going_on_plan, resumed_plan, trace_plan}
 use Rattle.safetynet_main.specs.Call.{generated_job, plan_of, AsksNothing}
 use Rattle.safetynet_main.specs.declared.job.Job.{Job}
 use Rattle.safetynet_main.specs.declared.job.Job.TheVariants.{States as StatesJob}
 use Rattle.call_status.specs.declared.status.ProgramCause.TheVariants.{TooLong as ProgramTooLong}
 use Rattle.call_status.specs.declared.status.Status.{Status}
-use Rattle.call_status.specs.declared.status.Status.TheVariants.{Usage, BadPlaces, StoreFault, BadProgram, BadScript, BadAsm}
+use Rattle.call_status.specs.declared.status.Status.TheVariants.{Usage, BadPlaces, StoreFault, BadProgram, BadScript, BadSave, BadAsm}
 
 -- a plan in which a file that isn't there is the store's fault, and nothing else is
 abbrev pub IsPlain : LoadPlan → Type 0
@@ -68,6 +76,12 @@ said : (r : Result Said ScriptCause) (long : Bool) → IsOfBytes (if long then E
 said r true = (λ e. cc, λ e. cc)
 said (Ok items) false = (λ e. cc, λ e. cc)
 said (Err cause) false = (λ e. cc, λ e. cc)
+
+resumes : (image : ImageData) (r : Result Saved SaveCause) (long : Bool) →
+    IsOfBytes (if long then Err (BadSave SaveTooLong) else if_accepted image r)
+resumes image r true = (λ e. cc, λ e. cc)
+resumes image (Ok saved) false = (λ e. cc, λ e. cc)
+resumes image (Err cause) false = (λ e. cc, λ e. cc)
 
 assembled : (r : Result (List ℕ) AsmCause) (long : Bool) → IsOfBytes (if long then Err (BadAsm AsmTooLong) else if_assembled r)
 assembled r true = (λ e. cc, λ e. cc)
@@ -155,6 +169,46 @@ plain-rolled config watch script control (Ok image) h = (
       (read (script_of config.nodes bytes) (nat_lt script_limit (length bytes))),
 )
 
+plain-save : (config : Config) (image : ImageData) (events : Result (List Event) Status) → IsOfBytes events →
+    IsOfBytes (save_with config image events)
+plain-save config image (Ok events) h = (λ e. cc, λ e. cc)
+plain-save config image (Err status) h = (λ e. h.0 cc, λ e. h.1 cc)
+
+plain-resume : (watch : Option ℕ) (m : MachineData) (events : Result (List Event) Status) → IsOfBytes events →
+    IsOfBytes (resume_with watch m events)
+plain-resume watch m (Ok events) h = (λ e. cc, λ e. cc)
+plain-resume watch m (Err status) h = (λ e. h.0 cc, λ e. h.1 cc)
+
+plain-later : (config : Config) (script : List ℕ) (program : Result ImageData Status) → IsOfBytes program →
+    IsPlain (later_plan config script program)
+plain-later config script (Err status) h = (λ e. h.0 cc, λ e. h.1 cc)
+plain-later config script (Ok image) h = (
+  refl,
+  plain-save config image (Err (BadScript ScriptTooLong)) (λ e. cc, λ e. cc),
+  λ bytes. plain-save config image (events_of config.nodes bytes)
+      (read (script_of config.nodes bytes) (nat_lt script_limit (length bytes))),
+)
+
+plain-going_on : (watch : Option ℕ) (script : List ℕ) (made : Result MachineData Status) → IsOfBytes made →
+    IsPlain (going_on_plan watch script made)
+plain-going_on watch script (Err status) h = (λ e. h.0 cc, λ e. h.1 cc)
+plain-going_on watch script (Ok m) h = (
+  refl,
+  plain-resume watch m (Err (BadScript ScriptTooLong)) (λ e. cc, λ e. cc),
+  λ bytes. plain-resume watch m (events_of m.config.nodes bytes)
+      (read (script_of m.config.nodes bytes) (nat_lt script_limit (length bytes))),
+)
+
+plain-resumed : (watch : Option ℕ) (save script : List ℕ) (program : Result ImageData Status) → IsOfBytes program →
+    IsPlain (resumed_plan watch save script program)
+plain-resumed watch save script (Err status) h = (λ e. h.0 cc, λ e. h.1 cc)
+plain-resumed watch save script (Ok image) h = (
+  refl,
+  plain-going_on watch script (Err (BadSave SaveTooLong)) (λ e. cc, λ e. cc),
+  λ bytes. plain-going_on watch script (machine_of image bytes)
+      (resumes image (judged_of image (saved_by bytes)) (nat_lt save_limit (length bytes))),
+)
+
 plain-trace : (nodes : ℕ) (trace : List ℕ) (program : Result ImageData Status) → IsOfBytes program →
     IsPlain (trace_plan nodes trace program)
 plain-trace nodes trace (Err status) h = (λ e. h.0 cc, λ e. h.1 cc)
@@ -187,6 +241,16 @@ plan-of_words (Some (Roll config watch program script control)) = (
   refl,
   plain-rolled config watch script control (Err (BadProgram ProgramTooLong)) (λ e. cc, λ e. cc),
   λ bytes. plain-rolled config watch script control (program_of bytes) (program-of_bytes bytes),
+)
+plan-of_words (Some (Save config program script)) = (
+  refl,
+  plain-later config script (Err (BadProgram ProgramTooLong)) (λ e. cc, λ e. cc),
+  λ bytes. plain-later config script (program_of bytes) (program-of_bytes bytes),
+)
+plan-of_words (Some (Resume watch program save script)) = (
+  refl,
+  plain-resumed watch save script (Err (BadProgram ProgramTooLong)) (λ e. cc, λ e. cc),
+  λ bytes. plain-resumed watch save script (program_of bytes) (program-of_bytes bytes),
 )
 plan-of_words (Some (Run config rules report order scope watch program)) = (
   refl,
@@ -342,6 +406,8 @@ refused-at_once (Some (Demo size)) e =
     absurd ((plain-generated size (program_of (words_text counting_words)) (program-of_bytes (words_text counting_words))).1 cc)
 refused-at_once (Some (Replay config report watch program script)) e = absurd cc
 refused-at_once (Some (Roll config watch program script control)) e = absurd cc
+refused-at_once (Some (Save config program script)) e = absurd cc
+refused-at_once (Some (Resume watch program save script)) e = absurd cc
 refused-at_once (Some (Run config rules report order scope watch program)) e = absurd cc
 refused-at_once (Some (Monitor config rules watch program)) e = absurd cc
 refused-at_once (Some (Judge accesses)) e = absurd cc

@@ -15,7 +15,8 @@ use Rattle.command_words.specs.declared.request.RunOrder.{RunOrder}
 use Rattle.command_words.specs.declared.request.RunOrder.TheVariants as order
 use Rattle.command_words.specs.declared.request.RunScope.{RunScope}
 use Rattle.command_words.specs.declared.request.RunScope.TheVariants as scope
-use Rattle.command_words.specs.Request.{Request, Replay, Drive, Roll as RollRequest, Run as RunRequest, Monitor as MonitorRequest, Check, Demo}
+use Rattle.command_words.specs.Request.{Request, Replay, Drive, Roll as RollRequest, Save as SaveRequest, Resume as ResumeRequest}
+use Rattle.command_words.specs.Request.{Run as RunRequest, Monitor as MonitorRequest, Check, Demo}
 use Rattle.command_words.specs.Request.{Judge as JudgeRequest, Assemble, Disassemble}
 use Rattle.sn_probe.specs.Probes.{Meter}
 use Rattle.sink_pieces.specs.Pieces.{Piece, Report, Ends, after, Breaks, console_piece}
@@ -31,6 +32,9 @@ use Rattle.shown_states.specs.Shown.{MayBegin as MayShowStates, pieces_due as st
 use Rattle.shown_states.specs.Shown.{IsShownInPart as AreStatesShownInPart, IsCutShort as AreStatesCutShort}
 use Rattle.rolling_recovery.specs.declared.controls.Control.{Control}
 use Rattle.rolled_replay.specs.Rolled.{MayRoll, IsRolled, IsBrokenOff as IsRollBrokenOff, pieces_due as rolled_pieces}
+use Rattle.sn_machine.specs.Machine.{MachineData}
+use Rattle.saved_replay.specs.Shown.{MaySave, pieces_due as saved_pieces, IsDone as IsSaved, IsBrokenOff as IsSaveBroken}
+use Rattle.resumed_replay.specs.Shown.{MayGoOn, pieces_due as resumed_pieces, IsDone as IsGoneOn, IsBrokenOff as IsGoingOnBroken}
 use Rattle.run_journals.specs.declared.entry.JournalEntry.{JournalEntry}
 use Rattle.node_run.specs.declared.job.Run.{Run}
 use Rattle.sn_base.specs.declared.report.RunReport.{RunReport}
@@ -57,11 +61,13 @@ use Rattle.counting_program.specs.Program.{counting_words}
 use Rattle.generated_runs.specs.Generated.{generated_config, generated_events}
 use Rattle.call_files.specs.Files.{program_limit, script_limit, accesses_limit, program_of, program_in, script_in, control_in}
 use Rattle.call_files.specs.Files.{trace_in, accesses_in, assembly_in, listing_of}
+use Rattle.call_files.specs.Saves.{save_limit, machine_in}
 use Rattle.safetynet_main.specs.LoadPlan.{LoadPlan, Due, Fetch, due_by, Loads}
 use Rattle.safetynet_main.specs.Outcome.{Outcome, Finished, Judged, JudgedAccesses, Ran, Watched, IsVerdict, verdict_line, status_of}
 use Rattle.safetynet_main.specs.declared.job.Check.{Check as Judging}
 use Rattle.safetynet_main.specs.declared.job.Job.{Job}
 use Rattle.safetynet_main.specs.declared.job.Job.TheVariants.{Replay as ReplayJob, Counted as CountedJob, Accesses as AccessesJob, States as StatesJob, Roll as RollJob, Run as RunJob}
+use Rattle.safetynet_main.specs.declared.job.Job.TheVariants.{Save as SaveJob, Resume as ResumeJob}
 use Rattle.safetynet_main.specs.declared.job.Job.TheVariants.{CountedByThreads as CountedByThreadsJob, Monitor as MonitorJob}
 use Rattle.safetynet_main.specs.declared.job.Job.TheVariants.{OrderedRun as OrderedJob, CountedRun as CountedRunJob, Seeds as SeedsJob, Check as CheckJob, Judge as JudgeJob, Text}
 use Rattle.call_status.specs.declared.status.Status.{Status}
@@ -102,6 +108,16 @@ abbrev pub roll_with : Config → Option ℕ → ImageData → List Event → Re
 roll_with config watch image events (Ok controls) =
     Ok (RollJob (record { program = image; config = config; watch = watch; script = events; controls = controls }))
 roll_with config watch image events (Err status) = Err status
+
+-- the job of a program and of what was read of the script, where the recovery point is saved
+abbrev pub save_with : Config → ImageData → Result (List Event) Status → Result Job Status
+save_with config image (Ok events) = Ok (SaveJob (record { program = image; config = config; script = events }))
+save_with config image (Err status) = Err status
+
+-- the job of a machine that goes on, and of what was read of the script
+abbrev pub resume_with : Option ℕ → MachineData → Result (List Event) Status → Result Job Status
+resume_with watch m (Ok events) = Ok (ResumeJob (record { machine = m; watch = watch; script = events }))
+resume_with watch m (Err status) = Err status
 
 -- the job of a program and of what was read of the trace
 abbrev pub check_with : ℕ → ImageData → Result (List Record) Status → Result Job Status
@@ -196,6 +212,20 @@ rolled_plan config watch script control (Ok image) =
     Fetch script script_limit (λ found. control_plan config watch control image (script_in config.nodes found))
 rolled_plan config watch script control (Err status) = Due (Err status)
 
+abbrev pub later_plan : Config → List ℕ → Result ImageData Status → LoadPlan
+later_plan config script (Ok image) =
+    Fetch script script_limit (λ found. Due (save_with config image (script_in config.nodes found)))
+later_plan config script (Err status) = Due (Err status)
+
+-- a save file that is refused leaves the script alone, which is one for its nodes
+abbrev pub going_on_plan : Option ℕ → List ℕ → Result MachineData Status → LoadPlan
+going_on_plan watch script (Ok m) = Fetch script script_limit (λ found. Due (resume_with watch m (script_in m.config.nodes found)))
+going_on_plan watch script (Err status) = Due (Err status)
+
+abbrev pub resumed_plan : Option ℕ → List ℕ → List ℕ → Result ImageData Status → LoadPlan
+resumed_plan watch save script (Ok image) = Fetch save save_limit (λ found. going_on_plan watch script (machine_in image found))
+resumed_plan watch save script (Err status) = Due (Err status)
+
 abbrev pub trace_plan : ℕ → List ℕ → Result ImageData Status → LoadPlan
 trace_plan nodes trace (Ok image) = Fetch trace script_limit (λ found. Due (check_with nodes image (trace_in nodes found)))
 trace_plan nodes trace (Err status) = Due (Err status)
@@ -208,6 +238,12 @@ replay_plan config report watch program script =
 abbrev pub roll_plan : Config → Option ℕ → List ℕ → List ℕ → List ℕ → LoadPlan
 roll_plan config watch program script control =
     Fetch program program_limit (λ found. rolled_plan config watch script control (program_in found))
+
+abbrev pub save_plan : Config → List ℕ → List ℕ → LoadPlan
+save_plan config program script = Fetch program program_limit (λ found. later_plan config script (program_in found))
+
+abbrev pub resume_plan : Option ℕ → List ℕ → List ℕ → List ℕ → LoadPlan
+resume_plan watch program save script = Fetch program program_limit (λ found. resumed_plan watch save script (program_in found))
 
 abbrev pub run_plan : Config → RunRules → RunReport → RunOrder → RunScope → Option ℕ → List ℕ → LoadPlan
 run_plan config rules report order scope watch program =
@@ -248,6 +284,8 @@ abbrev pub plan_of : Option Request → LoadPlan
 plan_of (Some (Replay config report watch program script)) = replay_plan config report watch program script
 plan_of (Some (Drive config report watch program)) = Due (Err Usage)
 plan_of (Some (RollRequest config watch program script control)) = roll_plan config watch program script control
+plan_of (Some (SaveRequest config program script)) = save_plan config program script
+plan_of (Some (ResumeRequest watch program save script)) = resume_plan watch program save script
 plan_of (Some (RunRequest config rules report order scope watch program)) = run_plan config rules report order scope watch program
 plan_of (Some (MonitorRequest config rules watch program)) = monitor_plan config rules watch program
 plan_of (Some (Check nodes program trace)) = check_plan nodes program trace
@@ -303,6 +341,8 @@ IsOutcome (CountedJob r) outcome = outcome ≡ Finished
 IsOutcome (AccessesJob r) outcome = outcome ≡ Finished
 IsOutcome (StatesJob r) outcome = outcome ≡ Finished
 IsOutcome (RollJob r) outcome = outcome ≡ Finished
+IsOutcome (SaveJob r) outcome = outcome ≡ Finished
+IsOutcome (ResumeJob r) outcome = outcome ≡ Finished
 IsOutcome (RunJob r) outcome = RunsTo r outcome
 IsOutcome (CountedByThreadsJob r) outcome = RunsTo r outcome
 IsOutcome (OrderedJob r order) outcome = RunsInOrderTo r order outcome
@@ -341,6 +381,8 @@ pieces_of_job probes (CountedJob r) outcome = counted_pieces r probes
 pieces_of_job probes (AccessesJob r) outcome = accesses_pieces r probes
 pieces_of_job probes (StatesJob r) outcome = states_pieces r probes
 pieces_of_job probes (RollJob r) outcome = rolled_pieces r probes
+pieces_of_job probes (SaveJob r) outcome = saved_pieces r
+pieces_of_job probes (ResumeJob r) outcome = resumed_pieces r probes
 pieces_of_job probes (RunJob r) outcome = journal_pieces probes r outcome
 pieces_of_job probes (CountedByThreadsJob r) outcome = counted_journal_pieces probes r outcome
 pieces_of_job probes (OrderedJob r order) outcome = journal_pieces probes r outcome
@@ -390,6 +432,8 @@ Shows probes (CountedJob r) outcome old new = IsCountedShown r probes old new
 Shows probes (AccessesJob r) outcome old new = AreAccessesShown r probes old new
 Shows probes (StatesJob r) outcome old new = AreStatesShown r probes old new
 Shows probes (RollJob r) outcome old new = IsRolled r probes old new
+Shows probes (SaveJob r) outcome old new = IsSaved r old new
+Shows probes (ResumeJob r) outcome old new = IsGoneOn r probes old new
 Shows probes (RunJob r) outcome old new = ShowsRun probes r outcome old new
 Shows probes (CountedByThreadsJob r) outcome old new = ShowsCounted probes r outcome old new
 Shows probes (OrderedJob r order) outcome old new = ShowsRun probes r outcome old new
@@ -407,6 +451,8 @@ ShowsInPart probes (CountedJob r) outcome old new = IsCountedShownInPart r probe
 ShowsInPart probes (AccessesJob r) outcome old new = AreAccessesShownInPart r probes old new
 ShowsInPart probes (StatesJob r) outcome old new = AreStatesShownInPart r probes old new
 ShowsInPart probes (RollJob r) outcome old new = IsRollBrokenOff r probes old new
+ShowsInPart probes (SaveJob r) outcome old new = IsSaveBroken r old new
+ShowsInPart probes (ResumeJob r) outcome old new = IsGoingOnBroken r probes old new
 ShowsInPart probes (RunJob r) outcome old new = ShowsRunInPart probes r outcome old new
 ShowsInPart probes (CountedByThreadsJob r) outcome old new = ShowsCountedInPart probes r outcome
 ShowsInPart probes (OrderedJob r order) outcome old new = ShowsRunInPart probes r outcome old new
@@ -462,6 +508,8 @@ IsRead (CountedJob r) = MayBegin r
 IsRead (AccessesJob r) = MayBegin r
 IsRead (StatesJob r) = MayShowStates r
 IsRead (RollJob r) = MayRoll r
+IsRead (SaveJob r) = MaySave r
+IsRead (ResumeJob r) = MayGoOn r
 IsRead (RunJob r) = MayRun r
 IsRead (CountedByThreadsJob r) = MayRun r
 IsRead (OrderedJob r order) = MayRun r

@@ -21,7 +21,9 @@ use counted_replay::replay_counted;
 use monitor_run::monitor;
 use node_run::run;
 use ordered_run::run as run_in_order;
+use resumed_replay::replay_resumed;
 use rolled_replay::roll;
+use saved_replay::replay_saved;
 use script_replay::replay;
 use seed_runs::{run_counted, run_counted_by_threads, run_seeds};
 use shown_states::replay_states;
@@ -58,6 +60,8 @@ fn perform<T: Threads + Wait + Sync, C: Sink + Send, R: Sink, G: Gate + Sync>(
         Job::Accesses(job) => replay_status(replay_accesses(alloc, job, probes, console, report)),
         Job::States(job) => states_status(replay_states(alloc, job, probes, console, report)),
         Job::Roll(job) => roll_status(roll(alloc, job, probes, console, report)),
+        Job::Save(job) => replay_status(replay_saved(alloc, job, probes, console, report)),
+        Job::Resume(job) => replay_status(replay_resumed(alloc, job, probes, console, report)),
         Job::Run(job) => run_status(run(rt, alloc, job, probes, console, report, gate)),
         Job::CountedByThreads(job) => {
             run_status(run_counted_by_threads(rt, alloc, job, probes, console, report, gate))

@@ -8,20 +8,23 @@ ghost use Rattle.option_values.specs.Runs.{run_rules_fit};
 ghost use Rattle.safetynet_main.specs.LoadPlan.{Loads};
 ghost use Rattle.call_files.specs.Fetches.{Fetches};
 ghost use Rattle.safetynet_main.specs.Call.{replay_with, are_there, states_job, replay_job, ordered_job, threads_job, run_of, run_job, monitor_of, plan_of, replay_plan, roll_plan};
+ghost use Rattle.safetynet_main.specs.Call.{save_plan, resume_plan};
 ghost use Rattle.safetynet_main.specs.Call.{run_plan, monitor_plan, check_plan, judge_plan, assembly_plan, listing_plan, IsRead, AsksNothing};
 ghost use Rattle.sn_base.specs.declared.limits.TheConstants.{EVENTS};
 
 use crate::job::{Check, Job};
 use call_files::{
-    fetch_accesses, fetch_assembly, fetch_control, fetch_program, fetch_script, fetch_trace,
-    list_program,
+    fetch_accesses, fetch_assembly, fetch_control, fetch_program, fetch_save, fetch_script,
+    fetch_trace, list_program,
 };
 use call_status::Status;
 use command_words::{ReplayReport, Request, RunOrder, RunScope};
 use monitor_run::Monitor;
 use node_run::{Run, RunShowing};
 use option_values::Places;
+use resumed_replay::ResumedReplay;
 use rolled_replay::Roll;
+use saved_replay::SavedReplay;
 use script_replay::{Replay, ReportKind, Script, Showing};
 use seed_runs::SeedRuns;
 use shown_states::StatesReplay;
@@ -198,6 +201,74 @@ fn load_roll<S: Store>(
         Err(status) => {
             drop(script);
             drop(program);
+            Err(status)
+        }
+    }
+}
+
+// The program and the script of a machine whose recovery point is saved, in this order.
+fn load_save<S: Store>(
+    alloc: Global,
+    store: &mut S,
+    asked: &command_words::Save,
+) -> Result<Job, Status>
+    requires sizes { config_fits asked.now.config ≡ true }
+    ensures loads { result ≢ Err Status.Memory → Loads (Fetches S.files S.sure S.faults S.gave)
+        (save_plan asked.now.config (string_bytes asked.now.program) (string_bytes asked.now.script)) result store.old store.new }
+    ensures read { IfOk result IsRead }
+    ensures files { S.files store.new ≡ S.files store.old }
+    ensures stays_sure { S.sure store.old → S.sure store.new }
+{
+    let program = match fetch_program(alloc, store, asked.program.as_str()) {
+        Ok(program) => program,
+        Err(status) => return Err(status),
+    };
+    let config = asked.config;
+    match fetch_script(alloc, store, asked.script.as_str(), asked.config.nodes) {
+        Ok(script) => Ok(Job::Save(SavedReplay {
+            program,
+            config,
+            script,
+        })),
+        Err(status) => {
+            drop(program);
+            Err(status)
+        }
+    }
+}
+
+// The program, the save file and the script of a machine that goes on, in this order.
+fn load_resume<S: Store>(
+    alloc: Global,
+    store: &mut S,
+    asked: &command_words::Resume,
+) -> Result<Job, Status>
+    requires watched { watch_fits asked.now.watch ≡ true }
+    ensures loads { result ≢ Err Status.Memory → Loads (Fetches S.files S.sure S.faults S.gave)
+        (resume_plan asked.now.watch (string_bytes asked.now.program) (string_bytes asked.now.save) (string_bytes asked.now.script))
+        result store.old store.new }
+    ensures read { IfOk result IsRead }
+    ensures files { S.files store.new ≡ S.files store.old }
+    ensures stays_sure { S.sure store.old → S.sure store.new }
+{
+    let program = match fetch_program(alloc, store, asked.program.as_str()) {
+        Ok(program) => program,
+        Err(status) => return Err(status),
+    };
+    let machine = match fetch_save(alloc, store, asked.save.as_str(), program) {
+        Ok(machine) => machine,
+        Err(status) => return Err(status),
+    };
+    let watch = asked.watch;
+    let nodes = machine.config().nodes;
+    match fetch_script(alloc, store, asked.script.as_str(), nodes) {
+        Ok(script) => Ok(Job::Resume(ResumedReplay {
+            machine,
+            watch,
+            script,
+        })),
+        Err(status) => {
+            drop(machine);
             Err(status)
         }
     }
@@ -436,6 +507,8 @@ pub fn load<S: Store>(alloc: Global, store: &mut S, request: &Request) -> Result
     match request {
         Request::Replay(asked) => load_replay(alloc, store, asked),
         Request::Roll(asked) => load_roll(alloc, store, asked),
+        Request::Save(asked) => load_save(alloc, store, asked),
+        Request::Resume(asked) => load_resume(alloc, store, asked),
         Request::Run(asked) => load_run(alloc, store, asked),
         Request::Monitor(asked) => load_monitor(alloc, store, asked),
         Request::Check(asked) => load_check(alloc, store, asked),

@@ -7,7 +7,9 @@ use call_files::{Text, Trace};
 use call_status::Status;
 use monitor_run::Monitor;
 use node_run::Run;
+use resumed_replay::ResumedReplay;
 use rolled_replay::Roll;
+use saved_replay::SavedReplay;
 use script_replay::Replay;
 use seed_runs::SeedRuns;
 use shown_states::StatesReplay;
@@ -35,6 +37,10 @@ pub enum Job {
     States(StatesReplay),
     /// Events are applied, and then controls lead a recovery.
     Roll(Roll),
+    /// Events are applied, and the recovery point is saved.
+    Save(SavedReplay),
+    /// Events are applied to a machine that goes on from a saved recovery point.
+    Resume(ResumedReplay),
     /// Workers run a machine, each in a thread of its own.
     Run(Run),
     /// The same, and what was counted of the run is shown.

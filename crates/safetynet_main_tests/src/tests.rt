@@ -7,12 +7,14 @@ mod monitors;
 mod probes;
 mod replays;
 mod runs;
+mod saves;
 mod statuses;
 mod texts;
 
 use call_status::{ProgramCause, Status};
 use calls_in_memory::{Faults, Given, call};
 use rv_asm::AsmCause;
+use save_text::SaveCause;
 use sn_text::ScriptCause;
 use std::alloc::Global;
 use std::process::Abort;
@@ -28,6 +30,8 @@ enum End {
     StoreFault,
     BadProgram(ProgramCause),
     BadScript(ScriptCause),
+    BadSaveLine(u64),
+    SaveNotLegal(u64),
     BadAsm(AsmCause),
     SinkFault,
     InputFault,
@@ -43,6 +47,8 @@ fn status_of(end: &End) -> Status {
         End::StoreFault => Status::StoreFault,
         End::BadProgram(cause) => Status::BadProgram(cause),
         End::BadScript(cause) => Status::BadScript(cause),
+        End::BadSaveLine(number) => Status::BadSave(SaveCause::BadLine(number)),
+        End::SaveNotLegal(place) => Status::BadSave(SaveCause::NotLegal(place)),
         End::BadAsm(cause) => Status::BadAsm(cause),
         End::SinkFault => Status::SinkFault,
         End::InputFault => Status::InputFault,

@@ -2,9 +2,11 @@
 //!
 //! It makes a store over the system's files and a sink over each standard stream, the console on standard output and
 //! the report on standard error, calls `safetynet` with the words that it was given, and exits with the status's
-//! number. A drive's lines come from standard input, by `safetynet_drive`; nothing else reads it. One probe is told the events, a tally of how often each kind came. Where the status isn't Done a line on standard
-//! error says why, and the last one names it; of a replay that is done a terminal gets notes. Calls for help or the version are
-//! its own to answer. On a terminal that shows both streams no line of the console runs into the report's.
+//! number. A drive's lines come from standard input, by `safetynet_drive`; nothing else reads it. Its three streams are tied
+//! (`tied`): what is held back of its answers goes out before the next line is waited for, and not sooner where more is there.
+//! One probe is told the events, a tally of how often each kind came. Where the status isn't Done a line on standard error says
+//! why, and the last one names it; of a replay that is done a terminal gets notes. Calls for help or the version are its own to
+//! answer. On a terminal that shows both streams no line of the console runs into the report's.
 #![tactic(auto)]
 
 mod terminal;

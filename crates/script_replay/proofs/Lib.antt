@@ -9,6 +9,9 @@ pub mod SoFar
 pub mod ToldSoFar
 pub mod Stops
 pub mod Playing
+pub mod Since
+pub mod Turned
+pub mod Split
 pub mod Values
 pub mod Summaries
 pub mod ReadBack

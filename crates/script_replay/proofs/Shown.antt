@@ -80,7 +80,7 @@ released-turn image config showing place s event says =
     ∙ drop_at s.released more.0 (length s.released) refl))
 
 -- and so do events one after another, from a state of a run
-released-turns : (image : ImageData) (config : Config) (showing : Showing) (done : ℕ) (s : State) (trace : List TraceEntry)
+pub released-turns : (image : ImageData) (config : Config) (showing : Showing) (done : ℕ) (s : State) (trace : List TraceEntry)
     (events : List Event) → AllFit config.nodes events → Holds image config.nodes s trace →
     (state_after image config s events).released ≡ s.released ++ console_text (turns_from image config showing done s events)
 unfolding turns_from
@@ -99,7 +99,7 @@ released-turns image config showing done s trace (event ∷ events) fit holds =
 
 -- the pieces of the first events come first
 
-pieces_from-split : (image : ImageData) (config : Config) (showing : Showing) (tallies : List (List ℕ)) (done : ℕ) (s : State)
+pub pieces_from-split : (image : ImageData) (config : Config) (showing : Showing) (tallies : List (List ℕ)) (done : ℕ) (s : State)
     (first others : List Event) →
     (rest : List Piece) × (turns_from image config showing done s first
     ++ rest ≡ pieces_from image config showing tallies done s (first ++ others))

@@ -1,6 +1,6 @@
 -- The pieces of a machine that has come to some state, what the probes are told from there, and machines and replays that are
 -- good to begin with.
-use Rattle.std.specs.Prelude.{◌≡◌, ℕ, ◌+◌, ◌-◌, ◌%◌, ◌<◌, ◌≤◌, ◌⊎◌, List, [], ◌++◌, map, take, length, Option, IfSome}
+use Rattle.std.specs.Prelude.{◌≡◌, ℕ, ◌+◌, ◌-◌, ◌%◌, ◌<◌, ◌≤◌, ◌⊎◌, List, [], ◌∷◌, ◌++◌, map, take, length, Option, IfSome}
 use Rattle.sn_base.specs.Blocks.{ram_start, ram_size}
 use Rattle.sn_base.specs.Image.{ImageData}
 use Rattle.sn_base.specs.declared.config.Config.{Config}
@@ -29,6 +29,14 @@ after_event m event = record m {
   applied = m.applied + 1;
   spare = m.spare - 1;
 }
+
+abbrev pub after_events : MachineData → List Event → MachineData
+after_events m [] = m
+after_events m (event ∷ events) = after_events (after_event m event) events
+
+-- a machine to which so many events were applied before those that are counted
+abbrev pub since : ℕ → MachineData → MachineData
+since before m = record m { applied = m.applied - before }
 
 -- the group of its last event, which had this answer
 abbrev pub group_now : MachineData → Option ℕ → Event → Answer → List ℕ

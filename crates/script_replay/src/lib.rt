@@ -12,8 +12,10 @@ mod lines;
 mod play;
 mod replaying;
 mod schedule;
+mod turns;
 
 pub use job::{Replay, ReportKind, Script, Showing};
-pub use play::{put_counted_summary, put_end, put_summary, turn};
+pub use play::{put_counted_summary, put_end, put_summary, turn, turn_since};
 pub use replaying::{ReplayFault, replay, replay_on};
 pub use schedule::Schedule;
+pub use turns::put_turns;

@@ -3,7 +3,7 @@ ghost use Rattle.std.specs.Prelude.{◌≡◌, ◌+◌, ◌<◌, ◌≤◌, ◌+
 ghost use Rattle.sn_machine.specs.Machine.{flat_of};
 ghost use Rattle.sn_probe.specs.Probes.{meters_in};
 ghost use Rattle.script_replay.specs.Pieces.{core_lines, watch_lines, cut_lines, summary_of, tally_lines};
-ghost use Rattle.script_replay.specs.Played.{group_now, IsAlone, IsWatchable};
+ghost use Rattle.script_replay.specs.Played.{group_now, since, IsAlone, IsWatchable};
 ghost use Rattle.sn_text.specs.declared.line.TheConstants.{LINE_ROOM};
 
 use sn_base::{Answer, Event, NodeId};
@@ -52,20 +52,23 @@ fn write_cut(line: &mut Line, before: &str, machine: &Machine, watch: Option<u32
     write_watch(line, before, machine, watch);
 }
 
-/// The group of one event, which was the machine's last. A recovery sends nothing, and the cut stands below it.
+/// The group of one event, which was the machine's last; so many were applied before those that are counted. A recovery sends
+/// nothing, and the cut stands below it.
 pub fn write_group(
     line: &mut Line,
+    before: u32,
     event: &Event,
     answer: &Answer,
     machine: &Machine,
     watch: Option<u32>,
 )
     requires alone { IsAlone answer.now machine.now.sent }
+    requires counted { before ≤ machine.now.applied }
     requires watched { IsWatchable watch }
-    ensures { line.new ≡ group_now machine.now watch event.now answer.now }
+    ensures { line.new ≡ group_now (since before machine.now) watch event.now answer.now }
 {
     line.clear();
-    line.event(u64::from(machine.applied()), event, answer);
+    line.event(u64::from(machine.applied() - before), event, answer);
     match answer {
         Answer::Recovered(_) => write_cut(line, "  ", machine, watch),
         _ => line.all_sent(machine.sent()),

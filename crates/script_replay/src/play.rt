@@ -7,7 +7,7 @@ ghost use Rattle.sn_machine.specs.Machine.{next_of};
 ghost use Rattle.sn_text.specs.Written.{HasValues};
 ghost use Rattle.sn_probe.specs.Probes.{meters_in, tallies_of};
 ghost use Rattle.script_replay.specs.Pieces.{group_pieces, trace_pieces, tally_pieces, summary_pieces};
-ghost use Rattle.script_replay.specs.Played.{after_event, group_now, summary_pieces_of, end_now, turn_now, told_next};
+ghost use Rattle.script_replay.specs.Played.{after_event, since, group_now, summary_pieces_of, end_now, turn_now, told_next};
 ghost use Rattle.script_replay.specs.Played.{IsAlone, IsWatchable, IsAtStart, MayBegin};
 ghost use Rattle.script_replay.specs.Probed.{told_all};
 ghost use Rattle.script_replay.specs.Scheduled.{left_on, replay_of};
@@ -34,9 +34,10 @@ fn fresh(released: &[u8], had: usize) -> &[u8]
     &released[had..]
 }
 
-// Puts the group of the machine's last event, where the events are asked for.
+// Puts the group of the machine's last event, where the events are asked for; so many were applied before those that are counted.
 fn put_group<R: Sink>(
     line: &mut Line,
+    before: u32,
     event: &Event,
     answer: &Answer,
     machine: &Machine,
@@ -44,19 +45,20 @@ fn put_group<R: Sink>(
     report: &mut R,
 ) -> Result<(), Failed>
     requires alone { IsAlone answer.now machine.now.sent }
+    requires counted { before ≤ machine.now.applied }
     requires watched { IsWatchable showing.now.watch }
     ensures ok { OnOk result ((c : Option (List ℕ)) → ends c (R.written report.new)
         ≡ after (ends c (R.written report.old))
-        (group_pieces showing.now.report (group_now machine.now showing.now.watch event.now answer.now))) }
+        (group_pieces showing.now.report (group_now (since before machine.now) showing.now.watch event.now answer.now))) }
     ensures err { OnErr result ((c : Option (List ℕ)) →
-        Breaks (group_pieces showing.now.report (group_now machine.now showing.now.watch event.now answer.now))
+        Breaks (group_pieces showing.now.report (group_now (since before machine.now) showing.now.watch event.now answer.now))
         (ends c (R.written report.old)) (ends c (R.written report.new))) }
     ensures later { R.faults report.old ≤ R.faults report.new }
     ensures cause { OnErr result (Rose (R.faults report.old) (R.faults report.new)) }
 {
     match showing.report {
         ReportKind::Events => {
-            write_group(line, event, answer, machine, showing.watch);
+            write_group(line, before, event, answer, machine, showing.watch);
             put_report(report, line.bytes())?;
             Ok(())
         }
@@ -188,7 +190,47 @@ pub fn put_end<R: Sink>(
     }
 }
 
-/// One event: every probe is told it; then its piece for the console, where it releases bytes, and its group for the report.
+/// One event: every probe is told it; then its piece for the console, where it releases bytes, and its group for the report. Its
+/// place is counted from those on before which so many were applied.
+pub fn turn_since<C: Sink, R: Sink>(
+    machine: &mut Machine,
+    line: &mut Line,
+    before: u32,
+    event: &Event,
+    showing: &Showing,
+    probes: &mut ProbeSet,
+    console: &mut C,
+    report: &mut R,
+) -> Result<Answer, Failed>
+    requires fits { event_fits machine.old.config.nodes event.now ≡ true }
+    requires room { 1 ≤ machine.old.spare }
+    requires counted { before ≤ machine.old.applied }
+    requires watched { IsWatchable showing.now.watch }
+    ensures next { machine.new ≡ after_event machine.old event.now }
+    ensures answer { IfOk result (λ answer. answer ≡ (next_of machine.old event.now).answer) }
+    ensures told { meters_in first tally step probes.new.probes.items
+        ≡ told_next (since before machine.old) event.now (meters_in first tally step probes.old.probes.items) }
+    ensures ok { OnOk result (ends (C.written console.new) (R.written report.new)
+        ≡ after (ends (C.written console.old) (R.written report.old))
+        (turn_now (since before machine.old) showing.now event.now)) }
+    ensures err { OnErr result (Breaks (turn_now (since before machine.old) showing.now event.now)
+        (ends (C.written console.old) (R.written report.old)) (ends (C.written console.new) (R.written report.new))) }
+    ensures console_later { C.faults console.old ≤ C.faults console.new }
+    ensures report_later { R.faults report.old ≤ R.faults report.new }
+    ensures cause { OnErr result
+        (Rose (C.faults console.old) (C.faults console.new) ⊎ Rose (R.faults report.old) (R.faults report.new)) }
+{
+    let had = machine.recovered().released().len();
+    let answer = machine.apply(*event);
+    let place = u64::from(machine.applied() - before);
+    probes.told(place, event, &answer);
+    let view = machine.recovered();
+    put_console(console, fresh(view.released(), had))?;
+    put_group(line, before, event, &answer, machine, showing, report)?;
+    Ok(answer)
+}
+
+/// One event of a machine that began at its program's start.
 pub fn turn<C: Sink, R: Sink>(
     machine: &mut Machine,
     line: &mut Line,
@@ -214,13 +256,7 @@ pub fn turn<C: Sink, R: Sink>(
     ensures cause { OnErr result
         (Rose (C.faults console.old) (C.faults console.new) ⊎ Rose (R.faults report.old) (R.faults report.new)) }
 {
-    let had = machine.recovered().released().len();
-    let answer = machine.apply(*event);
-    probes.told(u64::from(machine.applied()), event, &answer);
-    let view = machine.recovered();
-    put_console(console, fresh(view.released(), had))?;
-    put_group(line, event, &answer, machine, showing, report)?;
-    Ok(answer)
+    turn_since(machine, line, 0, event, showing, probes, console, report)
 }
 
 /// Applies the events of a schedule one after another, tells each to the probes and puts its pieces, and then puts those of the

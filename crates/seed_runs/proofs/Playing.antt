@@ -1,5 +1,5 @@
 -- What a run that has had its turns lets be counted, and what it leaves.
-use Rattle.std.proofs.Common.{◌≡◌, ℕ, ◌+◌, ◌<◌, ◌≤◌, List, [], ◌∷◌, ◌++◌, length, get_or, drop, ap, sym, subst, ◌∙◌, arith}
+use Rattle.std.proofs.Common.{◌≡◌, ℕ, ◌+◌, ◌<◌, ◌≤◌, true, List, [], ◌∷◌, ◌++◌, length, get_or, drop, ap, sym, subst, ◌∙◌, arith}
 use Rattle.std.proofs.Common.{append_assoc}
 use Rattle.std.proofs.lemmas.List.{drop_more}
 use Rattle.sn_base.specs.Image.{ImageData}
@@ -15,6 +15,8 @@ use Rattle.node_threads.specs.Finishes.{IsRunOf}
 use Rattle.node_run.specs.declared.job.Run.{Run}
 use Rattle.node_run.specs.Pieces.{begins}
 use Rattle.node_run.specs.Shown.{MayBegin}
+use Rattle.run_statistics.specs.declared.count.Count.{Count}
+use Rattle.run_statistics.specs.Counted.{Counts}
 use Rattle.run_statistics.specs.Statistics.{statistics_of}
 use Rattle.run_statistics.specs.Lines.{statistics_lines}
 use Rattle.seed_runs.specs.Pieces.{statistics_text}
@@ -35,6 +37,14 @@ module _ (r : Run) (m : MachineData) (journal : List JournalEntry) (answers : Li
   statistics-are =
       ap (λ (i : ImageData). statistics_lines m.config.nodes (statistics_of i m.config (events_of journal))) run.image
       ∙ ap (λ (k : Config). statistics_lines k.nodes (statistics_of r.program k (events_of journal))) run.config
+
+  -- the same by a count that rode along with its turns
+  pub counted-are : (count : Count) → Counts count m (events_of journal) → count.on ≡ true →
+      statistics_lines r.config.nodes count.statistics ≡ statistics_text r journal
+  counted-are count counts on =
+      ap (statistics_lines r.config.nodes) (counts on).statistics
+      ∙ ap (λ (i : ImageData). statistics_lines r.config.nodes (statistics_of i m.config (events_of journal))) run.image
+      ∙ ap (λ (k : Config). statistics_lines r.config.nodes (statistics_of r.program k (events_of journal))) run.config
 
   module _ (may : MayBegin r) where
     pub events-fit : AllFit m.config.nodes (events_of journal)

@@ -7,12 +7,13 @@ ghost use Rattle.node_threads.specs.Finishes.{IsRunOf, finish_by};
 ghost use Rattle.node_run.specs.Pieces.{begins};
 ghost use Rattle.node_run.specs.Shown.{MayBegin};
 ghost use Rattle.ordered_run.specs.Ordered.{ordered_journal};
+ghost use Rattle.run_statistics.specs.Lines.{statistics_lines};
 ghost use Rattle.seed_runs.specs.Played.{statistics_now, IsPlayed};
 
 use node_run::{ReportRoom, Run, report_room, shared_for};
 use node_threads::{Finished, JournalEntry, run_nodes};
-use ordered_run::all_turns;
-use run_statistics::statistics_text;
+use ordered_run::{Turned, all_turns};
+use run_statistics::{Count, statistics_text};
 use sn_base::{Event, Memory};
 use sn_io::{Gate, SureSink};
 use sn_probe::ProbeSet;
@@ -54,36 +55,40 @@ fn statistics_by(alloc: Global, finished: &Finished) -> Result<Vec<u8>, Memory>
     statistics_text(alloc, machine.image(), config, events.as_slice())
 }
 
-// The same where they are asked for, and else nothing.
-fn statistics_if(alloc: Global, asked: bool, finished: &Finished) -> Result<Vec<u8>, Memory>
-    requires fit { AllFit finished.now.machine.config.nodes (events_of finished.now.journal.items) }
-    requires few { length finished.now.journal.items ≤ EVENTS }
-    ensures { IfOk result (λ text. asked ≡ true → text.items ≡ statistics_now finished.now.machine finished.now.journal.items) }
+// The lines of what was counted, where they are asked for, and else nothing.
+fn text_if(alloc: Global, asked: bool, count: &Count, nodes: u8) -> Result<Vec<u8>, Memory>
+    requires { nodes ≤ 16 }
+    ensures { IfOk result (λ text. asked ≡ true → text.items ≡ statistics_lines nodes count.now.statistics) }
 {
     if asked {
-        statistics_by(alloc, finished)
+        count.text(alloc, nodes)
     } else {
         Ok(Vec::new(alloc))
     }
 }
 
-/// Has all turns of a run in an order, and counts its statistics where they are asked for. An error is want of memory.
+/// Has all turns of a run in an order, and its statistics are counted along with them, where they are asked for. An error is want of
+/// memory.
 pub(crate) fn play(alloc: Global, job: Run, order: Order, counted: bool) -> Result<Played, Memory>
     requires { MayBegin job }
     ensures { IfOk result (λ played. IsPlayed job (ordered_journal order (begins job)) counted played) }
 {
-    let Ok(room) = report_room(alloc, &job.program, job.config.nodes) else {
+    let nodes = job.config.nodes;
+    let Ok(room) = report_room(alloc, &job.program, nodes) else {
         return Err(Memory);
     };
-    let Ok(finished) = all_turns(alloc, job, order) else {
+    let Ok(turned) = all_turns(alloc, job, order, counted) else {
         drop(room);
         return Err(Memory);
     };
-    let Ok(statistics) = statistics_if(alloc, counted, &finished) else {
+    let Turned { finished, count } = turned;
+    let Ok(statistics) = text_if(alloc, counted, &count, nodes) else {
+        drop(count);
         drop(finished);
         drop(room);
         return Err(Memory);
     };
+    drop(count);
     Ok(Played {
         finished,
         statistics,

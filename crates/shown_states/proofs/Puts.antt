@@ -10,7 +10,7 @@ use Rattle.sn_model.specs.Step.{step_of}
 use Rattle.sn_machine.specs.Machine.{MachineData, IsApplied, IsConsistentWithItsRun, next_of}
 use Rattle.consistent_cuts.specs.Headline.{IsStepOfRun}
 use Rattle.consistent_cuts.specs.Runs.{EventFits}
-use Rattle.consistent_cuts.proofs.Run.{reached_next}
+use Rattle.consistent_cuts.proofs.Run.{from_next}
 use Rattle.script_replay.proofs.Releases.{released-grows}
 use Rattle.sink_pieces.specs.Pieces.{Piece, Report, Ends, after, Breaks, console_piece}
 use Rattle.sink_pieces.proofs.PieceLaws.{after-append, after-nil, Breaks-more, Breaks-after}
@@ -108,7 +108,7 @@ had-few m n event answer had consistent fits applied was =
     let led = consistent.led in
     let says : IsStepOfRun m.image m.config m.state event (next_of m event) =
     subst (λ (s : State). IsStepOfRun m.image m.config s event (step_of m.image m.config s event)) (sym led.state)
-    (reached_next m.image m.config consistent.events led.run event fits) in
+    (from_next m.image m.config consistent.origin consistent.events led.may led.run event fits) in
     let grown = released-grows m.image m.config m.state event (next_of m event) says in
     let is : n.state.released ≡ m.state.released ++ grown.0 = ap (λ (t : MachineData). t.state.released) applied.left ∙ grown.1 in
     let long : length n.state.released ≡ length m.state.released + length grown.0 = ap length is ∙ length-append m.state.released grown.0 in

@@ -19,8 +19,6 @@ mod node;
 mod report;
 mod rules;
 mod switch;
-#[cfg(test)]
-mod tests;
 
 pub use block::{Block, BlockNo, Width, Write};
 pub use config::Config;

@@ -17,6 +17,7 @@ pub mod Accesses
 pub mod CutContents
 pub mod Ends
 pub mod EndsRecords
+pub mod AtRest
 pub mod EachRow
 pub mod EachRowRecords
 pub mod Whole

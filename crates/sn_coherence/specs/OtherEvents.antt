@@ -1,5 +1,5 @@
 -- The events of one block that are no delivery of a coherence message.
-use Rattle.std.specs.Prelude.{ℕ, ◌+◌, true, false, ◌==◌, nat_lt, max, cond}
+use Rattle.std.specs.Prelude.{ℕ, ◌+◌, Bool, true, false, ◌==◌, nat_lt, max, cond}
 use Rattle.sn_coherence.specs.Block.{Block, Content, nothing, NoLine, Modified, Reads, Writes, Elsewhere, NoPut, Here, PutElsewhere}
 use Rattle.sn_coherence.specs.Block.{Idle, Asked, GetS, GetM, PutReq, Ready, has_frame, set, set_row, above, freed_below_cut, newest_freed}
 use Rattle.sn_coherence.specs.Block.{no_miss, new_miss, no_message, plain, with_number, net_without, tells_all}
@@ -165,4 +165,43 @@ start home v =
       at = 0;
       waited = λ n. false;
       framed = λ n j. false;
+    }
+
+-- A block at rest, from which a machine goes on: every node is at the recovery point; the home owns v, or one cache does, in
+-- Modified; and nothing is open, noted or in flight.
+abbrev pub owns : Bool → ℕ → ℕ → Bool
+owns at_home owner n = cond at_home false (n == owner)
+
+abbrev pub resting : ℕ → ℕ → ℕ → ℕ → Bool → ℕ → Content → Block
+resting N point next home at_home owner v =
+    record {
+      point = point;
+      home = home;
+      now = λ n. cond (nat_lt n N) point 0;
+      known = λ n. cond (nat_lt n N) point 0;
+      line = λ n. cond (owns at_home owner n) Modified NoLine;
+      content = λ n. cond (owns at_home owner n) v nothing;
+      miss = λ n. no_miss;
+      putting = λ n. NoPut;
+      put_issued = λ n. 0;
+      at_home = at_home;
+      owner = owner;
+      home_content = cond at_home v nothing;
+      sharers = λ n. false;
+      kind = Idle;
+      requester = 0;
+      begun = 0;
+      net = λ i. no_message;
+      next = next;
+      holds = λ n j. owns at_home owner n;
+      held = λ n j. cond (owns at_home owner n) v nothing;
+      last = λ n. 0;
+      named_home = λ j. at_home;
+      named = λ j. owner;
+      home_held = λ j. cond at_home v nothing;
+      home_last = 0;
+      stage = Asked;
+      at = 0;
+      waited = λ n. false;
+      framed = λ n j. owns at_home owner n;
     }

@@ -67,6 +67,19 @@ abbrev pub no_records : Content → Records
 no_records v =
     record { last_write = 0; last_access = λ n. 0; below = λ j. v; value = v; reserved = λ n. false; alone = λ n. false; reported = λ n. 0 }
 
+-- where a machine goes on, all accesses lie in interval 0, and where the recovery point is 0 there are none
+abbrev pub resting_records : ℕ → ℕ → Content → Records
+resting_records N point v =
+    record {
+      last_write = min point 1;
+      last_access = λ n. min point 1;
+      below = λ j. v;
+      value = v;
+      reserved = λ n. false;
+      alone = λ n. false;
+      reported = λ n. cond (nat_lt n N) point 0;
+    }
+
 -- the records after an event
 abbrev pub records_after_event : ℕ → Block → Records → Event → Records
 records_after_event N b r (ForwardWrite i) = unreserves r (b.net i).to

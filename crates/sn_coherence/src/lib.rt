@@ -10,12 +10,12 @@
 //! Source: the protocol of SafetyNet (Sorin, Martin, Hill, Wood, ISCA 2002), in this project's profile.
 #![tactic(auto)]
 
-ghost use Rattle.std.specs.Prelude.{ℕ, ◌+◌, ◌<◌, ◌≤◌, Bool, List, [], ◌∷◌};
+ghost use Rattle.std.specs.Prelude.{◌≡◌, ℕ, ◌+◌, ◌<◌, ◌≤◌, Bool, false, List, [], ◌∷◌};
 ghost use Rattle.sn_coherence.specs.Block.{Block, Content};
-ghost use Rattle.sn_coherence.specs.OtherEvents.{start, recover};
+ghost use Rattle.sn_coherence.specs.OtherEvents.{start, resting, recover};
 ghost use Rattle.sn_coherence.specs.Invariant.{BlockInvariant};
 ghost use Rattle.sn_coherence.specs.Events.{Event, Validate, Allows, NothingUnfinished, after};
-ghost use Rattle.sn_coherence.specs.Records.{Records, no_records, rolls_back, records_after_event, MayHappen};
+ghost use Rattle.sn_coherence.specs.Records.{Records, no_records, resting_records, rolls_back, records_after_event, MayHappen};
 ghost use Rattle.sn_coherence.specs.RecordsInvariant.{RecordsInvariant};
 ghost use Rattle.sn_coherence.specs.Consequences.{MeetsRows, MeetsNotes, HasOneHolder, HasContent, NoneBegun, IsRestored};
 ghost use Rattle.sn_coherence.specs.Same.{IsSame};
@@ -27,6 +27,15 @@ ghost use Rattle.sn_coherence.specs.Example.{example_start, handed_over, events_
 pub fn start_is_kept()
     ensures block { (N home : ℕ) (v : Content) → home < N → BlockInvariant N (start home v) }
     ensures records { (home : ℕ) (v : Content) → RecordsInvariant (start home v) (no_records v) }
+{}
+
+/// And so they do where a machine goes on from a recovery point: all nodes stand there, the home or one cache owns the
+/// block, and all that was accessed was so in interval 0.
+pub fn rest_is_kept()
+    ensures block { (N point next home : ℕ) (at_home : Bool) (owner : ℕ) (v : Content) → home < N → (at_home ≡ false → owner < N)
+        → BlockInvariant N (resting N point next home at_home owner v) }
+    ensures records { (N point next home : ℕ) (at_home : Bool) (owner : ℕ) (v : Content) → home < N → (at_home ≡ false → owner < N)
+        → RecordsInvariant (resting N point next home at_home owner v) (resting_records N point v) }
 {}
 
 /// Every event that can happen keeps the sentences on the block. They know nothing of who accessed it.

@@ -35,7 +35,7 @@ puts_is : (image : ImageData) (c : CoreState) (r : Record) →
 unfolding puts
 puts_is image c r = refl
 
-good_out : (image : ImageData) (N : ℕ) (s : FlatState) (F : Places) → Shows N s F → (es : List Entry) →
+pub good_out : (image : ImageData) (N : ℕ) (s : FlatState) (F : Places) → Shows N s F → (es : List Entry) →
     Good image N F es → put_out_by image s (records es) ≡ outs image es
 good_out image N s F t [] g = refl
 good_out image N s F t (e ∷ es) g =
@@ -58,7 +58,7 @@ taken_step a r true None = append_assoc a [] r
 taken_step a r true (Some x) = append_assoc a (x ∷ []) r
 taken_step a r false x = refl
 
-taken-in_of : (image : ImageData) (F : Places) (es : List Entry) (n : ℕ) →
+pub taken-in_of : (image : ImageData) (F : Places) (es : List Entry) (n : ℕ) →
     (run image F es).taken n ≡ F.taken n ++ in_of n (records es)
 taken-in_of image F [] n = sym (append-nil (F.taken n))
 taken-in_of image F (e ∷ es) n =

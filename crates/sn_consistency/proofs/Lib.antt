@@ -13,4 +13,5 @@ pub mod Filters
 pub mod Places
 pub mod Start
 pub mod Outline
+pub mod Saved
 pub mod Others

@@ -145,9 +145,13 @@ module _ (image : ImageData) (N : ℕ) (s : FlatState) (shows : Shows N s (place
   tied : Tied (places_of s) (core_at s) (block_of_state s)
   tied = record { core = λ n. refl; held = λ n b. grind arith; content = λ b. refl }
 
+  -- the entries of an execution are good
+  pub entries_good : Executes image s rs → Good image N (places_of s) (entries image (core_at s) rs)
+  entries_good g = execution_good image N s (places_of s) shows (core_at s) (block_of_state s) tied rs g
+
   pub law_to : Executes image s rs → AllGood image N s rs
   law_to g =
-      let h = execution_good image N s (places_of s) shows (core_at s) (block_of_state s) tied rs g in
+      let h = entries_good g in
       record {
         cores = cores_good image N (places_of s) (core_at s) (block_of_state s) tied rs h;
         blocks = blocks_good image N (places_of s) (core_at s) (block_of_state s) tied rs h;

@@ -4,7 +4,8 @@ use Rattle.std.specs.Prelude.{nat_eq, nat_lt, nat_le, length, drop, option_to_li
 use Rattle.sn_base.specs.Image.{ImageData}
 use Rattle.rv_core.specs.declared.state.CoreState.{CoreState}
 use Rattle.rv_core.specs.Core.{bare}
-use Rattle.sn_consistency.specs.Words.{Content, kind, block, place, next, content_after, block_word, reads}
+use Rattle.rv_core.specs.Flat.{FlatState, core_at}
+use Rattle.sn_consistency.specs.Words.{Content, kind, block, place, next, content_after, block_word, block_in, reads}
 use Rattle.sn_consistency.specs.Entries.{Entry, Places, Fits, own, put, touches, is_writer, writes_to}
 use Rattle.sn_consistency.specs.Sorted.{at_cut, GoodList, retire, entries_below_cut}
 
@@ -102,6 +103,25 @@ first_outline F = record {
   value = F.content;
   last_write = λ b. 0;
   last_access = λ b n. 0;
+}
+
+-- where a machine goes on from a saved recovery point: every node is there, with the flat machine's core; all that is committed
+-- lies in interval 0, in its order; and `waiting` is what it has not read of what was given
+abbrev pub saved_outline : FlatState → List Entry → ℕ → (ℕ → List ℕ) → (ℕ → List ℕ) → Outline
+saved_outline flat committed point given waiting = record {
+  point = point;
+  interval = λ n. point;
+  known = λ n. point;
+  core = λ n. bare (core_at flat n);
+  reserved = λ n b. false;
+  checkpoint = λ n j. bare (core_at flat n);
+  given = given;
+  waiting = waiting;
+  list = λ x. if x == 0 then committed else [];
+  content = λ b j. block_in flat.memory b;
+  value = block_in flat.memory;
+  last_write = λ b. min point 1;
+  last_access = λ b n. min point 1;
 }
 
 -- a node's edge: its next interval begins, with a register checkpoint and without reservations

@@ -22,7 +22,7 @@ pub use committed::{
 };
 pub use machine::{
     each_event_keeps, freed_checkpoints_count_for_nothing, others_may_go_on, point_is_last_state,
-    same_at_each_place_keeps,
+    same_at_each_place_keeps, saved_point_keeps,
 };
 pub use projections::{
     execution_is_good_projections, execution_is_good_skipping, first_refused_is_least_failing,

@@ -1,18 +1,20 @@
 //! What a machine keeps of the list from event to event, and what follows from it at the recovery point. The machine is
 //! seen by an outline: its intervals, cores, reservations, register checkpoints and input, and of each block the newest
 //! content, the contents at the cuts, and bounds for the intervals of its writes and of each node's accesses.
-ghost use Rattle.std.specs.Prelude.{◌≡◌, ℕ, suc, ◌≤◌, Bool, true, List, [], ◌++◌};
+ghost use Rattle.std.specs.Prelude.{◌≡◌, ℕ, zero, suc, ◌≤◌, Bool, true, List, [], ◌++◌};
 ghost use Rattle.sn_base.specs.Image.{ImageData};
 ghost use Rattle.rv_core.specs.declared.state.CoreState.{CoreState};
+ghost use Rattle.rv_core.specs.declared.step.Record.{Record};
 ghost use Rattle.rv_core.specs.Core.{bare};
 ghost use Rattle.rv_core.specs.Flat.{FlatState, core_at};
 ghost use Rattle.rv_core.specs.Execution.{Executes, state_after, in_of};
 ghost use Rattle.sn_consistency.specs.Words.{block_in};
 ghost use Rattle.sn_consistency.specs.Entries.{Entry, Places};
 ghost use Rattle.sn_consistency.specs.Sorted.{at_cut};
-ghost use Rattle.sn_consistency.specs.Shows.{Shows};
+ghost use Rattle.sn_consistency.specs.Projections.{entries};
+ghost use Rattle.sn_consistency.specs.Shows.{Shows, places_of};
 ghost use Rattle.sn_consistency.specs.Committed.{records_committed, Begins};
-ghost use Rattle.sn_consistency.specs.Outline.{Outline, Keeps, Retires, IsSameOutline, outline_after_retirement, first_outline, outline_after_edge, lost_to, outline_after_news, given_to};
+ghost use Rattle.sn_consistency.specs.Outline.{Outline, Keeps, Retires, IsSameOutline, outline_after_retirement, first_outline, saved_outline, outline_after_edge, lost_to, outline_after_news, given_to};
 ghost use Rattle.sn_consistency.specs.Outline.{outline_after_validation, outline_after_recovery, others_reach};
 
 /// A program's start keeps it, and so does each event: a retirement that may be, an edge, the loss of reservations, the
@@ -38,6 +40,15 @@ pub fn each_event_keeps()
         (waiting : ℕ → List ℕ) →
         ((n : ℕ) → m.given n ≡ (at_cut image F m.list m.point).taken n ++ waiting n) →
         Keeps image nodes F (outline_after_recovery m waiting) }
+{}
+
+/// A machine that goes on from a saved recovery point keeps it, where what is committed is an execution, and what was given is
+/// what that read and what waits.
+pub fn saved_point_keeps()
+    ensures { (image : ImageData) (nodes : ℕ) (s : FlatState) → Shows nodes s (places_of s) → (committed : List Record) →
+        Executes image s committed → (point : ℕ) → (point ≡ zero → committed ≡ []) → (given waiting : ℕ → List ℕ) →
+        ((n : ℕ) → given n ≡ in_of n committed ++ waiting n) → Keeps image nodes (places_of s)
+        (saved_outline (state_after image s committed) (entries image (core_at s) committed) point given waiting) }
 {}
 
 /// What a machine that keeps it has at its recovery point: the committed part is an execution; in its last state each

@@ -32,18 +32,18 @@ use Rattle.sn_fabric.specs.Parts.{AreWhole, AreParts}
 use Rattle.sn_fabric.specs.Start.{first_unit, units_below, homes_below}
 
 -- a list that is built from its beginning
-upto : {A : Type 0} → (ℕ → A) → ℕ → List A
+unfoldable pub upto : {A : Type 0} → (ℕ → A) → ℕ → List A
 upto f zero = []
 upto f (suc n) = upto f n ++ f n ∷ []
 
-length-upto : {A : Type 0} (f : ℕ → A) (n : ℕ) → length (upto f n) ≡ n
+pub length-upto : {A : Type 0} (f : ℕ → A) (n : ℕ) → length (upto f n) ≡ n
 unfolding upto
 length-upto f zero = refl
 length-upto f (suc n) =
     let l : length (upto f n ++ f n ∷ []) ≡ length (upto f n) + 1 = length_push (upto f n) (f n) in
     let h : length (upto f n) ≡ n = length-upto f n in omega arith
 
-at-upto : {A : Type 0} (f : ℕ → A) (n i : ℕ) (d : A) → i < n → get_or (upto f n) i d ≡ f i
+pub at-upto : {A : Type 0} (f : ℕ → A) (n i : ℕ) (d : A) → i < n → get_or (upto f n) i d ≡ f i
 unfolding upto
 at-upto f zero i d l = absurd (omega arith)
 at-upto f (suc n) i d l =
@@ -96,7 +96,7 @@ home-start n i image l =
 count-homes : (n : ℕ) (image : ImageData) → length (homes_below n image n) ≡ n
 count-homes n image = ap (λ (xs : List HomeData). length xs) (homes-upto n image n) ∙ length-upto (λ k. first_of image k n) n
 
-count-entries : (n : ℕ) (image : ImageData) (node nodes : ℕ) → length (entries_below n image node nodes) ≡ n
+pub count-entries : (n : ℕ) (image : ImageData) (node nodes : ℕ) → length (entries_below n image node nodes) ≡ n
 count-entries n image node nodes =
     ap (λ (xs : List HomeEntry). length xs) (entries-upto n image node nodes) ∙ length-upto (λ k. first_home image (node + nodes * k)) n
 

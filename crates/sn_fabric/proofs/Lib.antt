@@ -27,3 +27,6 @@ pub mod HomesAfter
 pub mod ToHome
 pub mod ToNode
 pub mod Delivered
+pub mod GivenBack
+pub mod HomesBack
+pub mod ResumedParts

@@ -6,5 +6,6 @@ pub mod Units
 pub mod Points
 pub mod Logs
 pub mod Recovery
+pub mod Resumed
 pub mod Deliveries
 pub mod Foresight

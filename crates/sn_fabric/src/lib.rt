@@ -5,7 +5,7 @@
 //! sent last. In the type are all sentences of the coherence theorem, so whatever is done in whatever order, each block has
 //! one writer, each delivered message has its row, and at each checkpoint where its home has nothing open a block has one
 //! holder. So are the bounds of logs, network and caches: a line that arrives finds its frame, and a recovery finds the
-//! frames that it puts back. No call but `new` fails for want of memory.
+//! frames that it puts back. No call but `new` and `at_cut` fails for want of memory.
 //!
 //! Source: SafetyNet (Sorin, Martin, Hill, Wood, ISCA 2002), over a MOSI directory protocol.
 #![tactic(auto)]
@@ -27,6 +27,7 @@ mod receiver;
 mod recovery;
 mod replies;
 mod reports;
+mod resuming;
 mod sending;
 mod showing;
 mod start;

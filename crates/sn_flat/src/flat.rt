@@ -1,6 +1,6 @@
 //! The machine and its steps.
 ghost use Rattle.std.specs.Prelude.{◌≡◌, ◌+◌, ◌%◌, ◌<◌, ◌≤◌, ◌↔◌, length, map, Some, IfSome, IfOk, IsOk, OnErr, OnOk, IsTrue, is_some};
-ghost use Rattle.std.specs.Prelude.{true};
+ghost use Rattle.std.specs.Prelude.{true, ◌*◌, take, drop};
 ghost use Rattle.sn_base.specs.Blocks.{ram_start, ram_size, bytes_of};
 ghost use Rattle.rv_core.specs.Core.{start_of, block_of, is_input, holds_reservation};
 ghost use Rattle.sn_flat.specs.Reservations.{without};
@@ -10,7 +10,7 @@ ghost use Rattle.rv_core.specs.Flat.{after_write, next_by};
 
 use byteorder::{ByteOrder, LittleEndian};
 use rv_core::{CoreState, End, Record, Want};
-use sn_base::{BlockNo, Image, Memory, NodeId, RAM_SIZE, RAM_START, Width, Write};
+use sn_base::{Block, BlockNo, Image, Memory, NodeId, RAM_SIZE, RAM_START, Width, Write};
 use std::alloc::Global;
 use std::marker::Model;
 
@@ -124,6 +124,13 @@ impl Flat {
         &self.cores[usize::from(node.number())]
     }
 
+    /// The bytes of a block of memory.
+    pub fn block(&self, block: BlockNo) -> Block
+        ensures { result ≡ take 64 (drop (64 * block) self.now.memory) }
+    {
+        block_in(self.memory.as_slice(), 64 * usize::from(block.number()))
+    }
+
     /// The word at an address of memory that is a multiple of 4.
     pub fn word(&self, address: u32) -> u32
         requires aligned { address % 4 ≡ 0 }
@@ -142,6 +149,18 @@ fn word_in(memory: &[u8], address: u32) -> u32
 {
     let place = (address - RAM_START) as usize / 4 * 4;
     LittleEndian::read_u32(&memory[place..])
+}
+
+/// The 64 bytes of memory from a place on.
+fn block_in(memory: &[u8], start: usize) -> Block
+    requires { start + 64 ≤ length memory.now }
+    ensures { result ≡ take 64 (drop start memory.now) }
+{
+    let mut content = Block::zero();
+    'bytes: for place in 0..64usize {
+        content.store(place, Width::Byte, u32::from(memory[start + place]));
+    }
+    content
 }
 
 /// The word that an instruction sees.

@@ -10,7 +10,8 @@ use Rattle.sn_model.specs.RecoveryPoint.{IsCut, HasOneHolderWith, block_in}
 use Rattle.sn_model.specs.Machine.{State}
 use Rattle.sn_model.specs.Step.{step_of}
 use Rattle.sn_model.specs.Trace.{TraceEntry}
-use Rattle.consistent_cuts.specs.Headline.{IsStepOfRun, retirements}
+use Rattle.consistent_cuts.specs.Headline.{IsStepOfRun}
+use Rattle.consistent_cuts.specs.Origins.{retirements_from}
 use Rattle.consistent_cuts.specs.RunInvariant.{Holds}
 use Rattle.fabric_coherence.specs.Steps.{IsShaped}
 use Rattle.sn_machine.specs.declared.hardware.Hardware.{Hardware}
@@ -25,7 +26,7 @@ shape_of image nodes s trace (count, (r, list, j)) = j.fabric.1.shape
 module _ (image : ImageData) (config : Config) (h : Hardware) (applied spare : ℕ) (m : IsMachine image config h applied spare) where
   shape : IsShaped h.fabric.fabric
   shape =
-      shape_of image config.nodes (state_of h) (retirements image config m.events) (holds image config h applied spare m)
+      shape_of image config.nodes (state_of h) (retirements_from image config m.origin m.events) (holds image config h applied spare m)
 
   pub count : length h.fabric.fabric.nodes ≡ config.nodes
   count = m.nodes

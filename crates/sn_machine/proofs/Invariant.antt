@@ -11,7 +11,7 @@ use Rattle.sn_base.specs.declared.config.Config.{Config}
 use Rattle.sn_base.specs.declared.event.Answer.{Answer}
 use Rattle.sn_base.specs.declared.event.Event.{Event}
 use Rattle.sn_model.specs.Fabric.{Fabric}
-use Rattle.sn_model.specs.Machine.{State, Retirement, HeldByte, start_of}
+use Rattle.sn_model.specs.Machine.{State, Retirement, HeldByte}
 use Rattle.sn_model.specs.MachineEvents.{unready_node}
 use Rattle.sn_model.specs.Instructions.{held_in}
 use Rattle.sn_model.specs.Refusals.{is_refusal}
@@ -25,19 +25,22 @@ use Rattle.fabric_coherence.specs.Coherent.{FabricInvariant, IsInTime, NothingUn
 use Rattle.fabric_coherence.specs.View.{GhostState, block_seen}
 use Rattle.fabric_bounds.specs.Counts.{CountsTo}
 use Rattle.fabric_bounds.proofs.Numbers.{far_from_the_end}
-use Rattle.consistent_cuts.specs.Headline.{IsConsistent, IsStepOfRun, retirements}
+use Rattle.sn_saved.specs.Saved.{Saved, IsAccepted, most_applied}
+use Rattle.consistent_cuts.specs.Headline.{IsConsistent, IsStepOfRun}
+use Rattle.consistent_cuts.specs.Origins.{Origin, Start, Resumed, state_at, applied_at, retirements_from}
 use Rattle.consistent_cuts.specs.RunInvariant.{RunInvariant, Holds}
 use Rattle.consistent_cuts.specs.Lists.{retirement_of, held_of, not_validated}
 use Rattle.consistent_cuts.specs.Runs.{EventFits, AllFit}
 use Rattle.consistent_cuts.proofs.EachEvent.{all_reported}
 use Rattle.consistent_cuts.proofs.FabricRuns.{reached_counts}
 use Rattle.consistent_cuts.proofs.Half.{half}
-use Rattle.consistent_cuts.proofs.Run.{run_holds, start_holds, reached_consistent, reached_next}
+use Rattle.consistent_cuts.proofs.Run.{from_holds, from_consistent, from_next}
 use Rattle.sn_machine.specs.declared.hardware.Hardware.{Hardware}
 use Rattle.sn_machine.specs.Invariant.{IsMachine}
-use Rattle.sn_machine.specs.Machine.{MachineData, IsApplied, HasRun, IsConsistentAfter, IsConsistentWithItsRun}
+use Rattle.sn_machine.specs.Machine.{MachineData, IsApplied, HasRunFrom, IsConsistentAfter, IsConsistentWithItsRun}
 use Rattle.sn_machine.specs.Parts.{state_of, sent_of, IsWhole, HasRoom, Does}
 use Rattle.sn_machine.specs.Sound.{IsSound}
+use Rattle.sn_machine.specs.Resumed.{IsResumed}
 use Rattle.sn_machine.specs.Start.{IsFirst, IsRoomier}
 
 -- what waits is of no interval below the point
@@ -106,10 +109,11 @@ data_of image config h applied spare =
 
 -- whatever events led to a machine
 
-pub consistent-after : (m : MachineData) (events : List Event) → HasRun m events → IsConsistentAfter m events
-consistent-after m events led =
-    subst (λ (s : State). IsConsistent m.image m.config.nodes s (retirements m.image m.config events)) (sym led.state)
-    (reached_consistent m.image m.config events led.run)
+pub consistent-after : (m : MachineData) (origin : Origin) (events : List Event) → HasRunFrom m origin events →
+    IsConsistentAfter m origin events
+consistent-after m origin events led =
+    subst (λ (s : State). IsConsistent m.image m.config.nodes s (retirements_from m.image m.config origin events)) (sym led.state)
+    (from_consistent m.image m.config origin events led.may led.run)
 
 pub all_fit-last : (nodes : ℕ) (events : List Event) (event : Event) → AllFit nodes events → EventFits nodes event →
     AllFit nodes (events ++ event ∷ [])
@@ -122,29 +126,33 @@ state_after-last image config s [] event = refl
 state_after-last image config s (first ∷ events) event = state_after-last image config (step_of image config s first).state events event
 
 -- one that is applied leads on
-pub leads_on : (m next : MachineData) (event : Event) (said : Answer) (events : List Event) → IsApplied m next event said →
-    EventFits m.config.nodes event → HasRun m events → HasRun next (events ++ event ∷ [])
-leads_on m next event said events is fits led =
-    subst (λ (d : MachineData). HasRun d (events ++ event ∷ [])) (sym is.left)
+pub leads_on : (m next : MachineData) (event : Event) (said : Answer) (origin : Origin) (events : List Event) →
+    IsApplied m next event said → EventFits m.config.nodes event → HasRunFrom m origin events →
+    HasRunFrom next origin (events ++ event ∷ [])
+leads_on m next event said origin events is fits led =
+    subst (λ (d : MachineData). HasRunFrom d origin (events ++ event ∷ [])) (sym is.left)
     (record {
+      may = led.may;
       run = record { fits = led.run.fits; events_fit = all_fit-last m.config.nodes events event led.run.events_fit fits };
       state =
           ap (λ (s : State). (step_of m.image m.config s event).state) led.state
-          ∙ sym (state_after-last m.image m.config (start_of m.image m.config.nodes) events event);
-      count = length-append events (event ∷ []) ∙ ap (λ n. n + 1) led.count;
+          ∙ sym (state_after-last m.image m.config (state_at m.image m.config origin) events event);
+      count = let a = length-append events (event ∷ []) in let b = led.count in omega (arith, a, b);
     })
 
 -- a machine
 
-machine-by : (image : ImageData) (config : Config) (h : Hardware) (applied spare : ℕ) (events : List Event) → h.fabric.config ≡ config →
-    IsWhole h → HasRoom spare h → applied + spare ≤ 4000000000 → HasRun (data_of image config h applied spare) events →
-    IsMachine image config h applied spare
-machine-by image config h applied spare events sizes whole room life led = record {
+machine-by : (image : ImageData) (config : Config) (h : Hardware) (applied spare : ℕ) (origin : Origin) (events : List Event) →
+    h.fabric.config ≡ config → IsWhole h → HasRoom spare h → applied + spare ≤ 4000000000 →
+    HasRunFrom (data_of image config h applied spare) origin events → IsMachine image config h applied spare
+machine-by image config h applied spare origin events sizes whole room life led = record {
   sizes = sizes;
-  nodes = (consistent-after (data_of image config h applied spare) events led).count;
+  nodes = (consistent-after (data_of image config h applied spare) origin events led).count;
   whole = whole;
   room = room;
   life = life;
+  origin = origin;
+  may = led.may;
   events = events;
   run = led.run;
   state = led.state;
@@ -152,67 +160,90 @@ machine-by image config h applied spare events sizes whole room life led = recor
 }
 
 module _ (image : ImageData) (config : Config) (h : Hardware) (applied spare : ℕ) (m : IsMachine image config h applied spare) where
-  pub has_run : HasRun (data_of image config h applied spare) m.events
-  has_run = record { run = m.run; state = m.state; count = m.count }
+  pub has_run : HasRunFrom (data_of image config h applied spare) m.origin m.events
+  has_run = record { may = m.may; run = m.run; state = m.state; count = m.count }
 
-  pub consistent : IsConsistent image config.nodes (state_of h) (retirements image config m.events)
-  consistent = consistent-after (data_of image config h applied spare) m.events has_run
+  pub consistent : IsConsistent image config.nodes (state_of h) (retirements_from image config m.origin m.events)
+  consistent = consistent-after (data_of image config h applied spare) m.origin m.events has_run
 
   pub consistent-with_its_run : IsConsistentWithItsRun (data_of image config h applied spare)
-  consistent-with_its_run =
-      record { events = m.events; led = has_run; consistent = consistent-after (data_of image config h applied spare) }
+  consistent-with_its_run = record {
+    origin = m.origin;
+    events = m.events;
+    led = has_run;
+    consistent = consistent-after (data_of image config h applied spare);
+  }
 
   pub step-of-run : (event : Event) → EventFits config.nodes event →
       IsStepOfRun image config (state_of h) event (step_of image config (state_of h) event)
   step-of-run event fits =
       subst (λ (s : State). IsStepOfRun image config s event (step_of image config s event)) (sym m.state)
-      (reached_next image config m.events m.run event fits)
+      (from_next image config m.origin m.events m.may m.run event fits)
 
-  pub holds : Holds image config.nodes (state_of h) (retirements image config m.events)
+  pub holds : Holds image config.nodes (state_of h) (retirements_from image config m.origin m.events)
   holds =
-      subst (λ (s : State). Holds image config.nodes s (retirements image config m.events)) (sym m.state)
-      (run_holds image config config.nodes (start_of image config.nodes) [] m.events m.run.events_fit
-      (start_holds image config.nodes (some_nodes config m.run.fits) (few_nodes config m.run.fits)))
+      subst (λ (s : State). Holds image config.nodes s (retirements_from image config m.origin m.events)) (sym m.state)
+      (from_holds image config m.origin m.events m.may m.run)
 
   counts : CountsTo applied h.fabric.fabric
   counts =
       subst (λ n. CountsTo n h.fabric.fabric) m.count
-      (subst (λ (s : State). CountsTo (length m.events) s.fabric) (sym m.state) (reached_counts image config m.events m.run))
+      (subst (λ (s : State). CountsTo (applied_at m.origin + length m.events) s.fabric) (sym m.state)
+      (reached_counts image config m.origin m.events m.may m.run))
 
   pub sound : IsSound (state_of h)
   sound = go holds
     where
-      go : Holds image config.nodes (state_of h) (retirements image config m.events) → IsSound (state_of h)
+      go : Holds image config.nodes (state_of h) (retirements_from image config m.origin m.events) → IsSound (state_of h)
       go (count, (r, list, j)) =
-          joined_sound image (state_of h) r list (retirements image config m.events) j config applied counts
+          joined_sound image (state_of h) r list (retirements_from image config m.origin m.events) j config applied counts
           (let a = m.life in omega (arith, a))
 
 -- the start
 pub starts : (image : ImageData) (config : Config) (h : Hardware) → config_fits config ≡ true → IsFirst h image config →
     IsMachine image config h 0 0
 starts image config h fits first =
-    machine-by image config h 0 0 [] first.sizes first.whole
+    machine-by image config h 0 0 Start [] first.sizes first.whole
     (record { records = omega arith; bytes = omega arith; given = λ n l. omega arith }) (omega arith)
-    (record { run = record { fits = fits; events_fit = tt }; state = first.state; count = refl })
+    (record { may = tt; run = record { fits = fits; events_fit = tt }; state = first.state; count = omega arith })
+
+-- where a saved machine goes on
+module _ (image : ImageData) (saved : Saved) (h : Hardware) (accepted : IsAccepted image saved) (is : IsResumed h image saved) where
+  pub goes_on-run : HasRunFrom (data_of image saved.config h saved.marks.applied 0) (Resumed saved) []
+  goes_on-run = record {
+    may = (refl, accepted);
+    run = record { fits = accepted.form.fits; events_fit = tt };
+    state = is.state;
+    count = omega arith;
+  }
+
+  few_applied : saved.marks.applied ≤ most_applied
+  few_applied = let n = accepted.form.numbers in grind (arith, nat_tests, n)
+
+  pub goes_on : IsMachine image saved.config h saved.marks.applied 0
+  goes_on =
+      machine-by image saved.config h saved.marks.applied 0 (Resumed saved) [] is.sizes is.whole
+      (record { records = omega arith; bytes = omega arith; given = λ n l. omega arith })
+      (let few = few_applied in omega (arith, few)) goes_on-run
 
 -- more room
 pub reserves : (image : ImageData) (config : Config) (h g : Hardware) (applied spare events : ℕ) → IsMachine image config h applied spare →
     IsRoomier h g → HasRoom events g → applied + events ≤ 4000000000 → IsMachine image config g applied (max spare events)
 reserves image config h g applied spare events m roomier room few =
-    machine-by image config g applied (max spare events) m.events (roomier.sizes ∙ m.sizes) (roomier.whole m.whole)
+    machine-by image config g applied (max spare events) m.origin m.events (roomier.sizes ∙ m.sizes) (roomier.whole m.whole)
     (record {
       records = let a = (roomier.room spare m.room).records in let b = room.records in omega (arith, a, b);
       bytes = let a = (roomier.room spare m.room).bytes in let b = room.bytes in omega (arith, a, b);
       given = λ n l. let a = (roomier.room spare m.room).given n l in let b = room.given n l in omega (arith, a, b);
     })
     (let a = m.life in omega (arith, a, few))
-    (record { run = m.run; state = roomier.state ∙ m.state; count = m.count })
+    (record { may = m.may; run = m.run; state = roomier.state ∙ m.state; count = m.count })
 
 pub keeps_room : (image : ImageData) (config : Config) (h g : Hardware) (applied spare : ℕ) → IsMachine image config h applied spare →
     IsRoomier h g → IsMachine image config g applied spare
 keeps_room image config h g applied spare m roomier =
-    machine-by image config g applied spare m.events (roomier.sizes ∙ m.sizes) (roomier.whole m.whole) (roomier.room spare m.room) m.life
-    (record { run = m.run; state = roomier.state ∙ m.state; count = m.count })
+    machine-by image config g applied spare m.origin m.events (roomier.sizes ∙ m.sizes) (roomier.whole m.whole) (roomier.room spare m.room) m.life
+    (record { may = m.may; run = m.run; state = roomier.state ∙ m.state; count = m.count })
 
 -- an event
 
@@ -224,16 +255,17 @@ module _ (image : ImageData) (config : Config) (h g : Hardware) (applied spare :
   refused-same is = does.state ∙ (refusal-changes_nothing image config (state_of h) event).unchanged (ap is_refusal (sym does.says) ∙ is)
 
   -- through the view
-  pub leads : (d : MachineData) → data_of image config h applied spare ≡ d → EventFits config.nodes event → (events : List Event) →
-      HasRun d events → HasRun (data_of image config g (applied + 1) (spare - 1)) (events ++ event ∷ [])
-  leads d view fits events led =
-      leads_on (data_of image config h applied spare) (data_of image config g (applied + 1) (spare - 1)) event said events is-applied fits
-      (subst (λ (x : MachineData). HasRun x events) (sym view) led)
+  pub leads : (d : MachineData) → data_of image config h applied spare ≡ d → EventFits config.nodes event → (origin : Origin)
+      (events : List Event) → HasRunFrom d origin events →
+      HasRunFrom (data_of image config g (applied + 1) (spare - 1)) origin (events ++ event ∷ [])
+  leads d view fits origin events led =
+      leads_on (data_of image config h applied spare) (data_of image config g (applied + 1) (spare - 1)) event said origin events
+      is-applied fits (subst (λ (x : MachineData). HasRunFrom x origin events) (sym view) led)
 
   pub applies : (m : IsMachine image config h applied spare) → 1 ≤ spare → EventFits config.nodes event →
       IsMachine image config g (applied + 1) (spare - 1)
   applies m some fits =
-      machine-by image config g (applied + 1) (spare - 1) (m.events ++ event ∷ []) (does.sizes ∙ m.sizes) does.whole
+      machine-by image config g (applied + 1) (spare - 1) m.origin (m.events ++ event ∷ []) (does.sizes ∙ m.sizes) does.whole
       (does.room (spare - 1) (let e : spare - 1 + 1 ≡ spare = omega (arith, some) in rw e m.room))
       (let a = m.life in omega (arith, a, some))
-      (leads (data_of image config h applied spare) refl fits m.events (has_run image config h applied spare m))
+      (leads (data_of image config h applied spare) refl fits m.origin m.events (has_run image config h applied spare m))

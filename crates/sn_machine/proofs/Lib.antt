@@ -10,3 +10,5 @@ pub mod FirstParts
 pub mod Invariant
 pub mod Shown
 pub mod AtCut
+pub mod ResumedLists
+pub mod ResumedParts

@@ -5,6 +5,7 @@ pub mod Looks
 pub mod Machine
 pub mod Parts
 pub mod Restored
+pub mod Resumed
 pub mod Sound
 pub mod Start
 pub mod Turns

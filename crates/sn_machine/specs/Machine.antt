@@ -10,7 +10,8 @@ use Rattle.sn_model.specs.declared.net.Sent.{Sent}
 use Rattle.sn_model.specs.Instructions.{MachineStep}
 use Rattle.sn_model.specs.Machine.{State, start_of}
 use Rattle.sn_model.specs.Step.{step_of}
-use Rattle.consistent_cuts.specs.Headline.{IsRun, IsConsistent, state_of_run, retirements}
+use Rattle.consistent_cuts.specs.Headline.{IsRun, IsConsistent}
+use Rattle.consistent_cuts.specs.Origins.{Origin, Start, MayBegin, applied_at, reached_from, retirements_from}
 
 -- a machine and the life that it has: its program and sizes, its state, what the last event sent, how many events were
 -- applied, and for how many more there is room
@@ -51,19 +52,25 @@ pub record IsApplied (before after : MachineData) (event : Event) (said : Answer
 abbrev pub flat_of : MachineData → FlatState
 flat_of m = end_of m.image m.config.nodes m.state.committed
 
--- these events, from the program's start, led to the machine: they are a run, it reached this state, and they are all that
--- were applied
-pub record HasRun (m : MachineData) (events : List Event) : Type 0 where
+-- these events, from where a run may begin, led to the machine: they are a run, it reached this state, and they are all that
+-- were applied since
+pub record HasRunFrom (m : MachineData) (origin : Origin) (events : List Event) : Type 0 where
+  pub may : MayBegin m.image m.config origin
   pub run : IsRun m.config events
-  pub state : m.state ≡ state_of_run m.image m.config events
-  pub count : length events ≡ m.applied
+  pub state : m.state ≡ reached_from m.image m.config origin events
+  pub count : applied_at origin + length events ≡ m.applied
 
--- the recovery point is a consistent cut, for what retired along these events and was not taken back
-abbrev pub IsConsistentAfter : MachineData → List Event → Type 0
-IsConsistentAfter m events = IsConsistent m.image m.config.nodes m.state (retirements m.image m.config events)
+-- from the program's start
+abbrev pub HasRun : MachineData → List Event → Type 0
+HasRun m events = HasRunFrom m Start events
+
+-- the recovery point is a consistent cut, for what retired before and along these events and was not taken back
+abbrev pub IsConsistentAfter : MachineData → Origin → List Event → Type 0
+IsConsistentAfter m origin events = IsConsistent m.image m.config.nodes m.state (retirements_from m.image m.config origin events)
 
 -- some events led to the machine; and whichever events did, the recovery point is a consistent cut for what retired along them
 pub record IsConsistentWithItsRun (m : MachineData) : Type 0 where
+  pub origin : Origin
   pub events : List Event
-  pub led : HasRun m events
-  pub consistent : (others : List Event) → HasRun m others → IsConsistentAfter m others
+  pub led : HasRunFrom m origin events
+  pub consistent : (another : Origin) (others : List Event) → HasRunFrom m another others → IsConsistentAfter m another others

@@ -3,20 +3,27 @@ ghost use Rattle.std.specs.Prelude.{◌≡◌, ◌+◌, ◌≤◌, max, true, Li
 ghost use Rattle.sn_base.specs.Config.{config_fits};
 ghost use Rattle.sn_base.specs.Events.{event_fits};
 ghost use Rattle.sn_base.specs.declared.event.Event.{Event};
+ghost use Rattle.rv_core.specs.Execution.{end_of};
+ghost use Rattle.sn_saved.specs.Resumed.{resumed};
+ghost use Rattle.sn_saved.specs.Saved.{IsAccepted};
 ghost use Rattle.sn_model.specs.Refusals.{is_refusal};
 ghost use Rattle.consistent_cuts.specs.Headline.{IsStepOfRun};
-ghost use Rattle.sn_machine.specs.Machine.{IsApplied, HasRun, IsConsistentWithItsRun, machine_with_room, next_of};
+ghost use Rattle.consistent_cuts.specs.Origins.{Origin, Resumed};
+ghost use Rattle.sn_machine.specs.Machine.{IsApplied, HasRun, HasRunFrom, IsConsistentWithItsRun, machine_with_room, next_of};
+ghost use Rattle.sn_machine.specs.Resumed.{saved_by};
 
 use crate::hardware::Hardware;
 use crate::view::View;
-use sn_base::{Answer, Config, Event, Image, Memory};
+use rv_core::Record;
+use sn_base::{Answer, BlockNo, Config, Event, Image, Memory, NodeId};
+use sn_flat::Flat;
 use sn_model::Sent;
+use sn_saved::Marks;
 use std::alloc::Global;
 use std::marker::Model;
 
 /// A machine. Contracts see its program, its sizes, its state, what the last event sent, how many events were applied to it
 /// and for how many more it has room.
-#[derive(Drop)]
 pub struct Machine {
     pub(crate) image: Image,
     pub(crate) config: Config,
@@ -42,6 +49,19 @@ impl Model for Machine {
     } };
 
     ghost invariant = { λ m. IsMachine m.image m.config m.hardware m.applied m.spare };
+}
+
+// Written here, so that it is proved here: a derived one is proved anew in each crate that lets a machine go.
+impl Drop for Machine {
+    fn drop(self) {
+        let Machine {
+            image: _,
+            config: _,
+            hardware: _,
+            applied: _,
+            spare: _,
+        } = self;
+    }
 }
 
 impl Machine {
@@ -81,6 +101,43 @@ impl Machine {
                 Err(Memory)
             }
         }
+    }
+
+    /// A machine that goes on from a recovery point, with room for no event. What is said of the point must be what a machine
+    /// may go on from, and `flat` the flat machine after the records.
+    pub fn at_cut(
+        alloc: Global,
+        image: Image,
+        config: Config,
+        flat: &Flat,
+        records: &[Record],
+        owners: &[(BlockNo, NodeId)],
+        given: &[(NodeId, u8)],
+        marks: Marks,
+    ) -> Result<Machine, Memory>
+        requires accepted { IsAccepted image (saved_by config marks owners.now given.now records.now) }
+        requires flat { flat.now ≡ end_of image config.nodes records.now }
+        ensures resumed { IfOk result (λ m. m ≡ record {
+          image = image;
+          config = config;
+          state = resumed image (saved_by config marks owners.now given.now records.now);
+          sent = [];
+          applied = marks.applied;
+          spare = 0;
+        }) }
+        ensures led { IfOk result (λ m. HasRunFrom m (Resumed (saved_by config marks owners.now given.now records.now)) []) }
+    {
+        let applied = marks.applied;
+        let hardware = Hardware::at_cut(
+            alloc, &image, config, flat, records, owners, given, marks,
+        )?;
+        Ok(Machine {
+            image,
+            config,
+            hardware,
+            applied,
+            spare: 0,
+        })
     }
 
     /// Makes room for at least so many more events; a machine takes 4,000,000,000 in its life.
@@ -123,7 +180,8 @@ impl Machine {
         requires fits { event_fits self.old.config.nodes event ≡ true }
         requires room { 1 ≤ self.old.spare }
         ensures applied { IsApplied self.old self.new event result }
-        ensures led { (events : List Event) → HasRun self.old events → HasRun self.new (events ++ event ∷ []) }
+        ensures led { (origin : Origin) (events : List Event) → HasRunFrom self.old origin events →
+            HasRunFrom self.new origin (events ++ event ∷ []) }
         ensures run { IsStepOfRun self.old.image self.old.config self.old.state event (next_of self.old event) }
         ensures refused { is_refusal result ≡ true → self.new.state ≡ self.old.state }
     {

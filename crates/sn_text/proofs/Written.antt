@@ -29,7 +29,7 @@ node-back nodes n few fits = rw (number_of-decimal n (small nodes n few fits), f
 message-back : (id : ℕ) → id < 2 ^ 64 → message_in (decimal id) ≡ Ok id
 message-back id l = rw (number_of-decimal id l) refl
 
-switch-back : (nodes switch : ℕ) → nodes ≤ 16 → nat_lt switch (2 * nodes) ≡ true → switch_in nodes (switch_text switch) ≡ Ok switch
+pub switch-back : (nodes switch : ℕ) → nodes ≤ 16 → nat_lt switch (2 * nodes) ≡ true → switch_in nodes (switch_text switch) ≡ Ok switch
 switch-back nodes switch few fits = by_test (nat_eq (switch % 2) 0) refl where
   by_test : (b : Bool) → nat_eq (switch % 2) 0 ≡ b → switch_in nodes ((if b then codes "a" else codes "b") ++ decimal (switch / 2)) ≡ Ok switch
   by_test true e =
@@ -108,7 +108,7 @@ plain-word word = from-lower 32 48 (hex_word word) (omega arith) (from-word word
 plain-pair : (xs ys : List ℕ) → From 32 xs → From 32 ys → From 32 ((xs ++ 32 ∷ []) ++ ys)
 plain-pair xs ys a b = from-append 32 (xs ++ 32 ∷ []) ys (from-append 32 xs (32 ∷ []) a (omega arith, tt)) b
 
-plain-switch : (nodes switch : ℕ) → nodes ≤ 16 → nat_lt switch (2 * nodes) ≡ true → From 32 (switch_text switch)
+pub plain-switch : (nodes switch : ℕ) → nodes ≤ 16 → nat_lt switch (2 * nodes) ≡ true → From 32 (switch_text switch)
 plain-switch nodes switch few fits = from-append 32 (if nat_eq (switch % 2) 0 then codes "a" else codes "b") (decimal (switch / 2)) (by_test (nat_eq (switch % 2) 0)) (plain-number (switch / 2) (grind (arith, nat_tests))) where
   by_test : (b : Bool) → From 32 (if b then codes "a" else codes "b")
   by_test true = (omega arith, tt)

@@ -18,7 +18,8 @@ impl Line {
         self.named(name, u64::from(node.number()));
     }
 
-    fn switch(&mut self, switch: SwitchId)
+    /// A switch: `a` or `b` and its node.
+    pub fn switch(&mut self, switch: SwitchId)
         requires { length self.old + 21 ≤ LINE_ROOM }
         ensures text { self.new ≡ self.old ++ switch_text switch }
         ensures short { length self.new ≤ length self.old + 21 }

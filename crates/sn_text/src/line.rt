@@ -106,7 +106,7 @@ impl Line {
 
     /// A byte as two hexadecimal digits.
     #[tactic(auto, unfolding(text_lines::specs::Hex::hex_byte))]
-    pub(crate) fn byte(&mut self, byte: u8)
+    pub fn byte(&mut self, byte: u8)
         requires { length self.old + 2 ≤ LINE_ROOM }
         ensures text { self.new ≡ self.old ++ hex_byte byte }
         ensures number { byte < 256 }

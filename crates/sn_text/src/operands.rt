@@ -43,7 +43,7 @@ pub fn message_in(text: &[u8]) -> Result<u64, Fault>
 }
 
 /// A switch of the machine: `a` or `b` and its node.
-pub(crate) fn switch_in(nodes: u8, text: &[u8]) -> Result<SwitchId, Fault>
+pub fn switch_in(nodes: u8, text: &[u8]) -> Result<SwitchId, Fault>
     requires few { nodes ≤ 16 }
     ensures same { result ≡ switch_in nodes text.now }
     ensures there { IfOk result (λ switch. switch < 2 * nodes) }

@@ -62,9 +62,9 @@ fn record_by(
     }
 }
 
-/// The record that a line says.
+/// The record that a line of a trace says.
 #[tactic(auto, unfolding(crate::specs::Trace::record_of))]
-fn record_in(nodes: u8, line: &[u8]) -> Result<Record, Fault>
+pub fn record_in(nodes: u8, line: &[u8]) -> Result<Record, Fault>
     requires few { nodes ≤ 16 }
     ensures same { result ≡ record_of nodes line.now }
     ensures there { IfOk result (λ taken. taken.core < nodes) }

@@ -20,6 +20,11 @@ pub record NetData : Type 0 where
   pub next : ℕ
   pub flights : List Flight
 
+-- a network in which nothing is in flight, and whose routes go round the dead switches
+abbrev pub without_messages : ℕ → List Bool → ℕ → NetData
+without_messages nodes dead next =
+    record { routes = record { nodes = nodes; dead = dead }; dead = dead; next = next; flights = [] }
+
 -- the message of this number, with its place
 abbrev pub find_flight : List Flight → ℕ → Option Flight
 find_flight flights id = find (λ f. f.message.id == id) flights

@@ -4,7 +4,7 @@
 //! switches that are dead; and those that were dead when the routes were made, which is at the start and at each
 //! recovery. A message moves by one switch at a time and only when it is told to. It is lost where it would go into a
 //! dead switch, where its switch dies, or where it is told to be lost. There is room for 1,024 messages from the start,
-//! and no call but `new` fails for want of memory. The network never looks into a message's body.
+//! and no call but `new` and `at` fails for want of memory. The network never looks into a message's body.
 #![tactic(auto)]
 
 mod answers;
@@ -15,6 +15,3 @@ mod net;
 pub use answers::{HopAnswer, TakeFault};
 pub use flight::Flight;
 pub use net::Net;
-
-#[cfg(test)]
-mod tests;

@@ -8,6 +8,7 @@ ghost use Rattle.route_plan.specs.Routes.{first_cut_off};
 ghost use Rattle.route_plan.specs.Paths.{AreJoined, IsFirstCutOff};
 ghost use Rattle.switch_net.specs.Net.{NetData, IsNet, IsPlaced, has_arrived, next_switch, find_flight, without, flights_with_move, outside, entry_of};
 ghost use Rattle.switch_net.specs.Net.{after_send, hop_answer, after_hop, take_answer, living_now};
+ghost use Rattle.switch_net.specs.Net.{without_messages};
 
 use crate::answers::{HopAnswer, TakeFault};
 use crate::flight::Flight;
@@ -45,21 +46,36 @@ impl Net {
     pub fn new(alloc: Global, nodes: u8) -> Result<Net, Memory>
         requires some { 1 ≤ nodes }
         requires few { nodes ≤ 16 }
-        ensures { IfOk result (λ n. n
-            ≡ record { routes = record { nodes = nodes; dead = replicate 32 false }; dead = replicate 32 false; next = 1; flights = [] }) }
+        ensures { IfOk result (λ n. n ≡ without_messages nodes (replicate 32 false) 1) }
     {
-        let dead = Dead::none();
-        let routes = match plan(alloc, nodes, dead) {
-            Ok(routes) => routes,
-            Err(PlanFault::Memory) => return Err(Memory),
+        match Net::at(alloc, nodes, Dead::none(), 1) {
+            Ok(net) => Ok(net),
+            Err(PlanFault::Memory) => Err(Memory),
             Err(PlanFault::CutOff(_, _)) => unreachable!(),
+        }
+    }
+
+    /// A network of 1 to 16 nodes that goes on with these switches dead and no message. It is refused where two nodes
+    /// are cut off from each other.
+    pub fn at(alloc: Global, nodes: u8, dead: Dead, next: MsgId) -> Result<Net, PlanFault>
+        requires some { 1 ≤ nodes }
+        requires few { nodes ≤ 16 }
+        requires numbers { 1 ≤ next }
+        ensures net { IfOk result (λ n. n ≡ without_messages nodes dead next) }
+        ensures cut_off { IfSome (first_cut_off (record { nodes = nodes; dead = dead })) (λ p. result ≡ Err (PlanFault.CutOff p.0 p.1)) }
+        ensures joined { IsNone (first_cut_off (record { nodes = nodes; dead = dead })) → IfErr result (λ e. e ≡ PlanFault.Memory) }
+        ensures all_living { dead ≡ replicate 32 false → IfErr result (λ e. e ≡ PlanFault.Memory) }
+    {
+        let routes = plan(alloc, nodes, dead)?;
+        let messages = match Messages::new(alloc) {
+            Ok(messages) => messages,
+            Err(Memory) => return Err(PlanFault::Memory),
         };
-        let messages = Messages::new(alloc)?;
         Ok(Net {
             nodes,
             routes,
             dead,
-            next: 1,
+            next,
             messages,
         })
     }

@@ -4,7 +4,8 @@ use Rattle.option_values.specs.Values.{Text, nodes_rule, sets_rule, ways_rule, l
 use Rattle.option_values.specs.Runs.{interval_rule, wait_rule, budget_rule, lose_rule, seed_rule}
 use Rattle.option_values.specs.declared.number.NumberRule.{NumberRule}
 use Rattle.usage_reasons.specs.declared.table.Command.{Command}
-use Rattle.usage_reasons.specs.declared.table.Command.TheVariants.{Replay, Drive, Roll, Run, Monitor, Check, Judge, Demo, Asm, Dis}
+use Rattle.usage_reasons.specs.declared.table.Command.TheVariants.{Replay, Drive, Roll, Save, Resume, Run, Monitor, Check, Judge}
+use Rattle.usage_reasons.specs.declared.table.Command.TheVariants.{Demo, Asm, Dis}
 use Rattle.usage_reasons.specs.declared.table.Quantity.{Quantity}
 use Rattle.usage_reasons.specs.declared.table.Quantity.TheVariants.{Nodes, Sets, Ways, Log, Interval, Wait, LoseEvery, Budget, Seed}
 use Rattle.usage_reasons.specs.declared.table.Key.{Key}
@@ -12,8 +13,8 @@ use Rattle.usage_reasons.specs.declared.table.Key.TheVariants.{Number, Watch, Ki
 
 abbrev pub command_names : List Text
 command_names =
-    codes "replay" ∷ codes "drive" ∷ codes "roll" ∷ codes "run" ∷ codes "monitor" ∷ codes "check" ∷ codes "judge" ∷ codes "demo" ∷ codes "asm"
-    ∷ codes "dis" ∷ []
+    codes "replay" ∷ codes "drive" ∷ codes "roll" ∷ codes "save" ∷ codes "resume" ∷ codes "run" ∷ codes "monitor" ∷ codes "check"
+    ∷ codes "judge" ∷ codes "demo" ∷ codes "asm" ∷ codes "dis" ∷ []
 
 -- the command of a word, where it is one's name
 abbrev pub command_by : Text → Option Command
@@ -21,6 +22,8 @@ command_by word =
     if bytes_eq word (codes "replay") then Some Replay else
     if bytes_eq word (codes "drive") then Some Drive else
     if bytes_eq word (codes "roll") then Some Roll else
+    if bytes_eq word (codes "save") then Some Save else
+    if bytes_eq word (codes "resume") then Some Resume else
     if bytes_eq word (codes "run") then Some Run else
     if bytes_eq word (codes "monitor") then Some Monitor else
     if bytes_eq word (codes "check") then Some Check else
@@ -33,6 +36,8 @@ unfoldable pub name_of : Command → Text
 name_of Replay = codes "replay"
 name_of Drive = codes "drive"
 name_of Roll = codes "roll"
+name_of Save = codes "save"
+name_of Resume = codes "resume"
 name_of Run = codes "run"
 name_of Monitor = codes "monitor"
 name_of Check = codes "check"
@@ -46,6 +51,8 @@ abbrev pub files_of : Command → List Text
 files_of Replay = codes "PROGRAM" ∷ codes "SCRIPT" ∷ []
 files_of Drive = codes "PROGRAM" ∷ []
 files_of Roll = codes "PROGRAM" ∷ codes "SCRIPT" ∷ codes "CONTROL" ∷ []
+files_of Save = codes "PROGRAM" ∷ codes "SCRIPT" ∷ []
+files_of Resume = codes "PROGRAM" ∷ codes "SAVE" ∷ codes "SCRIPT" ∷ []
 files_of Run = codes "PROGRAM" ∷ []
 files_of Monitor = codes "PROGRAM" ∷ []
 files_of Check = codes "PROGRAM" ∷ codes "TRACE" ∷ []
@@ -72,6 +79,8 @@ abbrev pub options_of : Command → List Text
 options_of Replay = codes "--nodes" ∷ codes "--sets" ∷ codes "--ways" ∷ codes "--log" ∷ codes "--watch" ∷ codes "--only" ∷ []
 options_of Drive = sizes
 options_of Roll = sizes
+options_of Save = codes "--nodes" ∷ codes "--sets" ∷ codes "--ways" ∷ codes "--log" ∷ []
+options_of Resume = codes "--watch" ∷ []
 options_of Run = codes "--order" ∷ codes "--seeds" ∷ run_options
 options_of Monitor = run_options
 options_of Check = codes "--nodes" ∷ []
@@ -85,6 +94,8 @@ abbrev pub flags_of : Command → List Text
 flags_of Replay = codes "--trace" ∷ codes "--states" ∷ codes "--statistics" ∷ codes "--accesses" ∷ []
 flags_of Drive = codes "--states" ∷ []
 flags_of Roll = []
+flags_of Save = []
+flags_of Resume = []
 flags_of Run = codes "--trace" ∷ codes "--journal" ∷ codes "--accesses" ∷ codes "--statistics" ∷ []
 flags_of Monitor = []
 flags_of Check = []

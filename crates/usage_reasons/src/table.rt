@@ -13,6 +13,8 @@ pub(crate) enum Command {
     Replay,
     Drive,
     Roll,
+    Save,
+    Resume,
     Run,
     Monitor,
     Check,
@@ -55,7 +57,8 @@ pub(crate) enum Key {
 const NONE: &[&str] = &[];
 
 const COMMANDS: &[&str] = &[
-    "replay", "drive", "roll", "run", "monitor", "check", "judge", "demo", "asm", "dis",
+    "replay", "drive", "roll", "save", "resume", "run", "monitor", "check", "judge", "demo", "asm",
+    "dis",
 ];
 
 const PROGRAM: &[&str] = &["PROGRAM"];
@@ -63,6 +66,8 @@ const PROGRAM: &[&str] = &["PROGRAM"];
 const PROGRAM_AND_SCRIPT: &[&str] = &["PROGRAM", "SCRIPT"];
 
 const PROGRAM_AND_CONTROL: &[&str] = &["PROGRAM", "SCRIPT", "CONTROL"];
+
+const PROGRAM_AND_SAVE: &[&str] = &["PROGRAM", "SAVE", "SCRIPT"];
 
 const PROGRAM_AND_TRACE: &[&str] = &["PROGRAM", "TRACE"];
 
@@ -73,6 +78,10 @@ const SIZE: &[&str] = &["SIZE"];
 const TEXT: &[&str] = &["TEXT"];
 
 const NODES_ALONE: &[&str] = &["--nodes"];
+
+const WATCH_ALONE: &[&str] = &["--watch"];
+
+const SAVED_SIZES: &[&str] = &["--nodes", "--sets", "--ways", "--log"];
 
 const SIZES: &[&str] = &["--nodes", "--sets", "--ways", "--log", "--watch"];
 
@@ -129,6 +138,8 @@ pub(crate) fn command_by(word: &str) -> Option<Command>
         "replay" => Some(Command::Replay),
         "drive" => Some(Command::Drive),
         "roll" => Some(Command::Roll),
+        "save" => Some(Command::Save),
+        "resume" => Some(Command::Resume),
         "run" => Some(Command::Run),
         "monitor" => Some(Command::Monitor),
         "check" => Some(Command::Check),
@@ -148,6 +159,8 @@ pub(crate) fn name_of(command: Command) -> &'static str
         Command::Replay => "replay",
         Command::Drive => "drive",
         Command::Roll => "roll",
+        Command::Save => "save",
+        Command::Resume => "resume",
         Command::Run => "run",
         Command::Monitor => "monitor",
         Command::Check => "check",
@@ -163,7 +176,8 @@ pub(crate) fn files_of(command: Command) -> &'static [&'static str]
     ensures { map (λ name. name.now) result.now ≡ files_of command }
 {
     match command {
-        Command::Replay => PROGRAM_AND_SCRIPT,
+        Command::Replay | Command::Save => PROGRAM_AND_SCRIPT,
+        Command::Resume => PROGRAM_AND_SAVE,
         Command::Roll => PROGRAM_AND_CONTROL,
         Command::Drive | Command::Run | Command::Monitor | Command::Dis => PROGRAM,
         Command::Check => PROGRAM_AND_TRACE,
@@ -187,6 +201,8 @@ pub(crate) fn options_of(command: Command) -> &'static [&'static str]
     match command {
         Command::Replay => REPLAY_OPTIONS,
         Command::Drive | Command::Roll => SIZES,
+        Command::Save => SAVED_SIZES,
+        Command::Resume => WATCH_ALONE,
         Command::Run => RUN_OPTIONS,
         Command::Monitor => MONITOR_OPTIONS,
         Command::Check => NODES_ALONE,
@@ -203,6 +219,8 @@ pub(crate) fn flags_of(command: Command) -> &'static [&'static str]
         Command::Drive => DRIVE_FLAGS,
         Command::Run => RUN_FLAGS,
         Command::Roll
+        | Command::Save
+        | Command::Resume
         | Command::Monitor
         | Command::Check
         | Command::Judge

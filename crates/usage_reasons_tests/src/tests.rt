@@ -158,6 +158,14 @@ const FILES: &[(&str, &str)] = &[
         "roll p s",
         "roll: CONTROL is lacking; see safetynet roll --help",
     ),
+    (
+        "save p",
+        "save: SCRIPT is lacking; see safetynet save --help",
+    ),
+    (
+        "resume p",
+        "resume: SAVE is lacking; see safetynet resume --help",
+    ),
     ("run", "run: PROGRAM is lacking; see safetynet run --help"),
     (
         "monitor",

@@ -54,10 +54,19 @@ impl Controller {
         requires few { nodes ≤ 16 }
         ensures { result ≡ record { point = 0; reported = replicate nodes 0 } }
     {
+        Controller::at(nodes, 0)
+    }
+
+    /// The controller of a machine that goes on from a recovery point: every node stands there.
+    pub fn at(nodes: u8, point: Interval) -> Controller
+        requires some { 1 ≤ nodes }
+        requires few { nodes ≤ 16 }
+        ensures { result ≡ record { point = point; reported = replicate nodes point } }
+    {
         Controller {
-            point: 0,
+            point,
             nodes: usize::from(nodes),
-            reports: [0; 16],
+            reports: [point; 16],
         }
     }
 
@@ -139,5 +148,18 @@ mod tests {
         assert_eq!(rt; controller.check(), behind(first, 1));
         assert_eq!(rt; controller.point(), 1);
         assert_eq!(rt; controller.reported(), [1, 1].as_slice());
+    }
+
+    #[test]
+    fn a_controller_goes_on_from_its_point(rt: HostRuntime) {
+        let mut controller = Controller::at(2, 7);
+        let first = NodeId::new(0).unwrap();
+        let second = NodeId::new(1).unwrap();
+        let behind = |node, reported| Err(NotReady { node, reported });
+        assert_eq!(rt; controller.point(), 7);
+        controller.ready(second, 8);
+        assert_eq!(rt; controller.check(), behind(first, 7));
+        controller.ready(first, 8);
+        assert_eq!(rt; controller.advance(), Ok(8));
     }
 }

@@ -3,7 +3,8 @@
 
 A proof fails where the file FAILS names the crate, and where a text asks for a handle that isn't allowed. What is built has a sum of its
 text and of the libraries below; the program prints the text of the library `low` and its words, and reports the words. `rt try` does the
-same with the present text, and says what rt itself says behind it; the file FAILS.try has it answer otherwise, or not at all.
+same with the present text, and says what rt itself says behind it; the file FAILS.try has it answer otherwise, or not at all. Where the
+toolchain has a folder `kept`, it keeps there what was proved; else it is one that keeps nothing.
 """
 import hashlib
 import os
@@ -15,7 +16,8 @@ from types import SimpleNamespace
 
 KIT = Path(__file__).resolve().parent.parent
 FAILS = os.environ["FAILS"]
-STORE = KIT / "kept"
+if (KIT / "kept").is_dir():
+    STORE = KIT / "kept"
 REACHES = {"Net": r"\bnet\b"}
 
 

@@ -13,6 +13,8 @@ commands:
   replay PROGRAM SCRIPT        applies the events of a script, one after another
   drive PROGRAM                does the same line by line, from standard input
   roll PROGRAM SCRIPT CONTROL  recovers node by node, by orders that may be lost
+  save PROGRAM SCRIPT          writes the recovery point that a script leads to
+  resume PROGRAM SAVE SCRIPT   goes on from such a point with another script
   run PROGRAM                  lets a worker for each node pick the events
   monitor PROGRAM              the same, turn by turn, with a watcher beside it
   check PROGRAM TRACE          judges whether a trace is an execution

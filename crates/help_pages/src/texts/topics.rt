@@ -43,8 +43,8 @@ one with 2 reads a byte into x10, and one with 93 ends the core with code x10.
     00000073
 
 SCRIPT: one event a line (help events). CONTROL: one step of a recovery a line
-(help roll). ACCESSES: one access to memory a line (help judge). TRACE: one
-instruction a line, in the order of the execution:
+(help roll). SAVE: a recovery point (help save). ACCESSES: one access to memory
+a line (help judge). TRACE: one instruction a line, in the order of execution:
 
   N WORD F     the core of node N did one that saw WORD, eight hexadecimal
                digits; F is 1 where a store-conditional was done, else 0
@@ -89,13 +89,16 @@ standard error names it (`# safetynet: WORD`). The line above it says why
                      those before it
   10  trapped N CAUSE  in a run all cores have ended, and N is the least node
                      whose core trapped
+  12  save CAUSE     SAVE is too long (toolong), or this program can't go on from
+                     it (badline, outofrange, cutoff, setfull, notlegal, unread):
+                     see `safetynet help resume`
   13  asm CAUSE      TEXT is too long (toolong, toomanywords), has a line that is
                      no statement (badline), a number that doesn't fit
                      (outofrange), a label twice (labeltwice) or one that stands
                      nowhere (nolabel)
   14  input          in a drive standard input can't be read to its end
 
-Where the words or a file are refused (1 to 4, 13), or memory is lacking (7),
+Where the words or a file are refused (1 to 4, 12, 13), or memory is lacking (7),
 nothing was written before these two lines; but `replay --states` and
 `run --seeds` take memory as they go on, so some first events may have been
 told, or some first seeds done.

@@ -73,7 +73,8 @@ fn something_is_said_of_all_words_that_are_refused_and_of_no_others(
     rt: HostRuntime,
 ) -> Result<(), Fail> {
     for command in [
-        "replay", "drive", "roll", "run", "monitor", "check", "judge", "demo", "asm", "dis",
+        "replay", "drive", "roll", "save", "resume", "run", "monitor", "check", "judge", "demo",
+        "asm", "dis",
     ] {
         all_agree(&rt, rt.alloc(), command)?;
     }

@@ -1,5 +1,5 @@
-use Rattle.consistent_cuts.proofs.Run.{reached_next}
+use Rattle.consistent_cuts.proofs.Run.{from_next}
 use Rattle.consistent_cuts.proofs.runs.every_event_is_consistent.Goals as goal
 
 pub returns : goal.returns
-returns c = λ image config events event run fits. reached_next image config events run event fits
+returns c = λ image config origin events event may run fits. from_next image config origin events may run event fits

@@ -1,4 +1,4 @@
-use Rattle.std.proofs.Common.{◌≡◌, ℕ, true, refl, sym, ap, subst, ◌∙◌, arith}
+use Rattle.std.proofs.Common.{◌≡◌, ℕ, refl, sym, ap, subst, ◌∙◌, arith}
 use Rattle.sn_base.specs.Config.{config_fits}
 use Rattle.sn_base.specs.Rules.{AreRules}
 use Rattle.sn_model.specs.Machine.{start_of}

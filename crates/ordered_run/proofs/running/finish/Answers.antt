@@ -21,3 +21,6 @@ returns-clause-ordered g c =
     let d = c.make_turns-finish.new.course in
     ordered-by d.scheduler.order c.args.course.scheduler.order (its_start d) (its_start c.args.course) d.journal.items
     c.make_turns-finish.ensures.same.order c.make_turns-finish.ensures.same.start c.make_turns-finish.ensures.stands.ordered
+
+pub returns-clause-counts : goal.returns-clause-counts
+returns-clause-counts g c = c.make_turns-finish.ensures.counts

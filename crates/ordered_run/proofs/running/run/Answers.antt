@@ -1,11 +1,17 @@
-use Rattle.std.proofs.Common.{List, length, refl, ap, ◌∙◌}
+use Rattle.std.proofs.Common.{◌+◌, List, length, refl, ap, ◌∙◌}
 use Rattle.sn_base.specs.declared.event.Answer.{Answer}
 use Rattle.run_journals.proofs.Folds.{length-answers_of}
 use Rattle.node_run.specs.Pieces.{begins}
 use Rattle.node_run.proofs.Runs.{cores-at_start, run-reported, run-unreported}
 use Rattle.ordered_run.specs.Stands.{its_start}
+use Rattle.ordered_run.proofs.Leaving.{counts-first}
 use Rattle.ordered_run.proofs.Outcomes.{ordered-by, ordered-done, ordered-broken, cause-by}
 use Rattle.ordered_run.proofs.running.run.Goals as goal
+
+pub finish-finished-requires-clause-counts : goal.finish-finished-requires-clause-counts
+finish-finished-requires-clause-counts g c =
+    counts-first c.in-Ok-start.course c.new-count.result c.args.job.program c.args.job.config (c.args.job.budget + 1)
+    c.in-Ok-start.ensures.machine c.in-Ok-start.ensures.journal c.requires.fits c.new-count.ensures.counts
 
 pub tell-requires : goal.tell-requires
 tell-requires g c = ap (λ (l : List Answer). length l) c.finish-finished.ensures.run.answers_are ∙ length-answers_of _ _

@@ -1,31 +1,30 @@
-use Rattle.std.proofs.Common.{◌≡◌, Bool, false, Option, Some, None, is_some, refl, sym, ap, ◌∙◌, true≢false, if◌then◌else◌}
+use Rattle.std.proofs.Common.{◌≡◌, Bool, Option, Some, None, is_some, refl, sym, ap, ◌∙◌, if◌then◌else◌}
 use Rattle.shared_machine.specs.declared.finish.Finish.TheVariants.{Budget}
 use Rattle.shared_machine.specs.declared.finish.Finish.{Finish}
 use Rattle.shared_machine.proofs.Refusals.{due-some, unspent}
-use Rattle.ordered_run.proofs.turns.drive.Goals.{else-spent-via-then-spent+else-is_some, else-spent-via-else-spent}
 use Rattle.ordered_run.proofs.turns.drive.Goals as goal
 
-pub returns-then-is_some-clause-err : goal.returns-then-is_some-clause-err
-returns-then-is_some-clause-err c = (
+pub returns-in_default-clause-err : goal.returns-in_default-clause-err
+returns-in_default-clause-err c = (c.cause.ensures.same.0, c.cause.ensures.same.1, c.cause.ensures.cause c.args.spent)
+
+pub returns-then-spent-clause-err : goal.returns-then-spent-clause-err
+returns-then-spent-clause-err c = (
   refl,
   refl,
-  due-some c.args.driver.now c.args.machine.now c.args.worker c.args.pick c.args.spent
-      (sym (ap is_some c.due.ensures.due) ∙ sym c.is_some.ensures ∙ c.if-is_some.true)
+  due-some c.args.driver.now c.args.machine.now c.args.worker c.args.pick c.args.spent (ap is_some (sym c.in-Some.ensures.due))
       ∙ ap (λ (b : Bool). let none : Option Finish = None in if b then Some Budget else none) c.if-spent.true,
 )
 
-pub returns-in-Did-clause-ok : goal.returns-in-Did-clause-ok
-returns-in-Did-clause-ok c =
-    let due = c.in-Did.ensures.took.0 in
-    let spent : c.args.spent ≡ false = elim c.else-spent.branch [
-      | else-spent-via-then-spent+else-is_some w ↦ absurd
-          (true≢false (ap is_some (sym due) ∙ sym (ap is_some w.due.ensures.due) ∙ sym w.is_some.ensures ∙ w.if-is_some.false))
-      | else-spent-via-else-spent w ↦ w.if-spent.false
-    ] in record {
-      unrefused = unspent c.args.driver.now c.args.machine.now c.args.worker c.args.pick c.args.spent _ due spent;
-      unspent = spent;
+pub returns-clause-ok : goal.returns-clause-ok
+returns-clause-ok c =
+    let due = sym c.in-Some.ensures.due in record {
+      unrefused = unspent c.args.driver.now c.args.machine.now c.args.worker c.args.pick c.args.spent _ due c.if-spent.false;
+      unspent = c.if-spent.false;
       due = due;
-      applied = c.in-Did.ensures.took.1;
-      counted = c.in-Did.ensures.took.2;
-      later = c.in-Did.ensures.later;
+      applied = c.apply-answer.ensures.applied;
+      counted = c.apply-answer.ensures.noted;
+      later = c.apply-answer.ensures.later;
     }
+
+pub returns-clause-counts : goal.returns-clause-counts
+returns-clause-counts c = λ events had. c.apply-answer.ensures.counts events had

@@ -10,6 +10,7 @@ pub turns-init : goal.turns-init
 turns-init g c = record {
   stands = c.requires.stands;
   ready = c.requires.ready;
+  counts = c.requires.counts;
   same = same-self c.args.course.now;
   put = put-none c.args.course.now.machine.state.released (g.C.Sink.written c.args.console.now);
   later = omega arith;
@@ -27,6 +28,7 @@ turns-preserved g c =
     let next = c.in-None.ensures.on refl in record {
       stands = next.stands;
       ready = next.ready;
+      counts = c.turn.ensures.counts;
       same = same-then c.args.course.now c.turns.course c.turn.new.course c.turns.invariant.same next.same;
       put =
           then-whole c.args.course.now.machine.state.released c.turns.course.machine.state.released c.turn.new.course.machine.state.released

@@ -1,5 +1,7 @@
 use Rattle.std.proofs.Common.{◌-◌, ◌≤◌, length}
 use Rattle.sn_console.specs.Handed.{IsHandedOn}
+use Rattle.run_journals.specs.Journal.{events_of}
+use Rattle.run_statistics.specs.Counted.{Counts}
 use Rattle.ordered_run.specs.Stands.{Stands, IsReady, IsSameRun}
 use Rattle.ordered_run.proofs.turns.make_turns.Given as goal
 
@@ -7,6 +9,7 @@ abbrev pub invariant-turns : goal.invariant-turns
 invariant-turns g l = record {
   stands : Stands l.course;
   ready : IsReady l.course;
+  counts : Counts l.count l.course.machine (events_of l.course.journal.items);
   same : IsSameRun l.initial.course l.course;
   put : IsHandedOn l.initial.course.machine.state.released l.course.machine.state.released (g.C.Sink.written l.initial.console)
       (g.C.Sink.written l.console);

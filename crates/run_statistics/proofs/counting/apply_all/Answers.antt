@@ -1,34 +1,31 @@
-use Rattle.std.proofs.Common.{◌≡◌, ℕ, ◌<◌, ◌∷◌, ◌+◌, List, length, drop, get_or, refl, sym, ap, ◌∙◌, arith}
-use Rattle.std.proofs.lemmas.List.{drop_more, drop_all}
-use Rattle.sn_base.specs.declared.event.Event.{Event}
-use Rattle.run_statistics.proofs.CountedSoFar.{next-fits, next-room, counted-next, counted-all}
+use Rattle.std.proofs.Common.{take, refl, arith}
+use Rattle.std.proofs.lemmas.List.{take_all}
+use Rattle.run_statistics.proofs.CountedSoFar.{next-fits, next-room, next-counted, counted-all}
 use Rattle.run_statistics.proofs.counting.apply_all.Goals as goal
 
--- the next event, and those behind it
-next-is : (events : List Event) (i : ℕ) (event : Event) → i < length events → event ≡ get_or events i event →
-    drop i events ≡ event ∷ drop (i + 1) events
-next-is events i event b e = drop_more events i event b ∙ ap (λ (t : Event). t ∷ drop (i + 1) events) (sym e)
-
 pub events-init : goal.events-init
-events-init c = record { same = refl; waits = c.requires.waits; counts = c.requires.owned; fit = c.requires.fit; room = c.requires.room }
+events-init c = record { counts = c.requires.counts; image = refl; config = refl; room = let r = c.requires.room in omega (arith, r) }
 
 pub apply-requires-clause-fits : goal.apply-requires-clause-fits
 apply-requires-clause-fits c =
-    next-fits _ _ _ _ _ _ _ _ c.event-item.result (next-is c.args.events.now c.events.event-index c.event-item.result c.events-test.true c.event-item.is)
-    c.events.invariant
+    next-fits c.args.machine.now c.args.events.now c.events.event-index c.events.count c.events.machine c.events.invariant
+    c.event-item.result c.events-test.true c.event-item.is c.requires.fit
 
 pub apply-requires-clause-room : goal.apply-requires-clause-room
 apply-requires-clause-room c =
-    next-room _ _ _ _ _ _ _ _ c.event-item.result (next-is c.args.events.now c.events.event-index c.event-item.result c.events-test.true c.event-item.is)
-    c.events.invariant
+    next-room c.args.machine.now c.args.events.now c.events.event-index c.events.count c.events.machine c.events.invariant
+    c.event-item.result c.events-test.true c.event-item.is
+
+pub apply-requires-clause-counts : goal.apply-requires-clause-counts
+apply-requires-clause-counts c = (take c.events.event-index c.args.events.now, c.events.invariant.counts)
 
 pub events-preserved : goal.events-preserved
 events-preserved c =
-    counted-next _ _ _ _ _ _ _ _ c.event-item.result (next-is c.args.events.now c.events.event-index c.event-item.result c.events-test.true c.event-item.is)
-    c.events.invariant c.apply.new.machine c.apply.new.statistics c.apply.new.owned c.apply.ensures.left c.in_ok-apply.ensures.counted
-    c.apply.ensures.owned
+    next-counted c.args.machine.now c.args.events.now c.events.event-index c.events.count c.events.machine c.events.invariant
+    c.event-item.result c.events-test.true c.event-item.is c.apply.new.self c.apply.new.machine c.apply.result c.apply.ensures.applied
+    (c.apply.ensures.counts (take c.events.event-index c.args.events.now) c.events.invariant.counts)
 
 pub returns : goal.returns
 returns c =
-    counted-all _ _ _ _ _ _ _ (drop_all c.events.event-index c.args.events.now (omega (arith, c.events-test.false, c.events.auto.event-index-end)))
-    c.events.invariant
+    counted-all c.args.machine.now c.args.events.now c.events.event-index c.events.count c.events.machine c.events.invariant
+    (take_all c.events.event-index c.args.events.now (omega (arith, c.events-test.false, c.events.auto.event-index-end)))

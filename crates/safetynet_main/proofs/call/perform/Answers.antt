@@ -3,6 +3,7 @@ use Rattle.safetynet_main.proofs.JobEnds.{follows-replay, follows-replay_counted
 use Rattle.safetynet_main.proofs.JobEnds.{follows-run, follows-threads, follows-watch, follows-order, follows-counted, follows-seeds}
 use Rattle.safetynet_main.proofs.JobEnds.{nothing-replay, nothing-states, nothing-roll, nothing-run, nothing-seeds}
 use Rattle.safetynet_main.proofs.JobEnds.{cause-replay, cause-states, cause-roll, cause-run, cause-seeds}
+use Rattle.safetynet_main.proofs.Saves.{follows-save, follows-resume}
 use Rattle.safetynet_main.proofs.call.perform.Goals as goal
 
 pub returns-in-Replay-clause-follows : goal.returns-in-Replay-clause-follows
@@ -185,3 +186,35 @@ returns-in-Judge-clause-follows g c = λ m.
     follows-judge _ c.args.job c.in-Judge.list c.judge.result _ _ _ _ c.in-Judge.is
     (λ given. c.judge.ensures.follows m given (g.C.Sink.faults c.args.console.now) (g.C.Sink.faults c.args.console.now)
     (g.C.Sink.written c.args.console.now))
+
+pub returns-in-Save-clause-follows : goal.returns-in-Save-clause-follows
+returns-in-Save-clause-follows g c =
+    follows-save _ c.args.job c.replay_status-in-Save.result _ _ _ _ c.in-Save.job c.replay_saved.result c.in-Save.is
+    c.replay_status-in-Save.ensures.done c.replay_status-in-Save.ensures.sink c.replay_status-in-Save.ensures.memory
+    c.replay_saved.ensures.ok
+    c.replay_saved.ensures.sink
+
+pub returns-in-Save-clause-nothing : goal.returns-in-Save-clause-nothing
+returns-in-Save-clause-nothing g c =
+    nothing-replay c.replay_saved.result c.replay_status-in-Save.result _ _ _ _ c.replay_status-in-Save.ensures.done
+    c.replay_status-in-Save.ensures.sink c.replay_saved.ensures.memory
+
+pub returns-in-Save-clause-cause : goal.returns-in-Save-clause-cause
+returns-in-Save-clause-cause g c = cause-replay c.replay_saved.result c.replay_status-in-Save.result _
+    c.replay_status-in-Save.ensures.done c.replay_status-in-Save.ensures.memory c.replay_saved.ensures.cause
+
+pub returns-in-Resume-clause-follows : goal.returns-in-Resume-clause-follows
+returns-in-Resume-clause-follows g c =
+    follows-resume _ c.args.job c.replay_status-in-Resume.result _ _ _ _ c.in-Resume.job c.replay_resumed.result c.in-Resume.is
+    c.replay_status-in-Resume.ensures.done c.replay_status-in-Resume.ensures.sink c.replay_status-in-Resume.ensures.memory
+    c.replay_resumed.ensures.ok
+    c.replay_resumed.ensures.sink
+
+pub returns-in-Resume-clause-nothing : goal.returns-in-Resume-clause-nothing
+returns-in-Resume-clause-nothing g c =
+    nothing-replay c.replay_resumed.result c.replay_status-in-Resume.result _ _ _ _ c.replay_status-in-Resume.ensures.done
+    c.replay_status-in-Resume.ensures.sink c.replay_resumed.ensures.memory
+
+pub returns-in-Resume-clause-cause : goal.returns-in-Resume-clause-cause
+returns-in-Resume-clause-cause g c = cause-replay c.replay_resumed.result c.replay_status-in-Resume.result _
+    c.replay_status-in-Resume.ensures.done c.replay_status-in-Resume.ensures.memory c.replay_resumed.ensures.cause

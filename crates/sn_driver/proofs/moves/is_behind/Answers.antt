@@ -14,7 +14,7 @@ returns c =
     let s = c.args.machine.now.state.fabric in
     let nodes : c.config.result.now.nodes ≡ c.args.machine.now.config.nodes = ap (λ (q : Config). q.nodes) c.config.ensures.same in
     let now = c.recovered-view.ensures.consistent in
-    let count : length s.nodes ≡ c.args.machine.now.config.nodes = (now.consistent now.events now.led).count in
+    let count : length s.nodes ≡ c.args.machine.now.config.nodes = (now.consistent now.origin now.events now.led).count in
     let few : length s.nodes ≤ c.nodes.number = omega (arith, count, nodes, c.nodes-test.false) in
     sym (none_passes (λ (other : Node). nat_lt (node_at s c.args.node).now other.now) s.nodes first_node
     (λ k l. not_less (node_at s c.args.node).now (node_at s k).now (omega (arith, c.now-now.ensures, c.nodes.invariant k (omega (arith, l, few))))))

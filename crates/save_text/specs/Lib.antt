@@ -1,0 +1,10 @@
+pub mod Parts
+pub mod Words
+pub mod Reading
+pub mod Faults
+pub mod Lines
+pub mod Replayed
+pub mod SoFar
+pub mod Judged
+pub mod Text
+pub mod Written

@@ -1,0 +1,4 @@
+pub mod Putting
+pub mod Parts
+pub mod Facts
+pub mod Whole
