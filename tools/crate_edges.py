@@ -3,6 +3,7 @@
 
     tools/crate_edges.py            says which lines differ, and then has status 1
     tools/crate_edges.py --write    writes them anew; the order of the crates stays
+    tools/crate_edges.py --paths    says how many paths go down from all crates together; status 1 above MOST_PATHS
 
 The toolchain walks every path of crates.txt, and a crate's check loads what its line names. So a line names those crates alone that the
 crate's own code, clauses, definitions or proofs mention, and not what these stand on in their turn.
@@ -11,12 +12,14 @@ import functools
 import re
 import sys
 from pathlib import Path
-from typing import FrozenSet, List, Tuple
+from typing import Dict, FrozenSet, List, Tuple
 
 HERE = Path(__file__).resolve().parent.parent
 LIST = HERE / "crates.txt"
-# A name of the logic, a path in code, and an import.
-MENTIONS = [re.compile(r"Rattle\.(\w+)\."), re.compile(r"\b(\w+)::"), re.compile(r"^(?:pub )?use (\w+)", re.MULTILINE)]
+# An rt that remembers nothing reads the files of a crate about twice for each path to it, some thirty at a time.
+MOST_PATHS = 400_000
+# A name of the logic, the head of a path in code, and an import.
+MENTIONS = [re.compile(r"Rattle\.(\w+)\."), re.compile(r"(?<![\w:])(\w+)::"), re.compile(r"^(?:pub )?use (\w+)", re.MULTILINE)]
 
 
 @functools.lru_cache(maxsize=None)
@@ -54,8 +57,23 @@ def direct(line: str, every: List[str]) -> str:
     return f"{crate}: {' '.join(words)}".rstrip()
 
 
+def paths(lines: List[str]) -> int:
+    """How many paths go down from all crates together, a crate's own beginning among them."""
+    below: Dict[str, List[str]] = dict(parted(it) for it in lines)
+
+    @functools.lru_cache(maxsize=None)
+    def down(crate: str) -> int:
+        return 1 + sum(down(it) for it in below[crate] if it in below)
+
+    return sum(down(it) for it in below)
+
+
 def main() -> int:
     whole = LIST.read_text(encoding="utf-8").splitlines()
+    if sys.argv[1:] == ["--paths"]:
+        found = paths([it for it in whole if it and not it.startswith("#")])
+        print(f"{found} paths, of at most {MOST_PATHS}")
+        return int(found > MOST_PATHS)
     every = known([it for it in whole if not it.startswith("#")])
     made = [it if it.startswith("#") else direct(it, every) for it in whole]
     if sys.argv[1:] == ["--write"]:

@@ -1,5 +1,5 @@
 #!/usr/bin/env bash
-# The repository cites nothing that isn't in it by number, holds no build output, keeps its handles, and lists for each crate what it mentions.
+# The repository cites nothing that isn't in it by number, holds no build output, keeps its handles, and lists for each crate what it mentions, by few paths.
 set -u
 cd "$(dirname "$0")/../.." || exit 1
 . tests/gate/lib/checks.sh
@@ -12,5 +12,6 @@ is_so "no paper is cited by number" none_of "$cites"
 is_so "HANDLES is its one line" [ "$(cat HANDLES)" = "Handles allowed: Threads, Wait." ]
 is_so "no build output is committed" none_of "$(git ls-files -- 'crates/*/out/*' 2>/dev/null)"
 is_so "crates.txt has for each crate what its sources mention" python3 tools/crate_edges.py
+is_so "an older rt can walk the paths of crates.txt" python3 tools/crate_edges.py --paths
 
 told "stands alone"

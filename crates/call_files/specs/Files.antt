@@ -6,8 +6,8 @@ use Rattle.rv_core.specs.declared.step.Record.{Record}
 use Rattle.sn_io.specs.Outside.{Found, File, TooLong, Missing}
 use Rattle.elf_load.specs.declared.fault.LoadCause.{LoadCause}
 use Rattle.elf_load.specs.Loading.{image_of}
-use Rattle.rolling_recovery.specs.Controls.{controls_of}
-use Rattle.rolling_recovery.specs.declared.controls.Control.{Control}
+use Rattle.rolled_replay.specs.Controls.{controls_of}
+use Rattle.rolled_replay.specs.Control.{Control}
 use Rattle.rv_asm.specs.Assembly.{asm_of}
 use Rattle.rv_asm.specs.declared.fault.AsmCause.{AsmCause}
 use Rattle.rv_asm.specs.declared.fault.AsmCause.TheVariants.{TooLong as AsmTooLong}

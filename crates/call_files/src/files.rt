@@ -3,7 +3,7 @@ ghost use Rattle.std.specs.Prelude.{◌≡◌, ◌≢◌, ◌≤◌, All, length
 ghost use Rattle.sn_io.specs.Outside.{Found};
 ghost use Rattle.access_check.specs.Accesses.{IsFittingAccess, IsFittingWord};
 ghost use Rattle.consistent_cuts.specs.Runs.{AllFit};
-ghost use Rattle.rolling_recovery.specs.Controls.{control_fits};
+ghost use Rattle.rolled_replay.specs.Controls.{control_fits};
 ghost use Rattle.sn_saved.specs.Saved.{Saved};
 ghost use Rattle.consistent_cuts.specs.Origins.{Resumed};
 ghost use Rattle.sn_machine.specs.Machine.{HasRunFrom};

@@ -15,3 +15,4 @@ pub use files::{
     fetch_trace,
 };
 pub use reading::list_program;
+pub use rolled_replay;

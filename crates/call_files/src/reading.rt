@@ -3,7 +3,7 @@ ghost use Rattle.std.specs.Prelude.{◌≡◌, ◌≢◌, ◌≤◌, true, All, 
 ghost use Rattle.access_check.specs.Accesses.{IsFittingAccess, IsFittingWord};
 ghost use Rattle.consistent_cuts.specs.Runs.{AllFit};
 ghost use Rattle.asm_texts.specs.Texts.{words_text};
-ghost use Rattle.rolling_recovery.specs.Controls.{control_fits};
+ghost use Rattle.rolled_replay.specs.Controls.{control_fits};
 ghost use Rattle.sn_saved.specs.Saved.{Saved};
 ghost use Rattle.consistent_cuts.specs.Origins.{Resumed};
 ghost use Rattle.sn_machine.specs.Machine.{HasRunFrom};
@@ -93,7 +93,7 @@ pub fn read_control(alloc: Global, bytes: &[u8], nodes: u8) -> Result<Controls, 
     if bytes.len() > SCRIPT_LIMIT {
         return Err(Status::BadScript(ScriptCause::TooLong));
     }
-    match rolling_recovery::read_control(alloc, bytes, nodes) {
+    match rolled_replay::rolling_recovery::read_control(alloc, bytes, nodes) {
         Ok(controls) => Ok(Controls::new(controls)),
         Err(ScriptFault::Refused(cause)) => Err(Status::BadScript(cause)),
         Err(ScriptFault::Memory) => Err(Status::Memory),

@@ -1,7 +1,7 @@
 //! A trace for calls that judge one.
 ghost use Rattle.std.specs.Prelude.{◌≤◌};
 
-use generated_runs::replay_generated;
+use safetynet_main::generated_runs::replay_generated;
 use script_replay::{ReplayFault, ReportKind, Showing};
 use sn_base::Memory;
 use sn_io::MemSink;

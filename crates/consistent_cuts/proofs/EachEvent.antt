@@ -30,7 +30,7 @@ use Rattle.sn_model.specs.Trace.{TraceEntry, trace_after_event}
 use Rattle.sn_coherence.specs.Records.{Records, unreserves, rolls_back}
 use Rattle.sn_consistency.specs.Entries.{Entry}
 use Rattle.sn_consistency.specs.Sorted.{entries_below_cut}
-use Rattle.fabric_coherence.specs.Recorded.{KeepsRecords, MayBeRecorded, recorded_by, heard_by}
+use Rattle.fabric_bounds.specs.Recorded.{KeepsRecords, MayBeRecorded, recorded_by, heard_by}
 use Rattle.consistent_cuts.specs.RunInvariant.{RunInvariant, Joins}
 use Rattle.consistent_cuts.specs.Runs.{EventFits}
 use Rattle.consistent_cuts.proofs.Clocks.{IsQuiet, same_hopped, same_lost, same_killed, same_reported}

@@ -33,7 +33,7 @@ use Rattle.sn_consistency.specs.Entries.{Entry}
 use Rattle.sn_consistency.specs.Committed.{Begins}
 use Rattle.sn_consistency.specs.Laws.{own_reservation}
 use Rattle.sn_consistency.proofs.CoreLaws.{next_reservation}
-use Rattle.fabric_coherence.specs.Coherent.{NothingUnfinished}
+use Rattle.fabric_bounds.specs.Coherent.{NothingUnfinished}
 use Rattle.consistent_cuts.specs.Headline.{IsStepOfRun, IsUntouched, MayUnreserve, Reserving}
 use Rattle.consistent_cuts.specs.RunInvariant.{RunInvariant}
 use Rattle.consistent_cuts.specs.Lists.{retirement_of}

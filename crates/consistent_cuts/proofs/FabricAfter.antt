@@ -22,11 +22,11 @@ use Rattle.sn_coherence.specs.Records.{Records, no_records, loads, loads_reserve
 use Rattle.sn_consistency.specs.Words.{write_block}
 use Rattle.consistent_cuts.specs.Outlines.{Agrees}
 use Rattle.consistent_cuts.specs.Accesses.{write_of, CanServe, CanServeWant, CanRetire, records_wanting, records_after}
-use Rattle.fabric_coherence.specs.Events.{CanUse, CanWrite}
-use Rattle.fabric_coherence.specs.Recorded.{KeepsRecords, MayBeRecorded, recorded_by, at_block}
-use Rattle.fabric_coherence.specs.Told.{Tells}
-use Rattle.fabric_coherence.specs.Coherent.{NothingUnfinished}
-use Rattle.fabric_coherence.specs.Steps.{IsShaped, IsInFlight}
+use Rattle.fabric_bounds.specs.Events.{CanUse, CanWrite}
+use Rattle.fabric_bounds.specs.Recorded.{KeepsRecords, MayBeRecorded, recorded_by, at_block}
+use Rattle.fabric_bounds.specs.Told.{Tells}
+use Rattle.fabric_bounds.specs.Coherent.{NothingUnfinished}
+use Rattle.fabric_bounds.specs.Steps.{IsShaped, IsInFlight}
 
 -- what the fabric's half says of the records, in its own words: what they tell, and that they are kept by each event and by
 -- each access that is done

@@ -27,10 +27,10 @@ use Rattle.sn_model.specs.Step.{step_of, state_after}
 use Rattle.sn_model.specs.Trace.{TraceEntry, trace_after_event}
 use Rattle.sn_coherence.specs.Records.{Records}
 use Rattle.sn_consistency.specs.Entries.{Entry}
-use Rattle.fabric_coherence.specs.Events.{MayBe, CanUse}
-use Rattle.fabric_coherence.specs.Runs.{IsFabricRun, fabric_after}
-use Rattle.fabric_coherence.specs.Start.{first_ghost}
-use Rattle.fabric_coherence.proofs.KeptStart.{start-kept}
+use Rattle.fabric_bounds.specs.Events.{MayBe, CanUse}
+use Rattle.fabric_bounds.specs.Runs.{IsFabricRun, fabric_after}
+use Rattle.fabric_bounds.specs.Start.{first_ghost}
+use Rattle.fabric_bounds.proofs.KeptStart.{start-kept}
 use Rattle.fabric_bounds.specs.Bounds.{HasLogRoom, IsServedRun, KeepsBounds}
 use Rattle.fabric_bounds.specs.Counts.{CountsTo}
 use Rattle.fabric_bounds.proofs.Runs.{start_bounded, run_keeps_bounds}
@@ -41,7 +41,7 @@ use Rattle.consistent_cuts.specs.OfFabric.{GoesBy}
 use Rattle.consistent_cuts.specs.Runs.{EventFits, AllFit}
 use Rattle.consistent_cuts.proofs.EachEvent.{all_reported}
 use Rattle.consistent_cuts.proofs.Half.{half}
-use Rattle.sn_saved.specs.Resumed.{resumed}
+use Rattle.fabric_bounds.specs.Resumed.{resumed}
 use Rattle.consistent_cuts.specs.Headline.{IsRun as HeadRun}
 use Rattle.consistent_cuts.specs.Origins.{Origin, Start, Resumed, MayBegin, state_at, entries_at, applied_at, reached_from}
 use Rattle.fabric_bounds.proofs.Resumed.{resumed_bounded, resumed_counts}

@@ -40,7 +40,7 @@ use Rattle.sn_model.specs.MachineEvents.{restores, machine_step_with_news}
 use Rattle.sn_model.specs.NodeEvents.{step_of_eviction}
 use Rattle.sn_model.specs.Step.{step_of}
 use Rattle.sn_model.proofs.EachStep.{each_step}
-use Rattle.fabric_coherence.proofs.EachOutcome.{each_outcome}
+use Rattle.fabric_bounds.proofs.EachOutcome.{each_outcome}
 
 abbrev Stays : Fabric → FabricStep → Type 0
 Stays s x = (x.fabric.net.dead ≡ s.net.dead) × (s.net.next_id ≤ x.fabric.net.next_id)

@@ -16,7 +16,7 @@ use Rattle.sn_model.specs.Machine.{State, processor_at}
 use Rattle.sn_model.specs.Instructions.{found_at}
 use Rattle.sn_coherence.specs.Records.{Records}
 use Rattle.consistent_cuts.specs.Accesses.{CanServe, CanServeWant, CanRetire, IsReadable, IsWritable, IsServed, MayRetire}
-use Rattle.fabric_coherence.specs.Told.{Tells}
+use Rattle.fabric_bounds.specs.Told.{Tells}
 
 -- a line that may be written is there
 pub writable_present : (state : LineState) → is_writable_state state ≡ true → is_present state ≡ true

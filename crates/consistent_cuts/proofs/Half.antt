@@ -1,12 +1,12 @@
 -- The fabric's half, as it is proved.
-use Rattle.fabric_coherence.proofs.Retirements.{load, load_reserved, undone, stored_kept, store_recorded, store_conditional_recorded}
-use Rattle.fabric_coherence.proofs.KeptEvents.{each_keeps_records}
-use Rattle.fabric_coherence.proofs.Told.{tells}
-use Rattle.fabric_coherence.proofs.KeptStart.{start-kept, start-recorded}
-use Rattle.fabric_coherence.proofs.Finished.{reported_finished, point_finished}
-use Rattle.fabric_coherence.proofs.InFlight.{in_flight}
-use Rattle.fabric_coherence.proofs.NodesStay.{nodes_same}
-use Rattle.fabric_coherence.specs.Start.{first_ghost}
+use Rattle.fabric_bounds.proofs.Retirements.{load, load_reserved, undone, stored_kept, store_recorded, store_conditional_recorded}
+use Rattle.fabric_bounds.proofs.KeptEvents.{each_keeps_records}
+use Rattle.fabric_bounds.proofs.Told.{tells}
+use Rattle.fabric_bounds.proofs.KeptStart.{start-kept, start-recorded}
+use Rattle.fabric_bounds.proofs.Finished.{reported_finished, point_finished}
+use Rattle.fabric_bounds.proofs.InFlight.{in_flight}
+use Rattle.fabric_bounds.proofs.NodesStay.{nodes_same}
+use Rattle.fabric_bounds.specs.Start.{first_ghost}
 use Rattle.consistent_cuts.proofs.FabricAfter.{FabricHalf}
 
 pub half : FabricHalf

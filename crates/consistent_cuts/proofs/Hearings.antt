@@ -24,10 +24,10 @@ use Rattle.sn_model.specs.NodeEvents.{step_of_eviction, evicts, begins_put, has_
 use Rattle.sn_model.specs.NetEvents.{step_of_delivery, delivers, delivers_flight, fits_in, outcome_of, node_after_news, node_after}
 use Rattle.sn_model.specs.NetEvents.{home_after, Outcome, AtCache, AtHome, copy_lost}
 use Rattle.sn_coherence.specs.Block as block
-use Rattle.fabric_coherence.specs.View.{GhostState, block_seen, message_seen}
-use Rattle.fabric_coherence.specs.Steps.{IsInFlight}
-use Rattle.fabric_coherence.specs.Coherent.{FabricInvariant}
-use Rattle.fabric_coherence.proofs.EachOutcome.{each_outcome}
+use Rattle.fabric_bounds.specs.View.{GhostState, block_seen, message_seen}
+use Rattle.fabric_bounds.specs.Steps.{IsInFlight}
+use Rattle.fabric_bounds.specs.Coherent.{FabricInvariant}
+use Rattle.fabric_bounds.proofs.EachOutcome.{each_outcome}
 use Rattle.consistent_cuts.proofs.Clocks.{IsSameClocks, same_clocks, part_set, same_with_node, same_nodes, same_then, cache_clocks}
 use Rattle.consistent_cuts.proofs.Clocks.{home_clocks}
 

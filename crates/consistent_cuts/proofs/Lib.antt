@@ -37,3 +37,8 @@ pub mod FabricRuns
 pub mod Adds
 pub mod GivenDead
 pub mod SavedForm
+pub use Rattle.fabric_bounds.proofs.Numbers
+pub use Rattle.fabric_bounds.proofs.InFlight
+pub use Rattle.fabric_bounds.proofs.Recovery
+pub use Rattle.fabric_bounds.proofs.KeptResumed
+pub use Rattle.fabric_bounds.proofs.Finished

@@ -20,7 +20,7 @@ use Rattle.sn_consistency.specs.Shows.{Shows}
 use Rattle.sn_consistency.proofs.CommittedPart.{committed_execution, committed_out}
 use Rattle.sn_consistency.proofs.Outline.{end_content, end_core, given_begins}
 use Rattle.sn_consistency.proofs.Start.{start_shows}
-use Rattle.fabric_coherence.specs.Coherent.{NothingUnfinished}
+use Rattle.fabric_bounds.specs.Coherent.{NothingUnfinished}
 use Rattle.consistent_cuts.specs.Outlines.{outline_of, start_places}
 use Rattle.consistent_cuts.specs.RunInvariant.{RunInvariant}
 use Rattle.consistent_cuts.specs.Headline.{IsConsistent}

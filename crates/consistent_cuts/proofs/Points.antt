@@ -25,7 +25,7 @@ use Rattle.sn_consistency.proofs.CommittedPart.{in_of-append, committed_reads}
 use Rattle.sn_consistency.proofs.Outline.{given_begins}
 use Rattle.sn_consistency.proofs.Others.{cut_bare}
 use Rattle.sn_consistency.proofs.Start.{start_shows}
-use Rattle.fabric_coherence.specs.Recorded.{KeepsRecords}
+use Rattle.fabric_bounds.specs.Recorded.{KeepsRecords}
 use Rattle.consistent_cuts.specs.Outlines.{outline_of, start_places}
 use Rattle.consistent_cuts.specs.RunInvariant.{RunInvariant}
 use Rattle.consistent_cuts.proofs.Hears.{recount}

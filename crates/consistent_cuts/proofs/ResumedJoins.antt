@@ -19,8 +19,8 @@ use Rattle.sn_model.specs.Machine.{State, Processor, processor_at, first_process
 use Rattle.sn_model.specs.MachineEvents.{checkpoint_of}
 use Rattle.sn_model.specs.Instructions.{taken_by}
 use Rattle.sn_model.specs.RecoveryPoint.{block_in}
-use Rattle.sn_saved.specs.Resumed.{node_resumed, processor_resumed, flat_resumed, resumed, entries_from, saved_entries}
-use Rattle.sn_saved.specs.Saved.{Saved, IsAccepted, given_to, begins_with}
+use Rattle.fabric_bounds.specs.Resumed.{node_resumed, processor_resumed, flat_resumed, resumed, entries_from, saved_entries}
+use Rattle.fabric_bounds.specs.Saved.{Saved, IsAccepted, given_to, begins_with}
 use Rattle.sn_model.specs.Trace.{TraceEntry, of_interval, below, committed_trace, committed_output}
 use Rattle.sn_coherence.specs.Records.{Records, resting_records}
 use Rattle.sn_consistency.specs.Entries.{Entry, Places}
@@ -31,9 +31,9 @@ use Rattle.sn_consistency.proofs.Others.{others_keep}
 use Rattle.sn_consistency.proofs.ProjectionLaw.{entries_back}
 use Rattle.sn_consistency.proofs.Saved.{saved_end, saved_outs, saved_nobody, saved_keeps}
 use Rattle.sn_consistency.proofs.Start.{start_shows}
-use Rattle.fabric_coherence.specs.Recorded.{KeepsRecords}
-use Rattle.fabric_coherence.specs.Start.{resumed_beside}
-use Rattle.fabric_coherence.proofs.KeptResumed.{resumed-kept, resumed-recorded, count_resumed, node_resumed_is, node_past}
+use Rattle.fabric_bounds.specs.Recorded.{KeepsRecords}
+use Rattle.fabric_bounds.specs.Start.{resumed_beside}
+use Rattle.fabric_bounds.proofs.KeptResumed.{resumed-kept, resumed-recorded, count_resumed, node_resumed_is, node_past}
 use Rattle.consistent_cuts.specs.Lists.{IsTraced, IsSortedFrom, retirement_of, held_of, not_validated}
 use Rattle.consistent_cuts.specs.Outlines.{outline_of, start_places, interval_of, IsRestShaped, Agrees}
 use Rattle.consistent_cuts.specs.RunInvariant.{RunInvariant, Holds}

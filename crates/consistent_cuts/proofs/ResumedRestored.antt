@@ -15,10 +15,10 @@ use Rattle.sn_model.specs.Homes.{Holder, HomeEntry, Itself, OfCache}
 use Rattle.sn_model.specs.Machine.{State, Processor, processor_at, first_processor}
 use Rattle.sn_model.specs.PointEvents.{restored_line}
 use Rattle.sn_model.specs.RecoveryPoint.{IsRestored, IsRestoredNode, IsOwned, block_in}
-use Rattle.sn_saved.specs.Resumed.{content_owned, cache_resumed, node_resumed, holder_resumed, processor_resumed, flat_resumed, resumed}
-use Rattle.sn_saved.specs.Saved.{Saved, IsAccepted, owner_in}
-use Rattle.fabric_coherence.specs.Start.{is_home_owned, owner_or_zero}
-use Rattle.fabric_coherence.proofs.KeptResumed.{count_resumed, node_resumed_is, line_resumed, home_resumed_is, owner_low}
+use Rattle.fabric_bounds.specs.Resumed.{content_owned, cache_resumed, node_resumed, holder_resumed, processor_resumed, flat_resumed, resumed}
+use Rattle.fabric_bounds.specs.Saved.{Saved, IsAccepted, owner_in}
+use Rattle.fabric_bounds.specs.Start.{is_home_owned, owner_or_zero}
+use Rattle.fabric_bounds.proofs.KeptResumed.{count_resumed, node_resumed_is, line_resumed, home_resumed_is, owner_low}
 
 module _ (image : ImageData) (saved : Saved) (accepted : IsAccepted image saved) where
   abbrev N : ℕ

@@ -24,13 +24,13 @@ use Rattle.sn_model.specs.PointEvents.{restored_line, restored_lines, restored_h
 use Rattle.sn_model.specs.RecoveryPoint.{HasOneHolderWith, block_in}
 use Rattle.sn_model.specs.Step.{step_of}
 use Rattle.sn_model.specs.Trace.{TraceEntry}
-use Rattle.sn_saved.specs.Resumed.{each_below, content_owned, lines_owned, node_resumed, holder_resumed, home_resumed, homes_resumed, fabric_resumed}
-use Rattle.sn_saved.specs.Resumed.{processor_resumed, resumed}
-use Rattle.sn_saved.specs.Saved.{owner_named, owners_at, given_from, saved_of, owner_in, given_to}
+use Rattle.fabric_bounds.specs.Resumed.{each_below, content_owned, lines_owned, node_resumed, holder_resumed, home_resumed, homes_resumed, fabric_resumed}
+use Rattle.fabric_bounds.specs.Resumed.{processor_resumed, resumed}
+use Rattle.fabric_bounds.specs.Saved.{owner_named, owners_at, given_from, saved_of, owner_in, given_to}
 use Rattle.sn_coherence.specs.Records.{Records}
 use Rattle.sn_consistency.specs.Entries.{Entry}
-use Rattle.fabric_coherence.proofs.KeptResumed.{length-lines_owned, line_resumed, length-homes_resumed, home_resumed_is}
-use Rattle.fabric_coherence.proofs.Recovery.{restored_line_at, restored_home_at}
+use Rattle.fabric_bounds.proofs.KeptResumed.{length-lines_owned, line_resumed, length-homes_resumed, home_resumed_is}
+use Rattle.fabric_bounds.proofs.Recovery.{restored_line_at, restored_home_at}
 use Rattle.consistent_cuts.specs.RunInvariant.{RunInvariant, Holds}
 use Rattle.consistent_cuts.proofs.Half.{half}
 use Rattle.consistent_cuts.proofs.Moments.{cuts, end_register, puts_out}

@@ -14,7 +14,7 @@ use Rattle.sn_model.specs.Trace.{TraceEntry, entry_at, trace_after_event}
 use Rattle.sn_coherence.specs.Records.{Records}
 use Rattle.sn_consistency.specs.Entries.{Entry}
 use Rattle.sn_consistency.specs.Outline as sorted
-use Rattle.fabric_coherence.specs.Recorded.{KeepsRecords, heard_by}
+use Rattle.fabric_bounds.specs.Recorded.{KeepsRecords, heard_by}
 use Rattle.consistent_cuts.specs.Outlines.{outline_of, interval_of, start_places}
 use Rattle.consistent_cuts.specs.RunInvariant.{RunInvariant, Joins}
 use Rattle.consistent_cuts.specs.Accesses.{entry_of, write_of, records_after, MayRetire, CanRetire}

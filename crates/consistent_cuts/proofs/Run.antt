@@ -11,7 +11,7 @@ use Rattle.sn_model.specs.Machine.{State, start_of}
 use Rattle.sn_model.specs.Step.{step_of, state_after}
 use Rattle.sn_model.specs.Trace.{TraceEntry, trace_after_event, trace_after}
 use Rattle.consistent_cuts.specs.RunInvariant.{Holds}
-use Rattle.sn_saved.specs.Resumed.{resumed, saved_entries}
+use Rattle.fabric_bounds.specs.Resumed.{resumed, saved_entries}
 use Rattle.consistent_cuts.specs.Origins.{Origin, Start, Resumed, MayBegin, state_at, entries_at, reached_from, retirements_from}
 use Rattle.consistent_cuts.specs.Runs.{EventFits, AllFit}
 use Rattle.consistent_cuts.specs.Headline.{IsRun, IsConsistent, IsStepOfRun, state_of_run, retirements}

@@ -8,7 +8,7 @@ use Rattle.sn_base.specs.Image.{ImageData}
 use Rattle.rv_core.specs.declared.step.Record.{Record}
 use Rattle.rv_core.specs.Flat.{FlatState, flat_step, next_by}
 use Rattle.rv_core.specs.Execution.{put_out_by}
-use Rattle.sn_saved.specs.Resumed.{entries_from}
+use Rattle.fabric_bounds.specs.Resumed.{entries_from}
 use Rattle.sn_model.specs.Trace.{TraceEntry, of_interval, below, committed_trace, committed_output}
 use Rattle.consistent_cuts.specs.Lists.{not_validated}
 use Rattle.consistent_cuts.proofs.Traced.{out_cons}

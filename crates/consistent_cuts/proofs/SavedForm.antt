@@ -27,11 +27,11 @@ use Rattle.sn_model.specs.Machine.{State, Processor, start_of, first_processor, 
 use Rattle.sn_model.specs.RecoveryPoint.{HasOneHolderWith, block_in}
 use Rattle.sn_model.specs.Step.{step_of, state_after}
 use Rattle.sn_model.specs.Trace.{TraceEntry, of_interval, below, with_event, trace_after_event, trace_after, committed_trace}
-use Rattle.sn_saved.specs.Resumed.{each_below, processor_resumed, holder_resumed, fabric_resumed, flat_resumed, resumed, entries_from, saved_entries}
-use Rattle.sn_saved.specs.Saved.{Saved, IsInForm, IsAccepted, AreAscending, AreInOrder, AreInside, owner_named, owners_at, given_from, given_to, saved_of, owner_in, marks_fit, most_saved, most_applied}
-use Rattle.fabric_coherence.proofs.KeptResumed.{node_resumed_is, node_past, home_resumed_is}
-use Rattle.fabric_coherence.proofs.KeptStart.{first_homes_at}
-use Rattle.fabric_coherence.proofs.Recovery.{replicated}
+use Rattle.fabric_bounds.specs.Resumed.{each_below, processor_resumed, holder_resumed, fabric_resumed, flat_resumed, resumed, entries_from, saved_entries}
+use Rattle.fabric_bounds.specs.Saved.{Saved, IsInForm, IsAccepted, AreAscending, AreInOrder, AreInside, owner_named, owners_at, given_from, given_to, saved_of, owner_in, marks_fit, most_saved, most_applied}
+use Rattle.fabric_bounds.proofs.KeptResumed.{node_resumed_is, node_past, home_resumed_is}
+use Rattle.fabric_bounds.proofs.KeptStart.{first_homes_at}
+use Rattle.fabric_bounds.proofs.Recovery.{replicated}
 use Rattle.fabric_bounds.specs.Counts.{most_sent, CountsTo}
 use Rattle.consistent_cuts.specs.Headline.{IsRun}
 use Rattle.consistent_cuts.specs.Origins.{Origin, Start, Resumed, MayBegin, state_at, entries_at, applied_at, reached_from, retirements_from}

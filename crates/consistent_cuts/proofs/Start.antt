@@ -22,8 +22,8 @@ use Rattle.sn_consistency.specs.Entries.{Places}
 use Rattle.sn_consistency.specs.Outline.{first_outline}
 use Rattle.sn_consistency.specs.Words.{block_in}
 use Rattle.sn_consistency.proofs.Outline.{begun_keeps}
-use Rattle.fabric_coherence.specs.View.{block_seen}
-use Rattle.fabric_coherence.specs.Recorded.{KeepsRecords}
+use Rattle.fabric_bounds.specs.View.{block_seen}
+use Rattle.fabric_bounds.specs.Recorded.{KeepsRecords}
 use Rattle.consistent_cuts.specs.Outlines.{outline_of, start_places}
 use Rattle.consistent_cuts.specs.RunInvariant.{Joins}
 use Rattle.consistent_cuts.proofs.FabricAfter.{FabricHalf}

@@ -17,7 +17,7 @@ use Rattle.sn_model.specs.Trace.{TraceEntry}
 use Rattle.sn_coherence.specs.Records.{Records, unreserves}
 use Rattle.sn_consistency.specs.Entries.{Entry}
 use Rattle.sn_consistency.specs.Outline as sorted
-use Rattle.fabric_coherence.specs.Recorded.{KeepsRecords}
+use Rattle.fabric_bounds.specs.Recorded.{KeepsRecords}
 use Rattle.consistent_cuts.specs.Outlines.{outline_of, interval_of, start_places}
 use Rattle.consistent_cuts.specs.RunInvariant.{RunInvariant}
 use Rattle.consistent_cuts.proofs.Clocks.{same_clocks, part_set}

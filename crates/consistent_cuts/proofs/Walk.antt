@@ -22,7 +22,7 @@ use Rattle.sn_model.specs.Machine.{State}
 use Rattle.sn_model.specs.Step.{step_of, state_after}
 use Rattle.sn_model.specs.Trace.{TraceEntry, trace_after_event, trace_after}
 use Rattle.consistent_cuts.specs.Runs.{AllFit}
-use Rattle.fabric_coherence.proofs.KeptStart.{first_homes_at, length-first_homes}
+use Rattle.fabric_bounds.proofs.KeptStart.{first_homes_at, length-first_homes}
 
 -- a state, and the retirements up to it
 pub record Moment : Type 0 where

@@ -15,8 +15,8 @@ use Rattle.sn_model.specs.Fabric.{Fabric, node_at, line_of_node}
 use Rattle.sn_model.specs.Instructions.{found_at, next_with, record_with, taken_by}
 use Rattle.sn_model.specs.Machine.{State, processor_at}
 use Rattle.sn_coherence.specs.Records.{Records, loads, loads_reserved, stores, stores_conditional, unreserves}
-use Rattle.fabric_coherence.specs.Events.{CanUse}
-use Rattle.fabric_coherence.specs.Recorded.{at_block}
+use Rattle.fabric_bounds.specs.Events.{CanUse}
+use Rattle.fabric_bounds.specs.Recorded.{at_block}
 use Rattle.sn_consistency.specs.Words.{Content, write_block}
 use Rattle.sn_consistency.specs.Entries.{Entry}
 

@@ -23,7 +23,7 @@ use Rattle.sn_model.specs.MachineEvents.{bytes_of}
 use Rattle.sn_model.specs.RecoveryPoint.{IsCut, IsRestored}
 use Rattle.sn_model.specs.Trace.{TraceEntry, entry_at, committed_trace}
 use Rattle.sn_consistency.specs.Committed.{Begins}
-use Rattle.fabric_coherence.specs.Coherent.{NothingUnfinished}
+use Rattle.fabric_bounds.specs.Coherent.{NothingUnfinished}
 use Rattle.consistent_cuts.specs.Lists.{retirement_of}
 use Rattle.consistent_cuts.specs.Origins.{Start, reached_from, retirements_from}
 use Rattle.consistent_cuts.specs.Runs.{AllFit}

@@ -7,3 +7,8 @@ pub mod Origins
 pub mod Headline
 pub mod Example
 pub mod OfFabric
+pub use Rattle.fabric_bounds.specs.Counts
+pub use Rattle.fabric_bounds.specs.Coherent
+pub use Rattle.fabric_bounds.specs.Events
+pub use Rattle.fabric_bounds.specs.Steps
+pub use Rattle.fabric_bounds.specs.View

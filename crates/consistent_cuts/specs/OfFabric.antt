@@ -3,7 +3,7 @@ use Rattle.std.specs.Prelude.{◌≡◌, ℕ, ◌≤◌, List, length}
 use Rattle.sn_base.specs.declared.config.Config.{Config}
 use Rattle.sn_model.specs.Fabric.{Fabric}
 use Rattle.sn_model.specs.FabricEvents.{FabricEvent}
-use Rattle.fabric_coherence.specs.Runs.{fabric_after}
+use Rattle.fabric_bounds.specs.Runs.{fabric_after}
 use Rattle.fabric_bounds.specs.Bounds.{IsServedRun}
 
 -- from one fabric to another by so many events at most, each of which can happen when its turn comes, and each write served

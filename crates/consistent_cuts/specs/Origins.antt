@@ -4,8 +4,8 @@ use Rattle.sn_base.specs.Image.{ImageData}
 use Rattle.sn_base.specs.declared.config.Config.{Config}
 use Rattle.sn_base.specs.declared.event.Event.{Event}
 use Rattle.sn_model.specs.Machine.{State, start_of}
-use Rattle.sn_saved.specs.Resumed.{resumed, saved_entries}
-use Rattle.sn_saved.specs.Saved.{Saved, IsAccepted}
+use Rattle.fabric_bounds.specs.Resumed.{resumed, saved_entries}
+use Rattle.fabric_bounds.specs.Saved.{Saved, IsAccepted}
 use Rattle.sn_model.specs.Step.{state_after}
 use Rattle.sn_model.specs.Trace.{TraceEntry, trace_after}
 use Rattle.sn_consistency.specs.Committed.{Begins}

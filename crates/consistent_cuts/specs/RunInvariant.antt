@@ -6,7 +6,7 @@ use Rattle.sn_model.specs.Trace.{TraceEntry}
 use Rattle.sn_coherence.specs.Records.{Records}
 use Rattle.sn_consistency.specs.Entries.{Entry}
 use Rattle.sn_consistency.specs.Outline as sorted
-use Rattle.fabric_coherence.specs.Recorded.{KeepsRecords}
+use Rattle.fabric_bounds.specs.Recorded.{KeepsRecords}
 use Rattle.consistent_cuts.specs.Outlines.{outline_of, start_places, IsRestShaped, Agrees}
 use Rattle.consistent_cuts.specs.Lists.{IsTraced, IsSortedFrom}
 

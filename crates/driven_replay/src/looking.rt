@@ -9,8 +9,8 @@ ghost use Rattle.driven_replay.specs.Dues.{usual_rules, due_text};
 ghost use Rattle.driven_replay.specs.Looks.{HasItsNode, arrival_text, flights_text, look_text, look_line};
 
 use crate::job::Look;
-use machine_states::{add_node, add_other_home, add_state};
 use option_values::{INTERVAL, LOSE_EVERY, WAIT};
+use shown_states::machine_states::{add_node, add_other_home, add_state};
 use sn_base::{Event, Memory, NodeId, Rules, SwitchId};
 use sn_driver::Driver;
 use sn_machine::Machine;

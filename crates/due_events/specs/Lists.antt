@@ -19,7 +19,7 @@ use Rattle.sn_model.specs.NodeEvents.{ready_of}
 use Rattle.sn_model.specs.Machine.{State, processor_at}
 use Rattle.sn_model.specs.MachineEvents.{is_edged, is_validated}
 use Rattle.sn_model.specs.Step.{step_of}
-use Rattle.sn_fabric.specs.Fabric.{can_go}
+use Rattle.sn_machine.specs.Fabric.{can_go}
 use Rattle.sn_machine.specs.Looks.{wanted_block}
 use Rattle.due_events.specs.Numbers.{Numbers}
 

@@ -8,3 +8,5 @@
 //!
 //! There is no code here: the rules are a type of `sn_base`, since the words of a call are read into them too.
 #![tactic(auto)]
+
+pub use sn_machine;

@@ -14,9 +14,9 @@ use Rattle.sn_model.specs.Caches.{Cache, Line, Miss, no_line, line_of, is_presen
 use Rattle.sn_model.specs.Cuts.{held_by, owned_content, holds_at}
 use Rattle.sn_model.specs.Fabric.{Fabric, Node, node_at}
 use Rattle.sn_model.specs.PointEvents.{restored_line, restored_lines}
-use Rattle.sn_coherence.specs.Block as block
-use Rattle.sn_coherence.specs.Log.{was_owned, old_or_now}
-use Rattle.mosi_cache.proofs.Taken.{TakesFewer}
+use Rattle.fabric_coherence.specs.Block as block
+use Rattle.fabric_coherence.specs.Log.{was_owned, old_or_now}
+use Rattle.fabric_coherence.proofs.Taken.{TakesFewer}
 use Rattle.fabric_coherence.specs.View.{GhostState, block_seen, line_seen, miss_seen}
 use Rattle.fabric_coherence.specs.Leads.{is_framed}
 use Rattle.fabric_coherence.specs.Coherent.{FabricInvariant}

@@ -16,7 +16,7 @@ use Rattle.sn_model.specs.Fabric.{Fabric, Flight, node_at, home_of, home_node, w
 use Rattle.sn_model.specs.Net.{net_limit, flight_of, without_flight, is_there}
 use Rattle.sn_model.specs.NetEvents.{AtCache, AtHome, logged_at, kept_at, unless_busy, outcome_of, node_after, home_after, node_after_news}
 use Rattle.sn_model.specs.NetEvents.{copy_lost, delivers, delivers_flight}
-use Rattle.mosi_cache.specs.Rows.{MeetsRow}
+use Rattle.fabric_coherence.specs.Rows.{MeetsRow}
 use Rattle.fabric_coherence.specs.View.{GhostState}
 use Rattle.fabric_coherence.specs.Steps.{IsInFlight, after_cache, after_home}
 use Rattle.fabric_coherence.specs.Coherent.{FabricInvariant}

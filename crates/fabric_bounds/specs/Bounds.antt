@@ -12,7 +12,7 @@ use Rattle.sn_model.specs.Fabric.{Fabric, Node, node_at}
 use Rattle.sn_model.specs.FabricEvents.{FabricEvent, Write, moved_by}
 use Rattle.sn_model.specs.Net.{net_limit}
 use Rattle.sn_model.specs.PointEvents.{restored_cache}
-use Rattle.mosi_cache.specs.Controller.{FitsSets}
+use Rattle.fabric_coherence.specs.Controller.{FitsSets}
 use Rattle.fabric_coherence.specs.Coherent.{FabricInvariant}
 use Rattle.fabric_coherence.specs.Events.{MayBe}
 use Rattle.fabric_coherence.specs.View.{GhostState}

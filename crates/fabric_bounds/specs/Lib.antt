@@ -1,2 +1,16 @@
 pub mod Bounds
 pub mod Counts
+pub use Rattle.fabric_coherence.specs.Coherent
+pub use Rattle.fabric_coherence.specs.Events
+pub use Rattle.fabric_coherence.specs.Steps
+pub use Rattle.fabric_coherence.specs.View
+pub use Rattle.fabric_coherence.specs.Recorded
+pub use Rattle.fabric_coherence.specs.Runs
+pub use Rattle.fabric_coherence.specs.Told
+pub use Rattle.fabric_coherence.specs.Start
+pub use Rattle.fabric_coherence.specs.Met
+pub use Rattle.fabric_coherence.specs.Flights
+pub use Rattle.fabric_coherence.specs.CacheEvents
+pub use Rattle.fabric_coherence.specs.Holders
+pub use Rattle.fabric_coherence.specs.Resumed
+pub use Rattle.fabric_coherence.specs.Saved

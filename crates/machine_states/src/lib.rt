@@ -15,4 +15,5 @@ pub use controller::add_controller;
 pub use home::{add_home, add_other_home, is_as_at_start};
 pub use net::{add_flights, add_net};
 pub use node::{add_node, add_open_miss, add_open_put};
+pub use sn_machine;
 pub use state::{add_nodes, add_state, has_its_nodes};

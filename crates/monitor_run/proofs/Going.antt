@@ -15,9 +15,9 @@ use Rattle.sn_driver.specs.declared.turn.Turn.TheVariants as turn
 use Rattle.rand_pcg.specs.Lcg.{Lcg}
 use Rattle.run_journals.specs.declared.entry.JournalEntry.{JournalEntry}
 use Rattle.run_journals.specs.Journal.{Began, entry_of, next_pick, state_of}
-use Rattle.shared_machine.specs.Shared.{Did}
-use Rattle.shared_machine.specs.Invariant.{FollowsJournal, HasRoomForRest}
-use Rattle.shared_machine.proofs.Goes.{turn-keeps, turn-room, turn-begun}
+use Rattle.node_run.specs.Shared.{Did}
+use Rattle.node_run.specs.Invariant.{FollowsJournal, HasRoomForRest}
+use Rattle.node_run.proofs.Goes.{turn-keeps, turn-room, turn-begun}
 use Rattle.snap_board.specs.Snap.{SnapData}
 use Rattle.snap_board.specs.Fronts.{EndsIn}
 use Rattle.sn_monitor.specs.Cut.{snap_of, snap_now}

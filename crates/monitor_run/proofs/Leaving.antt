@@ -2,8 +2,8 @@
 use Rattle.std.proofs.Common.{◌≡◌, ℕ, List, map, refl, ap, subst, ◌∙◌}
 use Rattle.sn_machine.specs.Machine.{MachineData}
 use Rattle.run_journals.specs.Journal.{Began}
-use Rattle.shared_machine.specs.declared.finish.Finish.{Finish}
-use Rattle.node_threads.proofs.Finishing.{run-of, finish-kept}
+use Rattle.node_run.specs.Finish.{Finish}
+use Rattle.node_run.proofs.Finishing.{run-of, finish-kept}
 use Rattle.snap_board.specs.Snap.{SnapData}
 use Rattle.sn_monitor.specs.Monitored.{MonitoredData}
 use Rattle.monitor_run.specs.declared.turns.Stop.{Stop}

@@ -20,9 +20,9 @@ use Rattle.script_replay.proofs.Lawful.{run-lawful}
 use Rattle.script_replay.proofs.Shown.{console_text-turns}
 use Rattle.run_journals.specs.declared.entry.JournalEntry.{JournalEntry}
 use Rattle.run_journals.specs.Journal.{Began, events_of, state_of}
-use Rattle.shared_machine.specs.declared.finish.Finish.{Finish}
-use Rattle.node_threads.specs.Finishes.{IsRunOf, finish_by}
-use Rattle.node_threads.specs.Told.{told_all}
+use Rattle.node_run.specs.Finish.{Finish}
+use Rattle.node_run.specs.Finishes.{IsRunOf, finish_by}
+use Rattle.node_run.specs.Told.{told_all}
 use Rattle.node_run.specs.declared.ending.Ending.{Ending}
 use Rattle.node_run.specs.Endings.{ending_by, flat_after, ending_of}
 use Rattle.node_run.specs.Pieces.{begins, tallies_by, summary_by}

@@ -1,11 +1,11 @@
 -- What a watched run keeps from turn to turn.
 use Rattle.std.specs.Prelude.{◌≡◌, ℕ, ◌+◌, ◌<◌, ◌≤◌, false, nat_le, List, [], map, length, Some, vec_capacity}
 use Rattle.run_journals.specs.Journal.{Began}
-use Rattle.shared_machine.specs.declared.finish.Finish.{Finish}
-use Rattle.shared_machine.specs.Shared.{LockedData, began_with, refusal_of}
-use Rattle.shared_machine.specs.Invariant.{FollowsJournal, HasRoomForRest}
+use Rattle.node_run.specs.Finish.{Finish}
+use Rattle.node_run.specs.Shared.{LockedData, began_with, refusal_of}
+use Rattle.node_run.specs.Invariant.{FollowsJournal, HasRoomForRest}
 use Rattle.sn_machine.specs.Machine.{MachineData}
-use Rattle.node_threads.specs.Finishes.{IsRunOf, finish_by}
+use Rattle.node_run.specs.Finishes.{IsRunOf, finish_by}
 use Rattle.sn_monitor.specs.Monitored.{MonitoredData}
 use Rattle.monitor_run.specs.declared.turns.Stop.{Stop}
 use Rattle.monitor_run.specs.declared.turns.Stop.TheVariants.{Finished, Memory}

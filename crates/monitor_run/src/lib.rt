@@ -15,4 +15,5 @@ mod turns;
 
 pub use job::Monitor;
 pub use monitoring::monitor;
+pub use node_run;
 pub use node_run::{Ending, RunFault};

@@ -1,6 +1,6 @@
 //! The turns of a run that a watcher looks at.
 ghost use Rattle.std.specs.Prelude.{◌≡◌, ◌+◌, ◌<◌, ◌≤◌, Some, [], ◌∷◌, ◌++◌, length, vec_len, vec_capacity, IfOk, IfErr, IfSome, IsNone};
-ghost use Rattle.shared_machine.specs.Shared.{refusal_of, Did};
+ghost use Rattle.node_run.specs.Shared.{refusal_of, Did};
 ghost use Rattle.sn_monitor.specs.Monitored.{IsTurn};
 ghost use Rattle.sn_driver.specs.declared.turn.Turn.TheVariants as turn;
 ghost use Rattle.snap_board.specs.Snap.{SnapData};
@@ -9,9 +9,9 @@ ghost use Rattle.monitor_run.specs.Seen.{mark_of};
 ghost use Rattle.monitor_run.specs.Stands.{Stands, IsReady, StopsBy, IsSameRun};
 
 use crate::marks::{Mark, keep, mark_of};
+use node_run::shared_machine::Finish;
 use rand_pcg::Pcg32;
 use run_journals::JournalEntry;
-use shared_machine::Finish;
 use sn_base::{Answer, Event};
 use sn_driver::Turn;
 use sn_monitor::{Monitored, Published};

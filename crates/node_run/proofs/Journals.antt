@@ -6,13 +6,13 @@ use Rattle.std.specs.Prelude.{Option, Result, Ok, Err, OnOk, OnErr, codes}
 use Rattle.sn_io.specs.declared.outside.Failed.{Failed}
 use Rattle.rv_core.specs.declared.step.Record.{Record}
 use Rattle.sn_text.specs.Written.{HasNumbers, HasValues}
-use Rattle.sn_machine.specs.Machine.{MachineData}
+use Rattle.script_replay.specs.Machine.{MachineData}
 use Rattle.sink_pieces.specs.Pieces.{Piece, Report, Ends, ends, after, Breaks}
 use Rattle.sink_pieces.proofs.PieceLaws.{after-append, after-nil, Breaks-more, Breaks-after}
 use Rattle.sink_pieces.proofs.SoFar.{SoFar, SoFar-more, SoFar-breaks, SoFar-whole}
 use Rattle.script_replay.specs.declared.job.ReportKind.TheVariants as replayed
 use Rattle.script_replay.specs.Played.{summary_pieces_of, end_now}
-use Rattle.run_journals.specs.declared.entry.JournalEntry.{JournalEntry}
+use Rattle.node_threads.specs.JournalEntry.{JournalEntry}
 use Rattle.node_run.specs.Pieces.{entry_lines, journal_pieces}
 use Rattle.sn_base.specs.declared.report.RunReport.{RunReport}
 use Rattle.sn_base.specs.declared.report.RunReport.TheVariants.{Summary, Trace, Accesses, Journal}

@@ -4,3 +4,8 @@ pub mod Replays
 pub mod Runs
 pub mod ReadBack
 pub mod Ended
+pub use Rattle.node_threads.proofs.Finishing
+pub use Rattle.node_threads.proofs.Puts
+pub use Rattle.node_threads.proofs.Goes
+pub use Rattle.node_threads.proofs.Refusals
+pub use Rattle.node_threads.proofs.Fits

@@ -14,8 +14,8 @@ use Rattle.sn_text.specs.Written.{HasNumbers}
 use Rattle.sn_text.proofs.Comments.{AreComments, comments-count}
 use Rattle.sn_text.proofs.Lines.{IsLine, line-first, read-past}
 use Rattle.sn_text.proofs.Written.{event-back, event-line}
-use Rattle.run_journals.specs.declared.entry.JournalEntry.{JournalEntry}
-use Rattle.run_journals.specs.Journal.{events_of}
+use Rattle.node_threads.specs.JournalEntry.{JournalEntry}
+use Rattle.node_threads.specs.Journal.{events_of}
 use Rattle.node_run.specs.Pieces.{entry_lines, journal_text}
 use Rattle.node_run.specs.Reported.{HaveNumbers}
 

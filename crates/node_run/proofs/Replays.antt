@@ -18,9 +18,9 @@ use Rattle.script_replay.specs.Pieces.{summary_pieces, end_pieces, turn_pieces, 
 use Rattle.script_replay.specs.Pieces.{pieces_from, pieces_of}
 use Rattle.script_replay.specs.Probed.{answers_along, told_all as told_by_replay}
 use Rattle.script_replay.proofs.Shown.{console_text-turn, console_text-turns}
-use Rattle.run_journals.specs.declared.entry.JournalEntry.{JournalEntry}
-use Rattle.run_journals.specs.Journal.{events_of, state_of, answers_of}
-use Rattle.run_journals.proofs.Released.{released-grows}
+use Rattle.node_threads.specs.JournalEntry.{JournalEntry}
+use Rattle.node_threads.specs.Journal.{events_of, state_of, answers_of}
+use Rattle.node_threads.proofs.Released.{released-grows}
 use Rattle.node_threads.specs.Told.{told_in, told_all}
 use Rattle.node_run.specs.declared.job.Run.{Run}
 use Rattle.node_run.specs.Pieces.{begins, replay_of, tallies_by}

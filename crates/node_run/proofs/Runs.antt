@@ -11,7 +11,7 @@ use Rattle.sn_io.specs.Outside.{followed_by, Rose}
 use Rattle.sn_model.specs.Machine.{State}
 use Rattle.consistent_cuts.specs.Headline.{IsRun, IsConsistent, retirements}
 use Rattle.consistent_cuts.proofs.Run.{reached_consistent}
-use Rattle.sn_machine.specs.Machine.{MachineData, flat_of}
+use Rattle.script_replay.specs.Machine.{MachineData, flat_of}
 use Rattle.sn_text.specs.Items.{most_items}
 use Rattle.sn_text.specs.Trace.{trace_of}
 use Rattle.sn_text.specs.Written.{HasValues}
@@ -29,10 +29,10 @@ use Rattle.script_replay.proofs.Lawful.{run-lawful}
 use Rattle.script_replay.proofs.ReadBack.{trace-read}
 use Rattle.script_replay.proofs.Shown.{report_text-trace}
 use Rattle.script_replay.proofs.Summaries.{comments-summary}
-use Rattle.run_journals.specs.declared.entry.JournalEntry.{JournalEntry}
-use Rattle.run_journals.specs.Journal.{Began, events_of, state_of}
-use Rattle.shared_machine.specs.declared.finish.Finish.{Finish}
-use Rattle.shared_machine.specs.declared.finish.Finish.TheVariants as finish
+use Rattle.node_threads.specs.JournalEntry.{JournalEntry}
+use Rattle.node_threads.specs.Journal.{Began, events_of, state_of}
+use Rattle.node_threads.specs.Finish.{Finish}
+use Rattle.node_threads.specs.Finish.TheVariants as finish
 use Rattle.node_threads.specs.Finishes.{IsRunOf, finish_by, Ends as EndsSo}
 use Rattle.node_threads.specs.Told.{told_all}
 use Rattle.node_run.specs.declared.ending.Ending.{Ending}

@@ -4,7 +4,7 @@ use Rattle.std.specs.Prelude.{Option, codes}
 use Rattle.sn_base.specs.Image.{ImageData}
 use Rattle.rv_core.specs.declared.step.Record.{Record}
 use Rattle.rv_core.specs.Execution.{IsExecution}
-use Rattle.sn_machine.specs.Machine.{MachineData, IsConsistentWithItsRun}
+use Rattle.script_replay.specs.Machine.{MachineData, IsConsistentWithItsRun}
 use Rattle.sink_pieces.specs.Pieces.{Piece, Ends, after, Breaks}
 use Rattle.sink_pieces.proofs.PieceLaws.{after-append, Breaks-more, Breaks-after}
 use Rattle.committed_accesses.specs.Rows.{access_rows_of}

@@ -6,10 +6,10 @@ use Rattle.rv_core.specs.declared.state.End.{End}
 use Rattle.rv_core.specs.declared.state.End.TheVariants as core
 use Rattle.rv_core.specs.Flat.{FlatState, core_at}
 use Rattle.rv_core.specs.Execution.{end_of}
-use Rattle.run_journals.specs.declared.entry.JournalEntry.{JournalEntry}
-use Rattle.run_journals.specs.Journal.{Began, state_of}
-use Rattle.shared_machine.specs.declared.finish.Finish.{Finish}
-use Rattle.shared_machine.specs.declared.finish.Finish.TheVariants as finish
+use Rattle.node_threads.specs.JournalEntry.{JournalEntry}
+use Rattle.node_threads.specs.Journal.{Began, state_of}
+use Rattle.node_threads.specs.Finish.{Finish}
+use Rattle.node_threads.specs.Finish.TheVariants as finish
 use Rattle.node_threads.specs.Finishes.{finish_by}
 use Rattle.node_run.specs.declared.ending.Ending.{Ending}
 use Rattle.node_run.specs.declared.ending.Ending.TheVariants as ending

@@ -2,3 +2,8 @@ pub mod Endings
 pub mod Pieces
 pub mod Reported
 pub mod Shown
+pub use Rattle.node_threads.specs.Finishes
+pub use Rattle.node_threads.specs.Shared
+pub use Rattle.node_threads.specs.Finish
+pub use Rattle.node_threads.specs.Invariant
+pub use Rattle.node_threads.specs.Told

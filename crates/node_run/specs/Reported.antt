@@ -3,14 +3,14 @@ use Rattle.std.specs.Prelude.{◌≡◌, ◌⊎◌, ℕ, List, [], ◌++◌, cod
 use Rattle.std.specs.List.{All}
 use Rattle.rv_core.specs.Flat.{first_cores}
 use Rattle.sn_text.specs.Written.{HasNumbers, HasValues}
-use Rattle.sn_machine.specs.Machine.{MachineData, flat_of}
+use Rattle.script_replay.specs.Machine.{MachineData, flat_of}
 use Rattle.sink_pieces.specs.Pieces.{Piece, ends, after, Breaks}
 use Rattle.committed_accesses.specs.Rows.{access_rows_of}
 use Rattle.committed_accesses.specs.Lines.{access_pieces}
 use Rattle.script_replay.specs.declared.job.ReportKind.TheVariants as replayed
 use Rattle.script_replay.specs.Played.{summary_pieces_of, end_now}
-use Rattle.run_journals.specs.declared.entry.JournalEntry.{JournalEntry}
-use Rattle.shared_machine.specs.declared.finish.Finish.{Finish}
+use Rattle.node_threads.specs.JournalEntry.{JournalEntry}
+use Rattle.node_threads.specs.Finish.{Finish}
 use Rattle.node_run.specs.declared.ending.Ending.{Ending}
 use Rattle.sn_base.specs.declared.report.RunReport.{RunReport}
 use Rattle.sn_base.specs.declared.report.RunReport.TheVariants.{Summary, Trace, Accesses, Journal}

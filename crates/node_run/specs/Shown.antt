@@ -14,8 +14,8 @@ use Rattle.sink_pieces.specs.Pieces.{Ends, after, Breaks, console_text, report_t
 use Rattle.script_replay.specs.Played.{IsWatchable}
 use Rattle.script_replay.specs.Probed.{told_all}
 use Rattle.script_replay.specs.Shown.{IsLawful, pieces_due}
-use Rattle.run_journals.specs.declared.entry.JournalEntry.{JournalEntry}
-use Rattle.run_journals.specs.Journal.{IsDue, events_of, state_of}
+use Rattle.node_threads.specs.JournalEntry.{JournalEntry}
+use Rattle.node_threads.specs.Journal.{IsDue, events_of, state_of}
 use Rattle.node_run.specs.declared.ending.Ending.{Ending}
 use Rattle.node_run.specs.declared.job.Run.{Run}
 use Rattle.sn_base.specs.declared.report.RunReport.TheVariants.{Trace, Accesses, Journal}

@@ -1,13 +1,13 @@
 //! How a run ends.
 ghost use Rattle.std.specs.Prelude.{◌≡◌, ◌<◌, ◌≤◌, Option};
 ghost use Rattle.std.specs.Option.{option_or};
-ghost use Rattle.sn_machine.specs.Machine.{flat_of};
+ghost use Rattle.script_replay.specs.Machine.{flat_of};
 ghost use Rattle.node_run.specs.Endings.{trap_at, first_trap, ending_by};
 
 use node_threads::Finish;
 use rv_core::{Cause, End};
+use script_replay::sn_machine::Machine;
 use sn_base::NodeId;
-use sn_machine::Machine;
 
 /// How a run ends whose console took all that is released.
 #[derive(Clone, Copy, PartialEq, Eq, Debug)]

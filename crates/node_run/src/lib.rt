@@ -17,6 +17,8 @@ mod starting;
 
 pub use ending::{Ending, how_ended};
 pub use job::{Run, RunShowing};
+pub use node_threads;
+pub use node_threads::shared_machine;
 pub use reporting::put_ended;
 pub use room::{ReportRoom, report_room};
 pub use running::{RunFault, run, shared_for};

@@ -13,11 +13,11 @@ use crate::job::RunShowing;
 use crate::room::ReportRoom;
 use crate::rows::put_rows;
 use node_threads::{Finished, JournalEntry};
+use script_replay::sn_machine::Machine;
 use script_replay::{ReportKind, Showing, put_end, put_summary};
 use sink_pieces::put_report;
 use sn_base::RunReport;
 use sn_io::{Failed, Sink};
-use sn_machine::Machine;
 use sn_probe::ProbeSet;
 use sn_text::Line;
 

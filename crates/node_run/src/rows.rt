@@ -9,8 +9,8 @@ ghost use Rattle.node_run.specs.Reported.{rows_now};
 
 use committed_accesses::AccessRows;
 use script_replay::put_summary;
+use script_replay::sn_machine::Machine;
 use sn_io::{Failed, Sink};
-use sn_machine::Machine;
 use sn_probe::ProbeSet;
 use sn_text::Line;
 

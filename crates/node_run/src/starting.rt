@@ -1,11 +1,11 @@
 //! A machine before the first turn of a run on its caller's thread.
 ghost use Rattle.std.specs.Prelude.{◌≡◌, ◌+◌, ◌≤◌, true, IfOk};
 ghost use Rattle.sn_base.specs.Config.{config_fits};
-ghost use Rattle.sn_machine.specs.Machine.{machine_with_room};
+ghost use Rattle.script_replay.specs.Machine.{machine_with_room};
 ghost use Rattle.sn_base.specs.declared.limits.TheConstants.{EVENTS};
 
+use script_replay::sn_machine::Machine;
 use sn_base::{Config, Image, Memory};
-use sn_machine::Machine;
 use std::alloc::Global;
 
 /// A machine of these sizes at the start of the program, with room for a run of so many events.

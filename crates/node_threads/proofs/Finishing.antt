@@ -4,11 +4,11 @@ use Rattle.std.proofs.Common.{is_err, IsOk, IsErr, rules, refl, sym, ap, subst, 
 use Rattle.sn_base.specs.declared.event.Answer.{Answer}
 use Rattle.sn_model.specs.Machine.{State}
 use Rattle.sn_io.specs.declared.outside.Failed.{Failed}
-use Rattle.sn_machine.specs.Machine.{MachineData}
-use Rattle.due_events.specs.Numbers.{Numbers}
-use Rattle.due_events.specs.Due.{is_over}
-use Rattle.run_journals.specs.declared.entry.JournalEntry.{JournalEntry}
-use Rattle.run_journals.specs.Journal.{Began, state_of, numbers_of}
+use Rattle.shared_machine.specs.Machine.{MachineData}
+use Rattle.shared_machine.specs.Numbers.{Numbers}
+use Rattle.shared_machine.specs.Due.{is_over}
+use Rattle.shared_machine.specs.JournalEntry.{JournalEntry}
+use Rattle.shared_machine.specs.Journal.{Began, state_of, numbers_of}
 use Rattle.shared_machine.specs.declared.finish.Finish.{Finish}
 use Rattle.shared_machine.specs.declared.finish.Finish.TheVariants.{Over, CutOff, Budget, Stopped}
 use Rattle.shared_machine.specs.Shared.{LockedData, began_with, refusal_of, cut_off_or_spent}

@@ -3,3 +3,7 @@ pub mod Finishing
 pub mod ToldSoFar
 pub mod Turns
 pub mod Numbers
+pub use Rattle.shared_machine.proofs.Released
+pub use Rattle.shared_machine.proofs.Goes
+pub use Rattle.shared_machine.proofs.Refusals
+pub use Rattle.shared_machine.proofs.Fits

@@ -4,7 +4,7 @@ use Rattle.std.proofs.lemmas.List.{drop_more, drop_all, map-id}
 use Rattle.std.proofs.lemmas.Simd.{map-map}
 use Rattle.sn_base.specs.declared.event.Answer.{Answer}
 use Rattle.sn_probe.specs.Probes.{Meter, Observation, told_of, told_from}
-use Rattle.run_journals.specs.declared.entry.JournalEntry.{JournalEntry}
+use Rattle.shared_machine.specs.JournalEntry.{JournalEntry}
 use Rattle.node_threads.specs.Told.{told_in, told_all}
 
 -- what is left of a journal after its first entries

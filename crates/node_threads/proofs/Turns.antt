@@ -4,8 +4,8 @@ use Rattle.std.proofs.Common.{None, ap, ◌∙◌, arith, length-append}
 use Rattle.std.proofs.lemmas.Bool.Decides.{nat_tests}
 use Rattle.sn_base.specs.declared.event.Event.{Event}
 use Rattle.sn_base.specs.declared.event.Answer.{Answer}
-use Rattle.due_events.specs.Due.{is_over}
-use Rattle.run_journals.specs.Journal.{entry_of}
+use Rattle.shared_machine.specs.Due.{is_over}
+use Rattle.shared_machine.specs.Journal.{entry_of}
 use Rattle.shared_machine.specs.declared.finish.Finish.TheVariants.{Over, Stopped}
 use Rattle.shared_machine.specs.Shared.{LockedData, finish_of, cut_off_or_spent, IsTurn}
 

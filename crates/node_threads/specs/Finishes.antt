@@ -3,14 +3,14 @@ use Rattle.std.specs.Prelude.{◌≡◌, ℕ, ◌<◌, ◌≤◌, nat_le, if◌t
 use Rattle.std.specs.List.{All}
 use Rattle.sn_base.specs.declared.event.Answer.{Answer}
 use Rattle.sn_base.specs.Rules.{AreRules}
-use Rattle.consistent_cuts.specs.Runs.{AllFit}
+use Rattle.shared_machine.specs.ConsistentCutsRuns.{AllFit}
 use Rattle.sn_io.specs.declared.outside.Failed.{Failed}
 use Rattle.sn_io.specs.Outside.{Rose}
-use Rattle.sn_machine.specs.Machine.{MachineData}
-use Rattle.due_events.specs.Due.{is_over}
+use Rattle.shared_machine.specs.Machine.{MachineData}
+use Rattle.shared_machine.specs.Due.{is_over}
 use Rattle.sn_console.specs.Handed.{IsHandedOn, IsBegun}
-use Rattle.run_journals.specs.declared.entry.JournalEntry.{JournalEntry}
-use Rattle.run_journals.specs.Journal.{Began, IsDue, events_of, state_of, answers_of, numbers_of}
+use Rattle.shared_machine.specs.JournalEntry.{JournalEntry}
+use Rattle.shared_machine.specs.Journal.{Began, IsDue, events_of, state_of, answers_of, numbers_of}
 use Rattle.shared_machine.specs.declared.finish.Finish.{Finish}
 use Rattle.shared_machine.specs.declared.finish.Finish.TheVariants.{Over, Stopped}
 use Rattle.shared_machine.specs.Shared.{cut_off_or_spent}

@@ -2,7 +2,7 @@
 use Rattle.std.specs.Prelude.{ℕ, List, [], ◌∷◌, map}
 use Rattle.sn_base.specs.declared.event.Answer.{Answer}
 use Rattle.sn_probe.specs.Probes.{Meter, Observation, told_from}
-use Rattle.run_journals.specs.declared.entry.JournalEntry.{JournalEntry}
+use Rattle.shared_machine.specs.JournalEntry.{JournalEntry}
 
 -- a journal's events, each with its answer
 abbrev pub told_in : List JournalEntry → List Answer → List Observation

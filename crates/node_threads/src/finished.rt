@@ -1,7 +1,7 @@
 //! What a run leaves.
+use shared_machine::sn_machine::Machine;
 use shared_machine::{Finish, JournalEntry};
 use sn_base::Answer;
-use sn_machine::Machine;
 
 /// The machine after a run, what was done and answered in order, and why the run ended.
 #[derive(Drop)]

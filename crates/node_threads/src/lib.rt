@@ -16,5 +16,6 @@ mod telling;
 
 pub use finished::Finished;
 pub use run::run_nodes;
-pub use shared_machine::{Finish, JournalEntry, SharedMachine};
+pub use shared_machine;
+pub use shared_machine::{Finish, JournalEntry, SharedMachine, sn_driver};
 pub use telling::tell;

@@ -15,10 +15,10 @@ use Rattle.sn_driver.specs.Driver.{DriverData}
 use Rattle.run_journals.specs.declared.entry.JournalEntry.{JournalEntry}
 use Rattle.run_journals.specs.Journal.{Began, entry_of, next_pick, numbers_of}
 use Rattle.run_journals.proofs.Released.{released-grows}
-use Rattle.shared_machine.specs.declared.finish.Finish.{Finish}
-use Rattle.shared_machine.specs.Shared.{Did, refusal_of}
-use Rattle.shared_machine.specs.Invariant.{FollowsJournal, HasRoomForRest}
-use Rattle.shared_machine.proofs.Goes.{turn-keeps, turn-room, turn-begun}
+use Rattle.node_run.specs.Finish.{Finish}
+use Rattle.node_run.specs.Shared.{Did, refusal_of}
+use Rattle.node_run.specs.Invariant.{FollowsJournal, HasRoomForRest}
+use Rattle.node_run.proofs.Goes.{turn-keeps, turn-room, turn-begun}
 use Rattle.turn_orders.specs.declared.order.Order.{Order}
 use Rattle.turn_orders.specs.Orders.{worker_of}
 use Rattle.turn_orders.specs.Scheduled.{SchedulerData}

@@ -10,11 +10,11 @@ use Rattle.run_statistics.specs.declared.count.Count.{Count}
 use Rattle.run_statistics.specs.Counted.{Counts}
 use Rattle.sn_console.specs.Handed.{IsHandedOn, IsBegun}
 use Rattle.due_events.specs.Due.{is_over}
-use Rattle.shared_machine.specs.declared.finish.Finish.{Finish}
-use Rattle.shared_machine.specs.declared.finish.Finish.TheVariants.{Over, CutOff, Budget, Stopped}
-use Rattle.shared_machine.specs.Shared.{cut_off_or_spent}
-use Rattle.node_threads.specs.Finishes.{IsRunOf, Ends, finish_by}
-use Rattle.node_threads.proofs.Finishing.{run-of, finish-kept}
+use Rattle.node_run.specs.Finish.{Finish}
+use Rattle.node_run.specs.Finish.TheVariants.{Over, CutOff, Budget, Stopped}
+use Rattle.node_run.specs.Shared.{cut_off_or_spent}
+use Rattle.node_run.specs.Finishes.{IsRunOf, Ends, finish_by}
+use Rattle.node_run.proofs.Finishing.{run-of, finish-kept}
 use Rattle.ordered_run.specs.declared.course.Course.{Course}
 use Rattle.ordered_run.specs.Stands.{Stands, IsSameRun, EndsTurns, refusal_now, shared_as, its_start}
 

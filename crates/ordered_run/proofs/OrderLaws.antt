@@ -12,8 +12,8 @@ use Rattle.due_events.specs.Due.{is_over, due_of}
 use Rattle.run_journals.specs.declared.entry.JournalEntry.{JournalEntry}
 use Rattle.run_journals.specs.Journal.{Began, IsDue, draws_of, entry_of, state_of, numbers_of}
 use Rattle.run_journals.proofs.Dues.{IsDue-snoc}
-use Rattle.shared_machine.specs.declared.finish.Finish.TheVariants.{Over}
-use Rattle.shared_machine.specs.Shared.{cut_off_or_spent}
+use Rattle.node_run.specs.Finish.TheVariants.{Over}
+use Rattle.node_run.specs.Shared.{cut_off_or_spent}
 use Rattle.node_run.specs.declared.ending.Ending.{Ending}
 use Rattle.node_run.specs.declared.job.Run.{Run}
 use Rattle.node_run.specs.Endings.{ending_by, flat_after}

@@ -6,10 +6,10 @@ use Rattle.sn_base.specs.declared.event.Event.{Event}
 use Rattle.due_events.specs.Due.{is_over, due_of}
 use Rattle.run_journals.specs.declared.entry.JournalEntry.{JournalEntry}
 use Rattle.run_journals.specs.Journal.{Began, entry_of, state_of, numbers_of}
-use Rattle.shared_machine.specs.declared.finish.Finish.{Finish}
-use Rattle.shared_machine.specs.declared.finish.Finish.TheVariants.{Over}
-use Rattle.shared_machine.specs.Shared.{cut_off_or_spent}
-use Rattle.node_threads.specs.Finishes.{finish_by}
+use Rattle.node_run.specs.Finish.{Finish}
+use Rattle.node_run.specs.Finish.TheVariants.{Over}
+use Rattle.node_run.specs.Shared.{cut_off_or_spent}
+use Rattle.node_run.specs.Finishes.{finish_by}
 use Rattle.turn_orders.specs.declared.order.Order.{Order}
 use Rattle.ordered_run.specs.Ordered.{next_worker, due_after, with_due, with_turn, journal_after, ordered_journal}
 

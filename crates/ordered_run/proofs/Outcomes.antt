@@ -6,10 +6,10 @@ use Rattle.sn_probe.specs.Probes.{Meter}
 use Rattle.sink_pieces.specs.Pieces.{Ends}
 use Rattle.run_journals.specs.declared.entry.JournalEntry.{JournalEntry}
 use Rattle.run_journals.specs.Journal.{Began}
-use Rattle.shared_machine.specs.declared.finish.Finish.{Finish}
-use Rattle.shared_machine.specs.declared.finish.Finish.TheVariants as finish
+use Rattle.node_run.specs.Finish.{Finish}
+use Rattle.node_run.specs.Finish.TheVariants as finish
 use Rattle.rv_core.specs.Flat.{FlatState}
-use Rattle.node_threads.specs.Finishes.{finish_by, Ends as EndsSo}
+use Rattle.node_run.specs.Finishes.{finish_by, Ends as EndsSo}
 use Rattle.node_run.specs.declared.ending.Ending.{Ending}
 use Rattle.node_run.specs.declared.job.Run.{Run}
 use Rattle.node_run.specs.Endings.{ending_by, flat_after, ending_of}

@@ -6,7 +6,7 @@ use Rattle.sn_io.specs.Outside.{followed_by}
 use Rattle.sn_consistency.specs.Committed.{Begins}
 use Rattle.sn_console.specs.Handed.{IsHandedOn, IsBegun}
 use Rattle.sn_machine.specs.Machine.{MachineData}
-use Rattle.node_threads.proofs.Puts.{written-none, written-then, written-begun}
+use Rattle.node_run.proofs.Puts.{written-none, written-then, written-begun}
 use Rattle.sink_pieces.specs.Pieces.{ends, after, Breaks, console_piece, HasBeginning, console_text}
 use Rattle.sink_pieces.proofs.Begun.{console-after, console-begun, console_text-piece}
 

@@ -12,8 +12,8 @@ use Rattle.due_events.specs.Numbers.{Numbers, first_numbers}
 use Rattle.sn_driver.specs.Driver.{DriverData}
 use Rattle.run_journals.specs.declared.entry.JournalEntry.{JournalEntry}
 use Rattle.run_journals.specs.Journal.{IsDue, state_of, answers_of, numbers_of, draws_of}
-use Rattle.shared_machine.specs.Shared.{LockedData}
-use Rattle.shared_machine.specs.Invariant.{FollowsJournal}
+use Rattle.node_run.specs.Shared.{LockedData}
+use Rattle.node_run.specs.Invariant.{FollowsJournal}
 use Rattle.turn_orders.specs.Scheduled.{SchedulerData}
 use Rattle.turn_orders.specs.Drawn.{AreDrawn}
 use Rattle.ordered_run.specs.declared.course.Course.{Course}

@@ -4,10 +4,10 @@ use Rattle.sn_io.specs.Outside.{Rose}
 use Rattle.sn_consistency.specs.Committed.{Begins}
 use Rattle.sn_console.specs.Handed.{IsHandedOn, IsBegun}
 use Rattle.run_journals.specs.Journal.{Began}
-use Rattle.shared_machine.specs.declared.finish.Finish.{Finish}
-use Rattle.shared_machine.specs.declared.finish.Finish.TheVariants as finish
-use Rattle.shared_machine.specs.Shared.{LockedData, began_with, refusal_of}
-use Rattle.shared_machine.specs.Invariant.{FollowsJournal, HasRoomForRest}
+use Rattle.node_run.specs.Finish.{Finish}
+use Rattle.node_run.specs.Finish.TheVariants as finish
+use Rattle.node_run.specs.Shared.{LockedData, began_with, refusal_of}
+use Rattle.node_run.specs.Invariant.{FollowsJournal, HasRoomForRest}
 use Rattle.turn_orders.specs.Drawn.{AreDrawn}
 use Rattle.ordered_run.specs.declared.course.Course.{Course}
 use Rattle.ordered_run.specs.Ordered.{journal_after}

@@ -13,6 +13,8 @@ mod starting;
 mod turns;
 
 pub use laws::{an_ordered_journal_is_due, an_ordered_run_ends, same_run_same_bytes};
-pub use node_run::{Ending, Run, RunFault, RunShowing};
+pub use node_run;
+pub use node_run::{Ending, Run, RunFault, RunShowing, node_threads};
+pub use run_statistics;
 pub use running::{Turned, all_turns, run};
 pub use turn_orders::Order;

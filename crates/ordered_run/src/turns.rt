@@ -9,12 +9,12 @@ ghost use Rattle.sn_io.specs.Outside.{Rose};
 ghost use Rattle.sn_console.specs.Handed.{IsHandedOn, IsBegun};
 ghost use Rattle.run_journals.specs.Journal.{events_of};
 ghost use Rattle.run_statistics.specs.Counted.{Counts};
-ghost use Rattle.shared_machine.specs.Shared.{refusal_of, Did};
+ghost use Rattle.node_run.specs.Shared.{refusal_of, Did};
 ghost use Rattle.ordered_run.specs.Stands.{Stands, IsReady, IsSameRun, IsNext, IsRefused, EndsTurns};
 
 use crate::course::Course;
+use node_run::shared_machine::Finish;
 use run_statistics::Count;
-use shared_machine::Finish;
 use sink_pieces::put_console;
 use sn_base::{Answer, Event};
 use sn_driver::{Driver, Turn};

@@ -16,4 +16,5 @@ pub use job::{Controls, Roll};
 pub use leading::{Ready, RollFault, put_controls, put_events, ready_for};
 pub use reply::Reply;
 pub use rolling::roll;
+pub use rolling_recovery;
 pub use stage::Stage;

@@ -10,5 +10,6 @@
 mod entry;
 mod laws;
 
+pub use due_events::sn_machine;
 pub use entry::JournalEntry;
 pub use laws::{a_due_turn_goes_on, picks_are_drawn, released_only_grows};

@@ -10,16 +10,16 @@ use Rattle.access_check.specs.declared.verdict.Verdict.{Verdict as AccessVerdict
 use Rattle.access_check.specs.declared.verdict.Verdict.TheVariants as access_verdict
 use Rattle.access_texts.specs.Lists.{Said}
 use Rattle.access_texts.specs.Verdicts.{verdict_text, IsPut, IsBrokenOff as IsAccessBroken}
-use Rattle.node_run.specs.declared.ending.Ending.{Ending}
-use Rattle.node_run.specs.declared.ending.Ending.TheVariants as ending
-use Rattle.node_run.specs.declared.job.Run.{Run}
-use Rattle.node_run.specs.Shown.{IsDone as IsRunDone, IsBrokenOff as IsRunBroken}
-use Rattle.node_run.specs.Pieces.{begins}
+use Rattle.monitor_run.specs.Ending.{Ending}
+use Rattle.monitor_run.specs.Ending.TheVariants as ending
+use Rattle.monitor_run.specs.Run.{Run}
+use Rattle.monitor_run.specs.NodeRunShown.{IsDone as IsRunDone, IsBrokenOff as IsRunBroken}
+use Rattle.monitor_run.specs.Pieces.{begins}
 use Rattle.turn_orders.specs.declared.order.Order.{Order}
-use Rattle.ordered_run.specs.Ordered.{ordered_journal}
+use Rattle.seed_runs.specs.Ordered.{ordered_journal}
 use Rattle.seed_runs.specs.declared.job.SeedRuns.{SeedRuns}
 use Rattle.seed_runs.specs.Shown.{IsCountedByThreads, IsBrokenByThreads, IsDoneCounted, IsBrokenCounted, AreShown as AreSeedsShown, AreBrokenOff as AreSeedsBroken}
-use Rattle.ordered_run.specs.Shown.{IsDone as IsOrderDone, IsBrokenOff as IsOrderBroken}
+use Rattle.seed_runs.specs.OrderedRunShown.{IsDone as IsOrderDone, IsBrokenOff as IsOrderBroken}
 use Rattle.monitor_run.specs.declared.job.Monitor.{Monitor}
 use Rattle.monitor_run.specs.Shown.{IsDone as IsWatchDone, IsBrokenOff as IsWatchBroken}
 use Rattle.safetynet_main.specs.LoadPlan.{Loads}

@@ -13,18 +13,18 @@ use Rattle.shown_states.specs.declared.job.StatesReplay.{StatesReplay}
 use Rattle.shown_states.specs.declared.play.StatesFault.{StatesFault}
 use Rattle.shown_states.specs.declared.play.StatesFault.TheVariants as states_fault
 use Rattle.shown_states.specs.Shown.{IsShown as AreStatesShown, IsShownInPart as AreStatesShownInPart, IsCutShort as AreStatesCutShort}
-use Rattle.rolled_replay.specs.declared.job.Roll.{Roll}
-use Rattle.rolled_replay.specs.declared.leading.RollFault.{RollFault}
-use Rattle.rolled_replay.specs.declared.leading.RollFault.TheVariants as roll_fault
-use Rattle.rolled_replay.specs.Rolled.{IsRolled, IsBrokenOff as IsRollBroken}
-use Rattle.node_run.specs.declared.ending.Ending.{Ending}
-use Rattle.node_run.specs.declared.ending.Ending.TheVariants as ending
-use Rattle.node_run.specs.declared.job.Run.{Run}
-use Rattle.node_run.specs.declared.running.RunFault.{RunFault}
-use Rattle.node_run.specs.declared.running.RunFault.TheVariants as run_fault
-use Rattle.node_run.specs.Shown.{IsDone as IsRunDone, IsBrokenOff as IsRunBroken}
+use Rattle.call_files.specs.Roll.{Roll}
+use Rattle.call_files.specs.RollFault.{RollFault}
+use Rattle.call_files.specs.RollFault.TheVariants as roll_fault
+use Rattle.call_files.specs.Rolled.{IsRolled, IsBrokenOff as IsRollBroken}
+use Rattle.monitor_run.specs.Ending.{Ending}
+use Rattle.monitor_run.specs.Ending.TheVariants as ending
+use Rattle.monitor_run.specs.Run.{Run}
+use Rattle.monitor_run.specs.RunFault.{RunFault}
+use Rattle.monitor_run.specs.RunFault.TheVariants as run_fault
+use Rattle.monitor_run.specs.NodeRunShown.{IsDone as IsRunDone, IsBrokenOff as IsRunBroken}
 use Rattle.turn_orders.specs.declared.order.Order.{Order}
-use Rattle.ordered_run.specs.Shown.{IsDone as IsOrderDone, IsBrokenOff as IsOrderBroken}
+use Rattle.seed_runs.specs.OrderedRunShown.{IsDone as IsOrderDone, IsBrokenOff as IsOrderBroken}
 use Rattle.monitor_run.specs.declared.job.Monitor.{Monitor}
 use Rattle.monitor_run.specs.Shown.{IsDone as IsWatchDone, IsBrokenOff as IsWatchBroken}
 use Rattle.seed_runs.specs.declared.job.SeedRuns.{SeedRuns}

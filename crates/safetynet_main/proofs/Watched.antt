@@ -18,9 +18,9 @@ use Rattle.command_words.specs.declared.request.ReplayReport.TheVariants as repl
 use Rattle.call_files.proofs.Watched.{watched_is}
 use Rattle.rolling_recovery.specs.Controls.{control_fits}
 use Rattle.rolling_recovery.specs.declared.controls.Control.{Control}
-use Rattle.rolled_replay.specs.Rolled.{MayRoll}
-use Rattle.node_run.specs.declared.job.Run.{Run}
-use Rattle.node_run.specs.Shown.{MayBegin as MayRun}
+use Rattle.call_files.specs.Rolled.{MayRoll}
+use Rattle.monitor_run.specs.Run.{Run}
+use Rattle.monitor_run.specs.NodeRunShown.{MayBegin as MayRun}
 use Rattle.monitor_run.specs.Shown.{MayBegin as MayMonitor}
 use Rattle.sn_base.specs.declared.report.RunReport.{RunReport}
 use Rattle.turn_orders.specs.declared.order.Order.{Order}

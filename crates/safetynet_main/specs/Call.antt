@@ -31,19 +31,19 @@ use Rattle.accesses_replay.specs.Shown.{pieces_due as accesses_pieces, IsShown a
 use Rattle.shown_states.specs.Shown.{MayBegin as MayShowStates, pieces_due as states_pieces, IsShown as AreStatesShown}
 use Rattle.shown_states.specs.Shown.{IsShownInPart as AreStatesShownInPart, IsCutShort as AreStatesCutShort}
 use Rattle.rolling_recovery.specs.declared.controls.Control.{Control}
-use Rattle.rolled_replay.specs.Rolled.{MayRoll, IsRolled, IsBrokenOff as IsRollBrokenOff, pieces_due as rolled_pieces}
+use Rattle.call_files.specs.Rolled.{MayRoll, IsRolled, IsBrokenOff as IsRollBrokenOff, pieces_due as rolled_pieces}
 use Rattle.sn_machine.specs.Machine.{MachineData}
 use Rattle.saved_replay.specs.Shown.{MaySave, pieces_due as saved_pieces, IsDone as IsSaved, IsBrokenOff as IsSaveBroken}
 use Rattle.resumed_replay.specs.Shown.{MayGoOn, pieces_due as resumed_pieces, IsDone as IsGoneOn, IsBrokenOff as IsGoingOnBroken}
 use Rattle.run_journals.specs.declared.entry.JournalEntry.{JournalEntry}
-use Rattle.node_run.specs.declared.job.Run.{Run}
+use Rattle.monitor_run.specs.Run.{Run}
 use Rattle.sn_base.specs.declared.report.RunReport.{RunReport}
-use Rattle.node_run.specs.Endings.{ending_of}
-use Rattle.node_run.specs.Pieces.{begins, run_pieces}
-use Rattle.node_run.specs.Shown.{MayBegin as MayRun, output_by, IsJournal, IsShown as IsRunShown, IsShownInPart as IsRunShownInPart, IsStopped}
+use Rattle.monitor_run.specs.Endings.{ending_of}
+use Rattle.monitor_run.specs.Pieces.{begins, run_pieces}
+use Rattle.monitor_run.specs.NodeRunShown.{MayBegin as MayRun, output_by, IsJournal, IsShown as IsRunShown, IsShownInPart as IsRunShownInPart, IsStopped}
 use Rattle.turn_orders.specs.declared.order.Order.{Order}
 use Rattle.turn_orders.specs.declared.order.Order.TheVariants as turns
-use Rattle.ordered_run.specs.Ordered.{journal_after, ordered_journal}
+use Rattle.seed_runs.specs.Ordered.{journal_after, ordered_journal}
 use Rattle.seed_runs.specs.declared.job.SeedRuns.{SeedRuns}
 use Rattle.seed_runs.specs.Pieces.{counted_pieces as counted_run_pieces, pieces_due as seeds_pieces}
 use Rattle.seed_runs.specs.Shown.{MayBegin as MayRunSeeds, IsLawfulWith, IsLawfulRun, AreShown as AreSeedsShown, AreBrokenOff as AreSeedsBroken}

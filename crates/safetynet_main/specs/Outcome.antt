@@ -8,8 +8,8 @@ use Rattle.sn_consistency.specs.Projections.{FirstWithoutStep}
 use Rattle.sn_text.specs.Text.{count_line}
 use Rattle.run_journals.specs.declared.entry.JournalEntry.{JournalEntry}
 use Rattle.snap_board.specs.Snap.{SnapData}
-use Rattle.node_run.specs.declared.ending.Ending.{Ending}
-use Rattle.node_run.specs.declared.ending.Ending.TheVariants.{Exited, Trapped, CutOff, Spent}
+use Rattle.monitor_run.specs.Ending.{Ending}
+use Rattle.monitor_run.specs.Ending.TheVariants.{Exited, Trapped, CutOff, Spent}
 use Rattle.safetynet_main.specs.declared.job.Check.{Check}
 use Rattle.safetynet_main.specs.declared.job.Verdict.{Verdict}
 use Rattle.safetynet_main.specs.declared.job.Verdict.TheVariants.{Legal, Refused}

@@ -2,9 +2,9 @@
 ghost use Rattle.std.specs.Prelude.{◌≡◌, Err, IfOk, OnOk};
 ghost use Rattle.safetynet_main.specs.Outcome.{ending_status};
 
+use call_files::rolled_replay::RollFault;
 use call_status::Status;
-use node_run::{Ending, RunFault};
-use rolled_replay::RollFault;
+use monitor_run::node_run::{Ending, RunFault};
 use script_replay::ReplayFault;
 use seed_runs::SeedsFault;
 use shown_states::StatesFault;

@@ -1,7 +1,7 @@
 //! What is due once the files of a request are fetched.
 ghost use Rattle.std.specs.Prelude.{◌≡◌, ◌≢◌, ◌≤◌, ℕ, true, All, length, Some, Ok, Err, IfOk, string_bytes};
 ghost use Rattle.sn_base.specs.Config.{lies_in, config_fits};
-ghost use Rattle.node_run.specs.Shown.{MayBegin as MayRun};
+ghost use Rattle.monitor_run.specs.NodeRunShown.{MayBegin as MayRun};
 ghost use Rattle.monitor_run.specs.Shown.{MayBegin as MayMonitor};
 ghost use Rattle.command_words.specs.Request.{as_request, watch_fits, scope_fits, request_fits};
 ghost use Rattle.option_values.specs.Runs.{run_rules_fit};
@@ -13,6 +13,7 @@ ghost use Rattle.safetynet_main.specs.Call.{run_plan, monitor_plan, check_plan, 
 ghost use Rattle.sn_base.specs.declared.limits.TheConstants.{EVENTS};
 
 use crate::job::{Check, Job};
+use call_files::rolled_replay::Roll;
 use call_files::{
     fetch_accesses, fetch_assembly, fetch_control, fetch_program, fetch_save, fetch_script,
     fetch_trace, list_program,
@@ -20,10 +21,9 @@ use call_files::{
 use call_status::Status;
 use command_words::{ReplayReport, Request, RunOrder, RunScope};
 use monitor_run::Monitor;
-use node_run::{Run, RunShowing};
+use monitor_run::node_run::{Run, RunShowing};
 use option_values::Places;
 use resumed_replay::ResumedReplay;
-use rolled_replay::Roll;
 use saved_replay::SavedReplay;
 use script_replay::{Replay, ReportKind, Script, Showing};
 use seed_runs::SeedRuns;

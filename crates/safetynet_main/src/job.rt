@@ -3,12 +3,12 @@ ghost use Rattle.std.specs.Prelude.{◌≡◌};
 ghost use Rattle.safetynet_main.specs.Outcome.{verdict_status};
 
 use access_texts::AccessList;
+use call_files::rolled_replay::Roll;
 use call_files::{Text, Trace};
 use call_status::Status;
 use monitor_run::Monitor;
-use node_run::Run;
+use monitor_run::node_run::Run;
 use resumed_replay::ResumedReplay;
-use rolled_replay::Roll;
 use saved_replay::SavedReplay;
 use script_replay::Replay;
 use seed_runs::SeedRuns;

@@ -17,3 +17,4 @@ mod job;
 mod judging;
 
 pub use call::safetynet;
+pub use generated_runs;

@@ -1,7 +1,7 @@
 -- That events fit.
 use Rattle.std.proofs.Common.{ℕ, zero, suc, List, [], ◌∷◌, take}
 use Rattle.sn_base.specs.declared.event.Event.{Event}
-use Rattle.consistent_cuts.specs.Runs.{AllFit}
+use Rattle.due_events.specs.ConsistentCutsRuns.{AllFit}
 
 -- the first of events that fit do
 pub all_fit-take : (nodes : ℕ) (events : List Event) (i : ℕ) → AllFit nodes events → AllFit nodes (take i events)

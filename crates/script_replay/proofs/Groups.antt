@@ -12,7 +12,7 @@ use Rattle.rv_core.specs.declared.state.CoreState.{CoreState}
 use Rattle.rv_core.specs.Core.{bare}
 use Rattle.rv_core.specs.Flat.{FlatState, core_at}
 use Rattle.sn_text.specs.Text.{event_line, sent_lines, core_line}
-use Rattle.sn_machine.specs.Machine.{MachineData, flat_of}
+use Rattle.due_events.specs.Machine.{MachineData, flat_of}
 use Rattle.script_replay.specs.Pieces.{core_lines, cut_lines, recovered_lines, group_of}
 use Rattle.script_replay.specs.Played.{group_now, IsAlone}
 

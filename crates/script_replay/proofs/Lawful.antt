@@ -3,8 +3,8 @@ use Rattle.std.proofs.Common.{ℕ, List, take}
 use Rattle.sn_base.specs.Image.{ImageData}
 use Rattle.sn_base.specs.declared.config.Config.{Config}
 use Rattle.sn_base.specs.declared.event.Event.{Event}
-use Rattle.consistent_cuts.specs.Headline.{IsRun}
-use Rattle.consistent_cuts.proofs.Run.{reached_consistent}
+use Rattle.due_events.specs.Headline.{IsRun}
+use Rattle.due_events.proofs.Run.{reached_consistent}
 use Rattle.script_replay.specs.Shown.{IsLawful}
 use Rattle.script_replay.proofs.Fits.{all_fit-take}
 

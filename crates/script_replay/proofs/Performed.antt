@@ -4,9 +4,9 @@ use Rattle.sn_base.specs.Image.{ImageData}
 use Rattle.sn_base.specs.declared.config.Config.{Config}
 use Rattle.sn_base.specs.declared.event.Event.{Event}
 use Rattle.sn_model.specs.Machine.{State, start_of}
-use Rattle.sn_machine.specs.Machine.{MachineData, machine_with_room}
+use Rattle.due_events.specs.Machine.{MachineData, machine_with_room}
 use Rattle.sn_model.specs.Step.{state_after}
-use Rattle.consistent_cuts.specs.Headline.{state_of_run}
+use Rattle.due_events.specs.Headline.{state_of_run}
 use Rattle.sn_text.specs.Written.{HasValues}
 use Rattle.sink_pieces.specs.Pieces.{Piece, Ends, after, Breaks}
 use Rattle.sn_probe.specs.Probes.{Meter, told_from, tallies_of}

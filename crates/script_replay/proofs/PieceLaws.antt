@@ -5,8 +5,8 @@ use Rattle.std.specs.Prelude.{Option, codes}
 use Rattle.sn_base.specs.declared.event.Event.{Event}
 use Rattle.sn_base.specs.declared.event.Answer.{Answer}
 use Rattle.rv_core.specs.declared.step.Record.{Record}
-use Rattle.sn_machine.specs.Machine.{MachineData, next_of, IsApplied}
-use Rattle.consistent_cuts.specs.Headline.{IsStepOfRun}
+use Rattle.due_events.specs.Machine.{MachineData, next_of, IsApplied}
+use Rattle.due_events.specs.Headline.{IsStepOfRun}
 use Rattle.sn_text.specs.Text.{trace_line}
 use Rattle.sink_pieces.specs.Pieces.{Piece, Report, Ends, after, Breaks, console_piece}
 use Rattle.sink_pieces.proofs.PieceLaws.{after-append, after-nil, Breaks-more, Breaks-after}

@@ -6,8 +6,8 @@ use Rattle.sn_base.specs.declared.config.Config.{Config}
 use Rattle.sn_base.specs.declared.event.Event.{Event}
 use Rattle.sn_base.specs.declared.event.Answer.{Answer}
 use Rattle.sn_model.specs.Machine.{State}
-use Rattle.sn_machine.specs.Machine.{MachineData, next_of}
-use Rattle.consistent_cuts.specs.Runs.{AllFit}
+use Rattle.due_events.specs.Machine.{MachineData, next_of}
+use Rattle.due_events.specs.ConsistentCutsRuns.{AllFit}
 use Rattle.sn_probe.specs.Probes.{Meter, tallies_of}
 use Rattle.sink_pieces.specs.Pieces.{Ends, after, Breaks}
 use Rattle.sink_pieces.proofs.SoFar.{SoFar}

@@ -17,8 +17,8 @@ use Rattle.rv_core.specs.Execution.{Executes}
 use Rattle.sn_model.specs.Machine.{State, start_of}
 use Rattle.sn_model.specs.Step.{step_of}
 use Rattle.sn_model.specs.Trace.{TraceEntry, entry_at, with_event, trace_after_event, trace_after, of_interval, below}
-use Rattle.consistent_cuts.specs.Headline.{IsRun, state_of_run, retirements}
-use Rattle.consistent_cuts.proofs.Run.{reached_consistent}
+use Rattle.due_events.specs.Headline.{IsRun, state_of_run, retirements}
+use Rattle.due_events.proofs.Run.{reached_consistent}
 use Rattle.sn_text.specs.Items.{most_items}
 use Rattle.sn_text.specs.Trace.{trace_of}
 use Rattle.sn_text.specs.Written.{HasValues, IsRecordOf, trace_text}

@@ -20,8 +20,8 @@ use Rattle.sn_model.specs.Instructions.{MachineStep, step_of_instruction}
 use Rattle.sn_model.specs.MachineEvents.{validates, unready_node, restores}
 use Rattle.sn_model.specs.Step.{step_of}
 use Rattle.sn_model.proofs.EachStep.{each_step}
-use Rattle.consistent_cuts.proofs.EachEvent.{ordinary_evicted, ordinary_flight, ordinary_hops, ordinary_loses}
-use Rattle.consistent_cuts.proofs.SteppedCases.{is_point_answer}
+use Rattle.due_events.proofs.EachEvent.{ordinary_evicted, ordinary_flight, ordinary_hops, ordinary_loses}
+use Rattle.due_events.proofs.SteppedCases.{is_point_answer}
 use Rattle.script_replay.specs.Played.{IsAlone}
 
 -- whether an answer is a recovery's

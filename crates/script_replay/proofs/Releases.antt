@@ -7,7 +7,7 @@ use Rattle.sn_base.specs.declared.event.Answer.{Answer}
 use Rattle.sn_base.specs.declared.event.Answer.TheVariants.{Validated}
 use Rattle.sn_model.specs.Machine.{State}
 use Rattle.sn_model.specs.Instructions.{MachineStep}
-use Rattle.consistent_cuts.specs.Headline.{IsStepOfRun}
+use Rattle.due_events.specs.Headline.{IsStepOfRun}
 
 abbrev is_validation : Answer → Bool
 is_validation (Validated k) = true

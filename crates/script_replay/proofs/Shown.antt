@@ -15,10 +15,10 @@ use Rattle.sn_io.specs.Outside.{followed_by}
 use Rattle.sn_text.specs.Text.{trace_line}
 use Rattle.sn_text.specs.Items.{most_items}
 use Rattle.sn_text.specs.Written.{HasValues, trace_text}
-use Rattle.consistent_cuts.specs.Headline.{IsRun, IsStepOfRun, state_of_run}
-use Rattle.consistent_cuts.specs.RunInvariant.{Holds}
-use Rattle.consistent_cuts.specs.Runs.{AllFit}
-use Rattle.consistent_cuts.proofs.Run.{step_holds, holds_next, start_holds, reached_consistent}
+use Rattle.due_events.specs.Headline.{IsRun, IsStepOfRun, state_of_run}
+use Rattle.due_events.specs.RunInvariant.{Holds}
+use Rattle.due_events.specs.ConsistentCutsRuns.{AllFit}
+use Rattle.due_events.proofs.Run.{step_holds, holds_next, start_holds, reached_consistent}
 use Rattle.sink_pieces.specs.Pieces.{Piece, console_text, report_text, Ends, after, Breaks, HasBeginning, console_piece}
 use Rattle.sink_pieces.proofs.PieceLaws.{console_text-append, report_text-append}
 use Rattle.sink_pieces.proofs.Begun.{console_text-piece, report_text-piece, console-after, report-after, console-begun, report-begun}

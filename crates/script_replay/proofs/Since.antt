@@ -2,7 +2,7 @@
 use Rattle.std.proofs.Common.{◌≡◌, ℕ, ◌+◌, ◌-◌, ◌≤◌, ap, ◌∙◌, arith}
 use Rattle.sn_base.specs.declared.event.Event.{Event}
 use Rattle.sn_base.specs.declared.event.Answer.{Answer}
-use Rattle.sn_machine.specs.Machine.{MachineData, IsApplied}
+use Rattle.due_events.specs.Machine.{MachineData, IsApplied}
 use Rattle.script_replay.specs.Played.{after_event, since}
 
 one-later : (n before : ℕ) → before ≤ n → (n + 1) - before ≡ (n - before) + 1

@@ -1,7 +1,7 @@
 -- What a replay has put so far, and what is left.
 use Rattle.std.proofs.Common.{◌≡◌, ℕ, List, [], ◌∷◌, ◌++◌, refl, ap, subst, ◌∙◌}
 use Rattle.sn_base.specs.declared.event.Event.{Event}
-use Rattle.sn_machine.specs.Machine.{MachineData}
+use Rattle.due_events.specs.Machine.{MachineData}
 use Rattle.sink_pieces.specs.Pieces.{Piece, Ends, after, Breaks}
 use Rattle.sn_probe.specs.Probes.{Meter, tallies_of}
 use Rattle.sink_pieces.proofs.SoFar.{SoFar, SoFar-breaks, SoFar-breaks_last, SoFar-whole}

@@ -2,7 +2,7 @@
 use Rattle.std.proofs.Common.{◌≡◌, ℕ, ◌+◌, ◌<◌, List, [], ◌∷◌, ◌++◌, take, length, refl, ap, sym, subst, ◌∙◌, append_assoc}
 use Rattle.std.proofs.Common.{append-nil, length-append, arith}
 use Rattle.sn_base.specs.declared.event.Event.{Event}
-use Rattle.sn_machine.specs.Machine.{MachineData}
+use Rattle.due_events.specs.Machine.{MachineData}
 use Rattle.sn_probe.specs.Probes.{Meter, tallies_of}
 use Rattle.sink_pieces.specs.Pieces.{Ends, after, Breaks}
 use Rattle.sink_pieces.proofs.PieceLaws.{after-append, after-nil}

@@ -4,7 +4,7 @@ use Rattle.std.proofs.lemmas.List.{map-id}
 use Rattle.std.proofs.lemmas.Simd.{map-map}
 use Rattle.sn_base.specs.declared.event.Event.{Event}
 use Rattle.sn_base.specs.declared.event.Answer.{Answer}
-use Rattle.sn_machine.specs.Machine.{MachineData, IsApplied}
+use Rattle.due_events.specs.Machine.{MachineData, IsApplied}
 use Rattle.sn_probe.specs.Probes.{Meter, told_of}
 use Rattle.script_replay.specs.Played.{after_event, told_next, told_left}
 

@@ -2,7 +2,7 @@
 use Rattle.std.proofs.Common.{◌≡◌, ℕ, ◌+◌, ◌<◌, List, [], ◌∷◌, ◌++◌, drop, length, get_or, refl, ap, sym, ◌∙◌, append-nil, arith}
 use Rattle.std.proofs.lemmas.List.{drop_more, drop_all}
 use Rattle.sn_base.specs.declared.event.Event.{Event}
-use Rattle.sn_machine.specs.Machine.{MachineData}
+use Rattle.due_events.specs.Machine.{MachineData}
 use Rattle.sn_probe.specs.Probes.{Meter}
 use Rattle.sink_pieces.specs.Pieces.{Ends, after, Breaks}
 use Rattle.script_replay.specs.declared.job.Showing.{Showing}

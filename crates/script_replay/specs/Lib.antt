@@ -3,3 +3,4 @@ pub mod Probed
 pub mod Played
 pub mod Scheduled
 pub mod Shown
+pub use Rattle.due_events.specs.Machine

@@ -11,8 +11,8 @@ use Rattle.sn_base.specs.declared.event.Answer.TheVariants.{Recovered}
 use Rattle.sn_model.specs.declared.net.Sent.{Sent}
 use Rattle.sn_model.specs.Machine.{State, start_of}
 use Rattle.sn_model.specs.Step.{state_after}
-use Rattle.sn_machine.specs.Machine.{MachineData, next_of}
-use Rattle.consistent_cuts.specs.Headline.{IsRun}
+use Rattle.due_events.specs.Machine.{MachineData, next_of}
+use Rattle.due_events.specs.Headline.{IsRun}
 use Rattle.sink_pieces.specs.Pieces.{Piece, Ends, after, Breaks}
 use Rattle.sn_probe.specs.Probes.{Meter, told_of, told_from, tallies_of}
 use Rattle.script_replay.specs.declared.job.Showing.{Showing}

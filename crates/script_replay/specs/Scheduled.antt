@@ -4,7 +4,7 @@ use Rattle.sn_base.specs.Image.{ImageData}
 use Rattle.sn_base.specs.declared.config.Config.{Config}
 use Rattle.sn_base.specs.declared.event.Event.{Event}
 use Rattle.sn_model.specs.Machine.{State}
-use Rattle.sn_machine.specs.Machine.{MachineData}
+use Rattle.due_events.specs.Machine.{MachineData}
 use Rattle.script_replay.specs.declared.job.Showing.{Showing}
 use Rattle.script_replay.specs.declared.job.Replay.{Replay}
 

@@ -6,7 +6,7 @@ use Rattle.sn_base.specs.declared.config.Config.{Config}
 use Rattle.sn_base.specs.declared.event.Event.{Event}
 use Rattle.rv_core.specs.declared.step.Record.{Record}
 use Rattle.rv_core.specs.Execution.{IsExecution, out_of}
-use Rattle.consistent_cuts.specs.Headline.{IsConsistent, state_of_run, retirements}
+use Rattle.due_events.specs.Headline.{IsConsistent, state_of_run, retirements}
 use Rattle.sn_io.specs.Outside.{followed_by}
 use Rattle.sn_text.specs.Trace.{trace_of}
 use Rattle.sn_text.specs.Written.{trace_text}

@@ -14,6 +14,7 @@ mod replaying;
 mod schedule;
 mod turns;
 
+pub use due_events::sn_machine;
 pub use job::{Replay, ReportKind, Script, Showing};
 pub use play::{put_counted_summary, put_end, put_summary, turn, turn_since};
 pub use replaying::{ReplayFault, replay, replay_on};

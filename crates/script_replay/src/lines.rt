@@ -1,13 +1,13 @@
 //! The lines of one event and of the end, written into a line.
 ghost use Rattle.std.specs.Prelude.{◌≡◌, ◌+◌, ◌<◌, ◌≤◌, ◌++◌, take, length, slice_get, IfSome};
-ghost use Rattle.sn_machine.specs.Machine.{flat_of};
+ghost use Rattle.due_events.specs.Machine.{flat_of};
 ghost use Rattle.sn_probe.specs.Probes.{meters_in};
 ghost use Rattle.script_replay.specs.Pieces.{core_lines, watch_lines, cut_lines, summary_of, tally_lines};
 ghost use Rattle.script_replay.specs.Played.{group_now, since, IsAlone, IsWatchable};
 ghost use Rattle.sn_text.specs.declared.line.TheConstants.{LINE_ROOM};
 
+use due_events::sn_machine::Machine;
 use sn_base::{Answer, Event, NodeId};
-use sn_machine::Machine;
 use sn_probe::ProbeSet;
 use sn_text::Line;
 

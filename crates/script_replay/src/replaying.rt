@@ -11,8 +11,8 @@ ghost use Rattle.script_replay.specs.Shown.{IsReplayed, IsBrokenOff, KnowApplied
 use crate::job::{Replay, Showing};
 use crate::play::play;
 use crate::schedule::{Listed, Schedule};
+use due_events::sn_machine::Machine;
 use sn_io::Sink;
-use sn_machine::Machine;
 use sn_probe::ProbeSet;
 use std::alloc::Global;
 

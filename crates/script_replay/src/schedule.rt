@@ -5,13 +5,13 @@ ghost use Rattle.sn_base.specs.declared.config.Config.{Config};
 ghost use Rattle.sn_base.specs.declared.event.Event.{Event};
 ghost use Rattle.sn_base.specs.declared.event.Answer.{Answer};
 ghost use Rattle.sn_model.specs.Machine.{State};
-ghost use Rattle.sn_machine.specs.Machine.{next_of};
+ghost use Rattle.due_events.specs.Machine.{next_of};
 ghost use Rattle.due_events.specs.Runs.{then_others};
 ghost use Rattle.script_replay.specs.Played.{after_event};
 ghost use Rattle.script_replay.specs.Scheduled.{left_on};
 
+use due_events::sn_machine::Machine;
 use sn_base::{Answer, Event};
-use sn_machine::Machine;
 use std::marker::Model;
 
 /// Events that come one after another. Which one is next, the machine may decide on which those before it were applied.

@@ -1,6 +1,6 @@
 //! Events of a list, on a machine that began anywhere.
 ghost use Rattle.std.specs.Prelude.{◌≡◌, ℕ, ◌≤◌, ◌⊎◌, length, OnOk, OnErr};
-ghost use Rattle.consistent_cuts.specs.Runs.{AllFit};
+ghost use Rattle.due_events.specs.ConsistentCutsRuns.{AllFit};
 ghost use Rattle.sn_io.specs.Outside.{Rose};
 ghost use Rattle.sink_pieces.specs.Pieces.{ends, after};
 ghost use Rattle.sn_probe.specs.Probes.{meters_in};
@@ -8,9 +8,9 @@ ghost use Rattle.script_replay.specs.Played.{after_events, since, turns_left, to
 
 use crate::job::Showing;
 use crate::play::turn_since;
+use due_events::sn_machine::Machine;
 use sn_base::Event;
 use sn_io::{Failed, Sink};
-use sn_machine::Machine;
 use sn_probe::ProbeSet;
 use sn_text::Line;
 

@@ -13,13 +13,13 @@ use Rattle.script_replay.proofs.Lawful.{run-lawful}
 use Rattle.run_journals.specs.declared.entry.JournalEntry.{JournalEntry}
 use Rattle.run_journals.specs.Journal.{Began, entry_of, events_of, next_pick, numbers_of, state_of}
 use Rattle.run_journals.proofs.Folds.{events_of-snoc}
-use Rattle.shared_machine.proofs.Fits.{due-fits, all_fit-push}
-use Rattle.node_run.specs.declared.ending.Ending.{Ending}
-use Rattle.node_run.specs.declared.job.Run.{Run}
-use Rattle.node_run.specs.Endings.{ending_of}
-use Rattle.node_run.specs.Pieces.{begins}
-use Rattle.node_run.specs.Shown.{MayBegin, IsJournal}
-use Rattle.node_run.proofs.Replays.{replayed-so}
+use Rattle.ordered_run.proofs.Fits.{due-fits, all_fit-push}
+use Rattle.ordered_run.specs.Ending.{Ending}
+use Rattle.ordered_run.specs.Run.{Run}
+use Rattle.ordered_run.specs.Endings.{ending_of}
+use Rattle.ordered_run.specs.Pieces.{begins}
+use Rattle.ordered_run.specs.NodeRunShown.{MayBegin, IsJournal}
+use Rattle.ordered_run.proofs.Replays.{replayed-so}
 use Rattle.turn_orders.specs.declared.order.Order.{Order}
 use Rattle.turn_orders.proofs.Schedulers.{worker-below}
 use Rattle.ordered_run.specs.Ordered.{next_worker, due_after, with_due, journal_after, ordered_journal, ordered_end}

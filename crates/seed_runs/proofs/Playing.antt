@@ -11,14 +11,14 @@ use Rattle.consistent_cuts.specs.Runs.{AllFit}
 use Rattle.sn_machine.specs.Machine.{MachineData}
 use Rattle.run_journals.specs.declared.entry.JournalEntry.{JournalEntry}
 use Rattle.run_journals.specs.Journal.{events_of}
-use Rattle.node_threads.specs.Finishes.{IsRunOf}
-use Rattle.node_run.specs.declared.job.Run.{Run}
-use Rattle.node_run.specs.Pieces.{begins}
-use Rattle.node_run.specs.Shown.{MayBegin}
-use Rattle.run_statistics.specs.declared.count.Count.{Count}
-use Rattle.run_statistics.specs.Counted.{Counts}
-use Rattle.run_statistics.specs.Statistics.{statistics_of}
-use Rattle.run_statistics.specs.Lines.{statistics_lines}
+use Rattle.ordered_run.specs.Finishes.{IsRunOf}
+use Rattle.ordered_run.specs.Run.{Run}
+use Rattle.ordered_run.specs.Pieces.{begins}
+use Rattle.ordered_run.specs.NodeRunShown.{MayBegin}
+use Rattle.ordered_run.specs.Count.{Count}
+use Rattle.ordered_run.specs.Counted.{Counts}
+use Rattle.ordered_run.specs.Statistics.{statistics_of}
+use Rattle.ordered_run.specs.Lines.{statistics_lines}
 use Rattle.seed_runs.specs.Pieces.{statistics_text}
 use Rattle.seed_runs.specs.Played.{statistics_now}
 

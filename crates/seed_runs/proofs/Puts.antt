@@ -12,20 +12,20 @@ use Rattle.sink_pieces.proofs.Begun.{console-after, console_text-piece}
 use Rattle.run_journals.specs.declared.entry.JournalEntry.{JournalEntry}
 use Rattle.run_journals.specs.Journal.{Began, state_of}
 use Rattle.run_journals.proofs.Folds.{length-answers_of}
-use Rattle.shared_machine.specs.declared.finish.Finish.{Finish}
-use Rattle.shared_machine.specs.declared.finish.Finish.TheVariants as finish
-use Rattle.node_threads.specs.Finishes.{Ends as EndsSo}
-use Rattle.node_threads.specs.Told.{told_all}
-use Rattle.node_threads.proofs.Finishing.{ends-of}
-use Rattle.node_run.specs.declared.ending.Ending.{Ending}
-use Rattle.node_run.specs.declared.ending.Ending.TheVariants as endings
-use Rattle.node_run.specs.declared.job.Run.{Run}
-use Rattle.node_run.specs.declared.job.RunShowing.{RunShowing}
-use Rattle.node_run.specs.Endings.{first_trap, ended_by, ending_by, flat_after, ending_of}
-use Rattle.node_run.specs.Pieces.{begins, report_by, run_pieces}
-use Rattle.node_run.specs.Reported.{ended_now, IsReported}
-use Rattle.node_run.specs.Shown.{MayBegin as MayRun, IsJournal, IsDoneWith, IsBrokenOffWith, KnowAll, output_by}
-use Rattle.node_run.proofs.Runs.{run-reported, run-unreported, knows-all}
+use Rattle.ordered_run.specs.Finish.{Finish}
+use Rattle.ordered_run.specs.Finish.TheVariants as finish
+use Rattle.ordered_run.specs.Finishes.{Ends as EndsSo}
+use Rattle.ordered_run.specs.Told.{told_all}
+use Rattle.ordered_run.proofs.Finishing.{ends-of}
+use Rattle.ordered_run.specs.Ending.{Ending}
+use Rattle.ordered_run.specs.Ending.TheVariants as endings
+use Rattle.ordered_run.specs.Run.{Run}
+use Rattle.ordered_run.specs.RunShowing.{RunShowing}
+use Rattle.ordered_run.specs.Endings.{first_trap, ended_by, ending_by, flat_after, ending_of}
+use Rattle.ordered_run.specs.Pieces.{begins, report_by, run_pieces}
+use Rattle.ordered_run.specs.Reported.{ended_now, IsReported}
+use Rattle.ordered_run.specs.NodeRunShown.{MayBegin as MayRun, IsJournal, IsDoneWith, IsBrokenOffWith, KnowAll, output_by}
+use Rattle.ordered_run.proofs.Runs.{run-reported, run-unreported, knows-all}
 use Rattle.ordered_run.proofs.Outcomes.{cause-by, no-rise}
 use Rattle.seed_runs.specs.declared.job.SeedRuns.{SeedRuns}
 use Rattle.seed_runs.specs.declared.play.Played.{Played}

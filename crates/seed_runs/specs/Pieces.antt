@@ -5,12 +5,12 @@ use Rattle.sn_probe.specs.Probes.{Meter}
 use Rattle.sink_pieces.specs.Pieces.{Piece, Report}
 use Rattle.run_journals.specs.declared.entry.JournalEntry.{JournalEntry}
 use Rattle.run_journals.specs.Journal.{events_of}
-use Rattle.node_run.specs.declared.ending.Ending.{Ending}
-use Rattle.node_run.specs.declared.job.Run.{Run}
-use Rattle.node_run.specs.Pieces.{begins, run_pieces}
+use Rattle.ordered_run.specs.Ending.{Ending}
+use Rattle.ordered_run.specs.Run.{Run}
+use Rattle.ordered_run.specs.Pieces.{begins, run_pieces}
 use Rattle.ordered_run.specs.Ordered.{ordered_journal, ordered_end}
-use Rattle.run_statistics.specs.Statistics.{statistics_of}
-use Rattle.run_statistics.specs.Lines.{statistics_lines}
+use Rattle.ordered_run.specs.Statistics.{statistics_of}
+use Rattle.ordered_run.specs.Lines.{statistics_lines}
 use Rattle.seed_runs.specs.declared.job.SeedRuns.{SeedRuns}
 use Rattle.seed_runs.specs.Text.{seed_line, end_line}
 

@@ -5,14 +5,14 @@ use Rattle.sn_console.specs.Handed.{IsHandedOn}
 use Rattle.sink_pieces.specs.Pieces.{Ends, Breaks, console_piece}
 use Rattle.run_journals.specs.declared.entry.JournalEntry.{JournalEntry}
 use Rattle.run_journals.specs.Journal.{events_of}
-use Rattle.shared_machine.specs.declared.finish.Finish.{Finish}
-use Rattle.node_threads.specs.Finishes.{IsRunOf, finish_by}
-use Rattle.node_run.specs.declared.job.Run.{Run}
-use Rattle.node_run.specs.declared.job.RunShowing.{RunShowing}
-use Rattle.node_run.specs.Pieces.{begins}
-use Rattle.node_run.specs.Reported.{IsRoomFor, IsUnreported}
-use Rattle.run_statistics.specs.Statistics.{statistics_of}
-use Rattle.run_statistics.specs.Lines.{statistics_lines}
+use Rattle.ordered_run.specs.Finish.{Finish}
+use Rattle.ordered_run.specs.Finishes.{IsRunOf, finish_by}
+use Rattle.ordered_run.specs.Run.{Run}
+use Rattle.ordered_run.specs.RunShowing.{RunShowing}
+use Rattle.ordered_run.specs.Pieces.{begins}
+use Rattle.ordered_run.specs.Reported.{IsRoomFor, IsUnreported}
+use Rattle.ordered_run.specs.Statistics.{statistics_of}
+use Rattle.ordered_run.specs.Lines.{statistics_lines}
 use Rattle.seed_runs.specs.declared.job.SeedRuns.{SeedRuns}
 use Rattle.seed_runs.specs.declared.play.Played.{Played}
 use Rattle.seed_runs.specs.Pieces.{statistics_text, run_of, journal_of}

@@ -10,11 +10,11 @@ use Rattle.script_replay.specs.Played.{IsWatchable}
 use Rattle.script_replay.specs.Shown.{IsLawful}
 use Rattle.run_journals.specs.declared.entry.JournalEntry.{JournalEntry}
 use Rattle.run_journals.specs.Journal.{events_of, state_of}
-use Rattle.node_run.specs.declared.ending.Ending.{Ending}
-use Rattle.node_run.specs.declared.job.Run.{Run}
-use Rattle.node_run.specs.Endings.{ending_of}
-use Rattle.node_run.specs.Pieces.{begins}
-use Rattle.node_run.specs.Shown.{IsJournal, IsReplayedSo, KnowAll, output_by}
+use Rattle.ordered_run.specs.Ending.{Ending}
+use Rattle.ordered_run.specs.Run.{Run}
+use Rattle.ordered_run.specs.Endings.{ending_of}
+use Rattle.ordered_run.specs.Pieces.{begins}
+use Rattle.ordered_run.specs.NodeRunShown.{IsJournal, IsReplayedSo, KnowAll, output_by}
 use Rattle.turn_orders.specs.declared.order.Order.{Order}
 use Rattle.ordered_run.specs.Ordered.{ordered_journal, ordered_end}
 use Rattle.seed_runs.specs.declared.job.SeedRuns.{SeedRuns}

@@ -1,8 +1,8 @@
 -- The lines of a block beside those of its run.
 use Rattle.std.specs.Prelude.{ℕ, List, [], ◌++◌, codes}
 use Rattle.sn_text.specs.Text.{named_number, count_line, cause_text}
-use Rattle.node_run.specs.declared.ending.Ending.{Ending}
-use Rattle.node_run.specs.declared.ending.Ending.TheVariants.{Exited, Trapped, CutOff, Spent}
+use Rattle.ordered_run.specs.Ending.{Ending}
+use Rattle.ordered_run.specs.Ending.TheVariants.{Exited, Trapped, CutOff, Spent}
 
 -- `seed S`
 abbrev pub seed_line : ℕ → List ℕ

@@ -10,7 +10,7 @@ ghost use Rattle.seed_runs.specs.Shown.{MayBegin};
 use crate::job::{SeedRuns, SeedsFault};
 use crate::play::{Played, play};
 use crate::putting::{put_head, put_run, put_tail};
-use node_run::{Run, RunShowing};
+use ordered_run::node_run::{Run, RunShowing};
 use sn_base::{Memory, RunReport, copy_of};
 use sn_io::{Failed, Sink};
 use sn_probe::ProbeSet;

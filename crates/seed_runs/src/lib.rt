@@ -23,6 +23,7 @@ mod seeds;
 pub use counted::{run_counted, run_counted_by_threads};
 pub use job::{SeedRuns, SeedsFault};
 pub use laws::parted_ranges_put_the_same;
-pub use node_run::{Ending, Run, RunFault, RunShowing};
+pub use ordered_run;
+pub use ordered_run::node_run::{Ending, Run, RunFault, RunShowing};
 pub use seeds::run_seeds;
 pub use turn_orders::Order;

@@ -3,7 +3,7 @@ ghost use Rattle.std.specs.Prelude.{◌≡◌, ◌+◌, ◌≤◌, ◌++◌, len
 ghost use Rattle.sn_text.specs.declared.line.TheConstants.{LINE_ROOM};
 ghost use Rattle.seed_runs.specs.Text.{seed_line, ending_text, end_line};
 
-use node_run::Ending;
+use ordered_run::node_run::Ending;
 use sn_text::{Line, trap_name};
 
 /// The line that begins a block.

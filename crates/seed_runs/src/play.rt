@@ -3,17 +3,17 @@ ghost use Rattle.std.specs.Prelude.{◌≡◌, ◌≤◌, true, length, Some, If
 ghost use Rattle.sn_base.specs.declared.limits.TheConstants.{EVENTS};
 ghost use Rattle.consistent_cuts.specs.Runs.{AllFit};
 ghost use Rattle.run_journals.specs.Journal.{events_of};
-ghost use Rattle.node_threads.specs.Finishes.{IsRunOf, finish_by};
-ghost use Rattle.node_run.specs.Pieces.{begins};
-ghost use Rattle.node_run.specs.Shown.{MayBegin};
+ghost use Rattle.ordered_run.specs.Finishes.{IsRunOf, finish_by};
+ghost use Rattle.ordered_run.specs.Pieces.{begins};
+ghost use Rattle.ordered_run.specs.NodeRunShown.{MayBegin};
 ghost use Rattle.ordered_run.specs.Ordered.{ordered_journal};
-ghost use Rattle.run_statistics.specs.Lines.{statistics_lines};
+ghost use Rattle.ordered_run.specs.Lines.{statistics_lines};
 ghost use Rattle.seed_runs.specs.Played.{statistics_now, IsPlayed};
 
-use node_run::{ReportRoom, Run, report_room, shared_for};
-use node_threads::{Finished, JournalEntry, run_nodes};
+use ordered_run::node_run::{ReportRoom, Run, report_room, shared_for};
+use ordered_run::node_threads::{Finished, JournalEntry, run_nodes};
+use ordered_run::run_statistics::{Count, statistics_text};
 use ordered_run::{Turned, all_turns};
-use run_statistics::{Count, statistics_text};
 use sn_base::{Event, Memory};
 use sn_io::{Gate, SureSink};
 use sn_probe::ProbeSet;

@@ -5,14 +5,14 @@ ghost use Rattle.sn_console.specs.Handed.{IsHandedOn};
 ghost use Rattle.sn_probe.specs.Probes.{meters_in, tallies_of};
 ghost use Rattle.sink_pieces.specs.Pieces.{Report, ends, after, Breaks};
 ghost use Rattle.script_replay.specs.Played.{IsWatchable};
-ghost use Rattle.node_run.specs.Reported.{ended_now, IsRoomFor, IsReported};
+ghost use Rattle.ordered_run.specs.Reported.{ended_now, IsRoomFor, IsReported};
 ghost use Rattle.seed_runs.specs.Text.{seed_line, end_line};
 ghost use Rattle.seed_runs.specs.Pieces.{piece_if};
 ghost use Rattle.seed_runs.specs.Played.{IsUnput};
 
 use crate::lines::{write_end, write_seed};
-use node_run::{Ending, ReportRoom, RunShowing, put_ended};
-use node_threads::Finished;
+use ordered_run::node_run::{Ending, ReportRoom, RunShowing, put_ended};
+use ordered_run::node_threads::Finished;
 use sink_pieces::{put_console, put_report};
 use sn_io::{Failed, Sink};
 use sn_probe::ProbeSet;

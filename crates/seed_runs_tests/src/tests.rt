@@ -6,7 +6,7 @@ ghost use Rattle.std.specs.Prelude.{IfOk};
 ghost use Rattle.node_run.specs.Shown.{MayBegin};
 
 use elf_load::load;
-use ordered_run::{Ending, Order, Run, RunFault, RunShowing, run};
+use seed_runs::ordered_run::{Ending, Order, Run, RunFault, RunShowing, run};
 use seed_runs::run_counted;
 use sn_base::{Config, Memory, Rules, RunReport};
 use sn_io::{MemSink, Sink};

@@ -9,10 +9,10 @@ use Rattle.sn_base.specs.declared.rules.Rules.{Rules}
 use Rattle.sn_base.specs.Rules.{AreRules}
 use Rattle.sn_model.specs.Caches.{block_count}
 use Rattle.sn_model.specs.Machine.{State}
-use Rattle.consistent_cuts.specs.Runs.{EventFits, AllFit}
-use Rattle.due_events.specs.Numbers.{Numbers}
-use Rattle.due_events.specs.Due.{due_of}
-use Rattle.due_events.proofs.EachDue.{HoldsOfEach, due_of-holds}
+use Rattle.run_journals.specs.ConsistentCutsRuns.{EventFits, AllFit}
+use Rattle.run_journals.specs.Numbers.{Numbers}
+use Rattle.run_journals.specs.Due.{due_of}
+use Rattle.run_journals.proofs.EachDue.{HoldsOfEach, due_of-holds}
 
 kill_fits : (nodes : ℕ) (kill : Option (ℕ × ℕ)) → IfSome kill (λ rule. rule.0 < 2 * nodes) →
     IfSome kill (λ rule. EventFits nodes (Kill rule.0))

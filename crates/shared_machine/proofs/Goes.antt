@@ -5,10 +5,10 @@ use Rattle.sn_base.specs.declared.event.Event.{Event}
 use Rattle.sn_base.specs.declared.event.Answer.{Answer}
 use Rattle.sn_model.specs.Machine.{State}
 use Rattle.sn_model.specs.Step.{step_of}
-use Rattle.consistent_cuts.specs.Runs.{AllFit}
-use Rattle.sn_machine.specs.Machine.{MachineData, IsApplied, next_of}
-use Rattle.due_events.specs.Numbers.{Numbers, numbers_after}
-use Rattle.due_events.specs.Due.{due_of}
+use Rattle.run_journals.specs.ConsistentCutsRuns.{AllFit}
+use Rattle.run_journals.specs.Machine.{MachineData, IsApplied, next_of}
+use Rattle.run_journals.specs.Numbers.{Numbers, numbers_after}
+use Rattle.run_journals.specs.Due.{due_of}
 use Rattle.sn_driver.specs.Driver.{DriverData}
 use Rattle.sn_driver.specs.Turns.{due_at}
 use Rattle.sn_console.specs.Handed.{IsFirstOf}

@@ -1,8 +1,8 @@
 -- When a turn is refused.
 use Rattle.std.proofs.Common.{◌≡◌, ℕ, Bool, true, false, ◌||◌, Option, Some, None, is_some, refl, ap, ◌∙◌, if◌then◌else◌}
 use Rattle.sn_base.specs.declared.event.Event.{Event}
-use Rattle.sn_machine.specs.Machine.{MachineData}
-use Rattle.due_events.specs.Due.{is_over, due_of}
+use Rattle.run_journals.specs.Machine.{MachineData}
+use Rattle.run_journals.specs.Due.{is_over, due_of}
 use Rattle.sn_driver.specs.Driver.{DriverData}
 use Rattle.sn_driver.specs.Turns.{due_at}
 use Rattle.shared_machine.specs.declared.finish.Finish.{Finish}

@@ -2,7 +2,7 @@
 use Rattle.std.proofs.Common.{◌≡◌, ℕ, ◌<◌, List, [], length, refl, ap, arith}
 use Rattle.std.proofs.lemmas.List.Elements.{All-nil}
 use Rattle.sn_base.specs.declared.event.Answer.{Answer}
-use Rattle.due_events.specs.Numbers.{Numbers}
+use Rattle.run_journals.specs.Numbers.{Numbers}
 use Rattle.run_journals.specs.declared.entry.JournalEntry.{JournalEntry}
 use Rattle.run_journals.specs.Journal.{IsDue, state_of, answers_of, numbers_of, draws_of}
 use Rattle.shared_machine.specs.declared.picker.Picker.{Picker}

@@ -3,8 +3,8 @@ use Rattle.std.specs.Prelude.{◌≡◌, ◌+◌, ◌<◌, ◌≤◌, List, [], 
 use Rattle.std.specs.List.{All}
 use Rattle.sn_base.specs.Rules.{AreRules}
 use Rattle.sn_model.specs.Machine.{start_of}
-use Rattle.consistent_cuts.specs.Runs.{AllFit}
-use Rattle.due_events.specs.Numbers.{first_numbers}
+use Rattle.run_journals.specs.ConsistentCutsRuns.{AllFit}
+use Rattle.run_journals.specs.Numbers.{first_numbers}
 use Rattle.run_journals.specs.Journal.{IsDue, events_of, state_of, answers_of, numbers_of}
 use Rattle.sn_console.specs.Handed.{IsFirstOf}
 use Rattle.shared_machine.specs.declared.picker.Picker.{Picker}

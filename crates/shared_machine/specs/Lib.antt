@@ -1,3 +1,9 @@
 pub mod Pickers
 pub mod Shared
 pub mod Invariant
+pub use Rattle.run_journals.specs.declared.entry.JournalEntry
+pub use Rattle.run_journals.specs.Journal
+pub use Rattle.run_journals.specs.Due
+pub use Rattle.run_journals.specs.Numbers
+pub use Rattle.run_journals.specs.Machine
+pub use Rattle.run_journals.specs.ConsistentCutsRuns

@@ -3,9 +3,9 @@ use Rattle.std.specs.Prelude.{◌≡◌, ℕ, ◌+◌, ◌≤◌, min, Bool, fal
 use Rattle.sn_base.specs.declared.event.Event.{Event}
 use Rattle.sn_base.specs.declared.event.Answer.{Answer}
 use Rattle.sn_base.specs.declared.event.Answer.TheVariants.{Validated}
-use Rattle.sn_machine.specs.Machine.{MachineData, IsApplied}
-use Rattle.due_events.specs.Numbers.{numbers_after}
-use Rattle.due_events.specs.Due.{is_over}
+use Rattle.run_journals.specs.Machine.{MachineData, IsApplied}
+use Rattle.run_journals.specs.Numbers.{numbers_after}
+use Rattle.run_journals.specs.Due.{is_over}
 use Rattle.sn_driver.specs.Driver.{DriverData}
 use Rattle.sn_driver.specs.Turns.{due_at, IsLater}
 use Rattle.sn_console.specs.Handed.{IsFirstOf}

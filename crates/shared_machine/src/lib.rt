@@ -14,6 +14,7 @@ mod shared;
 
 pub use finish::Finish;
 pub use locked::{Ended, Locked};
-pub use run_journals::JournalEntry;
+pub use run_journals::{JournalEntry, sn_machine};
 pub use run_name::RunName;
 pub use shared::SharedMachine;
+pub use sn_driver;

@@ -11,10 +11,10 @@ use crate::finish::Finish;
 use crate::picker::{Picker, draw, pick_of};
 use crate::run_name::RunName;
 use run_journals::JournalEntry;
+use run_journals::sn_machine::Machine;
 use sn_base::{Answer, Event};
 use sn_console::Outbox;
 use sn_driver::{Driver, Turn};
-use sn_machine::Machine;
 use std::marker::Model;
 use std::sync::ledger::{Book, Share};
 

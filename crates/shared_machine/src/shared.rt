@@ -1,7 +1,7 @@
 //! The machine before its run.
 ghost use Rattle.std.specs.Prelude.{◌≡◌, ◌+◌, ◌≤◌, [], max, vec_len, vec_capacity, IfOk, OnOk};
 ghost use Rattle.sn_model.specs.Machine.{start_of};
-ghost use Rattle.due_events.specs.Numbers.{first_numbers};
+ghost use Rattle.run_journals.specs.Numbers.{first_numbers};
 ghost use Rattle.sn_console.specs.Ends.{bytes_passed, free_places};
 ghost use Rattle.shared_machine.specs.Pickers.{AreDrawn};
 ghost use Rattle.shared_machine.specs.Shared.{begins_with, first_locked};
@@ -11,10 +11,10 @@ use crate::locked::Locked;
 use crate::picker::Picker;
 use crate::run_name::RunName;
 use run_journals::JournalEntry;
+use run_journals::sn_machine::Machine;
 use sn_base::{Answer, Memory};
 use sn_console::Outbox;
 use sn_driver::Driver;
-use sn_machine::Machine;
 use std::alloc::Global;
 use std::marker::Model;
 use std::sync::ledger::Book;

@@ -4,7 +4,7 @@ use Rattle.std.proofs.lemmas.List.{take_all}
 use Rattle.sn_base.specs.Image.{ImageData}
 use Rattle.sn_base.specs.declared.config.Config.{Config}
 use Rattle.sn_model.specs.Machine.{State}
-use Rattle.sn_machine.specs.Machine.{MachineData}
+use Rattle.script_replay.specs.Machine.{MachineData}
 use Rattle.consistent_cuts.specs.Headline.{state_of_run}
 use Rattle.sn_probe.specs.Probes.{Meter, tallies_of}
 use Rattle.state_json.specs.Lines.{last_line}

@@ -4,3 +4,4 @@ pub mod Puts
 pub mod Played
 pub mod Ended
 pub mod SameJob
+pub use Rattle.state_lines.proofs.Lists

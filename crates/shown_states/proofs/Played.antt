@@ -11,7 +11,7 @@ use Rattle.sn_base.specs.declared.event.Answer.{Answer}
 use Rattle.sn_base.specs.Events.{event_fits}
 use Rattle.sn_model.specs.Machine.{State, start_of}
 use Rattle.sn_model.specs.Step.{step_of}
-use Rattle.sn_machine.specs.Machine.{MachineData, next_of}
+use Rattle.script_replay.specs.Machine.{MachineData, next_of}
 use Rattle.consistent_cuts.specs.Headline.{state_of_run}
 use Rattle.consistent_cuts.specs.Runs.{EventFits, AllFit}
 use Rattle.sn_probe.specs.Probes.{Meter, told_of}

@@ -7,7 +7,7 @@ use Rattle.sn_base.specs.declared.event.Event.{Event}
 use Rattle.sn_base.specs.declared.event.Answer.{Answer}
 use Rattle.sn_model.specs.Machine.{State}
 use Rattle.sn_model.specs.Step.{step_of}
-use Rattle.sn_machine.specs.Machine.{MachineData, IsApplied, IsConsistentWithItsRun, next_of}
+use Rattle.script_replay.specs.Machine.{MachineData, IsApplied, IsConsistentWithItsRun, next_of}
 use Rattle.consistent_cuts.specs.Headline.{IsStepOfRun}
 use Rattle.consistent_cuts.specs.Runs.{EventFits}
 use Rattle.consistent_cuts.proofs.Run.{from_next}

@@ -3,7 +3,7 @@ use Rattle.std.proofs.Common.{◌≡◌, ◌⊎◌, ℕ, ◌≤◌, List, Result
 use Rattle.sn_base.specs.Image.{ImageData}
 use Rattle.sn_base.specs.declared.config.Config.{Config}
 use Rattle.sn_base.specs.declared.event.Event.{Event}
-use Rattle.sn_machine.specs.Machine.{MachineData}
+use Rattle.script_replay.specs.Machine.{MachineData}
 use Rattle.sn_model.specs.Machine.{start_of}
 use Rattle.sn_probe.specs.Probes.{Meter}
 use Rattle.sink_pieces.specs.Pieces.{Ends}

@@ -1,7 +1,7 @@
 -- The pieces of a machine that has come to some state.
 use Rattle.std.specs.Prelude.{ℕ, ◌+◌, List, Option}
 use Rattle.sn_base.specs.declared.event.Event.{Event}
-use Rattle.sn_machine.specs.Machine.{MachineData}
+use Rattle.script_replay.specs.Machine.{MachineData}
 use Rattle.sink_pieces.specs.Pieces.{Piece}
 use Rattle.option_values.specs.declared.places.Places.{Places}
 use Rattle.shown_states.specs.declared.job.StatesReplay.{StatesReplay}

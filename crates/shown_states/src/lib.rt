@@ -16,3 +16,4 @@ mod replaying;
 pub use job::StatesReplay;
 pub use play::{StatesFault, put_last_line, put_opening, turn_with_state};
 pub use replaying::replay_states;
+pub use state_lines::machine_states;

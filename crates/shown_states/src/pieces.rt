@@ -2,17 +2,17 @@
 ghost use Rattle.std.specs.Prelude.{◌≡◌, ℕ, ◌+◌, ◌≤◌, ◌⊎◌, true, List, [], ◌∷◌, ◌++◌, drop, length, map, Option, OnOk, OnErr, IfOk};
 ghost use Rattle.sn_base.specs.Events.{event_fits};
 ghost use Rattle.sn_io.specs.Outside.{Rose};
-ghost use Rattle.sn_machine.specs.Machine.{IsApplied, next_of};
+ghost use Rattle.script_replay.specs.Machine.{IsApplied, next_of};
 ghost use Rattle.sn_probe.specs.Probes.{meters_in, told_of};
 ghost use Rattle.sink_pieces.specs.Pieces.{ends, after, Breaks, console_piece};
 ghost use Rattle.shown_states.specs.Pieces.{report_piece, opening_text, turn_text};
 
 use crate::job::{first_shown, is_shown};
 use option_values::Places;
+use script_replay::sn_machine::Machine;
 use sink_pieces::{put_console, put_report};
 use sn_base::{Answer, Event, Memory};
 use sn_io::{Failed, Sink};
-use sn_machine::Machine;
 use sn_probe::ProbeSet;
 use state_lines::{add_first_line, apply_with_line};
 

@@ -3,7 +3,7 @@ ghost use Rattle.std.specs.Prelude.{◌≡◌, ℕ, ◌+◌, ◌≤◌, ◌⊎�
 ghost use Rattle.sn_base.specs.Events.{event_fits};
 ghost use Rattle.consistent_cuts.specs.Runs.{EventFits};
 ghost use Rattle.sn_io.specs.Outside.{Rose};
-ghost use Rattle.sn_machine.specs.Machine.{next_of};
+ghost use Rattle.script_replay.specs.Machine.{next_of};
 ghost use Rattle.sn_probe.specs.Probes.{meters_in, tallies_of};
 ghost use Rattle.sink_pieces.specs.Pieces.{Report, ends, after, Breaks};
 ghost use Rattle.state_json.specs.Lines.{last_line};
@@ -14,10 +14,10 @@ ghost use Rattle.shown_states.specs.Shown.{MayBegin, told_script, IsShown, IsSho
 
 use crate::pieces::{apply_and_write, put_text, tell_and_put, write_opening};
 use option_values::Places;
+use script_replay::sn_machine::Machine;
 use sink_pieces::put_report;
 use sn_base::{Answer, Event};
 use sn_io::Sink;
-use sn_machine::Machine;
 use sn_probe::ProbeSet;
 use state_lines::add_last_line;
 use std::alloc::Global;

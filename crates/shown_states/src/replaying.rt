@@ -7,8 +7,8 @@ ghost use Rattle.shown_states.specs.Shown.{MayBegin, told_script, IsShown, IsSho
 
 use crate::job::StatesReplay;
 use crate::play::{StatesFault, play};
+use script_replay::sn_machine::Machine;
 use sn_io::Sink;
-use sn_machine::Machine;
 use sn_probe::ProbeSet;
 use std::alloc::Global;
 

@@ -7,8 +7,8 @@ use Rattle.sn_base.specs.declared.event.Answer.{Answer}
 use Rattle.sn_base.specs.declared.event.Answer.TheVariants.{NeedsEvict}
 use Rattle.sn_model.specs.Caches.{block_count}
 use Rattle.sn_model.specs.Machine.{processor_at}
-use Rattle.sn_machine.specs.Looks.{wanted_block, can_go_from, may_go_for}
-use Rattle.sn_machine.specs.Machine.{MachineData, next_of}
+use Rattle.due_events.specs.Looks.{wanted_block, can_go_from, may_go_for}
+use Rattle.due_events.specs.Machine.{MachineData, next_of}
 use Rattle.due_events.specs.Lists.{needs_evict, leaves_for, least_to_leave, eviction}
 use Rattle.sn_driver.proofs.Lists.{least_from, none_from}
 

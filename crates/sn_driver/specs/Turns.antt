@@ -1,7 +1,7 @@
 -- A turn: what it makes of a driver and of its machine.
 use Rattle.std.specs.Prelude.{◌≡◌, ℕ, ◌+◌, ◌≤◌, true, false, Option, Some}
 use Rattle.sn_base.specs.declared.event.Event.{Event}
-use Rattle.sn_machine.specs.Machine.{MachineData, IsApplied}
+use Rattle.due_events.specs.Machine.{MachineData, IsApplied}
 use Rattle.due_events.specs.Numbers.{numbers_after}
 use Rattle.due_events.specs.Due.{due_of, is_over}
 use Rattle.sn_driver.specs.declared.turn.Turn.{Turn}

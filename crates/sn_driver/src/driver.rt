@@ -3,12 +3,12 @@ ghost use Rattle.std.specs.Prelude.{◌≡◌, ◌*◌, ◌<◌, ◌≤◌, true
 ghost use Rattle.sn_base.specs.Events.{event_fits};
 ghost use Rattle.due_events.specs.Numbers.{first_numbers, numbers_after};
 ghost use Rattle.due_events.specs.Due.{killing, or_loss, first_picked, event_of_lists, next_due, is_over};
-ghost use Rattle.sn_machine.specs.Machine.{IsApplied};
+ghost use Rattle.due_events.specs.Machine.{IsApplied};
 ghost use Rattle.sn_driver.specs.Turns.{due_at, Took, IsLater};
 
 use crate::turn::Turn;
+use due_events::sn_machine::Machine;
 use sn_base::{Answer, Event, Interval, NodeId, Rules};
-use sn_machine::Machine;
 use std::marker::Model;
 
 /// A driver of machines of so many nodes. Contracts see its rules, that number, and its numbers.

@@ -5,8 +5,8 @@ ghost use Rattle.sn_base.specs.declared.event.Event.TheVariants.{Step};
 ghost use Rattle.due_events.specs.Lists.{answer_foreseen, delivery, hop, eviction, validation, step, is_behind};
 
 use crate::answers::{goes_on, is_delivered, is_validated, needs_evict};
+use due_events::sn_machine::Machine;
 use sn_base::{Answer, Event, NodeId};
-use sn_machine::Machine;
 
 /// The delivery of the message at a place of the network's list, where the node would take it now.
 pub fn delivery(machine: &Machine, node: NodeId, place: usize) -> Option<Event>

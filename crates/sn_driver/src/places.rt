@@ -12,8 +12,8 @@ use crate::answers::{is_edged, is_reported};
 use crate::driver::Driver;
 use crate::found::Found;
 use crate::moves::{delivery, eviction, hop, is_behind, step, validation};
+use due_events::sn_machine::Machine;
 use sn_base::{Answer, Event, NodeId};
-use sn_machine::Machine;
 
 /// Finds the deliveries of the messages in flight, after what is found already.
 fn find_deliveries(machine: &Machine, node: NodeId, found: &mut Found)

@@ -16,7 +16,7 @@ use Rattle.sn_model.specs.FabricEvents.{moved_by, Hop, Lose, Kill, Edge}
 use Rattle.sn_model.specs.NetEvents.{step_of_hop, step_of_loss, step_of_kill}
 use Rattle.std.proofs.lemmas.List.{set-get_or}
 use Rattle.sn_model.specs.NodeEvents as model
-use Rattle.fabric_coherence.specs.Flights.{Rising}
+use Rattle.fabric_bounds.specs.Flights.{Rising}
 use Rattle.sn_fabric.specs.declared.node.NodeUnit.{NodeUnit}
 use Rattle.sn_fabric.specs.Nets.{hop_as, loss_as, kill_as}
 use Rattle.sn_fabric.specs.Parts.{Parts, fabric_as, node_as, unit_at, no_unit, IsUnit, AreParts}

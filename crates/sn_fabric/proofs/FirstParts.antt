@@ -19,9 +19,9 @@ use Rattle.sn_model.specs.Caches.{block_count}
 use Rattle.sn_model.specs.Homes.{HomeEntry}
 use Rattle.sn_model.specs.Fabric as model
 use Rattle.sn_model.specs.Fabric.{Node, first_home, first_homes, first_node, first_fabric, no_entry}
-use Rattle.fabric_coherence.specs.Start.{first_ghost}
-use Rattle.fabric_coherence.proofs.KeptStart.{start-kept}
-use Rattle.fabric_coherence.proofs.Recovery.{replicated}
+use Rattle.fabric_bounds.specs.Start.{first_ghost}
+use Rattle.fabric_bounds.proofs.KeptStart.{start-kept}
+use Rattle.fabric_bounds.proofs.Recovery.{replicated}
 use Rattle.log_buffer.specs.Log.{logged_to}
 use Rattle.sn_fabric.specs.Logs.{AreOwnLogs}
 use Rattle.fabric_bounds.specs.Bounds.{KeepsBounds}

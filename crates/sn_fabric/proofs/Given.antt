@@ -13,7 +13,7 @@ use Rattle.sn_model.specs.Fabric as model
 use Rattle.sn_model.specs.Fabric.{Fabric, Node, node_at}
 use Rattle.sn_model.specs.Net.{without_flight}
 use Rattle.sn_model.specs.NetEvents.{step_of_delivery}
-use Rattle.fabric_coherence.specs.Steps.{IsInFlight}
+use Rattle.fabric_bounds.specs.Steps.{IsInFlight}
 use Rattle.sn_fabric.specs.declared.node.NodeUnit.{NodeUnit}
 use Rattle.sn_fabric.specs.Deliveries.{HasCome, GoTo}
 use Rattle.sn_fabric.specs.Nets.{flight_as, net_as}

@@ -16,9 +16,9 @@ use Rattle.sn_saved.specs.Saved.{AreAscending, owner_in, owned_in, full_from}
 use Rattle.mosi_cache.specs.Controller.{CacheData, FitsSets}
 use Rattle.mosi_cache.specs.PartsFit.{fits-part, fits-within, holding-at}
 use Rattle.mosi_cache.specs.Restored.{begun_line, held_of, old_of, line_holding, cache_holding, HeldFits, HasOnlyModified, StaysAsItIs}
-use Rattle.fabric_coherence.proofs.KeptResumed.{length-lines_owned, line_resumed}
-use Rattle.fabric_coherence.proofs.KeptStart.{length-empty_lines}
-use Rattle.fabric_coherence.proofs.Recovery.{no_line_at}
+use Rattle.fabric_bounds.proofs.KeptResumed.{length-lines_owned, line_resumed}
+use Rattle.fabric_bounds.proofs.KeptStart.{length-empty_lines}
+use Rattle.fabric_bounds.proofs.Recovery.{no_line_at}
 use Rattle.fabric_bounds.proofs.Resumed.{listed_fits}
 use Rattle.sn_fabric.specs.Resumed.{content_in, held_with, HasRoomFor}
 

@@ -13,9 +13,9 @@ use Rattle.sn_model.specs.Fabric.{Fabric, Flight, Net, FabricStep, node_at, with
 use Rattle.sn_model.specs.FabricEvents.{Deliver}
 use Rattle.sn_model.specs.Net.{net_after_send, net_after_sends, message_of, is_lost, entry_of, routes_of, without_flight, sending}
 use Rattle.sn_model.specs.NetEvents.{step_of_delivery, node_after, home_after}
-use Rattle.fabric_coherence.specs.Coherent.{Keeps}
-use Rattle.fabric_coherence.specs.Steps.{IsShaped, Within, after_cache, after_home}
-use Rattle.fabric_coherence.proofs.KeptEvents.{each_keeps}
+use Rattle.fabric_bounds.specs.Coherent.{Keeps}
+use Rattle.fabric_bounds.specs.Steps.{IsShaped, Within, after_cache, after_home}
+use Rattle.fabric_bounds.proofs.KeptEvents.{each_keeps}
 use Rattle.sn_fabric.specs.Deliveries.{GoTo, HasCome}
 use Rattle.sn_fabric.proofs.Come.{deliver_is_moved}
 

@@ -17,9 +17,9 @@ use Rattle.sn_model.specs.Fabric.{Fabric, home_of}
 use Rattle.sn_model.specs.Homes.{Holder, Itself, OfCache, Transaction}
 use Rattle.sn_model.specs.RecoveryPoint.{HasOneHolderWith}
 use Rattle.sn_coherence.specs.Block as block
-use Rattle.fabric_coherence.specs.Holders.{HasHolder}
-use Rattle.fabric_coherence.specs.View.{kind_seen, kind_open, begun_of}
-use Rattle.fabric_coherence.proofs.Holders.{coherent}
+use Rattle.fabric_bounds.specs.Holders.{HasHolder}
+use Rattle.fabric_bounds.specs.View.{kind_seen, kind_open, begun_of}
+use Rattle.fabric_bounds.proofs.Holders.{coherent}
 use Rattle.sn_fabric.specs.declared.node.NodeUnit.{NodeUnit}
 use Rattle.sn_fabric.specs.Parts.{Parts, fabric_as, AreParts}
 use Rattle.sn_fabric.specs.Units.{noted_content}

@@ -32,15 +32,15 @@ use Rattle.sn_model.specs.NodeEvents.{step_of_report}
 use Rattle.sn_model.specs.NetEvents.{AtCache, AtHome, logged_at, kept_at, unless_busy, outcome_of, node_after, node_after_news, delivers}
 use Rattle.sn_model.specs.NetEvents.{delivers_flight, hops, hops_to, loses, step_of_kill}
 use Rattle.sn_model.specs.PointEvents.{step_of_advance, fabric_restored_to, recovers, living_switches}
-use Rattle.fabric_coherence.specs.Coherent.{FabricInvariant}
-use Rattle.fabric_coherence.specs.Events.{MayBe}
-use Rattle.fabric_coherence.specs.Met.{comes_to_home}
-use Rattle.fabric_coherence.specs.Steps.{IsInFlight}
-use Rattle.fabric_coherence.specs.View.{GhostState}
-use Rattle.fabric_coherence.proofs.InFlight.{in_flight}
-use Rattle.fabric_coherence.proofs.NodesStay.{nodes_same}
-use Rattle.fabric_coherence.proofs.Recovery.{each_node}
-use Rattle.fabric_coherence.proofs.RowsMet.{meets_home}
+use Rattle.fabric_bounds.specs.Coherent.{FabricInvariant}
+use Rattle.fabric_bounds.specs.Events.{MayBe}
+use Rattle.fabric_bounds.specs.Met.{comes_to_home}
+use Rattle.fabric_bounds.specs.Steps.{IsInFlight}
+use Rattle.fabric_bounds.specs.View.{GhostState}
+use Rattle.fabric_bounds.proofs.InFlight.{in_flight}
+use Rattle.fabric_bounds.proofs.NodesStay.{nodes_same}
+use Rattle.fabric_bounds.proofs.Recovery.{each_node}
+use Rattle.fabric_bounds.proofs.RowsMet.{meets_home}
 use Rattle.sn_fabric.specs.Logs.{IsOwnLog, AreOwnLogs}
 use Rattle.sn_fabric.proofs.LogRows.{nothing-own, content-own, from-own, get-shared-own, get-modified-own, put-request-own, unblock-own}
 use Rattle.sn_fabric.proofs.LogRows.{put-data-own, completed_or_waiting-log}

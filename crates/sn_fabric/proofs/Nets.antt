@@ -14,7 +14,7 @@ use Rattle.sn_model.specs.Net as net
 use Rattle.sn_model.specs.Net.{routes_of}
 use Rattle.route_plan.specs.Routes.{next_of}
 use Rattle.sn_model.specs.NetEvents.{step_of_hop, hops, step_of_loss, loses, step_of_kill}
-use Rattle.fabric_coherence.specs.Flights.{From, Rising}
+use Rattle.fabric_bounds.specs.Flights.{From, Rising}
 use Rattle.sn_fabric.specs.Nets.{flight_as, net_as, hop_as, loss_as, kill_as}
 use Rattle.sn_fabric.specs.Parts.{Parts, fabric_as}
 

@@ -13,7 +13,7 @@ use Rattle.std.specs.Prelude.{Option}
 use Rattle.sn_model.specs.Fabric.{Fabric, Node, FabricStep, first_node, node_at, with_node}
 use Rattle.sn_model.specs.Net.{routes_of}
 use Rattle.sn_model.specs.FabricEvents.{FabricEvent, moved_by}
-use Rattle.fabric_coherence.specs.Events.{MayBe}
+use Rattle.fabric_bounds.specs.Events.{MayBe}
 use Rattle.fabric_bounds.specs.Bounds.{HasLogRoom, KeepsBounds}
 use Rattle.fabric_bounds.proofs.Numbers.{event_sends}
 use Rattle.fabric_bounds.proofs.Runs.{each_keeps_bounds}

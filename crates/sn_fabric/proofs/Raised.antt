@@ -9,7 +9,7 @@ use Rattle.sn_model.specs.Fabric.{Fabric, step_refused}
 use Rattle.sn_model.specs.FabricEvents.{moved_by, Advance}
 use Rattle.sn_model.specs.Net.{is_full, net_after_sends, sent_by, sending}
 use Rattle.sn_model.specs.PointEvents.{advances, step_of_advance}
-use Rattle.fabric_coherence.specs.Coherent.{NothingUnfinished}
+use Rattle.fabric_bounds.specs.Coherent.{NothingUnfinished}
 use Rattle.sn_fabric.specs.declared.node.NodeUnit.{NodeUnit}
 use Rattle.sn_fabric.specs.Nets.{net_as}
 use Rattle.sn_fabric.specs.Parts.{Parts, fabric_as, AreWhole, AreParts}

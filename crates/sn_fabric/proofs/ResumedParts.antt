@@ -19,7 +19,7 @@ use Rattle.sn_saved.specs.Saved.{AreInside, full_from}
 use Rattle.switch_net.specs.Net.{without_messages}
 use Rattle.fabric_bounds.specs.Bounds.{KeepsBounds}
 use Rattle.fabric_bounds.proofs.Resumed.{going_on_bounded}
-use Rattle.fabric_coherence.proofs.KeptResumed.{length-homes_resumed, home_resumed_is, count_resumed, node_resumed_is}
+use Rattle.fabric_bounds.proofs.KeptResumed.{length-homes_resumed, home_resumed_is, count_resumed, node_resumed_is}
 use Rattle.sn_fabric.specs.declared.node.NodeUnit.{NodeUnit}
 use Rattle.sn_fabric.specs.Logs.{AreOwnLogs}
 use Rattle.sn_fabric.specs.Parts.{node_as, Parts, fabric_as, unit_at, home_at, no_unit, homes_as, entry_at, IsUnit, IsHomeOf, AreWhole, AreParts}

@@ -20,7 +20,7 @@ use Rattle.sn_model.specs.Fabric.{Fabric, Node, FabricStep, node_at, with_node}
 use Rattle.sn_model.specs.FabricEvents.{FabricEvent, moved_by, Access}
 use Rattle.sn_model.specs.Net.{net_after_sends, sent_by, sending}
 use Rattle.sn_model.specs.Access.{step_of_access, step_of_miss, missing, request_for}
-use Rattle.fabric_coherence.specs.Events.{MayBe}
+use Rattle.fabric_bounds.specs.Events.{MayBe}
 use Rattle.fabric_bounds.specs.Bounds.{HasLogRoom}
 use Rattle.sn_fabric.specs.declared.node.NodeUnit.{NodeUnit}
 use Rattle.sn_fabric.specs.Fabric.{FabricData, IsAfter}

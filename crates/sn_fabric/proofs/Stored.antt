@@ -15,7 +15,7 @@ use Rattle.sn_model.specs.Caches.{line_of, is_writable_state, puts_on}
 use Rattle.sn_model.specs.Access.{fabric_with_write, with_write, lacks_room, node_to_write}
 use Rattle.sn_model.specs.Fabric.{Fabric, Node, node_at, with_node, step_with_answer}
 use Rattle.sn_model.specs.FabricEvents.{moved_by, Write}
-use Rattle.fabric_coherence.specs.Events.{CanWrite}
+use Rattle.fabric_bounds.specs.Events.{CanWrite}
 use Rattle.sn_fabric.specs.declared.node.NodeUnit.{NodeUnit}
 use Rattle.sn_fabric.specs.Parts.{Parts, fabric_as, node_as, unit_at, AreParts}
 use Rattle.sn_fabric.proofs.Parts.{node-at, count-nodes, Comes, unit-comes, unit-read}

@@ -21,9 +21,9 @@ use Rattle.sn_model.specs.Fabric.{Fabric, Node, Net, FabricStep, node_at, with_n
 use Rattle.sn_model.specs.FabricEvents.{Deliver}
 use Rattle.sn_model.specs.Net.{net_after_sends, sent_by, sending, without_flight}
 use Rattle.sn_model.specs.NetEvents.{AtCache, logged_at, node_after, copy_lost, outcome_of, delivers, step_of_delivery}
-use Rattle.fabric_coherence.specs.Met.{MeetsCache, answer_to}
-use Rattle.fabric_coherence.specs.Steps.{after_cache}
-use Rattle.fabric_coherence.proofs.RowsMet.{meets_cache}
+use Rattle.fabric_bounds.specs.Met.{MeetsCache, answer_to}
+use Rattle.fabric_bounds.specs.Steps.{after_cache}
+use Rattle.fabric_bounds.proofs.RowsMet.{meets_cache}
 use Rattle.sn_fabric.specs.declared.node.NodeUnit.{NodeUnit}
 use Rattle.sn_fabric.specs.declared.receiver.Receiver.TheVariants.{Cache}
 use Rattle.sn_fabric.specs.Deliveries.{receiver_of, HasCome, look_answer, out_of, lost_by, outs_of, unit_after, GoTo}

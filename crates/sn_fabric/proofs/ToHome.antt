@@ -20,9 +20,9 @@ use Rattle.sn_model.specs.Fabric.{Fabric, Node, Net, FabricStep, node_at, home_o
 use Rattle.sn_model.specs.FabricEvents.{Deliver}
 use Rattle.sn_model.specs.Net.{net_after_sends, sent_by, sending, without_flight}
 use Rattle.sn_model.specs.NetEvents.{Outcome, kept_at, home_after, outcome_of, delivers, step_of_delivery}
-use Rattle.fabric_coherence.specs.Met.{MeetsHome, answer_to}
-use Rattle.fabric_coherence.specs.Steps.{IsInFlight, after_home}
-use Rattle.fabric_coherence.proofs.RowsMet.{meets_home}
+use Rattle.fabric_bounds.specs.Met.{MeetsHome, answer_to}
+use Rattle.fabric_bounds.specs.Steps.{IsInFlight, after_home}
+use Rattle.fabric_bounds.proofs.RowsMet.{meets_home}
 use Rattle.sn_fabric.specs.declared.node.NodeUnit.{NodeUnit}
 use Rattle.sn_fabric.specs.declared.receiver.Receiver.TheVariants.{Home}
 use Rattle.sn_fabric.specs.Deliveries.{receiver_of, HasCome, look_answer, home_outs, GoTo}

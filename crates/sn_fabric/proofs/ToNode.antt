@@ -17,9 +17,9 @@ use Rattle.sn_model.specs.FabricEvents.{Deliver}
 use Rattle.sn_model.specs.Net.{without_flight}
 use Rattle.sn_model.specs.NetEvents.{node_after_news, outcome_of, delivers, step_of_delivery}
 use Rattle.sn_coherence.specs.Invariant.{Clocks}
-use Rattle.fabric_coherence.specs.Coherent.{Keeps}
-use Rattle.fabric_coherence.specs.View.{block_seen}
-use Rattle.fabric_coherence.proofs.KeptEvents.{each_keeps}
+use Rattle.fabric_bounds.specs.Coherent.{Keeps}
+use Rattle.fabric_bounds.specs.View.{block_seen}
+use Rattle.fabric_bounds.proofs.KeptEvents.{each_keeps}
 use Rattle.sn_fabric.specs.declared.node.NodeUnit.{NodeUnit}
 use Rattle.sn_fabric.specs.declared.receiver.Receiver.TheVariants.{Controller, Clock}
 use Rattle.sn_fabric.specs.Deliveries.{receiver_of, HasCome}

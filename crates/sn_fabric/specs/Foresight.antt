@@ -4,7 +4,7 @@ use Rattle.sn_base.specs.declared.event.Event.{Event}
 use Rattle.sn_base.specs.declared.event.Event.TheVariants as event
 use Rattle.sn_model.specs.Fabric.{Fabric, node_at}
 use Rattle.sn_model.specs.FabricEvents.{FabricEvent, Evict, Edge, Hop, Deliver, Lose, Kill, Report, Advance, Recover}
-use Rattle.fabric_coherence.specs.Coherent.{NothingUnfinished}
+use Rattle.fabric_bounds.specs.Coherent.{NothingUnfinished}
 
 -- the event of the fabric; Step and Input, which it doesn't know, are taken for a report of nobody
 abbrev pub fabric_event : Event → ℕ → FabricEvent

@@ -9,3 +9,4 @@ pub mod Recovery
 pub mod Resumed
 pub mod Deliveries
 pub mod Foresight
+pub use Rattle.home_directory.specs.Home

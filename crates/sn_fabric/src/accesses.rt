@@ -7,7 +7,7 @@ ghost use Rattle.sn_model.specs.Caches.{is_present, line_of};
 ghost use Rattle.sn_model.specs.Access.{step_of_access, word_found, fabric_with_write, lacks_room};
 ghost use Rattle.sn_model.specs.Fabric.{node_at, step_with_answer};
 ghost use Rattle.sn_model.specs.FabricEvents.{Write};
-ghost use Rattle.fabric_coherence.specs.Events.{CanWrite};
+ghost use Rattle.fabric_bounds.specs.Events.{CanWrite};
 ghost use Rattle.mosi_cache.specs.Probe.{probe_by};
 ghost use Rattle.sn_fabric.specs.Fabric.{IsAfter};
 ghost use Rattle.sn_fabric.specs.Units.{access_answer};

@@ -3,7 +3,7 @@ ghost use Rattle.std.specs.Prelude.{◌≡◌, ◌+◌, ◌<◌, ◌≤◌, ◌^
 ghost use Rattle.sn_base.specs.declared.event.Answer.TheVariants.{Delivered};
 ghost use Rattle.sn_model.specs.Fabric.{node_at};
 ghost use Rattle.sn_model.specs.NetEvents.{step_of_delivery};
-ghost use Rattle.fabric_coherence.specs.Met.{answer_to};
+ghost use Rattle.fabric_bounds.specs.Met.{answer_to};
 ghost use Rattle.mosi_cache.specs.Controller.{with_entries};
 ghost use Rattle.mosi_cache.specs.Rows.{row_of, MeetsRow, NotesInLogOrder, noted_in, step_by};
 ghost use Rattle.sn_fabric.specs.Fabric.{IsAfter};

@@ -3,7 +3,7 @@ ghost use Rattle.std.specs.Prelude.{◌≡◌, ◌+◌, ◌<◌, ◌≤◌, ◌^
 ghost use Rattle.sn_base.specs.declared.event.Answer.TheVariants.{Validated};
 ghost use Rattle.sn_model.specs.Net.{net_after_sends, sent_by, is_full};
 ghost use Rattle.sn_model.specs.PointEvents.{step_of_advance};
-ghost use Rattle.fabric_coherence.specs.Coherent.{NothingUnfinished};
+ghost use Rattle.fabric_bounds.specs.Coherent.{NothingUnfinished};
 ghost use Rattle.sn_fabric.specs.Fabric.{IsAfter};
 ghost use Rattle.sn_fabric.specs.Nets.{net_as};
 ghost use Rattle.sn_fabric.specs.Points.{tellings};

@@ -13,7 +13,7 @@ use Rattle.sn_model.specs.Trace.{TraceEntry}
 use Rattle.consistent_cuts.specs.Headline.{IsStepOfRun}
 use Rattle.consistent_cuts.specs.Origins.{retirements_from}
 use Rattle.consistent_cuts.specs.RunInvariant.{Holds}
-use Rattle.fabric_coherence.specs.Steps.{IsShaped}
+use Rattle.consistent_cuts.specs.Steps.{IsShaped}
 use Rattle.sn_machine.specs.declared.hardware.Hardware.{Hardware}
 use Rattle.sn_machine.specs.Invariant.{IsMachine}
 use Rattle.sn_machine.specs.Parts.{state_of}

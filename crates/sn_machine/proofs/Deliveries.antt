@@ -6,7 +6,7 @@ use Rattle.std.proofs.lemmas.Bool.Decides.{nat_tests}
 use Rattle.sn_base.specs.declared.config.Config.{Config}
 use Rattle.sn_base.specs.declared.event.Answer.{Answer}
 use Rattle.reg_ckpt.specs.Checkpoints.{next, freed_below}
-use Rattle.fabric_coherence.proofs.InFlight.{in_flight}
+use Rattle.consistent_cuts.proofs.InFlight.{in_flight}
 use Rattle.sn_model.specs.declared.net.News.{News}
 use Rattle.sn_model.specs.declared.net.News.TheVariants.{LostCopy, Ready, Advance}
 use Rattle.sn_model.specs.Fabric.{Fabric, FabricStep, node_at}

@@ -8,7 +8,7 @@ use Rattle.std.proofs.lemmas.List.Elements.{All-nil, All-push, All-get_or}
 use Rattle.std.proofs.lemmas.Bool.{cases_eq}
 use Rattle.sn_base.specs.Image.{ImageData}
 use Rattle.sn_base.specs.declared.config.Config.{Config}
-use Rattle.fabric_coherence.proofs.Recovery.{replicated}
+use Rattle.consistent_cuts.proofs.Recovery.{replicated}
 use Rattle.sn_model.specs.Fabric.{Node, first_fabric, first_node}
 use Rattle.sn_model.specs.Machine.{Processor, first_processor, first_processors}
 use Rattle.sn_machine.specs.Input.{InputData}

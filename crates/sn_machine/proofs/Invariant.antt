@@ -21,10 +21,10 @@ use Rattle.sn_model.proofs.Refusals.{refusal-changes_nothing}
 use Rattle.sn_coherence.specs.Invariant.{Clocks}
 use Rattle.sn_coherence.specs.Records.{Records}
 use Rattle.sn_consistency.specs.Entries.{Entry}
-use Rattle.fabric_coherence.specs.Coherent.{FabricInvariant, IsInTime, NothingUnfinished}
-use Rattle.fabric_coherence.specs.View.{GhostState, block_seen}
-use Rattle.fabric_bounds.specs.Counts.{CountsTo}
-use Rattle.fabric_bounds.proofs.Numbers.{far_from_the_end}
+use Rattle.consistent_cuts.specs.Coherent.{FabricInvariant, IsInTime, NothingUnfinished}
+use Rattle.consistent_cuts.specs.View.{GhostState, block_seen}
+use Rattle.consistent_cuts.specs.Counts.{CountsTo}
+use Rattle.consistent_cuts.proofs.Numbers.{far_from_the_end}
 use Rattle.sn_saved.specs.Saved.{Saved, IsAccepted, most_applied}
 use Rattle.consistent_cuts.specs.Headline.{IsConsistent, IsStepOfRun}
 use Rattle.consistent_cuts.specs.Origins.{Origin, Start, Resumed, state_at, applied_at, retirements_from}

@@ -12,3 +12,6 @@ pub mod Shown
 pub mod AtCut
 pub mod ResumedLists
 pub mod ResumedParts
+pub use Rattle.consistent_cuts.proofs.Run
+pub use Rattle.consistent_cuts.proofs.EachEvent
+pub use Rattle.consistent_cuts.proofs.SteppedCases

@@ -11,7 +11,7 @@ use Rattle.rv_core.specs.declared.state.CoreState.{CoreState}
 use Rattle.reg_ckpt.specs.Checkpoints.{Checkpoints, HasCheckpoint, core_at, freed_below, dropped_above}
 use Rattle.interval_list.specs.WaitingList.{waiting_below}
 use Rattle.route_plan.specs.Routes.{first_cut_off}
-use Rattle.fabric_coherence.proofs.Recovery.{each_node}
+use Rattle.consistent_cuts.proofs.Recovery.{each_node}
 use Rattle.sn_model.specs.Fabric.{Fabric, node_at, step_refused}
 use Rattle.sn_model.specs.Machine.{Processor}
 use Rattle.sn_model.specs.MachineEvents.{restored_processors, restored_processor, restored_rest, restores}

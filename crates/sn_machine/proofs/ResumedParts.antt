@@ -19,7 +19,7 @@ use Rattle.sn_saved.specs.Resumed.{fabric_resumed, processor_resumed, flat_resum
 use Rattle.sn_saved.specs.Saved.{Saved, owner_in}
 use Rattle.validation.specs.Ready.{Reports}
 use Rattle.sn_fabric.specs.Fabric.{FabricData}
-use Rattle.fabric_coherence.proofs.KeptResumed.{count_resumed, node_resumed_is}
+use Rattle.consistent_cuts.proofs.KeptResumed.{count_resumed, node_resumed_is}
 use Rattle.sn_machine.specs.declared.processor.Processor.{Processor as ProcessorUnit}
 use Rattle.sn_machine.specs.declared.hardware.Hardware.{Hardware}
 use Rattle.sn_machine.specs.Parts.{processor_as, retirement_as, held_as, unit_at, no_unit}

@@ -19,7 +19,7 @@ use Rattle.rv_core.specs.Core.{block_of}
 use Rattle.rv_core.specs.Step.{want_of, next_of}
 use Rattle.rv_core.specs.Wanted.{WriteFits}
 use Rattle.rv_core.proofs.CoreLaws.{write_fits}
-use Rattle.fabric_coherence.specs.Events.{CanUse}
+use Rattle.consistent_cuts.specs.Events.{CanUse}
 use Rattle.sn_model.specs.declared.cache.Need.TheVariants as need
 use Rattle.sn_model.specs.Fabric.{node_at}
 use Rattle.sn_model.specs.Machine.{State, Processor, processor_at}

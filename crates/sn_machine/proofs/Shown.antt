@@ -20,7 +20,7 @@ use Rattle.sn_model.specs.Cuts.{names_at, transaction_before}
 use Rattle.sn_model.specs.Fabric.{Fabric, node_at, home_of}
 use Rattle.sn_model.specs.Homes.{Holder, Itself, OfCache}
 use Rattle.sn_model.specs.RecoveryPoint.{HasOneHolderWith, block_in}
-use Rattle.fabric_coherence.proofs.Finished.{home_finished}
+use Rattle.consistent_cuts.proofs.Finished.{home_finished}
 use Rattle.sn_machine.specs.declared.processor.Processor.{Processor as ProcessorUnit}
 use Rattle.sn_machine.specs.declared.hardware.Hardware.{Hardware}
 use Rattle.sn_machine.specs.Invariant.{IsMachine}

@@ -9,3 +9,8 @@ pub mod Resumed
 pub mod Sound
 pub mod Start
 pub mod Turns
+pub use Rattle.sn_fabric.specs.Fabric
+pub use Rattle.sn_fabric.specs.Nets
+pub use Rattle.consistent_cuts.specs.Runs
+pub use Rattle.consistent_cuts.specs.Headline
+pub use Rattle.consistent_cuts.specs.RunInvariant

@@ -4,7 +4,7 @@ use Rattle.std.specs.List.{All}
 use Rattle.sn_model.specs.Fabric.{node_at}
 use Rattle.sn_model.specs.Machine.{State}
 use Rattle.sn_model.specs.MachineEvents.{unready_node}
-use Rattle.fabric_coherence.specs.Coherent.{Keeps, NothingUnfinished, IsInTime}
+use Rattle.consistent_cuts.specs.Coherent.{Keeps, NothingUnfinished, IsInTime}
 use Rattle.consistent_cuts.specs.Outlines.{IsRestShaped}
 
 -- numbers that don't run out; all sentences of coherence; a processor for each node, with the register checkpoints from the

@@ -15,7 +15,7 @@ use Rattle.sn_model.specs.Access.{step_of_access, lacks_room}
 use Rattle.sn_model.specs.Machine.{State, processor_at}
 use Rattle.sn_model.specs.Instructions.{FoundOutside, MachineStep, nothing_found, next_byte, is_retired, machine_step_refused, machine_step_of, step_of_retirement, record_with}
 use Rattle.sn_model.specs.Instructions.{found_at, held_in}
-use Rattle.fabric_coherence.specs.Events.{CanWrite}
+use Rattle.consistent_cuts.specs.Events.{CanWrite}
 use Rattle.consistent_cuts.specs.Accesses.{CanRetire}
 use Rattle.sn_machine.specs.Parts.{held_as}
 use Rattle.sn_machine.specs.declared.steps.NodeStep.{NodeStep}

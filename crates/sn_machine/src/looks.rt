@@ -1,7 +1,7 @@
 //! What else can be asked of a machine, between two events.
 ghost use Rattle.std.specs.Prelude.{◌≡◌, ℕ, ◌*◌, ◌<◌, ◌≤◌, true, false, length, map, IfSome, IsNone};
 ghost use Rattle.route_plan.specs.Distances.{is_dead};
-ghost use Rattle.home_directory.specs.Home.{owner_of};
+ghost use Rattle.sn_fabric.specs.Home.{owner_of};
 ghost use Rattle.sn_model.specs.Caches.{block_count, line_of, no_line, is_present};
 ghost use Rattle.sn_model.specs.Fabric.{node_at, home_of};
 ghost use Rattle.sn_model.specs.Homes.{Itself};

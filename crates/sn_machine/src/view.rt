@@ -4,7 +4,7 @@ ghost use Rattle.sn_base.specs.Blocks.{ram_start, ram_size};
 ghost use Rattle.rv_core.specs.Core.{bare};
 ghost use Rattle.rv_core.specs.Flat.{core_at, word_at};
 ghost use Rattle.rv_core.specs.Execution.{in_of};
-ghost use Rattle.home_directory.specs.Home.{owner_of};
+ghost use Rattle.sn_fabric.specs.Home.{owner_of};
 ghost use Rattle.sn_model.specs.Cuts.{names_at};
 ghost use Rattle.sn_model.specs.Machine.{processor_at};
 ghost use Rattle.sn_history.specs.History.{reads_of};

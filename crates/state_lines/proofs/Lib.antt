@@ -7,3 +7,4 @@ pub mod Summed
 pub mod Taken
 pub mod TouchedLaws
 pub mod Undone
+pub use Rattle.machine_states.proofs.Lists

@@ -4,7 +4,7 @@ use Rattle.std.specs.Prelude.{codes, decimal, map}
 use Rattle.sn_base.specs.declared.event.Event.{Event}
 use Rattle.sn_base.specs.declared.event.Answer.{Answer}
 use Rattle.sn_text.specs.Text.{event_text, answer_text}
-use Rattle.sn_machine.specs.Machine.{MachineData, IsApplied, next_of}
+use Rattle.machine_states.specs.Machine.{MachineData, IsApplied, next_of}
 use Rattle.state_parts.specs.Touched.{TouchedParts, parts_touched}
 use Rattle.state_json.specs.Json.{quotation_of, opens, member, closes, array}
 use Rattle.state_json.specs.Messages.{sent_text}

@@ -21,7 +21,7 @@ use Rattle.sn_model.specs.Instructions.{MachineStep, found_by, found_at, record_
 use Rattle.sn_model.specs.Instructions.{takes_input, step_wanting, step_of_instruction}
 use Rattle.sn_model.specs.Step.{step_of}
 use Rattle.sn_model.specs.Trace.{entry_at}
-use Rattle.sn_machine.specs.Machine.{MachineData, IsApplied, next_of}
+use Rattle.machine_states.specs.Machine.{MachineData, IsApplied, next_of}
 use Rattle.consistent_cuts.specs.Headline.{IsStepOfRun}
 use Rattle.consistent_cuts.specs.Lists.{retirement_of}
 use Rattle.state_json.specs.Json.{member}

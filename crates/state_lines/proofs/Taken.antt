@@ -6,7 +6,7 @@ use Rattle.std.proofs.lemmas.List.{drop_more, drop_all}
 use Rattle.rv_core.specs.declared.step.Record.{Record}
 use Rattle.sn_model.specs.Machine.{State, Retirement}
 use Rattle.interval_list.specs.declared.Waiting.{Waiting}
-use Rattle.sn_machine.specs.Parts.{retirement_as}
+use Rattle.machine_states.specs.Parts.{retirement_as}
 use Rattle.state_parts.specs.Parts.{waiting_of}
 use Rattle.state_json.specs.Json.{comma_after}
 use Rattle.state_json.specs.Details.{taken_back_texts}

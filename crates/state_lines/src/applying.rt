@@ -2,7 +2,7 @@
 ghost use Rattle.std.specs.Prelude.{◌≡◌, ◌+◌, ◌≤◌, ◌++◌, true, codes, decimal, map, IfOk, OnOk};
 ghost use Rattle.sn_base.specs.Events.{event_fits};
 ghost use Rattle.sn_text.specs.Text.{event_text, answer_text};
-ghost use Rattle.sn_machine.specs.Machine.{IsApplied, next_of};
+ghost use Rattle.machine_states.specs.Machine.{IsApplied, next_of};
 ghost use Rattle.state_json.specs.Json.{quotation_of, opens, member, array};
 ghost use Rattle.state_json.specs.Messages.{sent_text};
 ghost use Rattle.state_json.specs.Lines.{state_line};
@@ -11,8 +11,8 @@ use crate::details::apply_with_details;
 use crate::told::add_told;
 use crate::touched::parts_touched;
 use machine_states::has_its_nodes;
+use machine_states::sn_machine::Machine;
 use sn_base::{Answer, Event, Memory};
-use sn_machine::Machine;
 use state_texts::{add, add_all_sent, add_answer, add_event, add_member, add_number, add_opening};
 
 /// The members that each event has: the place of the machine's next event, the event and its answer.

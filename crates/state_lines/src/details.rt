@@ -1,7 +1,7 @@
 //! What is told of an event besides, as it was found before it.
 ghost use Rattle.std.specs.Prelude.{◌≡◌, ◌≤◌, ◌<◌, ◌++◌, true, OnOk};
 ghost use Rattle.sn_base.specs.Events.{event_fits};
-ghost use Rattle.sn_machine.specs.Machine.{IsApplied, next_of};
+ghost use Rattle.machine_states.specs.Machine.{IsApplied, next_of};
 ghost use Rattle.state_json.specs.Details.{of_report, of_validation, of_recovery, details_text};
 ghost use Rattle.state_lines.specs.Found.{found_text};
 
@@ -9,8 +9,8 @@ use crate::recovery::add_recovery;
 use crate::step::apply_step;
 use crate::unready::{add_all_unready, add_reporter};
 use machine_states::has_its_nodes;
+use machine_states::sn_machine::Machine;
 use sn_base::{Answer, Event, Memory, NodeId};
-use sn_machine::Machine;
 use state_texts::add_member;
 
 fn add_report(

@@ -17,4 +17,5 @@ mod unready;
 
 pub use applying::apply_with_line;
 pub use lines::add_first_line;
+pub use machine_states;
 pub use summary::add_last_line;

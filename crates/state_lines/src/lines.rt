@@ -3,8 +3,8 @@ ghost use Rattle.std.specs.Prelude.{◌≡◌, ◌++◌, OnOk};
 ghost use Rattle.state_json.specs.Lines.{first_line};
 
 use machine_states::add_state;
+use machine_states::sn_machine::Machine;
 use sn_base::Memory;
-use sn_machine::Machine;
 use state_texts::{add, add_member, add_number, add_opening, add_word};
 
 /// The form's name, the machine's sizes, the program's entry, and the whole state after the events that were applied.

@@ -2,7 +2,7 @@
 ghost use Rattle.std.specs.Prelude.{◌≡◌, ◌<◌, ◌≤◌, ◌++◌, if◌then◌else◌, false, nat_eq, nat_le, length, map, IfOk, OnOk};
 ghost use Rattle.log_buffer.specs.Log.{entries_from};
 ghost use Rattle.sn_model.specs.Fabric.{node_at};
-ghost use Rattle.sn_machine.specs.Parts.{retirement_as};
+ghost use Rattle.machine_states.specs.Parts.{retirement_as};
 ghost use Rattle.state_parts.specs.Parts.{waiting_of};
 ghost use Rattle.state_json.specs.Json.{IsAddedIf, with_commas, array};
 ghost use Rattle.state_json.specs.Messages.{flight_text};
@@ -10,10 +10,10 @@ ghost use Rattle.state_json.specs.Details.{undone_text, undone_texts, taken_back
 ghost use Rattle.state_lines.specs.Added.{AreAdded};
 
 use log_buffer::LogBuffer;
+use machine_states::sn_machine::{Machine, Waiting};
 use machine_states::{add_flights, has_its_nodes};
 use rv_core::Record;
 use sn_base::{Entries, Interval, LogEntry, Memory, NodeId};
-use sn_machine::{Machine, Waiting};
 use state_texts::{add, add_comma, add_entry, add_member, add_number, add_opening};
 
 /// An entry of a node's log.

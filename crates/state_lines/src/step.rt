@@ -6,15 +6,15 @@ ghost use Rattle.sn_base.specs.Image.{word_fetched};
 ghost use Rattle.sn_base.specs.declared.event.Event.{Event};
 ghost use Rattle.rv_asm.specs.Text.{word_text};
 ghost use Rattle.sn_model.specs.Machine.{Retirement};
-ghost use Rattle.sn_machine.specs.Machine.{IsApplied, next_of};
+ghost use Rattle.machine_states.specs.Machine.{IsApplied, next_of};
 ghost use Rattle.state_json.specs.Json.{or_null, member};
 ghost use Rattle.state_json.specs.Details.{write_text, instruction_text, details_text};
 ghost use Rattle.state_lines.specs.Steps.{CanFinish, retired_text, core_step_text};
 
+use machine_states::sn_machine::Machine;
 use rv_asm::add_line;
 use rv_core::{CoreState, Record};
 use sn_base::{Answer, Event, Image, Memory, NodeId, Width, Write};
-use sn_machine::Machine;
 use state_texts::{
     add, add_flag, add_member, add_null, add_number, add_opening, add_read, add_word,
 };

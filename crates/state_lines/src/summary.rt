@@ -1,13 +1,13 @@
 //! The last line: the summary.
 ghost use Rattle.std.specs.Prelude.{◌≡◌, ◌+◌, ◌%◌, ◌<◌, ◌≤◌, ◌++◌, false, length, map, take, codes, decimal, slice_get, IfSome, OnOk};
 ghost use Rattle.sn_base.specs.Blocks.{ram_start, ram_size};
-ghost use Rattle.sn_machine.specs.Machine.{flat_of};
+ghost use Rattle.machine_states.specs.Machine.{flat_of};
 ghost use Rattle.sn_probe.specs.Probes.{meters_in, tallies_of};
 ghost use Rattle.state_json.specs.Json.{or_null, with_commas, array, large};
 ghost use Rattle.state_json.specs.Lines.{core_texts, watch_text, tally_text, summary_text, last_line};
 
+use machine_states::sn_machine::Machine;
 use sn_base::{Memory, NodeId};
-use sn_machine::Machine;
 use sn_probe::ProbeSet;
 use state_texts::{
     add, add_comma, add_core, add_large, add_member, add_null, add_number, add_opening, add_word,

@@ -7,11 +7,11 @@ ghost use Rattle.state_json.specs.Parts.{node_text, home_text, net_text, control
 ghost use Rattle.state_lines.specs.Touched.{nodes_as, touched_as, AreThere, HasItsNodes};
 
 use crate::touched::{SomeParts, Touched, TouchedNodes};
+use machine_states::sn_machine::Machine;
 use machine_states::{
     add_controller, add_home, add_net, add_node, add_nodes, add_state, has_its_nodes,
 };
 use sn_base::{BlockNo, Memory};
-use sn_machine::Machine;
 use state_texts::{add, add_member, add_null, add_opening};
 
 fn add_touched_nodes(

@@ -3,14 +3,14 @@ ghost use Rattle.std.specs.Prelude.{◌≡◌, ℕ, ◌<◌, true, false, length
 ghost use Rattle.sn_base.specs.Events.{event_fits};
 ghost use Rattle.sn_model.specs.Net.{flight_of};
 ghost use Rattle.sn_model.specs.Refusals.{is_refusal};
-ghost use Rattle.sn_machine.specs.Machine.{next_of};
+ghost use Rattle.machine_states.specs.Machine.{next_of};
 ghost use Rattle.state_parts.specs.Touched.{parts_touched, touched_by, touched_by_message, touched_by_delivery, touched_by_step};
 ghost use Rattle.state_parts.specs.Touched.{touched_by_eviction};
 ghost use Rattle.sn_base.specs.declared.event.Event.{Event};
 ghost use Rattle.state_lines.specs.Touched.{touched_as, HasItsNodes};
 
+use machine_states::sn_machine::Machine;
 use sn_base::{Answer, BlockNo, Event, MsgId, NodeId};
-use sn_machine::Machine;
 use sn_msg::{Body, Message};
 
 /// Nodes of a machine.

@@ -7,9 +7,9 @@ ghost use Rattle.state_json.specs.Details.{miss_below, put_below, open_text, ope
 ghost use Rattle.state_json.specs.Details.{reporter_texts, unready_texts};
 ghost use Rattle.state_lines.specs.Added.{AreAdded};
 
+use machine_states::sn_machine::{Machine, OpenMiss, OpenPut, Transaction};
 use machine_states::{add_open_miss, add_open_put, has_its_nodes};
 use sn_base::{BLOCKS, BlockNo, Memory, NodeId};
-use sn_machine::{Machine, OpenMiss, OpenPut, Transaction};
 use state_texts::{add, add_comma, add_member, add_number, add_opening, add_transaction};
 
 /// A miss that began below checkpoint `k`.

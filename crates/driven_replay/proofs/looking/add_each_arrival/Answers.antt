@@ -3,7 +3,7 @@ use Rattle.std.specs.Prelude.{map}
 use Rattle.switch_net.specs.declared.flight.Flight.{Flight as Carried}
 use Rattle.state_json.specs.Json.{with_commas}
 use Rattle.sn_fabric.specs.Nets.{flight_as}
-use Rattle.machine_states.proofs.Lists.{things-more, things-end}
+use Rattle.shown_states.proofs.Lists.{things-more, things-end}
 use Rattle.driven_replay.specs.Looks.{arrival_text}
 use Rattle.driven_replay.proofs.Arrivals.{arrival-there}
 use Rattle.driven_replay.proofs.looking.add_each_arrival.Goals as goal

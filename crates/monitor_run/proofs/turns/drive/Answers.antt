@@ -1,8 +1,8 @@
 use Rattle.std.proofs.Common.{◌≡◌, Bool, false, Option, Some, None, is_some, refl, sym, ap, subst, ◌∙◌, true≢false, if◌then◌else◌}
 use Rattle.sn_driver.specs.declared.turn.Turn.{Turn}
-use Rattle.shared_machine.specs.declared.finish.Finish.TheVariants.{Budget}
-use Rattle.shared_machine.specs.declared.finish.Finish.{Finish}
-use Rattle.shared_machine.proofs.Refusals.{due-some, unspent}
+use Rattle.node_run.specs.Finish.TheVariants.{Budget}
+use Rattle.node_run.specs.Finish.{Finish}
+use Rattle.node_run.proofs.Refusals.{due-some, unspent}
 use Rattle.sn_monitor.specs.Monitored.{IsTurn}
 use Rattle.monitor_run.proofs.turns.drive.Goals.{else-spent-via-then-spent+else-is_some, else-spent-via-else-spent}
 use Rattle.monitor_run.proofs.turns.drive.Goals as goal

@@ -1,5 +1,5 @@
 use Rattle.std.proofs.Common.{◌≡◌}
-use Rattle.sn_machine.specs.Machine.{flat_of}
+use Rattle.script_replay.specs.Machine.{flat_of}
 use Rattle.node_run.specs.Endings.{first_trap}
 use Rattle.node_run.proofs.ending.first_trap.Given as goal
 

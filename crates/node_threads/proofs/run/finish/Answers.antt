@@ -1,5 +1,5 @@
 use Rattle.std.proofs.Common.{◌≡◌, ℕ, nat_le, List, length, Some, sym, ap, subst, ◌∙◌}
-use Rattle.sn_machine.specs.Machine.{MachineData}
+use Rattle.shared_machine.specs.Machine.{MachineData}
 use Rattle.shared_machine.specs.Shared.{LockedData, refusal_of}
 use Rattle.node_threads.specs.Finishes.{Put}
 use Rattle.node_threads.proofs.Finishing.{run-of, finish-kept, ends-of, drained-ok}

@@ -1,6 +1,6 @@
 use Rattle.std.proofs.Common.{List, length, ap, ◌∙◌}
 use Rattle.sn_base.specs.declared.event.Answer.{Answer}
-use Rattle.run_journals.proofs.Folds.{length-answers_of}
+use Rattle.shared_machine.proofs.Folds.{length-answers_of}
 use Rattle.node_threads.proofs.run.run_nodes.Goals as goal
 
 pub tell-requires : goal.tell-requires

@@ -1,7 +1,7 @@
 use Rattle.std.proofs.Common.{◌≡◌, ◌+◌, length, sym, ap, subst, ◌∙◌}
 use Rattle.std.specs.Prelude.{Some}
 use Rattle.run_journals.specs.Journal.{Began}
-use Rattle.node_threads.specs.Finishes.{IsRunOf, finish_by}
+use Rattle.node_run.specs.Finishes.{IsRunOf, finish_by}
 use Rattle.node_run.specs.Pieces.{begins}
 use Rattle.ordered_run.specs.Stands.{its_start}
 use Rattle.ordered_run.proofs.Leaving.{counts-first, on-by}

@@ -1,7 +1,7 @@
 use Rattle.std.proofs.Common.{◌≡◌, Bool, Option, Some, None, is_some, refl, sym, ap, ◌∙◌, if◌then◌else◌}
-use Rattle.shared_machine.specs.declared.finish.Finish.TheVariants.{Budget}
-use Rattle.shared_machine.specs.declared.finish.Finish.{Finish}
-use Rattle.shared_machine.proofs.Refusals.{due-some, unspent}
+use Rattle.node_run.specs.Finish.TheVariants.{Budget}
+use Rattle.node_run.specs.Finish.{Finish}
+use Rattle.node_run.proofs.Refusals.{due-some, unspent}
 use Rattle.ordered_run.proofs.turns.drive.Goals as goal
 
 pub returns-in_default-clause-err : goal.returns-in_default-clause-err

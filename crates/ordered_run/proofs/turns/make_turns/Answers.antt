@@ -1,7 +1,7 @@
 use Rattle.std.proofs.Common.{refl, ap, ◌∙◌, arith}
 use Rattle.sn_machine.specs.Machine.{MachineData}
 use Rattle.run_journals.specs.Journal.{Began}
-use Rattle.node_threads.proofs.Puts.{rose-later}
+use Rattle.node_run.proofs.Puts.{rose-later}
 use Rattle.ordered_run.proofs.Leaving.{same-self, same-then, ends-refused}
 use Rattle.ordered_run.proofs.Puts.{put-none, put-same, had-few, then-whole, then-begun}
 use Rattle.ordered_run.proofs.turns.make_turns.Goals as goal

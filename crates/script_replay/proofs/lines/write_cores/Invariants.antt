@@ -1,5 +1,5 @@
 use Rattle.std.proofs.Common.{◌≡◌, ◌≤◌, ◌+◌, ◌*◌, ◌++◌, length}
-use Rattle.sn_machine.specs.Machine.{flat_of}
+use Rattle.due_events.specs.Machine.{flat_of}
 use Rattle.script_replay.specs.Pieces.{core_lines}
 use Rattle.script_replay.proofs.lines.write_cores.Given as goal
 

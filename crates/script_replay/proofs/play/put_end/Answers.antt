@@ -1,6 +1,6 @@
 use Rattle.std.proofs.Common.{All, ap, subst, ◌∙◌}
 use Rattle.std.proofs.lemmas.Result.{err_from_is_err_and}
-use Rattle.sn_machine.specs.Machine.{MachineData}
+use Rattle.due_events.specs.Machine.{MachineData}
 use Rattle.sn_text.specs.Written.{HasValues}
 use Rattle.script_replay.proofs.PieceLaws.{end-plain, end-plain_breaks, end-traced, end-traced_breaks_first, end-traced_breaks_second}
 use Rattle.script_replay.proofs.play.put_end.Goals as goal

@@ -1,8 +1,8 @@
 use Rattle.std.proofs.Common.{sym, subst}
 use Rattle.std.specs.Prelude.{IfOk}
-use Rattle.node_run.specs.declared.job.Run.{Run}
-use Rattle.node_run.specs.Pieces.{begins}
-use Rattle.node_run.specs.Shown.{MayBegin as MayRun}
+use Rattle.ordered_run.specs.Run.{Run}
+use Rattle.ordered_run.specs.Pieces.{begins}
+use Rattle.ordered_run.specs.NodeRunShown.{MayBegin as MayRun}
 use Rattle.ordered_run.specs.Ordered.{ordered_journal}
 use Rattle.seed_runs.specs.Played.{IsPlayed}
 use Rattle.seed_runs.proofs.Puts.{may-run}

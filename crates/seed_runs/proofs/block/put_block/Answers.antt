@@ -2,7 +2,7 @@ use Rattle.std.proofs.Common.{ℕ, List, [], ◌∷◌, ◌++◌, inl, inr, ⊎_
 use Rattle.std.proofs.lemmas.Result.{err_from_is_err_and, on_ok_weaker, on_err_weaker}
 use Rattle.sink_pieces.specs.Pieces.{Report, ends, after, Breaks}
 use Rattle.sn_probe.specs.Probes.{tallies_of}
-use Rattle.node_threads.proofs.Puts.{rose-later}
+use Rattle.ordered_run.proofs.NodeThreadsPuts.{rose-later}
 use Rattle.seed_runs.specs.Text.{end_line}
 use Rattle.seed_runs.specs.Pieces.{run_of, journal_of, piece_if}
 use Rattle.seed_runs.proofs.Puts.{may-run, caused, seed-put, head-broke, middle-broke, tail-broke}

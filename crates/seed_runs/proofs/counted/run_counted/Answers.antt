@@ -1,5 +1,5 @@
 use Rattle.std.proofs.Common.{refl}
-use Rattle.node_run.specs.Pieces.{begins}
+use Rattle.ordered_run.specs.Pieces.{begins}
 use Rattle.ordered_run.specs.Ordered.{ordered_journal}
 use Rattle.seed_runs.proofs.LawfulRuns.{counted-in_order, broken-in_order}
 use Rattle.seed_runs.proofs.Puts.{answered-each}

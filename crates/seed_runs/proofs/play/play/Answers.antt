@@ -1,7 +1,7 @@
 use Rattle.std.proofs.Common.{◌≤◌, refl, ◌∙◌, arith}
 use Rattle.std.proofs.lemmas.Bool.Decides.{nat_tests}
-use Rattle.node_run.specs.Pieces.{begins}
-use Rattle.node_run.proofs.Runs.{cores-at_start}
+use Rattle.ordered_run.specs.Pieces.{begins}
+use Rattle.ordered_run.proofs.Runs.{cores-at_start}
 use Rattle.seed_runs.proofs.Playing.{counted-are}
 use Rattle.seed_runs.proofs.play.play.Goals as goal
 

@@ -1,6 +1,6 @@
 use Rattle.std.proofs.Common.{refl, ◌∙◌}
-use Rattle.node_run.specs.Pieces.{begins}
-use Rattle.node_run.proofs.Runs.{cores-at_start}
+use Rattle.ordered_run.specs.Pieces.{begins}
+use Rattle.ordered_run.proofs.Runs.{cores-at_start}
 use Rattle.seed_runs.proofs.Playing.{events-fit, events-few, statistics-are}
 use Rattle.seed_runs.proofs.play.play_by_threads.Goals as goal
 

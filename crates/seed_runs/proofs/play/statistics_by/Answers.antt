@@ -5,7 +5,7 @@ use Rattle.sn_base.specs.declared.event.Event.{Event}
 use Rattle.sn_base.specs.Events.{event_fits}
 use Rattle.run_journals.specs.declared.entry.JournalEntry.{JournalEntry}
 use Rattle.run_journals.specs.Journal.{events_of}
-use Rattle.run_statistics.proofs.CountedSoFar.{fits-all}
+use Rattle.ordered_run.proofs.CountedSoFar.{fits-all}
 use Rattle.seed_runs.proofs.play.statistics_by.Goals as goal
 
 pub statistics_text-requires-clause-fit : goal.statistics_text-requires-clause-fit

@@ -2,8 +2,8 @@ use Rattle.std.proofs.Common.{◌≡◌, subst}
 use Rattle.std.specs.Prelude.{Some, None, IfOk}
 use Rattle.rayon.proofs.ListFacts.{IfOk-then}
 use Rattle.run_journals.specs.Journal.{Began}
-use Rattle.shared_machine.specs.Shared.{begins_with}
-use Rattle.node_threads.specs.Finishes.{IsRunOf, finish_by}
+use Rattle.ordered_run.specs.Shared.{begins_with}
+use Rattle.ordered_run.specs.Finishes.{IsRunOf, finish_by}
 use Rattle.ordered_run.proofs.Outcomes.{unstopped-by}
 use Rattle.seed_runs.proofs.play.turns_by_threads.Goals as goal
 

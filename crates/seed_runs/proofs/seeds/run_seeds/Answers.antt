@@ -1,5 +1,5 @@
 use Rattle.std.proofs.Common.{◌≡◌, Err, ap, inl, inr, ⊎_elim, arith}
-use Rattle.node_threads.proofs.Puts.{rose-later}
+use Rattle.ordered_run.proofs.NodeThreadsPuts.{rose-later}
 use Rattle.seed_runs.proofs.Puts.{all-lawful}
 use Rattle.seed_runs.specs.declared.job.SeedsFault.{SeedsFault}
 use Rattle.seed_runs.specs.declared.job.SeedsFault.TheVariants.{Sink, Memory}

@@ -1,7 +1,7 @@
 use Rattle.std.proofs.Common.{◌≤◌, ◌∙◌, ap, sym, subst, List, ℕ, length}
 use Rattle.std.specs.Prelude.{drop}
 use Rattle.std.proofs.lemmas.Result.{err_from_is_err_and}
-use Rattle.sn_machine.specs.Machine.{MachineData}
+use Rattle.script_replay.specs.Machine.{MachineData}
 use Rattle.shown_states.proofs.Puts.{first-breaks, both-put, second-breaks, told-at}
 use Rattle.shown_states.proofs.pieces.tell_and_put.Goals as goal
 

@@ -1,5 +1,5 @@
 use Rattle.std.proofs.Common.{length, ap, ◌∙◌}
-use Rattle.sn_machine.specs.Machine.{MachineData}
+use Rattle.script_replay.specs.Machine.{MachineData}
 use Rattle.sink_pieces.specs.Pieces.{after}
 use Rattle.shown_states.proofs.Puts.{had-few, pieces-same, turn-is}
 use Rattle.shown_states.proofs.play.turn_with_state.Goals as goal

@@ -1,7 +1,7 @@
 use Rattle.std.proofs.Common.{◌≡◌, ◌+◌, ◌<◌, ◌++◌, length, map, take, filter_map, Some, None, sym, ap, subst, arith}
 use Rattle.std.proofs.lemmas.List.{length-map}
 use Rattle.sn_model.specs.Fabric.{Net}
-use Rattle.sn_fabric.specs.Nets.{flight_as}
+use Rattle.due_events.specs.Nets.{flight_as}
 use Rattle.due_events.specs.Lists.{delivery}
 use Rattle.sn_driver.specs.Found.{HasFound}
 use Rattle.sn_driver.proofs.FirstPlaces.{more-some, more-none, at_map}

@@ -1,6 +1,6 @@
 use Rattle.std.proofs.Common.{ℕ, ◌++◌, ◌∙◌, ap, length, List}
 use Rattle.std.specs.Prelude.{decimal, map}
-use Rattle.sn_machine.specs.Parts.{retirement_as}
+use Rattle.machine_states.specs.Parts.{retirement_as}
 use Rattle.sn_model.specs.Machine.{Retirement}
 use Rattle.state_parts.specs.Parts.{waiting_of}
 use Rattle.state_texts.proofs.Lists.{none-behind}

@@ -1,6 +1,6 @@
 use Rattle.std.proofs.Common.{◌≡◌, ◌+◌, ◌≤◌, drop, length}
 use Rattle.std.specs.Prelude.{map}
-use Rattle.sn_machine.specs.Parts.{retirement_as}
+use Rattle.machine_states.specs.Parts.{retirement_as}
 use Rattle.state_parts.specs.Parts.{waiting_of}
 use Rattle.state_lines.proofs.recovery.count_of.Given as goal
 

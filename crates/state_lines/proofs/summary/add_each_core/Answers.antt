@@ -2,7 +2,7 @@ use Rattle.std.proofs.Common.{ℕ, ◌++◌, ◌∙◌, ap}
 use Rattle.rv_core.specs.declared.state.CoreState.{CoreState}
 use Rattle.rv_core.specs.Core.{bare}
 use Rattle.rv_core.specs.Flat.{core_at}
-use Rattle.sn_machine.specs.Machine.{MachineData, flat_of}
+use Rattle.machine_states.specs.Machine.{MachineData, flat_of}
 use Rattle.state_json.specs.Values.{core_text}
 use Rattle.state_lines.proofs.Summed.{cores-next}
 use Rattle.state_lines.proofs.summary.add_each_core.Goals as goal

@@ -1,4 +1,4 @@
-use Rattle.sn_machine.specs.Machine.{flat_of}
+use Rattle.machine_states.specs.Machine.{flat_of}
 use Rattle.state_json.specs.Lines.{core_texts}
 use Rattle.state_texts.proofs.Lists.{AreBehind}
 use Rattle.state_lines.proofs.summary.add_each_core.Given as goal

@@ -2,7 +2,7 @@ use Rattle.std.proofs.Common.{List, ℕ, ◌++◌, ◌∙◌, ap, sym, length, f
 use Rattle.std.specs.Prelude.{codes, decimal, map, Option, option_to_list, slice_index}
 use Rattle.std.proofs.lemmas.Result.{on_ok_weaker}
 use Rattle.rv_core.specs.declared.step.Record.{Record}
-use Rattle.sn_machine.specs.Machine.{MachineData, flat_of}
+use Rattle.machine_states.specs.Machine.{MachineData, flat_of}
 use Rattle.sn_probe.specs.Probes.{meters_of, tallies_of}
 use Rattle.state_json.specs.Json.{with_commas, array, or_null}
 use Rattle.state_json.specs.Lines.{core_texts, watch_text, tally_text, summary_text}
